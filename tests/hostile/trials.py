@@ -99,25 +99,25 @@ def grants_to_nobody(scale: Scale) -> List[Check]:
             count = _grant_on(host, 6 * scale.seconds)
             grown = host.figures().resident - before.resident
             host.end_job(ATTACKER)
-            return [Check("takers", count), Check("bytes for each of them", grown / count), *given_back(host, before)]
+            return [Check("grantees", count), Check("bytes for each of them", grown / count), *given_back(host, before)]
 
 
 def _grant_on(host: Host, seconds: float, most: int = 100_000, burst: int = 200) -> int:
     """One object to ever new numbers, each time withdrawn. How many there were."""
     with host.session(ATTACKER) as session:
         one = session.put(b"x").to_bytes()
-    taker, end = 10, time.monotonic() + seconds
+    grantee, end = 10, time.monotonic() + seconds
     with socket.socket(socket.AF_UNIX) as stream:
         stream.settimeout(PATIENCE)
         stream.connect(host.path())
         stream.sendall(frame(0x01, ATTACKER.to_bytes(4, "big") + key(ATTACKER)))
         assert receive(stream, len(OK)) == OK
-        while time.monotonic() < end and taker < most:
-            takers = range(taker, taker + burst)
-            stream.sendall(b"".join(frame(kind, one + job.to_bytes(4, "big")) for job in takers for kind in (0x0D, 0x0E)))
+        while time.monotonic() < end and grantee < most:
+            grantees = range(grantee, grantee + burst)
+            stream.sendall(b"".join(frame(kind, one + job.to_bytes(4, "big")) for job in grantees for kind in (0x0D, 0x0E)))
             assert receive(stream, 2 * burst * len(OK)) == 2 * burst * OK, "a grant was refused"
-            taker += burst
-    return taker - 10
+            grantee += burst
+    return grantee - 10
 
 
 def never_read_without_key(scale: Scale) -> List[Check]:

@@ -119,11 +119,11 @@ class Chooser:
     def grants(self, store: PrivateStore) -> List[tuple]:
         ids = self.grantable(store) + list(store.received) * 3
         node = self.world.nodes[store.node]
-        takers = [job for job in [*node.windows, *node.windows, self.lot.randrange(STRAY_JOBS)] if job != store.job]
-        return [(one, job) for one in ids for job in takers if job != one.job and not store.gave(one, job)]
+        grantees = [job for job in [*node.windows, *node.windows, self.lot.randrange(STRAY_JOBS)] if job != store.job]
+        return [(one, job) for one in ids for job in grantees if job != one.job and not store.gave(one, job)]
 
     def withdrawals(self, store: PrivateStore) -> List[tuple]:
-        return [(given.one, given.taker) for given in store.given]
+        return [(given.one, given.grantee) for given in store.given]
 
     def peeks(self, store: PrivateStore) -> List[tuple]:
         return [(one, *self.part(len(seen.content))) for one, seen in store.received.items()]

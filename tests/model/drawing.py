@@ -297,16 +297,16 @@ class Drawing:
 
     def draw_handing_on(self) -> None:
         """Hands an object on from job to job, at times further than it may be."""
-        node, giver = self.draw_seat()
+        node, grantor = self.draw_seat()
         live = list(self.world.nodes[node].windows)
-        objects = self.chooser.grantable(self.world.nodes[node].store(giver))
+        objects = self.chooser.grantable(self.world.nodes[node].store(grantor))
         if not objects or not live:
             return
         one = self.lot.choice(objects)
         for _ in range(self.lot.randint(2, DEEPEST + 1)):
-            taker = self.lot.choice([job for job in live if job not in (giver, one.job)] or live)
-            self.say_command(node, giver, self.chooser.session(), "grant", [one, taker])
-            giver = taker
+            grantee = self.lot.choice([job for job in live if job not in (grantor, one.job)] or live)
+            self.say_command(node, grantor, self.chooser.session(), "grant", [one, grantee])
+            grantor = grantee
 
     # limits
 

@@ -75,12 +75,12 @@ def check_content(copy: Copy) -> None:
 def check_hands(node: Node) -> None:
     """Each store knows of the hands from and to its job what the node does, and sees the owner's bytes."""
     for job, store in node.stores.items():
-        given = sorted((hand.one, hand.taker, hand.depth, hand.hangs_on) for hand in node.hands if hand.giver == job)
-        assert given == sorted((one, taker, depth, giver or 0) for one, taker, depth, giver in store.given), "hands given"
+        given = sorted((hand.one, hand.grantee, hand.depth, hand.parent) for hand in node.hands if hand.grantor == job)
+        assert given == sorted((one, grantee, depth, grantor or 0) for one, grantee, depth, grantor in store.given), "hands given"
         received: Dict[ObjectId, List[Hand]] = {}
         for hand in node.hands:
-            if hand.taker == job:
-                received.setdefault(hand.one, []).append(Hand(hand.giver, hand.depth))
+            if hand.grantee == job:
+                received.setdefault(hand.one, []).append(Hand(hand.grantor, hand.depth))
         assert received == {one: seen.hands for one, seen in store.received.items()}, "hands received"
         for one, seen in store.received.items():
             assert seen.content == node.stores[one.job].copies[one].content, "other bytes than the owner's"

@@ -142,10 +142,10 @@ class Forgery:
 
     def hand(self) -> None:
         """A hand that nobody gave, or its end."""
-        giver, depth = self.lot.randrange(5), self.lot.randrange(5)
+        grantor, depth = self.lot.randrange(5), self.lot.randrange(5)
         length = f" {self.lot.choice(LENGTHS)}" if self.lot.random() < 0.6 else ""
         word = "received" if length else "withdrawn"
-        self.insert(f"{word} {self.any_id()}{length} {giver} {depth}", "ok")
+        self.insert(f"{word} {self.any_id()}{length} {grantor} {depth}", "ok")
 
     def odd_number(self) -> None:
         """A number of an input is another one."""

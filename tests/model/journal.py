@@ -70,9 +70,9 @@ def message_text(store: PrivateStore, sender: Place, message: Message) -> str:
     return f"nothere {of_fetch} {sender}"
 
 
-def received_text(taker: int, one: ObjectId, length: int, hand: Hand) -> str:
-    return f"received {one.text(taker)} {length} {hand.giver} {hand.depth}"
+def received_text(grantee: int, one: ObjectId, length: int, hand: Hand) -> str:
+    return f"received {one.text(grantee)} {length} {hand.grantor} {hand.depth}"
 
 
-def withdrawn_text(taker: int, one: ObjectId, hand: Hand) -> str:
-    return f"withdrawn {one.text(taker)} {hand.giver} {hand.depth}"
+def withdrawn_text(grantee: int, one: ObjectId, hand: Hand) -> str:
+    return f"withdrawn {one.text(grantee)} {hand.grantor} {hand.depth}"

@@ -12,14 +12,14 @@ from .words import MOST_JOBS, Refusal, is_quota, refuse_if
 
 
 class StandingHand(NamedTuple):
-    """A grant that stands. The order is that in which hands that end together are told to their takers."""
+    """A grant that stands. The order is that in which hands that end together are told to their grantees."""
 
     depth: int
     one: ObjectId
-    giver: int
-    taker: int
-    # from whom the giver has the object; of the giver's own objects 0, which is no job
-    hangs_on: int
+    grantor: int
+    grantee: int
+    # from whom the grantor has the object; of the grantor's own objects 0, which is no job
+    parent: int
 
 
 class Window(NamedTuple):
@@ -113,7 +113,7 @@ class Node:
         self.taken = [work for work in self.taken if work[0] != job]
         self.store(job).end()
         self.inputs.append((job, "end"))
-        self.end_hands([hand for hand in self.hands if hand.giver == job])
+        self.end_hands([hand for hand in self.hands if hand.grantor == job])
         return "ok"
 
     # workers
@@ -174,31 +174,31 @@ class Node:
         return reply
 
     def follow_hands(self, job: int, word: str, values: Tuple) -> None:
-        """Tells the takers of what an accepted command gave them, or took from them."""
+        """Tells the grantees of what an accepted command gave them, or took from them."""
         if word == "grant":
             self.add_hand(job, *values)
         elif word == "withdraw":
-            self.end_hands([hand for hand in self.hands if (hand.one, hand.giver, hand.taker) == (values[0], job, values[1])])
+            self.end_hands([hand for hand in self.hands if (hand.one, hand.grantor, hand.grantee) == (values[0], job, values[1])])
         elif word == "endtask":
-            self.end_hands([hand for hand in self.hands if (hand.giver, hand.one.job, hand.one.task) == (job, job, values[0])])
+            self.end_hands([hand for hand in self.hands if (hand.grantor, hand.one.job, hand.one.task) == (job, job, values[0])])
 
-    def add_hand(self, giver: int, one: ObjectId, taker: int) -> None:
-        given = self.store(giver).given[-1]
-        self.hands.append(StandingHand(given.depth, one, giver, taker, given.hangs_on or 0))
+    def add_hand(self, grantor: int, one: ObjectId, grantee: int) -> None:
+        given = self.store(grantor).given[-1]
+        self.hands.append(StandingHand(given.depth, one, grantor, grantee, given.parent or 0))
         content = bytes(self.store(one.job).copies[one].content)
-        hand = Hand(giver, given.depth)
-        self.inputs.append((taker, received_text(taker, one, len(content), hand)))
-        self.store(taker).receive(one, content, hand)
+        hand = Hand(grantor, given.depth)
+        self.inputs.append((grantee, received_text(grantee, one, len(content), hand)))
+        self.store(grantee).receive(one, content, hand)
 
     def end_hands(self, ended: List[StandingHand]) -> None:
         """Ends these hands, and with each all that hang on it."""
         reached = ended
         while reached:
-            ends = {(hand.one, hand.giver, hand.taker) for hand in reached}
-            reached = [hand for hand in self.hands if hand not in ended and (hand.one, hand.hangs_on, hand.giver) in ends]
+            ends = {(hand.one, hand.grantor, hand.grantee) for hand in reached}
+            reached = [hand for hand in self.hands if hand not in ended and (hand.one, hand.parent, hand.grantor) in ends]
             ended = ended + reached
         self.hands = [hand for hand in self.hands if hand not in ended]
         for hand in sorted(ended):
-            told = Hand(hand.giver, hand.depth)
-            self.inputs.append((hand.taker, withdrawn_text(hand.taker, hand.one, told)))
-            self.store(hand.taker).withdrawn(hand.one, told)
+            told = Hand(hand.grantor, hand.depth)
+            self.inputs.append((hand.grantee, withdrawn_text(hand.grantee, hand.one, told)))
+            self.store(hand.grantee).withdrawn(hand.one, told)

@@ -250,14 +250,14 @@ def pull(store: PrivateStore, one: ObjectId, number: int, word: str) -> None:
         serve(store, store.node, Pull(one, number, copy.length, copy.digest, ()))
 
 
-def withdrawn(store: PrivateStore, one: ObjectId, giver: int, depth: int) -> None:
-    if one in store.received and Hand(giver, depth) in store.received[one].hands:
-        store.withdrawn(one, Hand(giver, depth))
+def withdrawn(store: PrivateStore, one: ObjectId, grantor: int, depth: int) -> None:
+    if one in store.received and Hand(grantor, depth) in store.received[one].hands:
+        store.withdrawn(one, Hand(grantor, depth))
 
 
 # what is told of hands, to stores that aren't live too
 HANDS: Dict[str, Callable] = {
-    "received": lambda store, one, length, giver, depth: store.receive(one, bytes(length), Hand(giver, depth)),
+    "received": lambda store, one, length, grantor, depth: store.receive(one, bytes(length), Hand(grantor, depth)),
     "withdrawn": withdrawn,
 }
 

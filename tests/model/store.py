@@ -24,16 +24,16 @@ class Given(NamedTuple):
     """A hand that the store's job gave."""
 
     one: ObjectId
-    taker: int
+    grantee: int
     depth: int
     # from whom the job had the object; of its own objects nobody
-    hangs_on: Optional[int]
+    parent: Optional[int]
 
 
 class Hand(NamedTuple):
     """A hand to the store's job."""
 
-    giver: int
+    grantor: int
     depth: int
 
 
@@ -208,7 +208,7 @@ class PrivateStore:
         seen.hands[:] = [other for other in seen.hands if other != hand]
         if not seen.hands:
             del self.received[one]
-        self.given = [given for given in self.given if (given.one, given.hangs_on) != (one, hand.giver)]
+        self.given = [given for given in self.given if (given.one, given.parent) != (one, hand.grantor)]
 
     # sessions
 
@@ -357,32 +357,32 @@ class PrivateStore:
     def is_of(self, one: ObjectId, task: bytes) -> bool:
         return (one.task, one.job) == (task, self.job)
 
-    def grant(self, one: ObjectId, taker: int) -> str:
-        refuse_if(taker in (0, self.job), Refusal.BadId)
+    def grant(self, one: ObjectId, grantee: int) -> str:
+        refuse_if(grantee in (0, self.job), Refusal.BadId)
         refuse_if(one.task in self.ended_tasks, Refusal.Gone)
         copy = self.present(one)
         refuse_if(copy.state is not State.SEALED or not copy.is_primary, Refusal.NotResident)
-        refuse_if(self.gave(one, taker), Refusal.Exists)
+        refuse_if(self.gave(one, grantee), Refusal.Exists)
         refuse_if(len(self.given) >= MOST_GIVEN, Refusal.TooMany)
-        self.given.append(Given(one, taker, 1, None))
+        self.given.append(Given(one, grantee, 1, None))
         return "ok"
 
-    def grant_on(self, one: ObjectId, taker: int) -> str:
+    def grant_on(self, one: ObjectId, grantee: int) -> str:
         """A grant of another job's object, which hangs on the oldest hand by which this job sees it."""
-        refuse_if(taker in (0, self.job, one.job), Refusal.BadId)
+        refuse_if(grantee in (0, self.job, one.job), Refusal.BadId)
         refuse_if(one not in self.received, Refusal.NotGranted)
-        refuse_if(self.gave(one, taker), Refusal.Exists)
+        refuse_if(self.gave(one, grantee), Refusal.Exists)
         oldest = self.received[one].hands[0]
         refuse_if(oldest.depth >= DEEPEST or len(self.given) >= MOST_GIVEN, Refusal.TooMany)
-        self.given.append(Given(one, taker, oldest.depth + 1, oldest.giver))
+        self.given.append(Given(one, grantee, oldest.depth + 1, oldest.grantor))
         return "ok"
 
-    def gave(self, one: ObjectId, taker: int) -> bool:
-        return any((given.one, given.taker) == (one, taker) for given in self.given)
+    def gave(self, one: ObjectId, grantee: int) -> bool:
+        return any((given.one, given.grantee) == (one, grantee) for given in self.given)
 
-    def withdraw(self, one: ObjectId, taker: int) -> str:
-        refuse_if(not self.gave(one, taker), Refusal.NotGranted)
-        self.given = [given for given in self.given if (given.one, given.taker) != (one, taker)]
+    def withdraw(self, one: ObjectId, grantee: int) -> str:
+        refuse_if(not self.gave(one, grantee), Refusal.NotGranted)
+        self.given = [given for given in self.given if (given.one, given.grantee) != (one, grantee)]
         if one in self.copies:
             self.sweep(one)
         return "ok"

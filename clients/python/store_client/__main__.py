@@ -73,11 +73,11 @@ def delete(store: Connection, words: argparse.Namespace) -> None:
 
 
 def grant(store: Connection, words: argparse.Namespace) -> None:
-    store.grant(_id(store, words), words.taker)
+    store.grant(_id(store, words), words.grantee)
 
 
 def withdraw(store: Connection, words: argparse.Namespace) -> None:
-    store.withdraw(_id(store, words), words.taker)
+    store.withdraw(_id(store, words), words.grantee)
 
 
 def end_task(store: Connection, words: argparse.Namespace) -> None:
@@ -195,10 +195,10 @@ def _add_grants(command: _Adding) -> None:
     added.add_argument("count", type=_number("a number of bytes"), help="at most 65536")
     added = command("grant", grant, "lets another job peek at an object")
     added.add_argument("id")
-    added.add_argument("taker", metavar="job", type=_number("a job"))
+    added.add_argument("grantee", metavar="job", type=_number("a job"))
     added = command("withdraw", withdraw, "ends a grant")
     added.add_argument("id")
-    added.add_argument("taker", metavar="job", type=_number("a job"))
+    added.add_argument("grantee", metavar="job", type=_number("a job"))
 
 
 def _add_lists(command: _Adding) -> None:

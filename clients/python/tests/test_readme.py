@@ -62,10 +62,10 @@ class Readme(unittest.TestCase):
 
     @unittest.skipUnless(importlib.util.find_spec("numpy"), "numpy isn't there")
     def test_an_array_between_two_jobs(self) -> None:
-        giver = self.at_a_prompt(shown("job 1 puts an array and grants it to job 2:"))
-        taker = self.at_a_prompt(shown("job 2 gets it."))
-        self.assertTrue((taker["array"] == giver["numpy"].arange(1_000_000.0).reshape(1000, 1000)).all())
-        for names in (giver, taker):
+        grantor = self.at_a_prompt(shown("job 1 puts an array and grants it to job 2:"))
+        grantee = self.at_a_prompt(shown("job 2 gets it."))
+        self.assertTrue((grantee["array"] == grantor["numpy"].arange(1_000_000.0).reshape(1000, 1000)).all())
+        for names in (grantor, grantee):
             names["store"].close()
 
     def test_the_program(self) -> None:

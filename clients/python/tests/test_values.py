@@ -244,37 +244,37 @@ class Stored(ServerOfAll):
 
     @unittest.skipIf(numpy is None, "numpy isn't there")
     def test_an_array_goes_from_job_to_job(self) -> None:
-        giver, taker = self.connect(), self.connect(2)
+        grantor, grantee = self.connect(), self.connect(2)
         put = numpy.arange(20_000, dtype="f4").reshape(100, 200)
-        id = giver.put_array(put)
-        giver.grant_value(id, 2)
-        self.assertTrue(numpy.array_equal(taker.get_array(id), put))
+        id = grantor.put_array(put)
+        grantor.grant_value(id, 2)
+        self.assertTrue(numpy.array_equal(grantee.get_array(id), put))
         with self.assertRaises(store_client.Granted):
-            giver.delete_value(id)
-        giver.withdraw_value(id, 2)
-        giver.delete_value(id)
+            grantor.delete_value(id)
+        grantor.withdraw_value(id, 2)
+        grantor.delete_value(id)
 
     @unittest.skipIf(numpy is None, "numpy isn't there")
     def test_an_array_in_parts_goes_from_job_to_job(self) -> None:
         """All parts are granted, or none: one that was spilled can't be."""
-        giver, taker = self.connect(5), self.connect(2)
+        grantor, grantee = self.connect(5), self.connect(2)
         put = numpy.arange(SMALL_WINDOW // 8 - 100)
         id = Task(os.urandom(20)).object(1, job=5)
         manifest = Manifest(len(whole(encode_array(put))), 4096, [id.task.object(index, job=5) for index in range(2, 6)])
         for part, piece in zip(manifest.ids, encode_array(put).cut(4096)):
-            giver.put(whole(piece), part)
-        giver.put(manifest.encode(), id)
-        giver.grant_value(id, 2)
-        self.assertTrue(numpy.array_equal(taker.get_array(id), put))
-        giver.withdraw_value(id, 2)
-        self.assertEqual(taker.list()[1], [])
-        giver.delete(manifest.ids[3])
+            grantor.put(whole(piece), part)
+        grantor.put(manifest.encode(), id)
+        grantor.grant_value(id, 2)
+        self.assertTrue(numpy.array_equal(grantee.get_array(id), put))
+        grantor.withdraw_value(id, 2)
+        self.assertEqual(grantee.list()[1], [])
+        grantor.delete(manifest.ids[3])
         with self.assertRaises(store_client.Absent):
-            giver.grant_value(id, 2)
-        self.assertEqual(taker.list()[1], [])
+            grantor.grant_value(id, 2)
+        self.assertEqual(grantee.list()[1], [])
         with self.assertRaises(store_client.Absent):
-            giver.get_array(id)
-        giver.end_task(id.task)
+            grantor.get_array(id)
+        grantor.end_task(id.task)
 
     @unittest.skipIf(numpy is None, "numpy isn't there")
     def test_a_large_array_goes_in_and_out(self) -> None:

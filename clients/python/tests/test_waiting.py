@@ -248,20 +248,20 @@ class GrantedObjects(Waiting):
     def test_it_is_got_whole_once_it_is_granted(self) -> None:
         data = os.urandom(70_000)
         self.store.put(data, self.id())
-        taker = self.connect(2)
+        grantee = self.connect(2)
         with self.assertRaises(NotGranted):
-            taker.get(self.id())
-        self.assertFalse(taker.contains(self.id()))
+            grantee.get(self.id())
+        self.assertFalse(grantee.contains(self.id()))
         self.later(lambda: self.store.grant(self.id(), 2))
-        self.assertEqual(taker.wait([self.id()], timeout=PATIENCE), ([self.id()], []))
-        self.assertTrue(taker.contains(self.id()))
+        self.assertEqual(grantee.wait([self.id()], timeout=PATIENCE), ([self.id()], []))
+        self.assertTrue(grantee.contains(self.id()))
         for timeout in (None, 0.0, 1.0):
-            with taker.get(self.id(), timeout) as view:
+            with grantee.get(self.id(), timeout) as view:
                 self.assertEqual(view, data)
-        self.assertEqual(taker.usage().copies, 0)
+        self.assertEqual(grantee.usage().copies, 0)
         self.store.withdraw(self.id(), 2)
         with self.assertRaises(NotGranted):
-            taker.get(self.id(), timeout=0.1)
+            grantee.get(self.id(), timeout=0.1)
 
 
 class RoundTrips(unittest.TestCase):

@@ -11,7 +11,7 @@ use Rattle.std.specs.contracts.boxed.Box as Box
 use Rattle.std.specs.contracts.impls.GlobalAllocator.TheImpl.{ghosts}
 use Rattle.std.proofs.Crossing.{Box-send, crosses}
 use Rattle.augmented_tree.specs.contracts.Node as Node
-use Rattle.augmented_tree.specs.contracts.Room as Room
+use Rattle.augmented_tree.specs.contracts.SpareNode as SpareNode
 use Rattle.augmented_tree.specs.contracts.Tree as Tree
 use Rattle.augmented_tree.specs.contracts.Tree.TheKnot as knot
 use Rattle.augmented_tree.specs.declared.Tree.TheBlock as block
@@ -30,5 +30,5 @@ module _ (T S : RattleType) (t : IsSend T) (s : IsSend S) where
   node_send : IsSend (Node.the_row T S)
   node_send = declared_send (Node.the_type T S) (as_row_send (row_field T) t, (as_row_send (row_field S) s, (tree_send, (tree_send, tt))))
 
-  pub room_send : IsSend (Room.the_row T S)
+  pub room_send : IsSend (SpareNode.the_row T S)
   room_send = search (node_send, sendable, crosses) depth 40

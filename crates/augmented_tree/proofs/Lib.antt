@@ -1,4 +1,4 @@
 mod Order
-mod Kept
+mod WellOrdered
 pub mod Crossing
 pub mod ForCallers

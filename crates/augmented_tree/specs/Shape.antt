@@ -18,9 +18,9 @@ abbrev pub middle : ℕ → ℕ → ℕ
 middle low high = (low + high + 1) / 2
 
 -- each node has the summary of its item and all below
-abbrev pub IsTold : {A S : Type 0} → (A → Type 0) → (S → List A → Type 0) → Tree A S → Type 0
-IsTold fits tells Leaf = Unit {0}
-IsTold fits tells (Fork' p here summary left right) = fits here × tells summary (here ∷ items left ++ items right) × IsTold fits tells left × IsTold fits tells right
+abbrev pub HasSummaries : {A S : Type 0} → (A → Type 0) → (S → List A → Type 0) → Tree A S → Type 0
+HasSummaries fits tells Leaf = Unit {0}
+HasSummaries fits tells (Fork' p here summary left right) = fits here × tells summary (here ∷ items left ++ items right) × HasSummaries fits tells left × HasSummaries fits tells right
 
 -- a tree over the keys from low to high: the node has the least, the others lie below or above the middle
 abbrev pub IsTree : {A S : Type 0} → (A → ℕ) → (A → Type 0) → (S → List A → Type 0) → ℕ → ℕ → Tree A S → Type 0

@@ -5,7 +5,7 @@
 
 ghost use Rattle.std.specs.Prelude.{◌≡◌, ℕ, ◌+◌, ◌^◌, ◌<◌, ◌≤◌, List, [], ◌∷◌, ◌++◌, nat_lt, if◌then◌else◌, IfSome, IfNone, is_some};
 ghost use Rattle.augmented_tree.specs.Lists.{put_item, take_item, has_item, find_item, change_item};
-ghost use Rattle.augmented_tree.specs.Shape.{items, middle as middle_of, IsTold, IsTree};
+ghost use Rattle.augmented_tree.specs.Shape.{items, middle as middle_of, HasSummaries, IsTree};
 
 use std::alloc::{AllocError, Global};
 use std::mem;
@@ -81,20 +81,20 @@ pub struct Node<T, S> {
 
 /// Room for one item, so that putting it in its place takes no memory.
 #[derive(Drop)]
-pub struct Room<T, S> {
+pub struct SpareNode<T, S> {
     node: Box<Node<T, S>>,
 }
 
-impl<T: Keyed<S>, S: Drop> Room<T, S> {
+impl<T: Keyed<S>, S: Drop> SpareNode<T, S> {
     /// Takes the memory of one item. Which one stands in it until then doesn't matter.
-    pub fn new(alloc: Global, item: T) -> Result<Room<T, S>, AllocError> {
+    pub fn new(alloc: Global, item: T) -> Result<SpareNode<T, S>, AllocError> {
         let node = Node {
             here: item,
             summary: T::none(),
             left: Tree::Leaf,
             right: Tree::Leaf,
         };
-        Ok(Room {
+        Ok(SpareNode {
             node: Box::new(alloc, node)?,
         })
     }
@@ -110,7 +110,7 @@ pub fn middle(low: u64, high: u64) -> u64
 
 /// The summary of all items.
 pub fn summary<T: Keyed<S>, S: Copy>(tree: &Tree<T, S>) -> S
-    requires { IsTold T.fits T.tells tree.now }
+    requires { HasSummaries T.fits T.tells tree.now }
     ensures { T.tells result (items tree.now) }
 {
     match tree {
@@ -125,7 +125,7 @@ pub fn summary<T: Keyed<S>, S: Copy>(tree: &Tree<T, S>) -> S
 /// The summary of a node's own item and those on its sides. Many nodes have nothing on a side, and then it counts for nothing.
 fn summary_with<T: Keyed<S>, S: Copy>(here: T, left: &Tree<T, S>, right: &Tree<T, S>) -> S
     requires fits { T.fits here }
-    requires told { IsTold T.fits T.tells left.now × IsTold T.fits T.tells right.now }
+    requires told { HasSummaries T.fits T.tells left.now × HasSummaries T.fits T.tells right.now }
     ensures { T.tells result (here ∷ items left.now ++ items right.now) }
 {
     let own = here.alone();
@@ -176,10 +176,10 @@ fn ordered<T: Keyed<S>, S>(a: T, b: T) -> (T, T)
     if a.key() < b.key() { (a, b) } else { (b, a) }
 }
 
-/// Puts an item in its place, in place of the one of its key, if there is one. It uses the room, and takes no memory.
+/// Puts an item in its place, in place of the one of its key, if there is one. It uses the spare node, and takes no memory.
 pub fn put<T: Keyed<S>, S: Copy>(
     tree: &mut Tree<T, S>,
-    room: Room<T, S>,
+    room: SpareNode<T, S>,
     item: T,
     low: u64,
     high: u64,
@@ -191,7 +191,7 @@ pub fn put<T: Keyed<S>, S: Copy>(
 {
     match tree {
         Tree::Leaf => {
-            let Room { mut node } = room;
+            let SpareNode { mut node } = room;
             *node = Node {
                 here: item,
                 summary: item.alone(),
@@ -223,8 +223,8 @@ pub fn put<T: Keyed<S>, S: Copy>(
 
 /// Takes out the first item, and gives the node that it leaves.
 fn pop<T: Keyed<S>, S: Copy>(tree: &mut Tree<T, S>) -> Option<Box<Node<T, S>>>
-    requires { IsTold T.fits T.tells tree.old }
-    ensures told { IsTold T.fits T.tells tree.new }
+    requires { HasSummaries T.fits T.tells tree.old }
+    ensures told { HasSummaries T.fits T.tells tree.new }
     ensures tree { (low high : ℕ) → IsTree T.key T.fits T.tells low high tree.old → IsTree T.key T.fits T.tells low high tree.new }
     ensures some { IfSome result (λ b. items tree.old ≡ b.value.here ∷ items tree.new) }
     ensures none { IfNone result ((items tree.old ≡ []) × (items tree.new ≡ [])) }
@@ -276,13 +276,13 @@ pub fn widen<T: Keyed<S>, S: Copy>(tree: &mut Tree<T, S>, low: u64, high: u64)
     *tree = Tree::Fork(node);
 }
 
-/// Takes out the item of a key, if there is one, and gives the room that it leaves. Takes no memory.
+/// Takes out the item of a key, if there is one, and gives the spare node that it leaves. Takes no memory.
 pub fn take<T: Keyed<S>, S: Copy>(
     tree: &mut Tree<T, S>,
     key: u64,
     low: u64,
     high: u64,
-) -> Option<Room<T, S>>
+) -> Option<SpareNode<T, S>>
     requires tree { IsTree T.key T.fits T.tells low high tree.old }
     requires range { high < 2 ^ 63 }
     ensures less { IsTree T.key T.fits T.tells low high tree.new × (items tree.new ≡ take_item T.key key (items tree.old)) }
@@ -295,7 +295,7 @@ pub fn take<T: Keyed<S>, S: Copy>(
             if node.here.key() == key {
                 return match pop(tree) {
                     None => None,
-                    Some(node) => Some(Room { node }),
+                    Some(node) => Some(SpareNode { node }),
                 };
             }
             let middle = middle(low, high);

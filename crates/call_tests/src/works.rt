@@ -59,7 +59,7 @@ fn worked<L: Ledger, R: Wait, D: SpillDevice>(
     }
 }
 
-/// The first object is in the way of the second: a write of it that failed is told once, and then it is written.
+/// The first object is in the way of the second: a write of it that failed is answered once, and then it is written.
 fn spill_the_first<L: Ledger, R: Wait + Abort, D: SpillDevice>(
     rt: &R,
     node: &SharedNode<L>,

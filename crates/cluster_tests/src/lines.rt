@@ -5,7 +5,7 @@ ghost use Rattle.world_core.specs.Worlds.{is_within as is_within_lem};
 use bytes::Bytes;
 use obj_id::DeviceAnswer;
 use private_store::{Event, Step};
-use schedule_text::{Line, Outcome, read_line};
+use schedule_text::{FinishWord, Line, read_line};
 use std::alloc::{AllocError, Global};
 use std::process::Abort;
 use world_core::is_within;
@@ -20,15 +20,15 @@ fn read(alloc: Global, line: &str) -> Result<Option<Line>, AllocError> {
 
 /// What is handed in for a work on 32 bytes that were never written: zeros, whether it read or wrote them; zeros but for one
 /// bit; or a failure.
-fn answer(alloc: Global, outcome: Outcome) -> Result<DeviceAnswer, AllocError> {
+fn answer(alloc: Global, outcome: FinishWord) -> Result<DeviceAnswer, AllocError> {
     match outcome {
-        Outcome::Ok => Ok(DeviceAnswer::Bytes(bytes_of(alloc, &[0; 32])?)),
-        Outcome::Damage => {
+        FinishWord::Ok => Ok(DeviceAnswer::Bytes(bytes_of(alloc, &[0; 32])?)),
+        FinishWord::Damage => {
             let mut bytes = [0; 32];
             bytes[0] = 1;
             Ok(DeviceAnswer::Bytes(bytes_of(alloc, &bytes)?))
         }
-        Outcome::Fail => Ok(DeviceAnswer::Failed),
+        FinishWord::Fail => Ok(DeviceAnswer::Failed),
     }
 }
 

@@ -13,12 +13,12 @@ use schedule_text::{Prefix, answer_line};
 use std::alloc::{AllocError, Global};
 use std::process::Abort;
 use std::test::Fail;
-use world_core::{Shape, Trace, World};
+use world_core::{ClusterSize, Trace, World};
 
 /// The bytes of a node's memory, if a test needs no other number.
 const MEMORY: u64 = 1_073_741_824;
 
-const TWO_NODES: Shape = Shape {
+const TWO_NODES: ClusterSize = ClusterSize {
     nodes: 2,
     memory: MEMORY,
 };
@@ -291,7 +291,7 @@ fn schedule_of(rt: &impl Abort, alloc: Global, lines: &str) -> Result<Vec<Step>,
     Ok(steps)
 }
 
-/// What the job was told, line by line; nothing if memory ran out in the run.
+/// What the job was answered, line by line; nothing if memory ran out in the run.
 fn told_to(alloc: Global, job: JobNo, trace: &Trace) -> Result<Option<String>, AllocError> {
     let mut all = String::new(alloc);
     for entry in trace.entries() {
@@ -310,7 +310,7 @@ fn told_to(alloc: Global, job: JobNo, trace: &Trace) -> Result<Option<String>, A
     Ok(Some(all))
 }
 
-/// What job 1 is told in a run of these lines, and in one of the others; nothing if memory ran out.
+/// What job 1 is answered in a run of these lines, and in one of the others; nothing if memory ran out.
 fn told_in_both(
     rt: &impl Abort,
     alloc: Global,
@@ -322,14 +322,14 @@ fn told_in_both(
 {
     let first = schedule_of(rt, alloc, lines)?;
     let second = schedule_of(rt, alloc, others)?;
-    let shape = Shape { nodes: 2, memory };
+    let shape = ClusterSize { nodes: 2, memory };
     let Ok((first, second)) = run_two(alloc, shape, first, second) else {
         return Ok(None);
     };
     both_told(alloc, &first, &second)
 }
 
-/// What job 1 was told in both, unless memory ran out in one of them.
+/// What job 1 was answered in both, unless memory ran out in one of them.
 fn both_told(
     alloc: Global,
     first: &Trace,
@@ -366,7 +366,7 @@ n0 j1 s1 placed 0 32
 n0 j1 s1 list t1.2:created:primary:32
 ";
 
-/// Checks that job 1 is told this in both runs, on nodes with so many bytes of memory. A run in which memory ran out is made
+/// Checks that job 1 is answered this in both runs, on nodes with so many bytes of memory. A run in which memory ran out is made
 /// once more.
 fn check_told_alike(
     rt: &impl Abort,
@@ -433,7 +433,7 @@ n0 j1 s1 ok
 ";
 
 #[test]
-fn a_giver_is_told_the_same_without_those_who_hand_on(rt: HostRuntime) -> Result<(), Fail> {
+fn a_grantor_is_told_the_same_without_those_who_hand_on(rt: HostRuntime) -> Result<(), Fail> {
     check_told_alike(
         &rt,
         rt.alloc(),

@@ -6,10 +6,10 @@ use Rattle.std.specs.Option.{option_map}
 use Rattle.std.proofs.lemmas.Bool.Decides.{nat_tests}
 use Rattle.augmented_tree.specs.Lists.{AllOf, find_item}
 use Rattle.obj_id.specs.declared.works.Extent.{Extent}
-use Rattle.use_tree.specs.declared.choices.Choice.{Choice}
-use Rattle.use_tree.specs.declared.choices.Choices.{Choices}
+use Rattle.use_tree.specs.declared.classes.VictimClass.{VictimClass}
+use Rattle.use_tree.specs.declared.classes.VictimClasses.{VictimClasses}
 use Rattle.extent_tree.specs.declared.residents.Resident.{Resident}
-use Rattle.extent_tree.specs.Residents.{offset_of, with_choices, IsRising, goes, staying, remaining, choose_resident, choices_at}
+use Rattle.extent_tree.specs.Residents.{resident_offset, resident_in_classes, AreResidentsRising, goes, staying, remaining, resident_with_classes, classes_at}
 
 -- none goes besides
 pub remaining_all : (xs : List Resident) → remaining [] xs ≡ xs
@@ -23,23 +23,23 @@ remaining_after e gone (x ∷ xs) h =
     let t : nat_eq e.offset x.extent.offset ≡ false = grind (arith, nat_tests, h.0) in
     rw (t, remaining_after e gone xs h.1) refl
 
-module _ (k : Choice) (e : Extent) (m : Choices) (marked : goes k m ≡ true) (gone : List Extent) where
+module _ (k : VictimClass) (e : Extent) (m : VictimClasses) (marked : goes k m ≡ true) (gone : List Extent) where
   -- whether an extent at an offset goes besides
   abbrev gone_at : ℕ → Bool
   gone_at o = list_any (λ (g : Extent). nat_eq g.offset o) gone
 
   -- one that is marked as going goes, as if its extent went
-  pub staying_marked : (xs : List Resident) → IsRising xs → staying k (remaining gone (choose_resident e.offset m xs)) ≡ staying k (remaining (e ∷ gone) xs)
+  pub staying_marked : (xs : List Resident) → AreResidentsRising xs → staying k (remaining gone (resident_with_classes e.offset m xs)) ≡ staying k (remaining (e ∷ gone) xs)
   staying_marked [] rising = refl
   staying_marked (x ∷ xs) rising = by (staying_marked xs rising.1) (nat_eq e.offset x.extent.offset) refl
     where
       -- the marked one itself
-      leaves : (b : Bool) → staying k (if b then with_choices m x ∷ remaining gone xs else remaining gone xs) ≡ staying k (remaining gone xs)
+      leaves : (b : Bool) → staying k (if b then resident_in_classes m x ∷ remaining gone xs else remaining gone xs) ≡ staying k (remaining gone xs)
       leaves true = rw marked refl
       leaves false = refl
 
-      by : staying k (remaining gone (choose_resident e.offset m xs)) ≡ staying k (remaining (e ∷ gone) xs) → (b : Bool) → nat_eq e.offset x.extent.offset ≡ b
-          → staying k (remaining gone (choose_resident e.offset m (x ∷ xs))) ≡ staying k (remaining (e ∷ gone) (x ∷ xs))
+      by : staying k (remaining gone (resident_with_classes e.offset m xs)) ≡ staying k (remaining (e ∷ gone) xs) → (b : Bool) → nat_eq e.offset x.extent.offset ≡ b
+          → staying k (remaining gone (resident_with_classes e.offset m (x ∷ xs))) ≡ staying k (remaining (e ∷ gone) (x ∷ xs))
       by rest true t =
           let same : e.offset ≡ x.extent.offset = grind (arith, nat_tests, t) in
           let others = remaining_after e gone xs (later same) in
@@ -49,35 +49,35 @@ module _ (k : Choice) (e : Extent) (m : Choices) (marked : goes k m ≡ true) (g
           later same = subst (λ o. AllOf (λ y. o < y.extent.offset) xs) (sym same) rising.0
       by rest false t = rw t (on (not (gone_at x.extent.offset)))
         where
-          on : (b : Bool) → map (λ y. y.extent) (filter (λ y. not (goes k y.choices)) (if b then x ∷ remaining gone (choose_resident e.offset m xs) else remaining gone (choose_resident e.offset m xs)))
-              ≡ map (λ y. y.extent) (filter (λ y. not (goes k y.choices)) (if b then x ∷ remaining (e ∷ gone) xs else remaining (e ∷ gone) xs))
-          on true = elim (goes k x.choices) as (λ c. map (λ y. y.extent) (if not c then x ∷ filter (λ y. not (goes k y.choices)) (remaining gone (choose_resident e.offset m xs)) else filter (λ y. not (goes k y.choices)) (remaining gone (choose_resident e.offset m xs)))
-              ≡ map (λ y. y.extent) (if not c then x ∷ filter (λ y. not (goes k y.choices)) (remaining (e ∷ gone) xs) else filter (λ y. not (goes k y.choices)) (remaining (e ∷ gone) xs))) [
+          on : (b : Bool) → map (λ y. y.extent) (filter (λ y. not (goes k y.classes)) (if b then x ∷ remaining gone (resident_with_classes e.offset m xs) else remaining gone (resident_with_classes e.offset m xs)))
+              ≡ map (λ y. y.extent) (filter (λ y. not (goes k y.classes)) (if b then x ∷ remaining (e ∷ gone) xs else remaining (e ∷ gone) xs))
+          on true = elim (goes k x.classes) as (λ c. map (λ y. y.extent) (if not c then x ∷ filter (λ y. not (goes k y.classes)) (remaining gone (resident_with_classes e.offset m xs)) else filter (λ y. not (goes k y.classes)) (remaining gone (resident_with_classes e.offset m xs)))
+              ≡ map (λ y. y.extent) (if not c then x ∷ filter (λ y. not (goes k y.classes)) (remaining (e ∷ gone) xs) else filter (λ y. not (goes k y.classes)) (remaining (e ∷ gone) xs))) [
                 | true ↦ rest
                 | false ↦ ap (λ es. x.extent ∷ es) rest
               ]
           on false = rest
 
 -- a mark that is taken back leaves all as it was
-pub choices_back : (o : ℕ) (m c : Choices) (xs : List Resident) → choices_at o xs ≡ Some c → choose_resident o c (choose_resident o m xs) ≡ xs
+pub choices_back : (o : ℕ) (m c : VictimClasses) (xs : List Resident) → classes_at o xs ≡ Some c → resident_with_classes o c (resident_with_classes o m xs) ≡ xs
 choices_back o m c [] h = absurd cc
 choices_back o m c (x ∷ xs) h = by (choices_back o m c xs) (nat_eq o x.extent.offset) refl h
   where
-    by : (choices_at o xs ≡ Some c → choose_resident o c (choose_resident o m xs) ≡ xs) → (b : Bool) → nat_eq o x.extent.offset ≡ b
-        → option_map (λ (y : Resident). y.choices) (if b then Some x else find_item offset_of o xs) ≡ Some c → choose_resident o c (choose_resident o m (x ∷ xs)) ≡ x ∷ xs
-    by rest true t h = rw (t, t) (λ i. record x { choices = some_of (sym h i) } ∷ xs)
+    by : (classes_at o xs ≡ Some c → resident_with_classes o c (resident_with_classes o m xs) ≡ xs) → (b : Bool) → nat_eq o x.extent.offset ≡ b
+        → option_map (λ (y : Resident). y.classes) (if b then Some x else find_item resident_offset o xs) ≡ Some c → resident_with_classes o c (resident_with_classes o m (x ∷ xs)) ≡ x ∷ xs
+    by rest true t h = rw (t, t) (λ i. record x { classes = some_of (sym h i) } ∷ xs)
       where
-        some_of : Option Choices → Choices
+        some_of : Option VictimClasses → VictimClasses
         some_of None = c
         some_of (Some d) = d
     by rest false t h = rw (t, t) (ap (λ ys. x ∷ ys) (rest h))
 
 -- nothing is marked where nothing begins
-pub choose_none : (o : ℕ) (m : Choices) (xs : List Resident) → choices_at o xs ≡ None → choose_resident o m xs ≡ xs
+pub choose_none : (o : ℕ) (m : VictimClasses) (xs : List Resident) → classes_at o xs ≡ None → resident_with_classes o m xs ≡ xs
 choose_none o m [] h = refl
 choose_none o m (x ∷ xs) h = by (choose_none o m xs) (nat_eq o x.extent.offset) refl h
   where
-    by : (choices_at o xs ≡ None → choose_resident o m xs ≡ xs) → (b : Bool) → nat_eq o x.extent.offset ≡ b
-        → option_map (λ (y : Resident). y.choices) (if b then Some x else find_item offset_of o xs) ≡ None → choose_resident o m (x ∷ xs) ≡ x ∷ xs
+    by : (classes_at o xs ≡ None → resident_with_classes o m xs ≡ xs) → (b : Bool) → nat_eq o x.extent.offset ≡ b
+        → option_map (λ (y : Resident). y.classes) (if b then Some x else find_item resident_offset o xs) ≡ None → resident_with_classes o m (x ∷ xs) ≡ x ∷ xs
     by rest true t h = absurd cc
     by rest false t h = rw t (ap (λ ys. x ∷ ys) (rest h))

@@ -4,56 +4,56 @@ use Rattle.std.specs.List.{list_any}
 use Rattle.std.specs.Option.{option_map}
 use Rattle.augmented_tree.specs.Lists.{IsRisingBy, put_item, take_item, has_item, find_item, change_item}
 use Rattle.obj_id.specs.declared.works.Extent.{Extent}
-use Rattle.use_tree.specs.declared.choices.Choice.{Choice}
-use Rattle.use_tree.specs.declared.choices.Choice.TheVariants.{Evictable, Passing, Spillable}
-use Rattle.use_tree.specs.declared.choices.Choices.{Choices}
+use Rattle.use_tree.specs.declared.classes.VictimClass.{VictimClass}
+use Rattle.use_tree.specs.declared.classes.VictimClass.TheVariants.{Evictable, Draining, Spillable}
+use Rattle.use_tree.specs.declared.classes.VictimClasses.{VictimClasses}
 use Rattle.extent_tree.specs.declared.spans.Span.{Span}
 use Rattle.extent_tree.specs.declared.spans.Spans.{Spans}
 use Rattle.extent_tree.specs.declared.residents.Resident.{Resident}
 
-abbrev pub offset_of : Resident → ℕ
-offset_of x = x.extent.offset
+abbrev pub resident_offset : Resident → ℕ
+resident_offset x = x.extent.offset
 
 -- an extent that the widest window may have
-abbrev pub Fits : Resident → Type 0
-Fits x = (x.extent.offset < 536870912) × (x.extent.length < 4294967296)
+abbrev pub ResidentFits : Resident → Type 0
+ResidentFits x = (x.extent.offset < 536870912) × (x.extent.length < 4294967296)
 
-abbrev pub with_choices : Choices → Resident → Resident
-with_choices m x = record x { choices = m }
+abbrev pub resident_in_classes : VictimClasses → Resident → Resident
+resident_in_classes m x = record x { classes = m }
 
 -- each offset is below all later ones
-abbrev pub IsRising : List Resident → Type 0
-IsRising = IsRisingBy offset_of
+abbrev pub AreResidentsRising : List Resident → Type 0
+AreResidentsRising = IsRisingBy resident_offset
 
 -- with an extent in its place, in place of the one at its offset
 abbrev pub put_resident : Resident → List Resident → List Resident
-put_resident = put_item offset_of
+put_resident = put_item resident_offset
 
 -- without the one at an offset
 abbrev pub take_resident : ℕ → List Resident → List Resident
-take_resident = take_item offset_of
+take_resident = take_item resident_offset
 
 -- whether there is one at an offset
 abbrev pub has_resident : ℕ → List Resident → Bool
-has_resident = has_item offset_of
+has_resident = has_item resident_offset
 
--- the walks that choose the one at an offset
-abbrev pub choices_at : ℕ → List Resident → Option Choices
-choices_at o xs = option_map (λ x. x.choices) (find_item offset_of o xs)
+-- the classes of victims of the one at an offset
+abbrev pub classes_at : ℕ → List Resident → Option VictimClasses
+classes_at o xs = option_map (λ x. x.classes) (find_item resident_offset o xs)
 
--- with these walks for the one at an offset
-abbrev pub choose_resident : ℕ → Choices → List Resident → List Resident
-choose_resident o m = change_item offset_of (with_choices m) o
+-- with these classes for the one at an offset
+abbrev pub resident_with_classes : ℕ → VictimClasses → List Resident → List Resident
+resident_with_classes o m = change_item resident_offset (resident_in_classes m) o
 
--- whether a copy with these choices goes if all go that this walk and those before it choose
-abbrev pub goes : Choice → Choices → Bool
+-- whether a copy in these classes goes if all go of this class and those before it
+abbrev pub goes : VictimClass → VictimClasses → Bool
 goes Evictable m = m.evictable
-goes Passing m = m.evictable || m.passing
-goes Spillable m = m.evictable || (m.passing || m.spillable)
+goes Draining m = m.evictable || m.draining
+goes Spillable m = m.evictable || (m.draining || m.spillable)
 
 -- the extents that stay then
-abbrev pub staying : Choice → List Resident → List Extent
-staying k xs = map (λ x. x.extent) (filter (λ x. not (goes k x.choices)) xs)
+abbrev pub staying : VictimClass → List Resident → List Extent
+staying k xs = map (λ x. x.extent) (filter (λ x. not (goes k x.classes)) xs)
 
 -- those at none of these offsets
 abbrev pub remaining : List Extent → List Resident → List Resident
@@ -76,11 +76,11 @@ has_gap q n None = nat_le n q
 has_gap q n (Some s) = nat_le n s.start || (nat_le n s.widest || nat_le (s.end + n) q)
 
 -- the span for a walk
-abbrev pub span_at : Choice → Spans → Option Span
+abbrev pub span_at : VictimClass → Spans → Option Span
 span_at Evictable s = s.evictable
-span_at Passing s = s.passing
+span_at Draining s = s.draining
 span_at Spillable s = s.spillable
 
 -- these are the spans of the extents that stay
-abbrev pub AreOf : Spans → List Resident → Type 0
-AreOf s xs = (k : Choice) → span_at k s ≡ span_of (staying k xs)
+abbrev pub AreSpansOf : Spans → List Resident → Type 0
+AreSpansOf s xs = (k : VictimClass) → span_at k s ≡ span_of (staying k xs)

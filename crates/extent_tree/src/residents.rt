@@ -1,30 +1,30 @@
 //! Resident extents in a tree by offset, each node of which knows the spans of its own extent and all below.
 ghost use Rattle.std.specs.Prelude.{◌≡◌, ◌^◌, ◌<◌, [], ◌&&◌, not, true, false, nat_lt, is_some};
 ghost use Rattle.augmented_tree.specs.Lists.{AllOf};
-ghost use Rattle.extent_tree.specs.Residents.{offset_of, with_choices, Fits, AreOf, IsRising, put_resident, take_resident, has_resident, choose_resident, choices_at, staying, span_of};
+ghost use Rattle.extent_tree.specs.Residents.{resident_offset, resident_in_classes, ResidentFits, AreSpansOf, AreResidentsRising, put_resident, take_resident, has_resident, resident_with_classes, classes_at, staying, span_of};
 
 use crate::spans::{Span, Spans};
 use augmented_tree::{Keyed, Marked, Tree, summary};
 use obj_id::Extent;
 use std::alloc::{AllocError, Global};
 use std::marker::Model;
-use use_tree::{Choice, Choices};
+use use_tree::{VictimClass, VictimClasses};
 
-/// The extent of a resident copy, and the walks for room that choose the copy.
+/// The extent of a resident copy, and the classes of victims that the copy is in.
 #[derive(Clone, Copy, Debug)]
 pub struct Resident {
     /// Its bytes in the window.
     pub extent: Extent,
-    /// The walks that choose its copy.
-    pub choices: Choices,
+    /// The classes of victims that its copy is in.
+    pub classes: VictimClasses,
 }
 
 impl Keyed<Spans> for Resident {
-    ghost key = { offset_of };
+    ghost key = { resident_offset };
 
-    ghost fits = { Fits };
+    ghost fits = { ResidentFits };
 
-    ghost tells = { AreOf };
+    ghost tells = { AreSpansOf };
 
     fn key(self) -> u64 {
         self.extent.offset
@@ -43,14 +43,14 @@ impl Keyed<Spans> for Resident {
     }
 }
 
-impl Marked<Spans, Choices> for Resident {
+impl Marked<Spans, VictimClasses> for Resident {
     ghost use Rattle.std.proofs.Common.{refl};
 
-    ghost marked = { with_choices };
+    ghost marked = { resident_in_classes };
 
-    fn marked(self, mark: Choices) -> Resident {
+    fn marked(self, mark: VictimClasses) -> Resident {
         Resident {
-            choices: mark,
+            classes: mark,
             ..self
         }
     }
@@ -61,35 +61,35 @@ impl Marked<Spans, Choices> for Resident {
 }
 
 /// Room for one extent, so that putting it in its place takes no memory.
-pub struct Room {
-    node: augmented_tree::Room<Resident, Spans>,
+pub struct SpareNode {
+    node: augmented_tree::SpareNode<Resident, Spans>,
 }
 
 // By hand, so that it is proved here and not in each crate above.
-impl Drop for Room {
+impl Drop for SpareNode {
     fn drop(self) {
-        let Room { node: _node } = self;
+        let SpareNode { node: _node } = self;
     }
 }
 
-impl Room {
+impl SpareNode {
     /// Takes the memory of one extent.
-    pub fn new(alloc: Global) -> Result<Room, AllocError> {
+    pub fn new(alloc: Global) -> Result<SpareNode, AllocError> {
         let resident = Resident {
             extent: Extent {
                 offset: 0,
                 length: 0,
             },
-            choices: Choices::none(),
+            classes: VictimClasses::none(),
         };
-        Ok(Room {
-            node: augmented_tree::Room::new(alloc, resident)?,
+        Ok(SpareNode {
+            node: augmented_tree::SpareNode::new(alloc, resident)?,
         })
     }
 
     /// The memory.
-    fn into_node(self) -> augmented_tree::Room<Resident, Spans> {
-        let Room { node } = self;
+    fn into_node(self) -> augmented_tree::SpareNode<Resident, Spans> {
+        let SpareNode { node } = self;
         node
     }
 }
@@ -109,14 +109,14 @@ impl Drop for Residents {
 impl Model for Residents {
     ghost use Rattle.std.specs.Prelude.{List};
     ghost use Rattle.augmented_tree.specs.Shape.{items, IsTree};
-    ghost use Rattle.extent_tree.specs.Residents.{offset_of, Fits, AreOf};
+    ghost use Rattle.extent_tree.specs.Residents.{resident_offset, ResidentFits, AreSpansOf};
     ghost use Rattle.extent_tree.specs.declared.residents.Resident.{Resident};
 
     ghost Value = { List Resident };
 
     ghost view = { λ a. items a.tree };
 
-    ghost invariant = { λ a. IsTree offset_of Fits AreOf 0 536870912 a.tree };
+    ghost invariant = { λ a. IsTree resident_offset ResidentFits AreSpansOf 0 536870912 a.tree };
 }
 
 /// Where the offsets end: past the widest window.
@@ -133,10 +133,10 @@ impl Residents {
         Residents { tree: Tree::Leaf }
     }
 
-    /// Puts an extent in its place, into the room, and answers whether it did. Not if one begins at its offset already, or it
+    /// Puts an extent in its place, into the spare node, and answers whether it did. Not if one begins at its offset already, or it
     /// lies beyond the widest window (its offset is 2^29 or more, or its length 2^32 or more), and then nothing has changed.
     /// Takes no memory.
-    pub fn put(&mut self, room: Room, resident: Resident) -> bool
+    pub fn put(&mut self, room: SpareNode, resident: Resident) -> bool
         ensures placed { result ≡ true → (self.new ≡ put_resident resident self.old) × (has_resident resident.extent.offset self.old ≡ false) }
         ensures refused { result ≡ false → self.new ≡ self.old }
         ensures when { result ≡ (nat_lt resident.extent.offset 536870912 && (nat_lt resident.extent.length 4294967296 && not (has_resident resident.extent.offset self.old))) }
@@ -152,42 +152,42 @@ impl Residents {
         true
     }
 
-    /// Takes out the extent at an offset, if there is one, and gives the room that it leaves. Takes no memory.
-    pub fn take(&mut self, offset: u64) -> Option<Room>
-        ensures rising { IsRising self.old }
+    /// Takes out the extent at an offset, if there is one, and gives the spare node that it leaves. Takes no memory.
+    pub fn take(&mut self, offset: u64) -> Option<SpareNode>
+        ensures rising { AreResidentsRising self.old }
         ensures residents { self.new ≡ take_resident offset self.old }
         ensures there { is_some result ≡ has_resident offset self.old }
     {
         match augmented_tree::take(&mut self.tree, offset, 0, END) {
             None => None,
-            Some(node) => Some(Room { node }),
+            Some(node) => Some(SpareNode { node }),
         }
     }
 
-    /// These walks choose the copy at an offset, if there is one. Takes no memory.
-    pub fn choose(&mut self, offset: u64, choices: Choices)
-        ensures rising { IsRising self.old }
-        ensures residents { self.new ≡ choose_resident offset choices self.old }
+    /// The copy at an offset, if there is one, is in these classes of victims. Takes no memory.
+    pub fn set_classes(&mut self, offset: u64, classes: VictimClasses)
+        ensures rising { AreResidentsRising self.old }
+        ensures residents { self.new ≡ resident_with_classes offset classes self.old }
     {
-        augmented_tree::set_mark(&mut self.tree, offset, choices, 0, END);
+        augmented_tree::set_mark(&mut self.tree, offset, classes, 0, END);
     }
 
-    /// The span of the extents that stay if all copies go that this walk and those before it choose. Looks at no node but the
+    /// The span of the extents that stay if all copies go of this class and those before it. Looks at no node but the
     /// first.
-    pub fn span(&self, choice: Choice) -> Option<Span>
-        ensures rising { IsRising self.now }
+    pub fn span(&self, class: VictimClass) -> Option<Span>
+        ensures rising { AreResidentsRising self.now }
         ensures small { AllOf (λ x. (x.extent.offset < 2 ^ 29) × (x.extent.length < 2 ^ 32)) self.now }
-        ensures span { result ≡ span_of (staying choice self.now) }
+        ensures span { result ≡ span_of (staying class self.now) }
     {
-        summary(&self.tree).at(choice)
+        summary(&self.tree).at(class)
     }
 
-    /// The walks that choose the copy at an offset, if one begins there.
-    pub fn choices(&self, offset: u64) -> Option<Choices>
-        ensures rising { IsRising self.now }
-        ensures choices { result ≡ choices_at offset self.now }
+    /// The classes of victims that the copy at an offset is in, if one begins there.
+    pub fn classes(&self, offset: u64) -> Option<VictimClasses>
+        ensures rising { AreResidentsRising self.now }
+        ensures classes { result ≡ classes_at offset self.now }
     {
         let resident = augmented_tree::find(&self.tree, offset, 0, END)?;
-        Some(resident.choices)
+        Some(resident.classes)
     }
 }

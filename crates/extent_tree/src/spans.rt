@@ -1,10 +1,10 @@
 //! Spans of extents, and the gaps between them.
 ghost use Rattle.std.specs.Prelude.{◌≡◌, ◌<◌, [], ◌∷◌, Option, Some, None};
-ghost use Rattle.use_tree.specs.declared.choices.Choice.{Choice};
-ghost use Rattle.extent_tree.specs.Residents.{Fits, AreOf, goes as goes_lem, joined as joined_lem, has_gap as has_gap_lem, span_at, staying, span_of};
+ghost use Rattle.use_tree.specs.declared.classes.VictimClass.{VictimClass};
+ghost use Rattle.extent_tree.specs.Residents.{ResidentFits, AreSpansOf, goes as goes_lem, joined as joined_lem, has_gap as has_gap_lem, span_at, staying, span_of};
 
 use crate::residents::Resident;
-use use_tree::{Choice, Choices};
+use use_tree::{VictimClass, VictimClasses};
 
 /// Where extents begin and end, in bytes from the start of a window, and the widest gap from one to the next.
 #[derive(Clone, Copy, Debug, PartialEq, Eq)]
@@ -30,23 +30,23 @@ pub fn has_gap(span: Option<Span>, quota: u64, need: u64) -> bool
     }
 }
 
-/// Whether a copy with these choices goes if all go that this walk and those before it choose.
-fn goes(choice: Choice, choices: Choices) -> bool
-    ensures { result ≡ goes_lem choice choices }
+/// Whether a copy in these classes goes if all go of this class and those before it.
+fn goes(class: VictimClass, classes: VictimClasses) -> bool
+    ensures { result ≡ goes_lem class classes }
 {
-    match choice {
-        Choice::Evictable => choices.evictable,
-        Choice::Passing => choices.evictable || choices.passing,
-        Choice::Spillable => choices.evictable || choices.passing || choices.spillable,
+    match class {
+        VictimClass::Evictable => classes.evictable,
+        VictimClass::Draining => classes.evictable || classes.draining,
+        VictimClass::Spillable => classes.evictable || classes.draining || classes.spillable,
     }
 }
 
 /// The span of one extent, if its copy stays.
-pub(crate) fn span_of_one(choice: Choice, resident: Resident) -> Option<Span>
-    requires { Fits resident }
-    ensures { result ≡ span_of (staying choice (resident ∷ [])) }
+pub(crate) fn span_of_one(class: VictimClass, resident: Resident) -> Option<Span>
+    requires { ResidentFits resident }
+    ensures { result ≡ span_of (staying class (resident ∷ [])) }
 {
-    if goes(choice, resident.choices) {
+    if goes(class, resident.classes) {
         return None;
     }
     Some(Span {
@@ -74,56 +74,56 @@ pub(crate) fn joined(first: Option<Span>, second: Option<Span>) -> Option<Span>
     }
 }
 
-/// For each walk, the span of the extents that stay if all copies go that it and those before it choose.
+/// For each class, the span of the extents that stay if all copies go of it and those before it.
 #[derive(Clone, Copy)]
 pub(crate) struct Spans {
     evictable: Option<Span>,
-    passing: Option<Span>,
+    draining: Option<Span>,
     spillable: Option<Span>,
 }
 
 impl Spans {
     /// Of no extent.
     pub(crate) fn none() -> Spans
-        ensures { AreOf result [] }
+        ensures { AreSpansOf result [] }
     {
         Spans {
             evictable: None,
-            passing: None,
+            draining: None,
             spillable: None,
         }
     }
 
     /// Of one extent.
     pub(crate) fn of(resident: Resident) -> Spans
-        requires { Fits resident }
-        ensures { AreOf result (resident ∷ []) }
+        requires { ResidentFits resident }
+        ensures { AreSpansOf result (resident ∷ []) }
     {
         Spans {
-            evictable: span_of_one(Choice::Evictable, resident),
-            passing: span_of_one(Choice::Passing, resident),
-            spillable: span_of_one(Choice::Spillable, resident),
+            evictable: span_of_one(VictimClass::Evictable, resident),
+            draining: span_of_one(VictimClass::Draining, resident),
+            spillable: span_of_one(VictimClass::Spillable, resident),
         }
     }
 
     /// The span for this walk.
-    pub(crate) fn at(self, choice: Choice) -> Option<Span>
-        ensures { result ≡ span_at choice self }
+    pub(crate) fn at(self, class: VictimClass) -> Option<Span>
+        ensures { result ≡ span_at class self }
     {
-        match choice {
-            Choice::Evictable => self.evictable,
-            Choice::Passing => self.passing,
-            Choice::Spillable => self.spillable,
+        match class {
+            VictimClass::Evictable => self.evictable,
+            VictimClass::Draining => self.draining,
+            VictimClass::Spillable => self.spillable,
         }
     }
 
     /// Of these extents and, after them, the others.
     pub(crate) fn joined(self, other: Spans) -> Spans
-        ensures { (choice : Choice) → span_at choice result ≡ joined_lem (span_at choice self) (span_at choice other) }
+        ensures { (class : VictimClass) → span_at class result ≡ joined_lem (span_at class self) (span_at class other) }
     {
         Spans {
             evictable: joined(self.evictable, other.evictable),
-            passing: joined(self.passing, other.passing),
+            draining: joined(self.draining, other.draining),
             spillable: joined(self.spillable, other.spillable),
         }
     }

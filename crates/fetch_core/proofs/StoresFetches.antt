@@ -11,20 +11,20 @@ use Rattle.obj_id.specs.declared.commands.CopyState.TheVariants.{Created, Sealed
 use Rattle.private_store.specs.declared.inputs.ChunkVerdict.{ChunkVerdict}
 use Rattle.private_store.specs.declared.inputs.ChunkVerdict.TheVariants as verdict
 use Rattle.private_store.specs.declared.faults.FetchFault.TheVariants.{Absent, Damaged}
-use Rattle.private_store.specs.Tables.{at}
-use Rattle.private_store.specs.Shape.{Copy, Shape, Change, Fetch, Phase, locating, sized, pulling, failed, remove_source}
-use Rattle.private_store.specs.Change.{done, sending}
-use Rattle.private_store.specs.Room.{set_copy}
-use Rattle.private_store.specs.Commands.{begin_pull}
-use Rattle.private_store.specs.Events.{fetch_of, is_missing, fetch_failed, not_here_arrived, chunk_arrived}
-use Rattle.private_store.specs.Events as events
-use Rattle.private_store.specs.Contents.{View, source_in, entry_elsewhere, overwritten, chunk_length, chunk_verdict, pulled_verdict, gap_verdict, with_chunk, bytes_at, digest_at, has_digest, is_sized}
-use Rattle.private_store.specs.Kept.{IsViewKept, is_fetching, is_pulling, has_extent}
+use Rattle.private_store.specs.rules.Tables.{at}
+use Rattle.private_store.specs.rules.Shape.{Copy, Shape, Change, Fetch, Phase, locating, sized, pulling, failed, remove_source}
+use Rattle.private_store.specs.rules.Change.{done, sending}
+use Rattle.private_store.specs.rules.Room.{set_copy}
+use Rattle.private_store.specs.rules.Commands.{begin_pull}
+use Rattle.private_store.specs.rules.Events.{fetch_of, is_missing, fetch_failed, not_here_arrived, chunk_arrived}
+use Rattle.private_store.specs.rules.Events as events
+use Rattle.private_store.specs.rules.Contents.{View, source_in, entry_elsewhere, overwritten, chunk_length, chunk_verdict, pulled_verdict, gap_verdict, with_chunk, bytes_at, digest_at, has_digest, is_sized}
+use Rattle.private_store.specs.laws.Invariants.{IsViewKept, is_fetching, is_pulling, has_extent}
 use Rattle.store_facts.proofs.Rows.{at-put_here}
 use Rattle.store_facts.proofs.Tests.{true_false}
 use Rattle.fetch_core.specs.Fetching as fetching
-use Rattle.fetch_core.specs.Fetching.{missing_of, failed_with, located, sized_by, pull_begun, chunk_taken, fills_one, is_whole, is_refused_by}
-use Rattle.fetch_core.specs.Stores.{IsFetchAt, IsLedTo, after_chunk}
+use Rattle.fetch_core.specs.Fetching.{missing_of, failed_with, fetch_after_located, sized_by, pull_begun, fetch_chunk_taken, fills_one, is_whole, is_pulled_from}
+use Rattle.fetch_core.specs.Stores.{IsFetchAt, IsLedTo, store_after_chunk}
 
 -- the fetch of a store's copy, with a digest
 abbrev fetching_of : Copy → Fetch → Option Digest → fetching.Fetching
@@ -83,9 +83,9 @@ module _ (store : Shape) (id : ObjectId) (copy : Copy) (fetch : Fetch) (there : 
     by_number true = by_phase fetch.phase
     by_number false = stays
 
-    located_at : (number : ℕ) → IsFetchAt (events.located store id number (source_in node entries)).shape id (located node number entries f)
+    located_at : (number : ℕ) → IsFetchAt (events.located store id number (source_in node entries)).shape id (fetch_after_located node number entries f)
     located_at number =
-        subst (λ o. IsFetchAt (option_map_or (λ (p : Copy × Fetch). elim p.1.phase [ locating ↦ done (set_copy store id (events.located_copy p.0 p.1 (source_in node entries))) | _ ↦ done store ]) o (done store)).shape id (located node number entries f))
+        subst (λ o. IsFetchAt (option_map_or (λ (p : Copy × Fetch). elim p.1.phase [ locating ↦ done (set_copy store id (events.located_copy p.0 p.1 (source_in node entries))) | _ ↦ done store ]) o (done store)).shape id (fetch_after_located node number entries f))
         (sym (fetch_is number)) (by_number (number == fetch.number))
 
   -- ---- the source has none
@@ -127,9 +127,9 @@ module _ (store : Shape) (id : ObjectId) (copy : Copy) (fetch : Fetch) (there : 
     refused_number (sized source) false e = stays
     refused_number (failed fault) false e = stays
 
-    refused_at : (number : ℕ) → IsFetchAt (not_here_arrived store id number from).shape id (cond (is_refused_by number from f) (failed_with f Absent) f)
+    refused_at : (number : ℕ) → IsFetchAt (not_here_arrived store id number from).shape id (cond (is_pulled_from number from f) (failed_with f Absent) f)
     refused_at number =
-        subst (λ o. IsFetchAt (refused_change o).shape id (cond (is_refused_by number from f) (failed_with f Absent) f))
+        subst (λ o. IsFetchAt (refused_change o).shape id (cond (is_pulled_from number from f) (failed_with f Absent) f))
         (sym (fetch_is number)) (refused_number fetch.phase (number == fetch.number) refl)
 
   -- ---- the chunks are asked for
@@ -141,15 +141,15 @@ module _ (store : Shape) (id : ObjectId) (copy : Copy) (fetch : Fetch) (there : 
       (in_phase room _ (pulling source _) digest refl)
 
 pub fetch_located : (store : Shape) (id : ObjectId) (node number : ℕ) (entries : List Location) (g : fetching.Fetching) → IsFetchAt store id g
-    → IsFetchAt (events.located store id number (source_in node entries)).shape id (located node number entries g)
+    → IsFetchAt (events.located store id number (source_in node entries)).shape id (fetch_after_located node number entries g)
 fetch_located store id node number entries g is =
-    subst (λ f. IsFetchAt (events.located store id number (source_in node entries)).shape id (located node number entries f)) (sym (same store id g is))
+    subst (λ f. IsFetchAt (events.located store id number (source_in node entries)).shape id (fetch_after_located node number entries f)) (sym (same store id g is))
     (located_at store id is.copy is.fetch is.there is.in_fetch g.digest node entries number)
 
 pub fetch_refused : (store : Shape) (id : ObjectId) (number from : ℕ) (g : fetching.Fetching) → IsFetchAt store id g
-    → IsFetchAt (not_here_arrived store id number from).shape id (cond (is_refused_by number from g) (failed_with g Absent) g)
+    → IsFetchAt (not_here_arrived store id number from).shape id (cond (is_pulled_from number from g) (failed_with g Absent) g)
 fetch_refused store id number from g is =
-    subst (λ f. IsFetchAt (not_here_arrived store id number from).shape id (cond (is_refused_by number from f) (failed_with f Absent) f)) (sym (same store id g is))
+    subst (λ f. IsFetchAt (not_here_arrived store id number from).shape id (cond (is_pulled_from number from f) (failed_with f Absent) f)) (sym (same store id g is))
     (refused_at store id is.copy is.fetch is.there is.in_fetch g.digest from number)
 
 pub fetch_begun_at : (store room : Shape) (id : ObjectId) (source offset : ℕ) (g : fetching.Fetching) (is : IsFetchAt store id g) → g.phase ≡ sized source
@@ -287,7 +287,7 @@ module _ (view : View) (id : ObjectId) (copy : Copy) (fetch : Fetch) (there : at
   arrived o = option_map_or (λ (q : Copy × Fetch). taken_change q.0 q.1 q.1.phase (option_map_or (λ (r : Copy × Fetch). pulled_verdict view id index chunk from r.0 r.1.phase) o verdict.Ignored)) o (done view.shape)
 
   taken_at : (number : ℕ) → (is_sized fetch.phase ≡ true → digest ≡ Some (digest_at view.contents.digests id)) → (is_pulling fetch.phase ≡ true → length (bytes_at view.contents.bytes id) ≡ copy.length)
-      → IsLedTo (chunk_arrived view.shape id number index from (chunk_verdict view id number index chunk from)).shape id (after_chunk number from index chunk whole (now_in fetch.phase))
+      → IsLedTo (chunk_arrived view.shape id number index from (chunk_verdict view id number index chunk from)).shape id (store_after_chunk number from index chunk whole (now_in fetch.phase))
   taken_at number d l =
       subst (λ o. IsLedTo (arrived o).shape id (after_in (number == fetch.number) fetch.phase))
       (sym (fetch_is view.shape id copy fetch there in_fetch digest number)) (by (number == fetch.number))
@@ -298,9 +298,9 @@ module _ (view : View) (id : ObjectId) (copy : Copy) (fetch : Fetch) (there : at
 
 pub fetch_takes : (view : View) (id : ObjectId) (number index from : ℕ) (chunk : List ℕ) (g : fetching.Fetching) → IsViewKept view → IsFetchAt view.shape id g
     → (is_sized g.phase ≡ true → g.digest ≡ Some (digest_at view.contents.digests id))
-    → IsLedTo (chunk_arrived view.shape id number index from (chunk_verdict view id number index chunk from)).shape id (after_chunk number from index chunk (with_chunk view id index chunk) g)
+    → IsLedTo (chunk_arrived view.shape id number index from (chunk_verdict view id number index chunk from)).shape id (store_after_chunk number from index chunk (with_chunk view id index chunk) g)
 fetch_takes view id number index from chunk g h is d =
-    subst (λ f. IsLedTo (chunk_arrived view.shape id number index from (chunk_verdict view id number index chunk from)).shape id (after_chunk number from index chunk (with_chunk view id index chunk) f))
+    subst (λ f. IsLedTo (chunk_arrived view.shape id number index from (chunk_verdict view id number index chunk from)).shape id (store_after_chunk number from index chunk (with_chunk view id index chunk) f))
     (sym (same view.shape id g is))
     (taken_at view id is.copy is.fetch is.there is.in_fetch g.digest index from chunk number (λ t. d (ap is_sized is.phase ∙ t)) (λ t. filled is.fetch.phase refl t))
   where

@@ -5,10 +5,10 @@ use Rattle.obj_id.specs.declared.messages.Digest.{Digest}
 use Rattle.obj_id.specs.declared.messages.Location.{Location}
 use Rattle.private_store.specs.declared.faults.FetchFault.{FetchFault}
 use Rattle.private_store.specs.declared.faults.FetchFault.TheVariants.{Absent}
-use Rattle.private_store.specs.Shape.{Phase, locating, sized, pulling, failed}
-use Rattle.private_store.specs.Commands.{counted, chunk_count}
-use Rattle.private_store.specs.Events.{is_missing}
-use Rattle.private_store.specs.Contents.{entry_elsewhere, has_digest, chunk_length}
+use Rattle.private_store.specs.rules.Shape.{Phase, locating, sized, pulling, failed}
+use Rattle.private_store.specs.rules.Commands.{counted, chunk_count}
+use Rattle.private_store.specs.rules.Events.{is_missing}
+use Rattle.private_store.specs.rules.Contents.{entry_elsewhere, has_digest, chunk_length}
 
 -- the fetch, with the length and the digest that its location told
 pub record Fetching : Type 0 where
@@ -36,8 +36,8 @@ abbrev pub sized_by : Fetching → Option Location → Fetching
 sized_by fetch (Some e) = record fetch { phase = sized e.node; length = e.length; digest = Some e.digest }
 sized_by fetch None = failed_with fetch Absent
 
-abbrev pub located : ℕ → ℕ → List Location → Fetching → Fetching
-located node number entries fetch =
+abbrev pub fetch_after_located : ℕ → ℕ → List Location → Fetching → Fetching
+fetch_after_located node number entries fetch =
     if number == fetch.number then (elim fetch.phase [
       | locating ↦ sized_by fetch (entry_elsewhere node entries)
       | _ ↦ fetch
@@ -54,16 +54,16 @@ pull_begun fetch =
     ]
 
 -- whether this source's chunk of n bytes fills a gap
-abbrev pub fills : Fetching → ℕ → ℕ → ℕ → ℕ → ℕ → List ℕ → Bool
-fills fetch number from index n source missing =
+abbrev pub fetch_fills : Fetching → ℕ → ℕ → ℕ → ℕ → ℕ → List ℕ → Bool
+fetch_fills fetch number from index n source missing =
     number == fetch.number && from == source && is_missing missing index && n == chunk_length fetch.length index
 
 -- the fetch without that gap, where the chunk fills one
-abbrev pub chunk_taken : ℕ → ℕ → ℕ → ℕ → Fetching → Fetching
-chunk_taken number from index n fetch =
+abbrev pub fetch_chunk_taken : ℕ → ℕ → ℕ → ℕ → Fetching → Fetching
+fetch_chunk_taken number from index n fetch =
     elim fetch.phase [
       | pulling source missing ↦
-          if fills fetch number from index n source missing
+          if fetch_fills fetch number from index n source missing
           then record fetch { phase = pulling source (filter (λ i. not (i == index)) missing) }
           else fetch
       | _ ↦ fetch
@@ -72,7 +72,7 @@ chunk_taken number from index n fetch =
 abbrev pub fills_one : ℕ → ℕ → ℕ → ℕ → Fetching → Bool
 fills_one number from index n fetch =
     elim fetch.phase [
-      | pulling source missing ↦ fills fetch number from index n source missing
+      | pulling source missing ↦ fetch_fills fetch number from index n source missing
       | _ ↦ false
     ]
 
@@ -83,8 +83,8 @@ abbrev pub is_whole : Fetching → List ℕ → Bool
 is_whole fetch bytes = length bytes == fetch.length && option_map_or (has_digest bytes) fetch.digest false
 
 -- whether the source is asked, and says that it has no such copy
-abbrev pub is_refused_by : ℕ → ℕ → Fetching → Bool
-is_refused_by number from fetch =
+abbrev pub is_pulled_from : ℕ → ℕ → Fetching → Bool
+is_pulled_from number from fetch =
     elim fetch.phase [
       | pulling source missing ↦ number == fetch.number && from == source
       | _ ↦ false

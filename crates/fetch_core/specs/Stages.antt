@@ -1,6 +1,6 @@
 -- How a fetch's stage and its missing indexes are its phase.
 use Rattle.std.specs.Prelude.{ℕ, List}
-use Rattle.private_store.specs.Shape.{Phase, locating, sized, pulling, failed}
+use Rattle.private_store.specs.rules.Shape.{Phase, locating, sized, pulling, failed}
 use Rattle.fetch_core.specs.declared.Stage.{Stage}
 use Rattle.fetch_core.specs.declared.Stage.TheVariants as stage
 

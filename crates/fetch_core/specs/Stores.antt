@@ -3,9 +3,9 @@ use Rattle.std.specs.Prelude.{◌≡◌, ℕ, not, if◌then◌else◌, List, []
 use Rattle.obj_id.specs.declared.ids.ObjectId.{ObjectId}
 use Rattle.obj_id.specs.declared.commands.CopyState.TheVariants.{Sealed}
 use Rattle.private_store.specs.declared.faults.FetchFault.TheVariants.{Damaged}
-use Rattle.private_store.specs.Tables.{at}
-use Rattle.private_store.specs.Shape.{Copy, Shape, Fetch}
-use Rattle.fetch_core.specs.Fetching.{Fetching, missing_of, failed_with, chunk_taken, fills_one, is_whole}
+use Rattle.private_store.specs.rules.Tables.{at}
+use Rattle.private_store.specs.rules.Shape.{Copy, Shape, Fetch}
+use Rattle.fetch_core.specs.Fetching.{Fetching, missing_of, failed_with, fetch_chunk_taken, fills_one, is_whole}
 
 -- the store's copy of the object is in this fetch
 pub record IsFetchAt (store : Shape) (id : ObjectId) (f : Fetching) : Type 0 where
@@ -26,9 +26,9 @@ pub record IsBroughtAt (store : Shape) (id : ObjectId) : Type 0 where
 
 -- a chunk that fills no gap leaves the fetch as it was, and one that isn't the last leaves the others missing.
 -- The last one ends it, if these are the object's bytes: it is over then; otherwise it has failed
-abbrev pub after_chunk : ℕ → ℕ → ℕ → List ℕ → List ℕ → Fetching → Option Fetching
-after_chunk number from index chunk bytes f =
-    let taken = chunk_taken number from index (length chunk) f in
+abbrev pub store_after_chunk : ℕ → ℕ → ℕ → List ℕ → List ℕ → Fetching → Option Fetching
+store_after_chunk number from index chunk bytes f =
+    let taken = fetch_chunk_taken number from index (length chunk) f in
     if not (fills_one number from index (length chunk) f) then Some f else
     (elim (missing_of taken.phase) [
       | _ ∷ _ ↦ Some taken

@@ -5,13 +5,13 @@
 
 ghost use Rattle.std.specs.Prelude.{◌≡◌, ℕ, ◌*◌, not, if◌then◌else◌, OnOk, OnErr, IfOk, IfSome, length, take, drop, filter, is_some, nat_lt, nat_eq};
 ghost use Rattle.private_store.specs.declared.faults.FetchFault.TheVariants.{Damaged, Absent};
-ghost use Rattle.private_store.specs.Shape.{sized};
-ghost use Rattle.private_store.specs.Commands.{counted, chunk_count};
-ghost use Rattle.private_store.specs.Events.{is_missing as is_missing_lem};
-ghost use Rattle.private_store.specs.Contents.{chunk_length, entry_elsewhere, digest_of as digest_of_lem};
-ghost use Rattle.private_store.specs.Private.{chunks_asked as chunks_asked_for};
+ghost use Rattle.private_store.specs.rules.Shape.{sized};
+ghost use Rattle.private_store.specs.rules.Commands.{counted, chunk_count};
+ghost use Rattle.private_store.specs.rules.Events.{is_missing as is_missing_lem};
+ghost use Rattle.private_store.specs.rules.Contents.{chunk_length, entry_elsewhere, digest_of as digest_of_lem};
+ghost use Rattle.private_store.specs.rules.Private.{chunks_asked as chunks_asked_for};
 ghost use Rattle.fetch_core.specs.Stages.{phase_of};
-ghost use Rattle.fetch_core.specs.Fetching.{begun, missing_of, located as located_lem, pull_begun, chunk_taken, fills_one, is_whole, is_refused_by, failed_with};
+ghost use Rattle.fetch_core.specs.Fetching.{begun, missing_of, fetch_after_located as located_lem, pull_begun, fetch_chunk_taken, fills_one, is_whole, is_pulled_from, failed_with};
 
 pub mod laws;
 
@@ -171,7 +171,7 @@ impl FetchIn {
     /// to be written. It must be of this fetch, from its source, missing, and as long as that chunk is.
     pub fn take_chunk(&mut self, number: u64, from: u32, index: u32, length: usize) -> bool
         ensures told { result ≡ fills_one number from index length self.old }
-        ensures kept { self.new ≡ chunk_taken number from index length self.old }
+        ensures kept { self.new ≡ fetch_chunk_taken number from index length self.old }
     {
         let fills = self.fills_one(number, from, index, length);
         if fills {
@@ -212,8 +212,8 @@ impl FetchIn {
     /// A node says that it has no such copy: whether that is the source that was asked. The fetch has then
     /// failed.
     pub fn not_here(&mut self, number: u64, from: u32) -> bool
-        ensures told { result ≡ is_refused_by number from self.old }
-        ensures kept { self.new ≡ (if is_refused_by number from self.old then failed_with self.old Absent else self.old) }
+        ensures told { result ≡ is_pulled_from number from self.old }
+        ensures kept { self.new ≡ (if is_pulled_from number from self.old then failed_with self.old Absent else self.old) }
     {
         let refused = number == self.number && self.stage == Stage::Pulling(from);
         if refused {

@@ -8,28 +8,28 @@ use Rattle.std.proofs.lemmas.List.Folds.{list_any-append}
 use Rattle.obj_id.specs.declared.ids.ObjectId.{ObjectId}
 use Rattle.obj_id.specs.Ids.{same_id}
 use Rattle.store_facts.proofs.Ids.{same_id-equal, same_id-itself}
-use Rattle.private_store.specs.Hands.{Hand, same_hand, hangs_on}
+use Rattle.private_store.specs.rules.Hands.{Hand, same_hand, is_child_of}
 use Rattle.store_facts.proofs.Tests.{both, both_left, both_right, or_cases, or_left, or_right}
 
 pub numbers_equal : (a b : ℕ) → (a == b) ≡ true → a ≡ b
 numbers_equal a b e = grind (arith, nat_tests)
 
-pub alike : (a b : Hand) → same_hand a b ≡ true → (a.id ≡ b.id) × (a.giver ≡ b.giver) × (a.taker ≡ b.taker)
+pub alike : (a b : Hand) → same_hand a b ≡ true → (a.id ≡ b.id) × (a.grantor ≡ b.grantor) × (a.grantee ≡ b.grantee)
 alike a b e =
-    let first = both_left (same_id a.id b.id && a.giver == b.giver) (a.taker == b.taker) e in (
-      same_id-equal a.id b.id (both_left (same_id a.id b.id) (a.giver == b.giver) first),
-      numbers_equal a.giver b.giver (both_right (same_id a.id b.id) (a.giver == b.giver) first),
-      numbers_equal a.taker b.taker (both_right (same_id a.id b.id && a.giver == b.giver) (a.taker == b.taker) e),
+    let first = both_left (same_id a.id b.id && a.grantor == b.grantor) (a.grantee == b.grantee) e in (
+      same_id-equal a.id b.id (both_left (same_id a.id b.id) (a.grantor == b.grantor) first),
+      numbers_equal a.grantor b.grantor (both_right (same_id a.id b.id) (a.grantor == b.grantor) first),
+      numbers_equal a.grantee b.grantee (both_right (same_id a.id b.id && a.grantor == b.grantor) (a.grantee == b.grantee) e),
     )
 
 -- equal ids are the same
 pub ids_same : (a b : ObjectId) → a ≡ b → same_id a b ≡ true
 ids_same a b e = ap (λ x. same_id a x) (sym e) ∙ same_id-itself a
 
-pub same_alike : (a b : Hand) → a.id ≡ b.id → a.giver ≡ b.giver → a.taker ≡ b.taker → same_hand a b ≡ true
+pub same_alike : (a b : Hand) → a.id ≡ b.id → a.grantor ≡ b.grantor → a.grantee ≡ b.grantee → same_hand a b ≡ true
 same_alike a b i g t =
-    both (same_id a.id b.id && a.giver == b.giver) (a.taker == b.taker)
-    (both (same_id a.id b.id) (a.giver == b.giver) (ids_same a.id b.id i) (eq-eqb a.giver b.giver g)) (eq-eqb a.taker b.taker t)
+    both (same_id a.id b.id && a.grantor == b.grantor) (a.grantee == b.grantee)
+    (both (same_id a.id b.id) (a.grantor == b.grantor) (ids_same a.id b.id i) (eq-eqb a.grantor b.grantor g)) (eq-eqb a.grantee b.grantee t)
 
 pub same_itself : (a : Hand) → same_hand a a ≡ true
 same_itself a = same_alike a a refl refl refl
@@ -41,11 +41,11 @@ same_through b x y e f =
     same_alike x y (sym p.0 ∙ q.0) (sym p.1 ∙ q.1) (sym p.2 ∙ q.2)
 
 -- what hangs on a hand hangs on every one that is the same
-pub hangs_alike : (h a b : Hand) → same_hand a b ≡ true → hangs_on h a ≡ true → hangs_on h b ≡ true
+pub hangs_alike : (h a b : Hand) → same_hand a b ≡ true → is_child_of h a ≡ true → is_child_of h b ≡ true
 hangs_alike h a b e t =
     let p = alike a b e in
-    let hung : ObjectId → ℕ → ℕ → Bool = λ id giver taker. same_id h.id id && h.giver == taker && option_map_or (λ g. g == giver) h.hangs_on false in
-    let same : hangs_on h a ≡ hangs_on h b = λ i. hung (p.0 i) (p.1 i) (p.2 i) in
+    let hung : ObjectId → ℕ → ℕ → Bool = λ id grantor grantee. same_id h.id id && h.grantor == grantee && option_map_or (λ g. g == grantor) h.parent false in
+    let same : is_child_of h a ≡ is_child_of h b = λ i. hung (p.0 i) (p.1 i) (p.2 i) in
     sym same ∙ t
 
 -- ---- tests of a list

@@ -1,4 +1,4 @@
--- What ends at a node ends in each job's own store: the giver's command ends what it names, and what each taker is told
+-- What ends at a node ends in each job's own store: the grantor's command ends what it names, and what each grantee is told
 -- ends what it was given and what it gave on.
 use Rattle.std.proofs.Common.{◌≡◌, ℕ, ◌+◌, ◌==◌, Bool, true, false, not, cond, ◌&&◌, ◌||◌, ◌⊎◌, inl, inr, List, [], ◌∷◌, ◌++◌, map, filter, Option, Some, None, refl, sym, ap, ◌∙◌, arith, eq-eqb}
 use Rattle.std.specs.Prelude.{if◌then◌else◌, nat_le}
@@ -8,17 +8,17 @@ use Rattle.std.proofs.lemmas.Bool.Decides.{nat_tests}
 use Rattle.obj_id.specs.declared.ids.ObjectId.{ObjectId}
 use Rattle.obj_id.specs.Ids.{same_id, same_task}
 use Rattle.store_facts.proofs.Ids.{same_id-equal, same_id-itself}
-use Rattle.private_store.specs.Limits.{greatest_depth}
-use Rattle.private_store.specs.Shape.{Shape, Copy, Seen, HandGiven, HandTaken}
-use Rattle.private_store.specs.Tables.{at, with_entry, without_entry}
-use Rattle.private_store.specs.Change.{settled}
-use Rattle.private_store.specs.Copies.{is_idle}
-use Rattle.private_store.specs.Room.{drop_copy}
-use Rattle.private_store.specs.Events.{hands_of, is_hand, without_hand, hand_ended, withdrawn, hangs_on as hangs_on_it}
-use Rattle.private_store.specs.Hands.{Hand, same_hand, hangs_on, ended_from, hands_ended, hands_left, hands_sorted, is_withdrawn, is_of_task, is_given_by}
+use Rattle.private_store.specs.rules.Limits.{greatest_depth}
+use Rattle.private_store.specs.rules.Shape.{Shape, Copy, Seen, HandGiven, HandTaken}
+use Rattle.private_store.specs.rules.Tables.{at, with_entry, without_entry}
+use Rattle.private_store.specs.rules.Change.{settled}
+use Rattle.private_store.specs.rules.Copies.{is_idle}
+use Rattle.private_store.specs.rules.Room.{drop_copy}
+use Rattle.private_store.specs.rules.Events.{hands_of, is_hand, without_hand, hand_ended, withdrawn, is_child_of as hangs_on_it}
+use Rattle.private_store.specs.rules.Hands.{Hand, same_hand, is_child_of, ended_from, hands_ended, hands_left, hands_sorted, is_withdrawn, is_of_task, is_given_by}
 use Rattle.store_facts.proofs.Rows.{at-put, at-drop}
 use Rattle.store_facts.proofs.Tests.{true_false, both, both_left, both_right, or_cases, or_left, or_right, or_false_left, or_false_right, neither, not_true, refuted}
-use Rattle.grants.specs.Table.{AreHands, shows, given_by, is_no_taker, hangs_right, is_hung, may_stand, all_stand}
+use Rattle.grants.specs.Table.{AreHands, shows, given_by, is_no_grantee, hangs_right, is_hung, hand_may_stand, all_stand}
 use Rattle.grants.specs.Private.{as_given, as_taken, seen_by, HasHands, HasRest, told_ends, without_given, RestAlike, EndsAlike}
 use Rattle.grants.proofs.Alike.{ids_same, same_alike, same_itself, any_more, any_before, any_after, any_either, numbers_equal}
 use Rattle.grants.proofs.Left.{apart, grown, any_grown, stays_gone, comes_from}
@@ -104,67 +104,67 @@ module _ (test : Hand → Bool) (all : List Hand) where
   -- a hand ends by itself or with one that it hangs on, and if one like it has ended it has
   abbrev is_settled : Hand → Type 0
   is_settled h =
-      (list_any (same_hand h) all ≡ (test h || list_any (hangs_on h) all)) × (list_any (same_hand h) all ≡ true → Among h all)
+      (list_any (same_hand h) all ≡ (test h || list_any (is_child_of h) all)) × (list_any (same_hand h) all ≡ true → Among h all)
 
-  goes : (gone hs : List Hand) (h : Hand) → ended_from test (grown test gone h) hs ≡ all → (test h || list_any (hangs_on h) gone) ≡ true → Among h all
+  goes : (gone hs : List Hand) (h : Hand) → ended_from test (grown test gone h) hs ≡ all → (test h || list_any (is_child_of h) gone) ≡ true → Among h all
   goes gone hs h is e p at =
       ap (list_any p) (sym is)
       ∙ stays_gone test p (grown test gone h) hs
       (ap (λ b. list_any p (if b then gone ++ h ∷ [] else gone)) e ∙ any_after p gone (h ∷ []) (or_left (p h) false at))
 
-  ground_alike : (h x b : Hand) → hangs_on h x ≡ true → hangs_on h b ≡ true → same_hand x b ≡ true
+  ground_alike : (h x b : Hand) → is_child_of h x ≡ true → is_child_of h b ≡ true → same_hand x b ≡ true
   ground_alike h x b on at =
-      let first = both_left (same_id h.id x.id && h.giver == x.taker) (option_map_or (λ g. g == x.giver) h.hangs_on false) on in
-      let second = both_left (same_id h.id b.id && h.giver == b.taker) (option_map_or (λ g. g == b.giver) h.hangs_on false) at in
+      let first = both_left (same_id h.id x.id && h.grantor == x.grantee) (option_map_or (λ g. g == x.grantor) h.parent false) on in
+      let second = both_left (same_id h.id b.id && h.grantor == b.grantee) (option_map_or (λ g. g == b.grantor) h.parent false) at in
       same_alike x b
-      (sym (same_id-equal h.id x.id (both_left (same_id h.id x.id) (h.giver == x.taker) first)) ∙ same_id-equal h.id b.id (both_left (same_id h.id b.id) (h.giver == b.taker) second))
-      (givers h.hangs_on (both_right (same_id h.id x.id && h.giver == x.taker) (option_map_or (λ g. g == x.giver) h.hangs_on false) on)
-      (both_right (same_id h.id b.id && h.giver == b.taker) (option_map_or (λ g. g == b.giver) h.hangs_on false) at))
-      (sym (numbers_equal h.giver x.taker (both_right (same_id h.id x.id) (h.giver == x.taker) first)) ∙ numbers_equal h.giver b.taker (both_right (same_id h.id b.id) (h.giver == b.taker) second))
+      (sym (same_id-equal h.id x.id (both_left (same_id h.id x.id) (h.grantor == x.grantee) first)) ∙ same_id-equal h.id b.id (both_left (same_id h.id b.id) (h.grantor == b.grantee) second))
+      (grantors h.parent (both_right (same_id h.id x.id && h.grantor == x.grantee) (option_map_or (λ g. g == x.grantor) h.parent false) on)
+      (both_right (same_id h.id b.id && h.grantor == b.grantee) (option_map_or (λ g. g == b.grantor) h.parent false) at))
+      (sym (numbers_equal h.grantor x.grantee (both_right (same_id h.id x.id) (h.grantor == x.grantee) first)) ∙ numbers_equal h.grantor b.grantee (both_right (same_id h.id b.id) (h.grantor == b.grantee) second))
     where
-      givers : (o : Option ℕ) → option_map_or (λ g. g == x.giver) o false ≡ true → option_map_or (λ g. g == b.giver) o false ≡ true → x.giver ≡ b.giver
-      givers None e f = true_false e
-      givers (Some g) e f = sym (numbers_equal g x.giver e) ∙ numbers_equal g b.giver f
+      grantors : (o : Option ℕ) → option_map_or (λ g. g == x.grantor) o false ≡ true → option_map_or (λ g. g == b.grantor) o false ≡ true → x.grantor ≡ b.grantor
+      grantors None e f = true_false e
+      grantors (Some g) e f = sym (numbers_equal g x.grantor e) ∙ numbers_equal g b.grantor f
 
-  hangs_on_one : (before : List Hand) (h : Hand) (o : Option ℕ) → h.hangs_on ≡ o → hangs_right before h o ≡ true → (x : Hand) → hangs_on h x ≡ true → list_any (same_hand x) before ≡ true
+  hangs_on_one : (before : List Hand) (h : Hand) (o : Option ℕ) → h.parent ≡ o → hangs_right before h o ≡ true → (x : Hand) → is_child_of h x ≡ true → list_any (same_hand x) before ≡ true
   hangs_on_one before h None is e x on =
-      true_false (sym (ap (λ o. (same_id h.id x.id && h.giver == x.taker) && option_map_or (λ g. g == x.giver) o false) is ∙ and_false (same_id h.id x.id && h.giver == x.taker)) ∙ on)
+      true_false (sym (ap (λ o. (same_id h.id x.id && h.grantor == x.grantee) && option_map_or (λ g. g == x.grantor) o false) is ∙ and_false (same_id h.id x.id && h.grantor == x.grantee)) ∙ on)
   hangs_on_one before h (Some g) is e x on =
-      any_more (λ b. hangs_on h b && h.depth == b.depth + 1) (same_hand x) before (λ b at. ground_alike h x b on (both_left (hangs_on h b) (h.depth == b.depth + 1) at))
-      (both_right (not (h.giver == h.id.job.0) && nat_le h.depth greatest_depth) (list_any (λ b. hangs_on h b && h.depth == b.depth + 1) before) e)
+      any_more (λ b. is_child_of h b && h.depth == b.depth + 1) (same_hand x) before (λ b at. ground_alike h x b on (both_left (is_child_of h b) (h.depth == b.depth + 1) at))
+      (both_right (not (h.grantor == h.id.job.0) && nat_le h.depth greatest_depth) (list_any (λ b. is_child_of h b && h.depth == b.depth + 1) before) e)
 
   settled_from : (before gone hs : List Hand) → ended_from test gone hs ≡ all → all_stand before hs ≡ true → Within gone before → each is_settled hs
   settled_from before gone [] is s sub = tt
   settled_from before gone (h ∷ hs) is s sub =
-      (by (test h || list_any (hangs_on h) gone) refl, settled_from (before ++ h ∷ []) (grown test gone h) hs is later wider)
+      (by (test h || list_any (is_child_of h) gone) refl, settled_from (before ++ h ∷ []) (grown test gone h) hs is later wider)
     where
-      stands : may_stand before h ≡ true
-      stands = both_left (may_stand before h) (all_stand (before ++ h ∷ []) hs) s
+      stands : hand_may_stand before h ≡ true
+      stands = both_left (hand_may_stand before h) (all_stand (before ++ h ∷ []) hs) s
 
       later : all_stand (before ++ h ∷ []) hs ≡ true
-      later = both_right (may_stand before h) (all_stand (before ++ h ∷ []) hs) s
+      later = both_right (hand_may_stand before h) (all_stand (before ++ h ∷ []) hs) s
 
       wider : Within (grown test gone h) (before ++ h ∷ [])
       wider p =
-          elim (test h || list_any (hangs_on h) gone) as (λ b. list_any p (if b then gone ++ h ∷ [] else gone) ≡ true → list_any p (before ++ h ∷ []) ≡ true) [
+          elim (test h || list_any (is_child_of h) gone) as (λ b. list_any p (if b then gone ++ h ∷ [] else gone) ≡ true → list_any p (before ++ h ∷ []) ≡ true) [
             | true ↦ λ e. elim (any_either p gone (h ∷ []) e) [ inl l ↦ any_before p before (h ∷ []) (sub p l) | inr r ↦ any_after p before (h ∷ []) r ]
             | false ↦ λ e. any_before p before (h ∷ []) (sub p e)
           ]
 
       new : list_any (same_hand h) before ≡ false
-      new = not_true (list_any (same_hand h) before) (both_right (not (is_no_taker h.id h.giver h.taker)) (not (list_any (same_hand h) before))
-          (both_left (not (is_no_taker h.id h.giver h.taker) && not (list_any (same_hand h) before)) (is_hung before h) stands))
+      new = not_true (list_any (same_hand h) before) (both_right (not (is_no_grantee h.id h.grantor h.grantee)) (not (list_any (same_hand h) before))
+          (both_left (not (is_no_grantee h.id h.grantor h.grantee) && not (list_any (same_hand h) before)) (is_hung before h) stands))
 
-      hung : hangs_right before h h.hangs_on ≡ true
-      hung = both_right (not (is_no_taker h.id h.giver h.taker) && not (list_any (same_hand h) before)) (is_hung before h) stands
+      hung : hangs_right before h h.parent ≡ true
+      hung = both_right (not (is_no_grantee h.id h.grantor h.grantee) && not (list_any (same_hand h) before)) (is_hung before h) stands
 
-      by : (b : Bool) → (test h || list_any (hangs_on h) gone) ≡ b → is_settled h
+      by : (b : Bool) → (test h || list_any (is_child_of h) gone) ≡ b → is_settled h
       by true e =
           let here = goes gone hs h is e in
-          let why : (test h || list_any (hangs_on h) all) ≡ true =
-          elim (or_cases (test h) (list_any (hangs_on h) gone) e) [
-            | inl t ↦ or_left (test h) (list_any (hangs_on h) all) t
-            | inr r ↦ or_right (test h) (list_any (hangs_on h) all) (ap (list_any (hangs_on h)) (sym is) ∙ stays_gone test (hangs_on h) (grown test gone h) hs (any_grown test (hangs_on h) gone h r))
+          let why : (test h || list_any (is_child_of h) all) ≡ true =
+          elim (or_cases (test h) (list_any (is_child_of h) gone) e) [
+            | inl t ↦ or_left (test h) (list_any (is_child_of h) all) t
+            | inr r ↦ or_right (test h) (list_any (is_child_of h) all) (ap (list_any (is_child_of h)) (sym is) ∙ stays_gone test (is_child_of h) (grown test gone h) hs (any_grown test (is_child_of h) gone h r))
           ] in
           (here (same_hand h) (same_itself h) ∙ sym why, λ _. here)
       by false e =
@@ -174,14 +174,14 @@ module _ (test : Hand → Bool) (all : List Hand) where
             | inl g ↦ sym new ∙ sub (same_hand h) g
             | inr r ↦ absurd (apart (before ++ h ∷ []) hs h later (any_after (same_hand h) before (h ∷ []) (or_left (same_hand h h) false (same_itself h))) r)
           ]) in
-          let alone : list_any (hangs_on h) all ≡ false =
-          refuted (list_any (hangs_on h) all) (λ t. elim (comes_from test (hangs_on h) gone hs (ap (list_any (hangs_on h)) on ∙ t)) [
-            | inl g ↦ sym (or_false_right (test h) (list_any (hangs_on h) gone) e) ∙ g
+          let alone : list_any (is_child_of h) all ≡ false =
+          refuted (list_any (is_child_of h) all) (λ t. elim (comes_from test (is_child_of h) gone hs (ap (list_any (is_child_of h)) on ∙ t)) [
+            | inl g ↦ sym (or_false_right (test h) (list_any (is_child_of h) gone) e) ∙ g
             | inr r ↦
-                let x = some_one (hangs_on h) hs r in
-                absurd (apart (before ++ h ∷ []) hs x.0 later (any_before (same_hand x.0) before (h ∷ []) (hangs_on_one before h h.hangs_on refl hung x.0 x.1)) (x.2 (same_hand x.0) (same_itself x.0)))
+                let x = some_one (is_child_of h) hs r in
+                absurd (apart (before ++ h ∷ []) hs x.0 later (any_before (same_hand x.0) before (h ∷ []) (hangs_on_one before h h.parent refl hung x.0 x.1)) (x.2 (same_hand x.0) (same_itself x.0)))
           ]) in
-          (none ∙ sym (neither (test h) (list_any (hangs_on h) all) (or_false_left (test h) (list_any (hangs_on h) gone) e) alone), λ t. true_false (sym none ∙ t))
+          (none ∙ sym (neither (test h) (list_any (is_child_of h) all) (or_false_left (test h) (list_any (is_child_of h) gone) e) alone), λ t. true_false (sym none ∙ t))
 
 all_settled : (test : Hand → Bool) (hands : List Hand) → AreHands hands → each (is_settled test (ended_from test [] hands)) hands
 all_settled test hands h = settled_from test (ended_from test [] hands) [] [] hands refl h.stand (λ p e. e)
@@ -192,36 +192,36 @@ ended_within test hands p e = elim (comes_from test p [] hands e) [ inl none ↦
 
 -- ---- what one store is told
 
--- what a taker's store takes out of its hands, and what it ends of those that it gave
+-- what a grantee's store takes out of its hands, and what it ends of those that it gave
 abbrev hits : Hand → Hand → Bool
-hits b h = same_id h.id b.id && (h.giver == b.giver && h.depth == b.depth)
+hits b h = same_id h.id b.id && (h.grantor == b.grantor && h.depth == b.depth)
 
 abbrev hung_by : Hand → Hand → Bool
-hung_by b h = same_id b.id h.id && option_map_or (λ g. g == b.giver) h.hangs_on false
+hung_by b h = same_id b.id h.id && option_map_or (λ g. g == b.grantor) h.parent false
 
 abbrev stays : (Hand → Hand → Bool) → Hand → Hand → Bool
 stays out b h = not (out b h)
 
 abbrev told_once : Shape → Hand → Shape
-told_once store b = (withdrawn store b.id b.giver b.depth).shape
+told_once store b = (withdrawn store b.id b.grantor b.depth).shape
 
-module _ (store : Shape) (id : ObjectId) (giver depth : ℕ) where
+module _ (store : Shape) (id : ObjectId) (grantor depth : ℕ) where
   abbrev after : Option Seen → Shape
-  after o = option_map_or (λ (seen : Seen). if list_any (is_hand giver depth) seen.hands then hand_ended store id giver depth seen else store) o store
+  after o = option_map_or (λ (seen : Seen). if list_any (is_hand grantor depth) seen.hands then hand_ended store id grantor depth seen else store) o store
 
   abbrev not_it : HandTaken → Bool
-  not_it t = not (is_hand giver depth t)
+  not_it t = not (is_hand grantor depth t)
 
-  none_out : (hands : List HandTaken) → list_any (is_hand giver depth) hands ≡ false → filter not_it hands ≡ hands
+  none_out : (hands : List HandTaken) → list_any (is_hand grantor depth) hands ≡ false → filter not_it hands ≡ hands
   none_out [] e = refl
   none_out (t ∷ ts) e =
-      (λ i. cond (not (or_false_left (is_hand giver depth t) (list_any (is_hand giver depth) ts) e i)) (t ∷ filter not_it ts) (filter not_it ts))
-      ∙ ap (λ r. t ∷ r) (none_out ts (or_false_right (is_hand giver depth t) (list_any (is_hand giver depth) ts) e))
+      (λ i. cond (not (or_false_left (is_hand grantor depth t) (list_any (is_hand grantor depth) ts) e i)) (t ∷ filter not_it ts) (filter not_it ts))
+      ∙ ap (λ r. t ∷ r) (none_out ts (or_false_right (is_hand grantor depth t) (list_any (is_hand grantor depth) ts) e))
 
   elsewhere : (q : ObjectId) → same_id q id ≡ false → (o : Option Seen) → at (after o).received q ≡ at store.received q
   elsewhere q other None = refl
-  elsewhere q other (Some seen) = elim (list_any (is_hand giver depth) seen.hands) as (λ b. at (if b then hand_ended store id giver depth seen else store).received q ≡ at store.received q) [
-    | true ↦ elim (without_hand seen giver depth) as (λ left. at (option_map_or (λ left. with_entry store.received id left) left (without_entry store.received id)) q ≡ at store.received q) [
+  elsewhere q other (Some seen) = elim (list_any (is_hand grantor depth) seen.hands) as (λ b. at (if b then hand_ended store id grantor depth seen else store).received q ≡ at store.received q) [
+    | true ↦ elim (without_hand seen grantor depth) as (λ left. at (option_map_or (λ left. with_entry store.received id left) left (without_entry store.received id)) q ≡ at store.received q) [
       | None ↦ at-drop store.received id q ∙ ap (λ b. cond (not b) (at store.received q) None) (id_back id q ∙ other)
       | Some left ↦ at-put store.received id left q ∙ ap (λ b. cond b (Some left) (at store.received q)) other
     ]
@@ -231,7 +231,7 @@ module _ (store : Shape) (id : ObjectId) (giver depth : ℕ) where
   here : (n : ℕ) (hands : List HandTaken) → at store.received id ≡ seen_by n hands → at (after (seen_by n hands)).received id ≡ seen_by n (filter not_it hands)
   here n [] is = is
   here n (t ∷ ts) is =
-      (elim (list_any (is_hand giver depth) (t ∷ ts)) as (λ b. list_any (is_hand giver depth) (t ∷ ts) ≡ b → at (if b then hand_ended store id giver depth seen else store).received id ≡ seen_by n (filter not_it (t ∷ ts))) [
+      (elim (list_any (is_hand grantor depth) (t ∷ ts)) as (λ b. list_any (is_hand grantor depth) (t ∷ ts) ≡ b → at (if b then hand_ended store id grantor depth seen else store).received id ≡ seen_by n (filter not_it (t ∷ ts))) [
         | true ↦ λ _. left (filter not_it (t ∷ ts))
         | false ↦ λ e. is ∙ ap (seen_by n) (sym (none_out (t ∷ ts) e))
       ]) refl
@@ -243,24 +243,24 @@ module _ (store : Shape) (id : ObjectId) (giver depth : ℕ) where
       left [] = at-drop store.received id id ∙ ap (λ b. cond (not b) (at store.received id) None) (same_id-itself id)
       left (hand ∷ hands) = at-put store.received id (record seen { hands = hand ∷ hands }) id ∙ ap (λ b. cond b (Some (record seen { hands = hand ∷ hands })) (at store.received id)) (same_id-itself id)
 
-  seen_after : (q : ObjectId) (n : ℕ) (hands : List HandTaken) → at store.received q ≡ seen_by n hands → at (after (at store.received id)).received q ≡ seen_by n (filter (λ t. not (same_id q id && is_hand giver depth t)) hands)
-  seen_after q n hands is = (elim (same_id q id) as (λ b. same_id q id ≡ b → at (after (at store.received id)).received q ≡ seen_by n (filter (λ t. not (b && is_hand giver depth t)) hands)) [
+  seen_after : (q : ObjectId) (n : ℕ) (hands : List HandTaken) → at store.received q ≡ seen_by n hands → at (after (at store.received id)).received q ≡ seen_by n (filter (λ t. not (same_id q id && is_hand grantor depth t)) hands)
+  seen_after q n hands is = (elim (same_id q id) as (λ b. same_id q id ≡ b → at (after (at store.received id)).received q ≡ seen_by n (filter (λ t. not (b && is_hand grantor depth t)) hands)) [
     | true ↦ λ same.
         let found : at store.received id ≡ seen_by n hands = ap (at store.received) (sym (same_id-equal q id same)) ∙ is in
         (λ i. at (after (found i)).received (same_id-equal q id same i)) ∙ here n hands found
     | false ↦ λ other. elsewhere q other (at store.received id) ∙ is ∙ ap (seen_by n) (sym (filter_all hands))
   ]) refl
 
-  given_after : (o : Option Seen) → (after o).given ≡ (if list_any (is_hand giver depth) (seen_hands o) then filter (λ hand. not (hangs_on_it id giver hand)) store.given else store.given)
+  given_after : (o : Option Seen) → (after o).given ≡ (if list_any (is_hand grantor depth) (seen_hands o) then filter (λ hand. not (hangs_on_it id grantor hand)) store.given else store.given)
   given_after None = refl
-  given_after (Some seen) = elim (list_any (is_hand giver depth) seen.hands) as (λ b. (if b then hand_ended store id giver depth seen else store).given ≡ (if b then filter (λ hand. not (hangs_on_it id giver hand)) store.given else store.given)) [
+  given_after (Some seen) = elim (list_any (is_hand grantor depth) seen.hands) as (λ b. (if b then hand_ended store id grantor depth seen else store).given ≡ (if b then filter (λ hand. not (hangs_on_it id grantor hand)) store.given else store.given)) [
     | true ↦ refl
     | false ↦ refl
   ]
 
   job_after : (o : Option Seen) → (after o).job ≡ store.job
   job_after None = refl
-  job_after (Some seen) = elim (list_any (is_hand giver depth) seen.hands) as (λ b. (if b then hand_ended store id giver depth seen else store).job ≡ store.job) [ true ↦ refl | false ↦ refl ]
+  job_after (Some seen) = elim (list_any (is_hand grantor depth) seen.hands) as (λ b. (if b then hand_ended store id grantor depth seen else store).job ≡ store.job) [ true ↦ refl | false ↦ refl ]
 
 pub filter_map : {X Y : Type 0} (f : X → Y) (p : Y → Bool) (xs : List X) → filter p (map f xs) ≡ map f (filter (λ x. p (f x)) xs)
 filter_map f p [] = refl
@@ -311,15 +311,15 @@ module _ (lengths : ObjectId → ℕ) (hands : List Hand) (job : ℕ) where
 
   -- a hand to the job stands still, or what hangs on it has ended
   abbrev AreTold : List Hand → List Hand → Type 0
-  AreTold xs given = (b : Hand) → Among b hands → (b.taker == job) ≡ true → Among b xs ⊎ (filter (stays hung_by b) given ≡ given)
+  AreTold xs given = (b : Hand) → Among b hands → (b.grantee == job) ≡ true → Among b xs ⊎ (filter (stays hung_by b) given ≡ given)
 
   told_more : (xs given : List Hand) (c : Hand) → AreTold xs given → AreTold (filter (stays hits c) xs) (filter (stays hung_by c) given)
   told_more xs given c told b among to = elim (told b among to) [
     | inl stood ↦ (elim (hits c b) as (λ t. hits c b ≡ t → Among b (filter (stays hits c) xs) ⊎ (filter (stays hung_by b) (filter (stays hung_by c) given) ≡ filter (stays hung_by c) given)) [
       | true ↦ λ hit.
-          let ids : b.id ≡ c.id = same_id-equal b.id c.id (both_left (same_id b.id c.id) (b.giver == c.giver && b.depth == c.depth) hit) in
-          let givers : b.giver ≡ c.giver = numbers_equal b.giver c.giver (both_left (b.giver == c.giver) (b.depth == c.depth) (both_right (same_id b.id c.id) (b.giver == c.giver && b.depth == c.depth) hit)) in
-          inr ((λ i. filter (λ h. not (same_id (ids i) h.id && option_map_or (λ g. g == givers i) h.hangs_on false)) (filter (stays hung_by c) given)) ∙ filter_twice (stays hung_by c) given)
+          let ids : b.id ≡ c.id = same_id-equal b.id c.id (both_left (same_id b.id c.id) (b.grantor == c.grantor && b.depth == c.depth) hit) in
+          let grantors : b.grantor ≡ c.grantor = numbers_equal b.grantor c.grantor (both_left (b.grantor == c.grantor) (b.depth == c.depth) (both_right (same_id b.id c.id) (b.grantor == c.grantor && b.depth == c.depth) hit)) in
+          inr ((λ i. filter (λ h. not (same_id (ids i) h.id && option_map_or (λ g. g == grantors i) h.parent false)) (filter (stays hung_by c) given)) ∙ filter_twice (stays hung_by c) given)
       | false ↦ λ miss. inl (λ p at. any_filter p (stays hits c) xs ∙ stood (λ x. stays hits c x && p x) (both (stays hits c b) (p b) (ap not miss) at))
     ]) refl
     | inr ended ↦ inr (filter_swap (stays hung_by b) (stays hung_by c) given ∙ ap (filter (stays hung_by c)) ended)
@@ -327,52 +327,52 @@ module _ (lengths : ObjectId → ℕ) (hands : List Hand) (job : ℕ) where
 
   taken_once : (xs : List Hand) (store : Shape) (c : Hand) → HasTaken xs store → HasTaken (filter (stays hits c) xs) (told_once store c)
   taken_once xs store c has q =
-      seen_after store c.id c.giver c.depth q (lengths q) (map as_taken (filter (shows q job) xs)) (has q)
-      ∙ ap (seen_by (lengths q)) (filter_map as_taken (λ t. not (same_id q c.id && is_hand c.giver c.depth t)) (filter (shows q job) xs)
+      seen_after store c.id c.grantor c.depth q (lengths q) (map as_taken (filter (shows q job) xs)) (has q)
+      ∙ ap (seen_by (lengths q)) (filter_map as_taken (λ t. not (same_id q c.id && is_hand c.grantor c.depth t)) (filter (shows q job) xs)
       ∙ ap (map as_taken)
-      (filter_filter (λ h. not (same_id q c.id && is_hand c.giver c.depth (as_taken h))) (shows q job) xs
+      (filter_filter (λ h. not (same_id q c.id && is_hand c.grantor c.depth (as_taken h))) (shows q job) xs
       ∙ (λ i. filter (λ h. same_out h i) xs)
       ∙ sym (filter_filter (shows q job) (stays hits c) xs)))
     where
-      same_out : (h : Hand) → (shows q job h && not (same_id q c.id && is_hand c.giver c.depth (as_taken h))) ≡ (stays hits c h && shows q job h)
-      same_out h = (elim (shows q job h) as (λ b. shows q job h ≡ b → (b && not (same_id q c.id && is_hand c.giver c.depth (as_taken h))) ≡ (stays hits c h && b)) [
+      same_out : (h : Hand) → (shows q job h && not (same_id q c.id && is_hand c.grantor c.depth (as_taken h))) ≡ (stays hits c h && shows q job h)
+      same_out h = (elim (shows q job h) as (λ b. shows q job h ≡ b → (b && not (same_id q c.id && is_hand c.grantor c.depth (as_taken h))) ≡ (stays hits c h && b)) [
         | true ↦ λ e.
-            ap (λ id. not (same_id id c.id && is_hand c.giver c.depth (as_taken h))) (same_id-equal q h.id (both_left (same_id q h.id) (h.taker == job) e))
+            ap (λ id. not (same_id id c.id && is_hand c.grantor c.depth (as_taken h))) (same_id-equal q h.id (both_left (same_id q h.id) (h.grantee == job) e))
             ∙ sym (and_true (stays hits c h))
         | false ↦ λ _. sym (and_false (stays hits c h))
       ]) refl
 
-  given_once : (xs given : List Hand) (store : Shape) (c : Hand) → HasTaken xs store → AreTold xs given → Among c hands → (c.taker == job) ≡ true
+  given_once : (xs given : List Hand) (store : Shape) (c : Hand) → HasTaken xs store → AreTold xs given → Among c hands → (c.grantee == job) ≡ true
       → store.given ≡ map as_given given → (told_once store c).given ≡ map as_given (filter (stays hung_by c) given)
   given_once xs given store c has told among to was =
-      given_after store c.id c.giver c.depth (at store.received c.id)
+      given_after store c.id c.grantor c.depth (at store.received c.id)
       ∙ elim (told c among to) [
         | inl stood ↦
-            ap (λ b. if b then filter (λ hand. not (hangs_on_it c.id c.giver hand)) store.given else store.given)
-            (ap (list_any (is_hand c.giver c.depth)) (ap seen_hands (has c.id) ∙ hands_seen (lengths c.id) (map as_taken (filter (shows c.id job) xs))) ∙ any_map as_taken (is_hand c.giver c.depth) (filter (shows c.id job) xs)
-            ∙ any_filter (λ h. is_hand c.giver c.depth (as_taken h)) (shows c.id job) xs
-            ∙ stood (λ h. shows c.id job h && is_hand c.giver c.depth (as_taken h))
-            (both (shows c.id job c) (is_hand c.giver c.depth (as_taken c)) (both (same_id c.id c.id) (c.taker == job) (same_id-itself c.id) to)
-            (both (c.giver == c.giver) (c.depth == c.depth) (eq-eqb c.giver c.giver refl) (eq-eqb c.depth c.depth refl))))
+            ap (λ b. if b then filter (λ hand. not (hangs_on_it c.id c.grantor hand)) store.given else store.given)
+            (ap (list_any (is_hand c.grantor c.depth)) (ap seen_hands (has c.id) ∙ hands_seen (lengths c.id) (map as_taken (filter (shows c.id job) xs))) ∙ any_map as_taken (is_hand c.grantor c.depth) (filter (shows c.id job) xs)
+            ∙ any_filter (λ h. is_hand c.grantor c.depth (as_taken h)) (shows c.id job) xs
+            ∙ stood (λ h. shows c.id job h && is_hand c.grantor c.depth (as_taken h))
+            (both (shows c.id job c) (is_hand c.grantor c.depth (as_taken c)) (both (same_id c.id c.id) (c.grantee == job) (same_id-itself c.id) to)
+            (both (c.grantor == c.grantor) (c.depth == c.depth) (eq-eqb c.grantor c.grantor refl) (eq-eqb c.depth c.depth refl))))
             ∙ out
-        | inr ended ↦ elim (list_any (is_hand c.giver c.depth) (hands_of store c.id)) as (λ b. (if b then filter (λ hand. not (hangs_on_it c.id c.giver hand)) store.given else store.given) ≡ map as_given (filter (stays hung_by c) given)) [
+        | inr ended ↦ elim (list_any (is_hand c.grantor c.depth) (hands_of store c.id)) as (λ b. (if b then filter (λ hand. not (hangs_on_it c.id c.grantor hand)) store.given else store.given) ≡ map as_given (filter (stays hung_by c) given)) [
           | true ↦ out
           | false ↦ was ∙ sym (ap (map as_given) ended)
         ]
       ]
     where
-      out : filter (λ hand. not (hangs_on_it c.id c.giver hand)) store.given ≡ map as_given (filter (stays hung_by c) given)
-      out = ap (filter (λ hand. not (hangs_on_it c.id c.giver hand))) was ∙ filter_map as_given (λ hand. not (hangs_on_it c.id c.giver hand)) given
+      out : filter (λ hand. not (hangs_on_it c.id c.grantor hand)) store.given ≡ map as_given (filter (stays hung_by c) given)
+      out = ap (filter (λ hand. not (hangs_on_it c.id c.grantor hand))) was ∙ filter_map as_given (λ hand. not (hangs_on_it c.id c.grantor hand)) given
 
-  told_all : (ended xs given : List Hand) (store : Shape) → HasTaken xs store → AreTold xs given → store.given ≡ map as_given given → Within ended hands → list_all (λ b. b.taker == job) ended ≡ true
+  told_all : (ended xs given : List Hand) (store : Shape) → HasTaken xs store → AreTold xs given → store.given ≡ map as_given given → Within ended hands → list_all (λ b. b.grantee == job) ended ≡ true
       → ((told_ends store ended).job ≡ store.job) × ((told_ends store ended).given ≡ map as_given (left_by hung_by given ended)) × HasTaken (left_by hits xs ended) (told_ends store ended)
   told_all [] xs given store has told was within to = (refl, was, has)
   told_all (c ∷ ended) xs given store has told was within to =
-      let mine = both_left (c.taker == job) (list_all (λ b. b.taker == job) ended) to in
+      let mine = both_left (c.grantee == job) (list_all (λ b. b.grantee == job) ended) to in
       let among : Among c hands = λ p e. within p (or_left (p c) (list_any p ended) e) in
       let rest = told_all ended (filter (stays hits c) xs) (filter (stays hung_by c) given) (told_once store c) (taken_once xs store c has) (told_more xs given c told)
-      (given_once xs given store c has told among mine was) (λ p e. within p (or_right (p c) (list_any p ended) e)) (both_right (c.taker == job) (list_all (λ b. b.taker == job) ended) to) in
-      (rest.0 ∙ job_after store c.id c.giver c.depth (at store.received c.id), rest.1, rest.2)
+      (given_once xs given store c has told among mine was) (λ p e. within p (or_right (p c) (list_any p ended) e)) (both_right (c.grantee == job) (list_all (λ b. b.grantee == job) ended) to) in
+      (rest.0 ∙ job_after store c.id c.grantor c.depth (at store.received c.id), rest.1, rest.2)
 
 -- ---- what is left
 
@@ -385,12 +385,12 @@ module _ (test : Hand → Bool) (hands : List Hand) (job : ℕ) where
 
   -- those to the job that have ended
   abbrev ended : List Hand
-  ended = filter (λ hand. hand.taker == job) (hands_ended test hands)
+  ended = filter (λ hand. hand.grantee == job) (hands_ended test hands)
 
-  any_ended : (p : Hand → Bool) → list_any p ended ≡ list_any (λ b. b.taker == job && p b) gone
-  any_ended p = any_filter p (λ b. b.taker == job) (hands_sorted gone) ∙ any_sorted (λ b. b.taker == job && p b) gone
+  any_ended : (p : Hand → Bool) → list_any p ended ≡ list_any (λ b. b.grantee == job && p b) gone
+  any_ended p = any_filter p (λ b. b.grantee == job) (hands_sorted gone) ∙ any_sorted (λ b. b.grantee == job && p b) gone
 
-  any_hung : (h : Hand) → (h.giver == job) ≡ true → list_any (λ b. hung_by b h) ended ≡ list_any (hangs_on h) gone
+  any_hung : (h : Hand) → (h.grantor == job) ≡ true → list_any (λ b. hung_by b h) ended ≡ list_any (is_child_of h) gone
   any_hung h mine = any_ended (λ b. hung_by b h) ∙ (λ i. list_any (λ b. turned b i) gone)
     where
       order : (x y o : Bool) → (x && (y && o)) ≡ ((y && x) && o)
@@ -399,26 +399,26 @@ module _ (test : Hand → Bool) (hands : List Hand) (job : ℕ) where
       order false true o = refl
       order false false o = refl
 
-      turned : (b : Hand) → (b.taker == job && hung_by b h) ≡ hangs_on h b
+      turned : (b : Hand) → (b.grantee == job && hung_by b h) ≡ is_child_of h b
       turned b =
-          (λ i. (ap (λ n. b.taker == n) (sym (numbers_equal h.giver job mine)) ∙ number_back b.taker h.giver) i && (id_back b.id h.id i && option_map_or (λ g. g == b.giver) h.hangs_on false))
-          ∙ order (h.giver == b.taker) (same_id h.id b.id) (option_map_or (λ g. g == b.giver) h.hangs_on false)
+          (λ i. (ap (λ n. b.grantee == n) (sym (numbers_equal h.grantor job mine)) ∙ number_back b.grantee h.grantor) i && (id_back b.id h.id i && option_map_or (λ g. g == b.grantor) h.parent false))
+          ∙ order (h.grantor == b.grantee) (same_id h.id b.id) (option_map_or (λ g. g == b.grantor) h.parent false)
 
-  any_hit : (h : Hand) → is_settled test gone h → (h.taker == job) ≡ true → list_any (λ b. hits b h) ended ≡ list_any (same_hand h) gone
+  any_hit : (h : Hand) → is_settled test gone h → (h.grantee == job) ≡ true → list_any (λ b. hits b h) ended ≡ list_any (same_hand h) gone
   any_hit h settled mine =
       any_ended (λ b. hits b h)
-      ∙ two_ways (list_any (λ b. b.taker == job && hits b h) gone) (list_any (same_hand h) gone)
-      (any_more (λ b. b.taker == job && hits b h) (same_hand h) gone (λ b at.
-      let hit = both_right (b.taker == job) (hits b h) at in
-      same_alike h b (same_id-equal h.id b.id (both_left (same_id h.id b.id) (h.giver == b.giver && h.depth == b.depth) hit))
-      (numbers_equal h.giver b.giver (both_left (h.giver == b.giver) (h.depth == b.depth) (both_right (same_id h.id b.id) (h.giver == b.giver && h.depth == b.depth) hit)))
-      (numbers_equal h.taker job mine ∙ sym (numbers_equal b.taker job (both_left (b.taker == job) (hits b h) at)))))
-      (λ e. settled.1 e (λ b. b.taker == job && hits b h) (both (h.taker == job) (hits h h) mine
-      (both (same_id h.id h.id) (h.giver == h.giver && h.depth == h.depth) (same_id-itself h.id) (both (h.giver == h.giver) (h.depth == h.depth) (eq-eqb h.giver h.giver refl) (eq-eqb h.depth h.depth refl)))))
+      ∙ two_ways (list_any (λ b. b.grantee == job && hits b h) gone) (list_any (same_hand h) gone)
+      (any_more (λ b. b.grantee == job && hits b h) (same_hand h) gone (λ b at.
+      let hit = both_right (b.grantee == job) (hits b h) at in
+      same_alike h b (same_id-equal h.id b.id (both_left (same_id h.id b.id) (h.grantor == b.grantor && h.depth == b.depth) hit))
+      (numbers_equal h.grantor b.grantor (both_left (h.grantor == b.grantor) (h.depth == b.depth) (both_right (same_id h.id b.id) (h.grantor == b.grantor && h.depth == b.depth) hit)))
+      (numbers_equal h.grantee job mine ∙ sym (numbers_equal b.grantee job (both_left (b.grantee == job) (hits b h) at)))))
+      (λ e. settled.1 e (λ b. b.grantee == job && hits b h) (both (h.grantee == job) (hits h h) mine
+      (both (same_id h.id h.id) (h.grantor == h.grantor && h.depth == h.depth) (same_id-itself h.id) (both (h.grantor == h.grantor) (h.depth == h.depth) (eq-eqb h.grantor h.grantor refl) (eq-eqb h.depth h.depth refl)))))
 
   given_left : (h : Hand) → is_settled test gone h → (((is_given_by job h) && not (test h)) && not (list_any (λ b. hung_by b h) ended)) ≡ (keep h && is_given_by job h)
-  given_left h settled = (elim (h.giver == job) as (λ b. (h.giver == job) ≡ b → ((b && not (test h)) && not (list_any (λ b. hung_by b h) ended)) ≡ (keep h && b)) [
-    | true ↦ λ mine. ap (λ b. not (test h) && not b) (any_hung h mine) ∙ neither_of (test h) (list_any (hangs_on h) gone) ∙ ap (λ b. not b && true) (sym settled.0)
+  given_left h settled = (elim (h.grantor == job) as (λ b. (h.grantor == job) ≡ b → ((b && not (test h)) && not (list_any (λ b. hung_by b h) ended)) ≡ (keep h && b)) [
+    | true ↦ λ mine. ap (λ b. not (test h) && not b) (any_hung h mine) ∙ neither_of (test h) (list_any (is_child_of h) gone) ∙ ap (λ b. not b && true) (sym settled.0)
     | false ↦ λ _. sym (and_false (keep h))
   ]) refl
     where
@@ -429,7 +429,7 @@ module _ (test : Hand → Bool) (hands : List Hand) (job : ℕ) where
 
   taken_left : (q : ObjectId) (h : Hand) → is_settled test gone h → (not (list_any (λ b. hits b h) ended) && shows q job h) ≡ (keep h && shows q job h)
   taken_left q h settled = (elim (shows q job h) as (λ b. shows q job h ≡ b → (not (list_any (λ b. hits b h) ended) && b) ≡ (keep h && b)) [
-    | true ↦ λ e. ap (λ b. not b && true) (any_hit h settled (both_right (same_id q h.id) (h.taker == job) e))
+    | true ↦ λ e. ap (λ b. not b && true) (any_hit h settled (both_right (same_id q h.id) (h.grantee == job) e))
     | false ↦ λ _. and_false (not (list_any (λ b. hits b h) ended)) ∙ sym (and_false (keep h))
   ]) refl
 
@@ -455,15 +455,15 @@ ends_alike lengths hands are test = record {
   of_each = λ store has.
       let job = store.job in
       let told = told_all lengths hands job (ended test hands job) hands (filter (λ hand. not (test hand)) (given_by job hands)) store has.taken (λ b among to. inl among) has.given
-      (λ p e. any_more (λ b. b.taker == job && p b) p hands (λ b at. both_right (b.taker == job) (p b) at) (ended_within test hands (λ b. b.taker == job && p b) (sym (any_ended test hands job p) ∙ e)))
-      (all_passing (λ hand. hand.taker == job) (hands_ended test hands)) in
+      (λ p e. any_more (λ b. b.grantee == job && p b) p hands (λ b at. both_right (b.grantee == job) (p b) at) (ended_within test hands (λ b. b.grantee == job && p b) (sym (any_ended test hands job p) ∙ e)))
+      (all_passing (λ hand. hand.grantee == job) (hands_ended test hands)) in
       record {
         given = told.1 ∙ ap (map as_given) (all_given_left test hands job are) ∙ (λ i. map as_given (given_by (sym told.0 i) (hands_left test hands)));
         taken = λ q. told.2 q ∙ (λ i. seen_by (lengths q) (map as_taken (all_taken_left test hands job are q i))) ∙ (λ i. seen_by (lengths q) (map as_taken (filter (shows q (sym told.0 i)) (hands_left test hands))));
       };
 }
 
--- ---- what a giver's own command leaves
+-- ---- what a grantor's own command leaves
 
 module _ (lengths : ObjectId → ℕ) (hands : List Hand) (store : Shape) (has : HasHands lengths hands store) where
   settled_hands : (mid : Shape) (id : ObjectId) (test : Hand → Bool) → mid.job ≡ store.job → mid.received ≡ store.received
@@ -483,14 +483,14 @@ module _ (lengths : ObjectId → ℕ) (hands : List Hand) (store : Shape) (has :
         | false ↦ rest
       ]
 
-  none_ends : (test : Hand → Bool) (giver : ℕ) → ((hand : Hand) → test hand ≡ true → is_given_by giver hand ≡ true) → (giver == store.job) ≡ false → (xs : List Hand)
+  none_ends : (test : Hand → Bool) (grantor : ℕ) → ((hand : Hand) → test hand ≡ true → is_given_by grantor hand ≡ true) → (grantor == store.job) ≡ false → (xs : List Hand)
       → given_by store.job xs ≡ filter (λ hand. not (test hand)) (given_by store.job xs)
-  none_ends test giver own other [] = refl
-  none_ends test giver own other (x ∷ xs) =
-      let rest = none_ends test giver own other xs in
-      (elim (x.giver == store.job) as (λ b. (x.giver == store.job) ≡ b → cond b (x ∷ given_by store.job xs) (given_by store.job xs) ≡ filter (λ hand. not (test hand)) (cond b (x ∷ given_by store.job xs) (given_by store.job xs))) [
+  none_ends test grantor own other [] = refl
+  none_ends test grantor own other (x ∷ xs) =
+      let rest = none_ends test grantor own other xs in
+      (elim (x.grantor == store.job) as (λ b. (x.grantor == store.job) ≡ b → cond b (x ∷ given_by store.job xs) (given_by store.job xs) ≡ filter (λ hand. not (test hand)) (cond b (x ∷ given_by store.job xs) (given_by store.job xs))) [
         | true ↦ λ mine.
-            let not_here : test x ≡ false = refuted (test x) (λ e. sym (ap (λ n. n == store.job) (numbers_equal x.giver giver (own x e)) ∙ other) ∙ mine) in
+            let not_here : test x ≡ false = refuted (test x) (λ e. sym (ap (λ n. n == store.job) (numbers_equal x.grantor grantor (own x e)) ∙ other) ∙ mine) in
             ap (λ r. x ∷ r) rest ∙ sym (ap (λ b. cond (not b) (x ∷ filter (λ hand. not (test hand)) (given_by store.job xs)) (filter (λ hand. not (test hand)) (given_by store.job xs))) not_here)
         | false ↦ λ _. rest
       ]) refl
@@ -523,5 +523,5 @@ module _ (lengths : ObjectId → ℕ) (hands : List Hand) (store : Shape) (has :
       taken = has.taken;
     };
     job = record { given = ap (map as_given) (all_out hands); taken = has.taken };
-    other = λ giver test own apart. record { given = has.given ∙ ap (map as_given) (none_ends test giver own apart hands); taken = has.taken };
+    other = λ grantor test own apart. record { given = has.given ∙ ap (map as_given) (none_ends test grantor own apart hands); taken = has.taken };
   }

@@ -2,10 +2,10 @@
 use Rattle.std.proofs.Common.{◌≡◌, ℕ, ◌+◌, ◌≤◌, ◌==◌, Bool, true, false, not, cond, ◌&&◌, ◌||◌, ◌⊎◌, inl, inr, List, [], ◌∷◌, ◌++◌, filter, length, Option, Some, None, refl, sym, ap, subst, ◌∙◌, arith}
 use Rattle.std.specs.Prelude.{if◌then◌else◌, nat_le}
 use Rattle.std.specs.List.{list_any}
-use Rattle.private_store.specs.Limits.{greatest_depth}
-use Rattle.private_store.specs.Hands.{Hand, same_hand, hangs_on, ended_from, hands_left, is_given_by}
+use Rattle.private_store.specs.rules.Limits.{greatest_depth}
+use Rattle.private_store.specs.rules.Hands.{Hand, same_hand, is_child_of, ended_from, hands_left, is_given_by}
 use Rattle.store_facts.proofs.Tests.{true_false, both, both_left, both_right, or_cases, or_left, or_right, not_true, refuted}
-use Rattle.grants.specs.Table.{AreHands, is_no_taker, hangs_right, is_hung, may_stand, all_stand}
+use Rattle.grants.specs.Table.{AreHands, is_no_grantee, hangs_right, is_hung, hand_may_stand, all_stand}
 use Rattle.grants.proofs.Alike.{same_itself, same_through, hangs_alike, any_more, any_before, any_after, any_either, any_filtered, any_kept}
 
 pub filter_both : (q : Hand → Bool) (xs ys : List Hand) → filter q (xs ++ ys) ≡ filter q xs ++ filter q ys
@@ -25,13 +25,13 @@ append_nothing (x ∷ xs) = ap (λ r. x ∷ r) (append_nothing xs)
 pub apart : (before hs : List Hand) (b : Hand) → all_stand before hs ≡ true → list_any (same_hand b) before ≡ true → list_any (same_hand b) hs ≡ true → ⊥
 apart before [] b s at e = true_false e
 apart before (x ∷ hs) b s at e =
-    let x_stands = both_left (may_stand before x) (all_stand (before ++ x ∷ []) hs) s in
+    let x_stands = both_left (hand_may_stand before x) (all_stand (before ++ x ∷ []) hs) s in
     let new = not_true (list_any (same_hand x) before)
-    (both_right (not (is_no_taker x.id x.giver x.taker)) (not (list_any (same_hand x) before))
-    (both_left (not (is_no_taker x.id x.giver x.taker) && not (list_any (same_hand x) before)) (is_hung before x) x_stands)) in
+    (both_right (not (is_no_grantee x.id x.grantor x.grantee)) (not (list_any (same_hand x) before))
+    (both_left (not (is_no_grantee x.id x.grantor x.grantee) && not (list_any (same_hand x) before)) (is_hung before x) x_stands)) in
     elim (or_cases (same_hand b x) (list_any (same_hand b) hs) e) [
       | inl t ↦ true_false (sym new ∙ any_more (same_hand b) (same_hand x) before (λ y u. same_through b x y t u) at)
-      | inr r ↦ apart (before ++ x ∷ []) hs b (both_right (may_stand before x) (all_stand (before ++ x ∷ []) hs) s) (any_before (same_hand b) before (x ∷ []) at) r
+      | inr r ↦ apart (before ++ x ∷ []) hs b (both_right (hand_may_stand before x) (all_stand (before ++ x ∷ []) hs) s) (any_before (same_hand b) before (x ∷ []) at) r
     ]
 
 -- a filter keeps few
@@ -53,11 +53,11 @@ fewer p q (x ∷ xs) =
 module _ (test : Hand → Bool) where
   -- those that have ended, and the hand where it ends too
   abbrev pub grown : List Hand → Hand → List Hand
-  grown gone h = if test h || list_any (hangs_on h) gone then gone ++ h ∷ [] else gone
+  grown gone h = if test h || list_any (is_child_of h) gone then gone ++ h ∷ [] else gone
 
   pub any_grown : (p : Hand → Bool) (gone : List Hand) (h : Hand) → list_any p gone ≡ true → list_any p (grown gone h) ≡ true
   any_grown p gone h e =
-      elim (test h || list_any (hangs_on h) gone) as (λ t. list_any p (if t then gone ++ h ∷ [] else gone) ≡ true) [
+      elim (test h || list_any (is_child_of h) gone) as (λ t. list_any p (if t then gone ++ h ∷ [] else gone) ≡ true) [
         | true ↦ any_before p gone (h ∷ []) e
         | false ↦ e
       ]
@@ -69,7 +69,7 @@ module _ (test : Hand → Bool) where
 
   from_grown : (p : Hand → Bool) (gone hs : List Hand) (h : Hand) → list_any p (grown gone h) ≡ true → (list_any p gone ≡ true) ⊎ (list_any p (h ∷ hs) ≡ true)
   from_grown p gone hs h e =
-      (elim (test h || list_any (hangs_on h) gone) as (λ t. list_any p (if t then gone ++ h ∷ [] else gone) ≡ true → (list_any p gone ≡ true) ⊎ (list_any p (h ∷ hs) ≡ true)) [
+      (elim (test h || list_any (is_child_of h) gone) as (λ t. list_any p (if t then gone ++ h ∷ [] else gone) ≡ true → (list_any p gone ≡ true) ⊎ (list_any p (h ∷ hs) ≡ true)) [
         | true ↦ λ f. elim (any_either p gone (h ∷ []) f) [
           | inl g ↦ inl g
           | inr r ↦ elim (or_cases (p h) false r) [ inl t ↦ inr (or_left (p h) (list_any p hs) t) | inr n ↦ true_false n ]
@@ -93,9 +93,9 @@ module _ (test : Hand → Bool) where
       elim (comes_from (same_hand b) gone hs e) [ inl g ↦ g | inr r ↦ absurd (apart before hs b s at r) ]
 
   -- what hangs on an ended hand ends
-  goes_along : (gone : List Hand) (h : Hand) → list_any (hangs_on h) gone ≡ true → list_any (same_hand h) (grown gone h) ≡ true
+  goes_along : (gone : List Hand) (h : Hand) → list_any (is_child_of h) gone ≡ true → list_any (same_hand h) (grown gone h) ≡ true
   goes_along gone h e =
-      ap (λ t. list_any (same_hand h) (if t then gone ++ h ∷ [] else gone)) (or_right (test h) (list_any (hangs_on h) gone) e)
+      ap (λ t. list_any (same_hand h) (if t then gone ++ h ∷ [] else gone)) (or_right (test h) (list_any (is_child_of h) gone) e)
       ∙ any_after (same_hand h) gone (h ∷ []) (or_left (same_hand h h) false (same_itself h))
 
   module _ (all : List Hand) where
@@ -104,12 +104,12 @@ module _ (test : Hand → Bool) where
 
     -- the hand that a hand hangs on stands as long as that one
     below_stays : (before gone hs : List Hand) (h b : Hand) → ended_from test gone (h ∷ hs) ≡ all → all_stand before (h ∷ hs) ≡ true → keep h ≡ true
-        → list_any (same_hand b) before ≡ true → hangs_on h b ≡ true → keep b ≡ true
+        → list_any (same_hand b) before ≡ true → is_child_of h b ≡ true → keep b ≡ true
     below_stays before gone hs h b is s k at on =
         let stands : list_any (same_hand b) all ≡ false =
         refuted (list_any (same_hand b) all) (λ t.
         let ended : list_any (same_hand b) gone ≡ true = in_gone before gone (h ∷ hs) b s at (ap (λ l. list_any (same_hand b) l) is ∙ t) in
-        let hangs : list_any (hangs_on h) gone ≡ true = any_more (same_hand b) (hangs_on h) gone (λ y u. hangs_alike h b y u on) ended in
+        let hangs : list_any (is_child_of h) gone ≡ true = any_more (same_hand b) (is_child_of h) gone (λ y u. hangs_alike h b y u on) ended in
         let goes : list_any (same_hand h) all ≡ true =
         ap (λ l. list_any (same_hand h) l) (sym is) ∙ stays_gone (same_hand h) (grown gone h) hs (goes_along gone h hangs) in
         sym (ap not goes) ∙ k) in
@@ -119,34 +119,34 @@ module _ (test : Hand → Bool) where
         → (o : Option ℕ) → hangs_right before h o ≡ true → hangs_right (filter keep before) h o ≡ true
     hung_stays before gone hs h is s k None e = e
     hung_stays before gone hs h is s k (Some g) e =
-        let here : Bool = not (h.giver == h.id.job.0) && nat_le h.depth greatest_depth in
-        let below : Hand → Bool = λ b. hangs_on h b && h.depth == b.depth + 1 in
+        let here : Bool = not (h.grantor == h.id.job.0) && nat_le h.depth greatest_depth in
+        let below : Hand → Bool = λ b. is_child_of h b && h.depth == b.depth + 1 in
         both here (list_any below (filter keep before)) (both_left here (list_any below before) e)
         (any_kept below keep before before
-        (λ b at on. below_stays before gone hs h b is s k at (both_left (hangs_on h b) (h.depth == b.depth + 1) on))
+        (λ b at on. below_stays before gone hs h b is s k at (both_left (is_child_of h b) (h.depth == b.depth + 1) on))
         (λ b at. at) (both_right here (list_any below before) e))
 
     may_stay : (before gone hs : List Hand) (h : Hand) → ended_from test gone (h ∷ hs) ≡ all → all_stand before (h ∷ hs) ≡ true → keep h ≡ true
-        → may_stand (filter keep before) h ≡ true
+        → hand_may_stand (filter keep before) h ≡ true
     may_stay before gone hs h is s k =
-        let stands = both_left (may_stand before h) (all_stand (before ++ h ∷ []) hs) s in
-        let taker : Bool = not (is_no_taker h.id h.giver h.taker) in
-        let first = both_left (taker && not (list_any (same_hand h) before)) (is_hung before h) stands in
-        let new = not_true (list_any (same_hand h) before) (both_right taker (not (list_any (same_hand h) before)) first) in
+        let stands = both_left (hand_may_stand before h) (all_stand (before ++ h ∷ []) hs) s in
+        let grantee : Bool = not (is_no_grantee h.id h.grantor h.grantee) in
+        let first = both_left (grantee && not (list_any (same_hand h) before)) (is_hung before h) stands in
+        let new = not_true (list_any (same_hand h) before) (both_right grantee (not (list_any (same_hand h) before)) first) in
         let still_new : list_any (same_hand h) (filter keep before) ≡ false =
         refuted (list_any (same_hand h) (filter keep before)) (λ t. sym new ∙ any_filtered (same_hand h) keep before t) in
-        both (taker && not (list_any (same_hand h) (filter keep before))) (is_hung (filter keep before) h)
-        (both taker (not (list_any (same_hand h) (filter keep before))) (both_left taker (not (list_any (same_hand h) before)) first) (ap not still_new))
-        (hung_stays before gone hs h is s k h.hangs_on (both_right (taker && not (list_any (same_hand h) before)) (is_hung before h) stands))
+        both (grantee && not (list_any (same_hand h) (filter keep before))) (is_hung (filter keep before) h)
+        (both grantee (not (list_any (same_hand h) (filter keep before))) (both_left grantee (not (list_any (same_hand h) before)) first) (ap not still_new))
+        (hung_stays before gone hs h is s k h.parent (both_right (grantee && not (list_any (same_hand h) before)) (is_hung before h) stands))
 
     left_stand : (before gone hs : List Hand) → ended_from test gone hs ≡ all → all_stand before hs ≡ true → all_stand (filter keep before) (filter keep hs) ≡ true
     left_stand before gone [] is s = refl
     left_stand before gone (h ∷ hs) is s =
         let rest : all_stand (filter keep (before ++ h ∷ [])) (filter keep hs) ≡ true =
-        left_stand (before ++ h ∷ []) (grown gone h) hs is (both_right (may_stand before h) (all_stand (before ++ h ∷ []) hs) s) in
+        left_stand (before ++ h ∷ []) (grown gone h) hs is (both_right (hand_may_stand before h) (all_stand (before ++ h ∷ []) hs) s) in
         let split : filter keep (before ++ h ∷ []) ≡ filter keep before ++ cond (keep h) (h ∷ []) [] = filter_both keep before (h ∷ []) in
         (elim (keep h) as (λ k. keep h ≡ k → all_stand (filter keep before) (cond k (h ∷ filter keep hs) (filter keep hs)) ≡ true) [
-          | true ↦ λ k. both (may_stand (filter keep before) h) (all_stand (filter keep before ++ h ∷ []) (filter keep hs)) (may_stay before gone hs h is s k)
+          | true ↦ λ k. both (hand_may_stand (filter keep before) h) (all_stand (filter keep before ++ h ∷ []) (filter keep hs)) (may_stay before gone hs h is s k)
               (subst (λ l. all_stand l (filter keep hs) ≡ true) (split ∙ ap (λ t. filter keep before ++ cond t (h ∷ []) []) k) rest)
           | false ↦ λ k. subst (λ l. all_stand l (filter keep hs) ≡ true) (split ∙ ap (λ t. filter keep before ++ cond t (h ∷ []) []) k ∙ append_nothing (filter keep before)) rest
         ]) refl
@@ -154,9 +154,9 @@ module _ (test : Hand → Bool) where
   pub left_are_hands : (hands : List Hand) → AreHands hands → AreHands (hands_left test hands)
   left_are_hands hands h = record {
     stand = left_stand (ended_from test [] hands) [] [] hands refl h.stand;
-    few = λ giver.
-        let l = fewer (is_given_by giver) (keep (ended_from test [] hands)) hands in
-        let f = h.few giver in
+    few = λ grantor.
+        let l = fewer (is_given_by grantor) (keep (ended_from test [] hands)) hands in
+        let f = h.few grantor in
         omega (arith, l, f);
   }
 
@@ -171,7 +171,7 @@ module _ (test : Hand → Bool) where
             let stands : test h ≡ false =
             refuted (test h) (λ t.
             let here : list_any (same_hand h) (grown gone h) ≡ true =
-            ap (λ e. list_any (same_hand h) (if e then gone ++ h ∷ [] else gone)) (or_left (test h) (list_any (hangs_on h) gone) t)
+            ap (λ e. list_any (same_hand h) (if e then gone ++ h ∷ [] else gone)) (or_left (test h) (list_any (is_child_of h) gone) t)
             ∙ any_after (same_hand h) gone (h ∷ []) (or_left (same_hand h h) false (same_itself h)) in
             sym (ap not (ap (λ l. list_any (same_hand h) l) (sym is) ∙ stays_gone (same_hand h) (grown gone h) hs here)) ∙ k) in
             ap (λ t. cond t (h ∷ filter test left) (filter test left)) stands ∙ rest

@@ -7,10 +7,10 @@ use Rattle.std.proofs.lemmas.Bool.Decides.{nat_tests}
 use Rattle.std.proofs.lemmas.List.Folds.{list_any-append}
 use Rattle.obj_id.specs.Ids.{same_id, id_eq}
 use Rattle.store_facts.proofs.Ids.{same_id-id_eq, same_id-flip}
-use Rattle.private_store.specs.Hands.{Hand, same_hand, hangs_on}
-use Rattle.grants.specs.Back.{job_of}
+use Rattle.private_store.specs.rules.Hands.{Hand, same_hand, is_child_of}
+use Rattle.grants.specs.Back.{job_numbered}
 use Rattle.grants.specs.declared.hands.Link.{Link}
-use Rattle.grants.specs.Links.{link_of, below_of, same_link, AreLinked}
+use Rattle.grants.specs.Links.{link_of, below_of, same_grant_link, AreLinked}
 
 and_in : (a b c : Bool) → a && (b && c) ≡ (a && b) && c
 and_in true b c = refl
@@ -38,39 +38,39 @@ any_none p h (x ∷ xs) = ap (λ b. b || list_any p xs) (h x) ∙ any_none p h x
 equal_either_way : (a b : ℕ) → (a == b) ≡ (b == a)
 equal_either_way a b = grind (arith, nat_tests)
 
-link_either_way : (a b : Link) → same_link a b ≡ same_link b a
-link_either_way a b = λ i. (sym (same_id-id_eq a.id b.id) ∙ same_id-flip a.id b.id ∙ same_id-id_eq b.id a.id) i && (equal_either_way a.giver.0 b.giver.0 i && equal_either_way a.taker.0 b.taker.0 i)
+link_either_way : (a b : Link) → same_grant_link a b ≡ same_grant_link b a
+link_either_way a b = λ i. (sym (same_id-id_eq a.id b.id) ∙ same_id-flip a.id b.id ∙ same_id-id_eq b.id a.id) i && (equal_either_way a.grantor.0 b.grantor.0 i && equal_either_way a.grantee.0 b.grantee.0 i)
 
 abbrev link_at : Hand → ℕ → Link
-link_at hand giver = record { id = hand.id; giver = job_of giver; taker = job_of hand.giver }
+link_at hand grantor = record { id = hand.id; grantor = job_numbered grantor; grantee = job_numbered hand.grantor }
 
 module _ (hand : Hand) (gone : List Hand) (links : List Link) (linked : AreLinked gone links) where
-  pub has_is : list_any (same_link (link_of hand)) links ≡ list_any (same_hand hand) gone
+  pub has_is : list_any (same_grant_link (link_of hand)) links ≡ list_any (same_hand hand) gone
   has_is =
       linked (link_of hand)
-      ∙ any_alike (λ h. same_link (link_of hand) (link_of h)) (same_hand hand)
-      (λ h. and_in (id_eq hand.id h.id) (hand.giver == h.giver) (hand.taker == h.taker) ∙ ap (λ b. (b && hand.giver == h.giver) && hand.taker == h.taker) (sym (same_id-id_eq hand.id h.id))) gone
+      ∙ any_alike (λ h. same_grant_link (link_of hand) (link_of h)) (same_hand hand)
+      (λ h. and_in (id_eq hand.id h.id) (hand.grantor == h.grantor) (hand.grantee == h.grantee) ∙ ap (λ b. (b && hand.grantor == h.grantor) && hand.grantee == h.grantee) (sym (same_id-id_eq hand.id h.id))) gone
 
-  pub carries_is : (giver : ℕ) → hand.hangs_on ≡ Some giver → list_any (same_link (link_at hand giver)) links ≡ list_any (hangs_on hand) gone
-  carries_is giver on =
-      let link : Link = link_at hand giver in
+  pub carries_is : (grantor : ℕ) → hand.parent ≡ Some grantor → list_any (same_grant_link (link_at hand grantor)) links ≡ list_any (is_child_of hand) gone
+  carries_is grantor on =
+      let link : Link = link_at hand grantor in
       linked link
-      ∙ any_alike (λ h. same_link link (link_of h)) (hangs_on hand)
-      (λ h. and_last (id_eq hand.id h.id) (hand.giver == h.taker) (giver == h.giver)
-      ∙ (λ i. (sym (same_id-id_eq hand.id h.id) i && hand.giver == h.taker) && option_map_or (λ g. g == h.giver) (sym on i) false)) gone
+      ∙ any_alike (λ h. same_grant_link link (link_of h)) (is_child_of hand)
+      (λ h. and_last (id_eq hand.id h.id) (hand.grantor == h.grantee) (grantor == h.grantor)
+      ∙ (λ i. (sym (same_id-id_eq hand.id h.id) i && hand.grantor == h.grantee) && option_map_or (λ g. g == h.grantor) (sym on i) false)) gone
 
-  pub carries_none : hand.hangs_on ≡ None → false ≡ list_any (hangs_on hand) gone
+  pub carries_none : hand.parent ≡ None → false ≡ list_any (is_child_of hand) gone
   carries_none off =
-      sym (any_none (hangs_on hand)
-      (λ h. ap (λ o. (same_id hand.id h.id && hand.giver == h.taker) && option_map_or (λ g. g == h.giver) o false) off ∙ and_none (same_id hand.id h.id && hand.giver == h.taker)) gone)
+      sym (any_none (is_child_of hand)
+      (λ h. ap (λ o. (same_id hand.id h.id && hand.grantor == h.grantee) && option_map_or (λ g. g == h.grantor) o false) off ∙ and_none (same_id hand.id h.id && hand.grantor == h.grantee)) gone)
 
   -- one more
-  pub linked_more : (more : List Link) → ((q : Link) → list_any (same_link q) more ≡ cond (same_link (link_of hand) q) true (list_any (same_link q) links)) → AreLinked (gone ++ hand ∷ []) more
+  pub linked_more : (more : List Link) → ((q : Link) → list_any (same_grant_link q) more ≡ cond (same_grant_link (link_of hand) q) true (list_any (same_grant_link q) links)) → AreLinked (gone ++ hand ∷ []) more
   linked_more more updated q =
       updated q
       ∙ (λ i. cond (link_either_way (link_of hand) q i) true (linked q i))
-      ∙ either (same_link q (link_of hand)) (list_any (λ h. same_link q (link_of h)) gone)
-      ∙ sym (list_any-append (λ h. same_link q (link_of h)) gone (hand ∷ []))
+      ∙ either (same_grant_link q (link_of hand)) (list_any (λ h. same_grant_link q (link_of h)) gone)
+      ∙ sym (list_any-append (λ h. same_grant_link q (link_of h)) gone (hand ∷ []))
     where
       either : (a b : Bool) → cond a true b ≡ b || (a || false)
       either true true = refl
@@ -79,16 +79,16 @@ module _ (hand : Hand) (gone : List Hand) (links : List Link) (linked : AreLinke
       either false false = refl
 
   -- by the link of the hand that it hangs on
-  pub carries_some : (link : Link) → Some link ≡ below_of hand → list_any (same_link link) links ≡ list_any (hangs_on hand) gone
+  pub carries_some : (link : Link) → Some link ≡ below_of hand → list_any (same_grant_link link) links ≡ list_any (is_child_of hand) gone
   carries_some link is =
-      (elim hand.hangs_on as (λ o. hand.hangs_on ≡ o → Some link ≡ option_map (λ g. link_at hand g) o → list_any (same_link link) links ≡ list_any (hangs_on hand) gone) [
+      (elim hand.parent as (λ o. hand.parent ≡ o → Some link ≡ option_map (λ g. link_at hand g) o → list_any (same_grant_link link) links ≡ list_any (is_child_of hand) gone) [
         | None ↦ λ off e. absurd cc
-        | Some giver ↦ λ on e. ap (λ o. list_any (same_link (unwrap_or o link)) links) e ∙ carries_is giver on
+        | Some grantor ↦ λ on e. ap (λ o. list_any (same_grant_link (unwrap_or o link)) links) e ∙ carries_is grantor on
       ]) refl is
 
-  pub carries_not : None ≡ below_of hand → false ≡ list_any (hangs_on hand) gone
+  pub carries_not : None ≡ below_of hand → false ≡ list_any (is_child_of hand) gone
   carries_not is =
-      (elim hand.hangs_on as (λ o. hand.hangs_on ≡ o → None ≡ option_map (λ g. link_at hand g) o → false ≡ list_any (hangs_on hand) gone) [
+      (elim hand.parent as (λ o. hand.parent ≡ o → None ≡ option_map (λ g. link_at hand g) o → false ≡ list_any (is_child_of hand) gone) [
         | None ↦ λ off e. carries_none off
-        | Some giver ↦ λ on e. absurd cc
+        | Some grantor ↦ λ on e. absurd cc
       ]) refl is

@@ -1,7 +1,7 @@
 -- What a job's own store says of hands is what the table says. A node's Grant, Withdraw and EndTask need:
 --   1. the table refuses what the store refuses (RefusesAlike): standing, the count of hands, the oldest hand and its depth;
 --   2. a grant that the table takes leaves to each job's store the hands of the table (GrantsAlike);
---   3. what ends leaves to the giver's store, by its command, and to each taker's, by what it is told of each hand that
+--   3. what ends leaves to the grantor's store, by its command, and to each grantee's, by what it is told of each hand that
 --      ended, the hands of the table that are left (EndsAlike);
 --   4. a job that isn't live has no hand that it gave: what ended with it (`Grants::drop_job`, `gone`).
 use Rattle.std.proofs.Common.{◌≡◌, ℕ, ◌==◌, Bool, true, false, not, cond, ◌&&◌, ◌||◌, List, [], ◌∷◌, ◌++◌, map, filter, find, length, Option, Some, None, refl, sym, ap, ◌∙◌, arith, eq-eqb}
@@ -13,18 +13,18 @@ use Rattle.std.proofs.lemmas.List.{length-map, map-append, append-nil}
 use Rattle.obj_id.specs.declared.ids.ObjectId.{ObjectId}
 use Rattle.obj_id.specs.declared.refusals.Refusal.TheVariants.{BadId, Gone, Absent, NotResident, Exists, TooMany, NotGranted}
 use Rattle.obj_id.specs.Ids.{same_id}
-use Rattle.private_store.specs.Limits.{most_hands, greatest_depth}
-use Rattle.private_store.specs.Shape.{Shape, Change, Seen, HandGiven, HandTaken}
-use Rattle.private_store.specs.Tables.{at}
-use Rattle.private_store.specs.Change.{refused, done, checked, needing, has_ended, settled}
-use Rattle.private_store.specs.Copies.{visible}
-use Rattle.private_store.specs.Commands.{is_sealed_primary, has_given, gives, oldest, grant_own, grant_foreign, grant, withdraw}
-use Rattle.private_store.specs.Events.{hands_of, received}
-use Rattle.private_store.specs.Hands.{Hand, ground, new_hand, is_withdrawn, is_given_by}
+use Rattle.private_store.specs.rules.Limits.{most_hands, greatest_depth}
+use Rattle.private_store.specs.rules.Shape.{Shape, Change, Seen, HandGiven, HandTaken}
+use Rattle.private_store.specs.rules.Tables.{at}
+use Rattle.private_store.specs.rules.Change.{refused, done, checked, needing, has_ended, settled}
+use Rattle.private_store.specs.rules.Copies.{visible}
+use Rattle.private_store.specs.rules.Commands.{is_sealed_primary, has_given, gives, oldest, grant_own, grant_foreign, grant, withdraw}
+use Rattle.private_store.specs.rules.Events.{hands_of, received}
+use Rattle.private_store.specs.rules.Hands.{Hand, ground, new_hand, is_withdrawn, is_given_by}
 use Rattle.store_facts.proofs.Ids.{same_id-equal}
 use Rattle.store_facts.proofs.Rows.{at-put}
 use Rattle.store_facts.proofs.Tests.{both, false_true}
-use Rattle.grants.specs.Table.{shows, given_by, is_no_taker, limits_check, hung_check, grant_check, withdraw_check}
+use Rattle.grants.specs.Table.{shows, given_by, is_no_grantee, limits_check, hung_check, grant_check, withdraw_check}
 use Rattle.grants.specs.Private.{as_given, as_taken, seen_by, HasHands, unless, without_given, RefusesAlike, GrantsAlike}
 use Rattle.grants.proofs.Alike.{numbers_equal}
 use Rattle.grants.proofs.Left.{filter_both}
@@ -40,8 +40,8 @@ pub any_given : (job : ℕ) (id : ObjectId) (target : ℕ) (hands : List Hand) �
 any_given job id target [] = refl
 any_given job id target (h ∷ hs) =
     let rest = any_given job id target hs in
-    elim (h.giver == job) as (λ b. list_any (is_to id target) (map as_given (cond b (h ∷ given_by job hs) (given_by job hs))) ≡ (((b && same_id id h.id) && h.taker == target) || list_any (is_withdrawn job id target) hs)) [
-      | true ↦ ap (λ b. (same_id id h.id && h.taker == target) || b) rest
+    elim (h.grantor == job) as (λ b. list_any (is_to id target) (map as_given (cond b (h ∷ given_by job hs) (given_by job hs))) ≡ (((b && same_id id h.id) && h.grantee == target) || list_any (is_withdrawn job id target) hs)) [
+      | true ↦ ap (λ b. (same_id id h.id && h.grantee == target) || b) rest
       | false ↦ rest
     ]
 
@@ -51,9 +51,9 @@ left_given job id target [] = refl
 left_given job id target (h ∷ hs) =
     let rest = left_given job id target hs in
     let left = filter (λ hand. not (is_withdrawn job id target hand)) hs in
-    (elim (h.giver == job) as (λ b. (h.giver == job) ≡ b → filter (λ hand. not (is_to id target hand)) (map as_given (cond b (h ∷ given_by job hs) (given_by job hs)))
-    ≡ map as_given (given_by job (cond (not ((b && same_id id h.id) && h.taker == target)) (h ∷ left) left))) [
-      | true ↦ λ e. elim (same_id id h.id && h.taker == target) as (λ t. cond (not t) (as_given h ∷ filter (λ hand. not (is_to id target hand)) (map as_given (given_by job hs))) (filter (λ hand. not (is_to id target hand)) (map as_given (given_by job hs)))
+    (elim (h.grantor == job) as (λ b. (h.grantor == job) ≡ b → filter (λ hand. not (is_to id target hand)) (map as_given (cond b (h ∷ given_by job hs) (given_by job hs)))
+    ≡ map as_given (given_by job (cond (not ((b && same_id id h.id) && h.grantee == target)) (h ∷ left) left))) [
+      | true ↦ λ e. elim (same_id id h.id && h.grantee == target) as (λ t. cond (not t) (as_given h ∷ filter (λ hand. not (is_to id target hand)) (map as_given (given_by job hs))) (filter (λ hand. not (is_to id target hand)) (map as_given (given_by job hs)))
           ≡ map as_given (given_by job (cond (not t) (h ∷ left) left))) [
             | true ↦ rest
             | false ↦ ap (λ r. as_given h ∷ r) rest ∙ sym (ap (λ b. map as_given (cond b (h ∷ given_by job left) (given_by job left))) e)
@@ -116,45 +116,45 @@ module _ (lengths : ObjectId → ℕ) (hands : List Hand) (store : Shape) (has :
   below id = oldest_first store id ∙ ap first_of (ap seen_hands (has.taken id) ∙ hands_seen (lengths id) (map as_taken (filter (shows id store.job) hands))) ∙ first_found (shows id store.job) hands
 
   own_grant : (id : ObjectId) (target : ℕ) → (id.job.0 == store.job) ≡ true → grant store id target
-      ≡ checked store ((is_no_taker id store.job target, BadId) ∷ (has_ended store id.task, Gone) ∷ [])
+      ≡ checked store ((is_no_grantee id store.job target, BadId) ∷ (has_ended store id.task, Gone) ∷ [])
       (needing store (visible store id) Absent (λ copy.
       checked store ((not (is_sealed_primary copy), NotResident) ∷ [])
-      (unless store (limits_check hands store.job id target 0) (gives store id target (new_hand hands id store.job target).hangs_on))))
+      (unless store (limits_check hands store.job id target 0) (gives store id target (new_hand hands id store.job target).parent))))
   unfolding checked needing
   own_grant id target own =
       ap (λ b. if b then grant_own store id target else grant_foreign store id target) own
       ∙ (λ i. if bad i then refused store BadId else (if has_ended store id.task then refused store Gone else
       needing store (visible store id) Absent (λ copy. if not (is_sealed_primary copy) then refused store NotResident else inner i)))
     where
-      bad : (target == 0 || target == store.job) ≡ is_no_taker id store.job target
+      bad : (target == 0 || target == store.job) ≡ is_no_grantee id store.job target
       bad =
           no_third (target == 0) (target == store.job)
           ∙ ap (λ n. target == 0 || target == store.job || target == n) (sym (numbers_equal id.job.0 store.job own))
 
       inner : checked store ((has_given store id target, Exists) ∷ (nat_le most_hands (length store.given), TooMany) ∷ []) (gives store id target None)
-          ≡ unless store (limits_check hands store.job id target 0) (gives store id target (new_hand hands id store.job target).hangs_on)
+          ≡ unless store (limits_check hands store.job id target 0) (gives store id target (new_hand hands id store.job target).parent)
       inner =
-          (λ i. checked store ((stands id target i, Exists) ∷ (nat_le most_hands (count i), TooMany) ∷ []) (gives store id target (made hands store.job id target (if sym own i then None else ground hands id store.job)).hangs_on))
-          ∙ limits store (list_any (is_withdrawn store.job id target) hands) (nat_le most_hands (length (given_by store.job hands))) (gives store id target (new_hand hands id store.job target).hangs_on)
+          (λ i. checked store ((stands id target i, Exists) ∷ (nat_le most_hands (count i), TooMany) ∷ []) (gives store id target (made hands store.job id target (if sym own i then None else ground hands id store.job)).parent))
+          ∙ limits store (list_any (is_withdrawn store.job id target) hands) (nat_le most_hands (length (given_by store.job hands))) (gives store id target (new_hand hands id store.job target).parent)
 
   foreign_grant : (id : ObjectId) (target : ℕ) → (id.job.0 == store.job) ≡ false → grant store id target
-      ≡ unless store (grant_check hands store.job id target) (gives store id target (new_hand hands id store.job target).hangs_on)
+      ≡ unless store (grant_check hands store.job id target) (gives store id target (new_hand hands id store.job target).parent)
   unfolding checked needing
   foreign_grant id target foreign =
       ap (λ b. if b then grant_own store id target else grant_foreign store id target) foreign
-      ∙ (λ i. if is_no_taker id store.job target then refused store BadId else
-      needing store (below id i) NotGranted (λ hand. checked store ((stands id target i, Exists) ∷ (nat_le greatest_depth hand.depth || nat_le most_hands (count i), TooMany) ∷ []) (gives store id target (Some hand.giver))))
-      ∙ ap (λ rest. if is_no_taker id store.job target then refused store BadId else rest) (hung (ground hands id store.job))
-      ∙ elim (is_no_taker id store.job target) as (λ b. (if b then refused store BadId else unless store (hung_check hands store.job id target (ground hands id store.job)) (gives store id target (made hands store.job id target (ground hands id store.job)).hangs_on))
-      ≡ unless store (if b then Some BadId else hung_check hands store.job id target (ground hands id store.job)) (gives store id target (made hands store.job id target (ground hands id store.job)).hangs_on)) [ true ↦ refl | false ↦ refl ]
-      ∙ (λ i. unless store (if is_no_taker id store.job target then Some BadId else
+      ∙ (λ i. if is_no_grantee id store.job target then refused store BadId else
+      needing store (below id i) NotGranted (λ hand. checked store ((stands id target i, Exists) ∷ (nat_le greatest_depth hand.depth || nat_le most_hands (count i), TooMany) ∷ []) (gives store id target (Some hand.grantor))))
+      ∙ ap (λ rest. if is_no_grantee id store.job target then refused store BadId else rest) (hung (ground hands id store.job))
+      ∙ elim (is_no_grantee id store.job target) as (λ b. (if b then refused store BadId else unless store (hung_check hands store.job id target (ground hands id store.job)) (gives store id target (made hands store.job id target (ground hands id store.job)).parent))
+      ≡ unless store (if b then Some BadId else hung_check hands store.job id target (ground hands id store.job)) (gives store id target (made hands store.job id target (ground hands id store.job)).parent)) [ true ↦ refl | false ↦ refl ]
+      ∙ (λ i. unless store (if is_no_grantee id store.job target then Some BadId else
       (if sym foreign i then limits_check hands store.job id target 0 else hung_check hands store.job id target (ground hands id store.job)))
-      (gives store id target (made hands store.job id target (if sym foreign i then None else ground hands id store.job)).hangs_on))
+      (gives store id target (made hands store.job id target (if sym foreign i then None else ground hands id store.job)).parent))
     where
-      hung : (o : Option Hand) → needing store (option_map as_taken o) NotGranted (λ hand. checked store ((list_any (is_withdrawn store.job id target) hands, Exists) ∷ (nat_le greatest_depth hand.depth || nat_le most_hands (length (given_by store.job hands)), TooMany) ∷ []) (gives store id target (Some hand.giver)))
-          ≡ unless store (hung_check hands store.job id target o) (gives store id target (made hands store.job id target o).hangs_on)
+      hung : (o : Option Hand) → needing store (option_map as_taken o) NotGranted (λ hand. checked store ((list_any (is_withdrawn store.job id target) hands, Exists) ∷ (nat_le greatest_depth hand.depth || nat_le most_hands (length (given_by store.job hands)), TooMany) ∷ []) (gives store id target (Some hand.grantor)))
+          ≡ unless store (hung_check hands store.job id target o) (gives store id target (made hands store.job id target o).parent)
       hung None = refl
-      hung (Some b) = limits store (list_any (is_withdrawn store.job id target) hands) (nat_le greatest_depth b.depth || nat_le most_hands (length (given_by store.job hands))) (gives store id target (Some b.giver))
+      hung (Some b) = limits store (list_any (is_withdrawn store.job id target) hands) (nat_le greatest_depth b.depth || nat_le most_hands (length (given_by store.job hands))) (gives store id target (Some b.grantor))
 
   withdrawn : (id : ObjectId) (target : ℕ) → withdraw store id target
       ≡ unless store (withdraw_check hands store.job id target) (done (settled (without_given store hands id target) id))
@@ -178,13 +178,13 @@ and_false false = refl
 
 -- one hand more
 module _ (lengths : ObjectId → ℕ) (hands : List Hand) (store : Shape) (has : HasHands lengths hands store) (h : Hand) where
-  given_here : h.giver ≡ store.job → store.given ++ as_given h ∷ [] ≡ map as_given (given_by store.job (hands ++ h ∷ []))
+  given_here : h.grantor ≡ store.job → store.given ++ as_given h ∷ [] ≡ map as_given (given_by store.job (hands ++ h ∷ []))
   given_here mine =
       ap (λ given. given ++ as_given h ∷ []) has.given
-      ∙ sym (ap (map as_given) (filter_both (is_given_by store.job) hands (h ∷ []) ∙ ap (λ b. given_by store.job hands ++ cond b (h ∷ []) []) (eq-eqb h.giver store.job mine))
+      ∙ sym (ap (map as_given) (filter_both (is_given_by store.job) hands (h ∷ []) ∙ ap (λ b. given_by store.job hands ++ cond b (h ∷ []) []) (eq-eqb h.grantor store.job mine))
       ∙ map-append as_given (given_by store.job hands) (h ∷ []))
 
-  given_elsewhere : (h.giver == store.job) ≡ false → store.given ≡ map as_given (given_by store.job (hands ++ h ∷ []))
+  given_elsewhere : (h.grantor == store.job) ≡ false → store.given ≡ map as_given (given_by store.job (hands ++ h ∷ []))
   given_elsewhere other =
       has.given
       ∙ sym (ap (map as_given) (filter_both (is_given_by store.job) hands (h ∷ []) ∙ ap (λ b. given_by store.job hands ++ cond b (h ∷ []) []) other ∙ append-nil (given_by store.job hands)))
@@ -197,10 +197,10 @@ module _ (lengths : ObjectId → ℕ) (hands : List Hand) (store : Shape) (has :
       ∙ (λ i. old ++ map as_taken (cond (is i) (h ∷ []) []))
       ∙ elim b as (λ b. old ++ map as_taken (cond b (h ∷ []) []) ≡ old ++ cond b (as_taken h ∷ []) []) [ true ↦ refl | false ↦ refl ]
 
-  taken_elsewhere : (h.taker == store.job) ≡ false → (q : ObjectId) → at store.received q ≡ seen_by (lengths q) (map as_taken (filter (shows q store.job) (hands ++ h ∷ [])))
+  taken_elsewhere : (h.grantee == store.job) ≡ false → (q : ObjectId) → at store.received q ≡ seen_by (lengths q) (map as_taken (filter (shows q store.job) (hands ++ h ∷ [])))
   taken_elsewhere other q = has.taken q ∙ ap (seen_by (lengths q)) (sym (shown_more q false (ap (λ b. same_id q h.id && b) other ∙ and_false (same_id q h.id)) ∙ append-nil (map as_taken (filter (shows q store.job) hands))))
 
-  taken_here : h.taker ≡ store.job → (q : ObjectId) → at (received store h.id (lengths h.id) h.giver h.depth).shape.received q ≡ seen_by (lengths q) (map as_taken (filter (shows q store.job) (hands ++ h ∷ [])))
+  taken_here : h.grantee ≡ store.job → (q : ObjectId) → at (received store h.id (lengths h.id) h.grantor h.depth).shape.received q ≡ seen_by (lengths q) (map as_taken (filter (shows q store.job) (hands ++ h ∷ [])))
   taken_here mine q =
       at-put store.received h.id (record { length = lengths h.id; hands = hands_of store h.id ++ as_taken h ∷ [] }) q
       ∙ (elim (same_id q h.id) as (λ b. same_id q h.id ≡ b → cond b (Some (record { length = lengths h.id; hands = hands_of store h.id ++ as_taken h ∷ [] })) (at store.received q)
@@ -209,32 +209,32 @@ module _ (lengths : ObjectId → ℕ) (hands : List Hand) (store : Shape) (has :
             (λ i. Some (record { length = lengths (sym (same_id-equal q h.id same) i); hands = hands_of store (sym (same_id-equal q h.id same) i) ++ as_taken h ∷ [] }))
             ∙ ap (λ hands. Some (record { length = lengths q; hands = hands ++ as_taken h ∷ [] })) (ap seen_hands (has.taken q) ∙ hands_seen (lengths q) (map as_taken (filter (shows q store.job) hands)))
             ∙ seen_more (lengths q) (map as_taken (filter (shows q store.job) hands)) (as_taken h)
-            ∙ ap (seen_by (lengths q)) (sym (shown_more q true (both (same_id q h.id) (h.taker == store.job) same (eq-eqb h.taker store.job mine))))
+            ∙ ap (seen_by (lengths q)) (sym (shown_more q true (both (same_id q h.id) (h.grantee == store.job) same (eq-eqb h.grantee store.job mine))))
         | false ↦ λ other.
             has.taken q
-            ∙ ap (seen_by (lengths q)) (sym (shown_more q false (ap (λ b. b && h.taker == store.job) other) ∙ append-nil (map as_taken (filter (shows q store.job) hands))))
+            ∙ ap (seen_by (lengths q)) (sym (shown_more q false (ap (λ b. b && h.grantee == store.job) other) ∙ append-nil (map as_taken (filter (shows q store.job) hands))))
       ]) refl
 
-module _ (lengths : ObjectId → ℕ) (hands : List Hand) (giver : ℕ) (id : ObjectId) (taker : ℕ) where
+module _ (lengths : ObjectId → ℕ) (hands : List Hand) (grantor : ℕ) (id : ObjectId) (grantee : ℕ) where
   -- whose the new hand is
-  pub made_for : ((new_hand hands id giver taker).id ≡ id) × ((new_hand hands id giver taker).giver ≡ giver) × ((new_hand hands id giver taker).taker ≡ taker)
-  made_for = by (if id.job.0 == giver then None else ground hands id giver)
+  pub made_for : ((new_hand hands id grantor grantee).id ≡ id) × ((new_hand hands id grantor grantee).grantor ≡ grantor) × ((new_hand hands id grantor grantee).grantee ≡ grantee)
+  made_for = by (if id.job.0 == grantor then None else ground hands id grantor)
     where
-      by : (o : Option Hand) → ((made hands giver id taker o).id ≡ id) × ((made hands giver id taker o).giver ≡ giver) × ((made hands giver id taker o).taker ≡ taker)
+      by : (o : Option Hand) → ((made hands grantor id grantee o).id ≡ id) × ((made hands grantor id grantee o).grantor ≡ grantor) × ((made hands grantor id grantee o).grantee ≡ grantee)
       by None = (refl, refl, refl)
       by (Some hand) = (refl, refl, refl)
 
-  pub grants_alike : grant_check hands giver id taker ≡ None → GrantsAlike lengths hands giver id taker
+  pub grants_alike : grant_check hands grantor id grantee ≡ None → GrantsAlike lengths hands grantor id grantee
   grants_alike passes =
-      let h = new_hand hands id giver taker in
-      let apart : (taker == giver) ≡ false = other_job (taker == 0) (taker == giver) (taker == id.job.0) (check_off (is_no_taker id giver taker) BadId (if id.job.0 == giver then limits_check hands giver id taker 0 else hung_check hands giver id taker (ground hands id giver)) passes).0 in
+      let h = new_hand hands id grantor grantee in
+      let apart : (grantee == grantor) ≡ false = other_job (grantee == 0) (grantee == grantor) (grantee == id.job.0) (check_off (is_no_grantee id grantor grantee) BadId (if id.job.0 == grantor then limits_check hands grantor id grantee 0 else hung_check hands grantor id grantee (ground hands id grantor)) passes).0 in
       record {
-        of_giver = λ store own has. record {
-          given = (λ i. store.given ++ record { id = sym made_for.0 i; target = sym made_for.2 i; hangs_on = h.hangs_on } ∷ []) ∙ given_here lengths hands store has h (made_for.1 ∙ sym own);
+        of_grantor = λ store own has. record {
+          given = (λ i. store.given ++ record { id = sym made_for.0 i; target = sym made_for.2 i; parent = h.parent } ∷ []) ∙ given_here lengths hands store has h (made_for.1 ∙ sym own);
           taken = taken_elsewhere lengths hands store has h ((λ i. made_for.2 i == own i) ∙ apart);
         };
-        of_taker = λ store own has. record {
-          given = given_elsewhere lengths hands store has h ((λ i. made_for.1 i == own i) ∙ apart_back taker giver apart);
+        of_grantee = λ store own has. record {
+          given = given_elsewhere lengths hands store has h ((λ i. made_for.1 i == own i) ∙ apart_back grantee grantor apart);
           taken = λ q. (λ i. at (received store (sym made_for.0 i) (lengths (sym made_for.0 i)) (sym made_for.1 i) h.depth).shape.received q) ∙ taken_here lengths hands store has h (made_for.2 ∙ sym own) q;
         };
         of_other = λ store from to has. record {

@@ -12,16 +12,16 @@ use Rattle.std.proofs.lemmas.List.Folds.{list_any-append}
 use Rattle.std.proofs.lemmas.Map.Lookups.{exact_unsigned}
 use Rattle.obj_id.specs.Ids.{id_cmp}
 use Rattle.store_facts.proofs.Ids.{same_id-equal}
-use Rattle.private_store.specs.Hands.{Hand, same_hand, hangs_on, hand_cmp, hand_placed, hands_sorted, ended_from}
+use Rattle.private_store.specs.rules.Hands.{Hand, same_hand, is_child_of, hand_cmp, hand_placed, hands_sorted, ended_from}
 use Rattle.store_facts.proofs.Tests.{true_false, both, both_left, both_right, not_true, refuted}
 use Rattle.grants.specs.declared.hands.Rank.{Rank}
-use Rattle.grants.specs.Links.{rank_of, are_apart}
-use Rattle.grants.specs.Table.{AreHands, is_no_taker, is_hung, may_stand, all_stand}
+use Rattle.grants.specs.Links.{rank_of, links_are_apart}
+use Rattle.grants.specs.Table.{AreHands, is_no_grantee, is_hung, hand_may_stand, all_stand}
 use Rattle.grants.proofs.Alike.{alike, same_alike, any_before, any_after, any_either}
 
 abbrev pub rank_cmp : Rank → Rank → Ordering
 rank_cmp a b =
-    ordering_then (nat_cmp a.depth b.depth) (ordering_then (id_cmp a.id b.id) (ordering_then (nat_cmp a.giver.0 b.giver.0) (nat_cmp a.taker.0 b.taker.0)))
+    ordering_then (nat_cmp a.depth b.depth) (ordering_then (id_cmp a.id b.id) (ordering_then (nat_cmp a.grantor.0 b.grantor.0) (nat_cmp a.grantee.0 b.grantee.0)))
 
 -- each under its rank
 abbrev pub AreRanked : List (Rank × Hand) → Type 0
@@ -47,12 +47,12 @@ then_right Greater b e = absurd (unlike e)
 -- hands of one rank are the same
 same_rank : (a b : Hand) → hand_cmp a b ≡ Equal → same_hand a b ≡ true
 same_rank a b e =
-    let jobs = ordering_then (nat_cmp a.giver b.giver) (nat_cmp a.taker b.taker) in
+    let jobs = ordering_then (nat_cmp a.grantor b.grantor) (nat_cmp a.grantee b.grantee) in
     let rest = then_right (nat_cmp a.depth b.depth) (ordering_then (id_cmp a.id b.id) jobs) e in
     let last = then_right (id_cmp a.id b.id) jobs rest in
     same_alike a b (same_id-equal a.id b.id (ap is_eq (then_left (id_cmp a.id b.id) jobs rest)))
-    (exact_unsigned a.giver b.giver (then_left (nat_cmp a.giver b.giver) (nat_cmp a.taker b.taker) last))
-    (exact_unsigned a.taker b.taker (then_right (nat_cmp a.giver b.giver) (nat_cmp a.taker b.taker) last))
+    (exact_unsigned a.grantor b.grantor (then_left (nat_cmp a.grantor b.grantor) (nat_cmp a.grantee b.grantee) last))
+    (exact_unsigned a.grantee b.grantee (then_right (nat_cmp a.grantor b.grantor) (nat_cmp a.grantee b.grantee) last))
 
 or_none : (a b : Bool) → a || b ≡ false → (a ≡ false) × (b ≡ false)
 or_none true b e = absurd cc
@@ -102,22 +102,22 @@ pub any_sorted : (p : Hand → Bool) (hs : List Hand) → list_any p (hands_sort
 any_sorted p [] = refl
 any_sorted p (h ∷ hs) = any_placed p h (hands_sorted hs) ∙ ap (λ b. p h || b) (any_sorted p hs)
 
-apart_drop : (k : ℕ) (hs : List Hand) → are_apart hs ≡ true → are_apart (drop k hs) ≡ true
+apart_drop : (k : ℕ) (hs : List Hand) → links_are_apart hs ≡ true → links_are_apart (drop k hs) ≡ true
 apart_drop zero hs a = a
 apart_drop (suc k) [] a = refl
-apart_drop (suc k) (h ∷ hs) a = apart_drop k hs (both_right (not (list_any (same_hand h) hs)) (are_apart hs) a)
+apart_drop (suc k) (h ∷ hs) a = apart_drop k hs (both_right (not (list_any (same_hand h) hs)) (links_are_apart hs) a)
 
 -- a step of the walk from the last to the first
-pub ranked_step : (hands : List Hand) (old new : List (Rank × Hand)) (left : ℕ) (hand : Hand) → are_apart hands ≡ true → left < length hands → hand ≡ get_or hands left hand
+pub ranked_step : (hands : List Hand) (old new : List (Rank × Hand)) (left : ℕ) (hand : Hand) → links_are_apart hands ≡ true → left < length hands → hand ≡ get_or hands left hand
     → AreRanked old → values_of old ≡ hands_sorted (drop (left + 1) hands) → new ≡ insert_entry rank_cmp old (rank_of hand) hand
     → (values_of new ≡ hands_sorted (drop left hands)) × AreRanked new
 ranked_step hands old new left hand apart within is ranked so_far e =
     let cut : drop left hands ≡ hand ∷ drop (left + 1) hands =
     drop-cons hands left hand within ∙ (λ i. sym is i ∷ drop (next left i) hands) in
-    let alone : are_apart (hand ∷ drop (left + 1) hands) ≡ true = ap are_apart (sym cut) ∙ apart_drop left hands apart in
+    let alone : links_are_apart (hand ∷ drop (left + 1) hands) ≡ true = ap links_are_apart (sym cut) ∙ apart_drop left hands apart in
     let new_one : list_any (same_hand hand) (values_of old) ≡ false =
     ap (list_any (same_hand hand)) so_far ∙ any_sorted (same_hand hand) (drop (left + 1) hands)
-    ∙ not_true (list_any (same_hand hand) (drop (left + 1) hands)) (both_left (not (list_any (same_hand hand) (drop (left + 1) hands))) (are_apart (drop (left + 1) hands)) alone) in
+    ∙ not_true (list_any (same_hand hand) (drop (left + 1) hands)) (both_left (not (list_any (same_hand hand) (drop (left + 1) hands))) (links_are_apart (drop (left + 1) hands)) alone) in
     let put = insert-values hand old ranked new_one in
     (ap values_of e ∙ put.0 ∙ ap (hand_placed hand) so_far ∙ sym (ap hands_sorted cut), subst AreRanked (sym e) put.1)
   where
@@ -131,28 +131,28 @@ same_back a b e =
     let p = alike a b e in
     same_alike b a (sym p.0) (sym p.1) (sym p.2)
 
-apart_push : (hs : List Hand) (h : Hand) → are_apart hs ≡ true → list_any (same_hand h) hs ≡ false → are_apart (hs ++ h ∷ []) ≡ true
+apart_push : (hs : List Hand) (h : Hand) → links_are_apart hs ≡ true → list_any (same_hand h) hs ≡ false → links_are_apart (hs ++ h ∷ []) ≡ true
 apart_push [] h a n = refl
 apart_push (x ∷ xs) h a n =
     let split = or_none (same_hand h x) (list_any (same_hand h) xs) n in
-    let own = not_true (list_any (same_hand x) xs) (both_left (not (list_any (same_hand x) xs)) (are_apart xs) a) in
+    let own = not_true (list_any (same_hand x) xs) (both_left (not (list_any (same_hand x) xs)) (links_are_apart xs) a) in
     let last : same_hand x h ≡ false = refuted (same_hand x h) (λ e. sym split.0 ∙ same_back x h e) in
-    both (not (list_any (same_hand x) (xs ++ h ∷ []))) (are_apart (xs ++ h ∷ []))
+    both (not (list_any (same_hand x) (xs ++ h ∷ []))) (links_are_apart (xs ++ h ∷ []))
     (ap not (list_any-append (same_hand x) xs (h ∷ []) ∙ (λ i. own i || (last i || false))))
-    (apart_push xs h (both_right (not (list_any (same_hand x) xs)) (are_apart xs) a) split.1)
+    (apart_push xs h (both_right (not (list_any (same_hand x) xs)) (links_are_apart xs) a) split.1)
 
 module _ (test : Hand → Bool) where
   ended_apart_from : (before gone hs : List Hand) → all_stand before hs ≡ true → ((b : Hand) → list_any (same_hand b) gone ≡ true → list_any (same_hand b) before ≡ true)
-      → are_apart gone ≡ true → are_apart (ended_from test gone hs) ≡ true
+      → links_are_apart gone ≡ true → links_are_apart (ended_from test gone hs) ≡ true
   ended_apart_from before gone [] s among a = a
   ended_apart_from before gone (h ∷ hs) s among a =
-      let stands = both_left (may_stand before h) (all_stand (before ++ h ∷ []) hs) s in
-      let rest = both_right (may_stand before h) (all_stand (before ++ h ∷ []) hs) s in
+      let stands = both_left (hand_may_stand before h) (all_stand (before ++ h ∷ []) hs) s in
+      let rest = both_right (hand_may_stand before h) (all_stand (before ++ h ∷ []) hs) s in
       let new = not_true (list_any (same_hand h) before)
-      (both_right (not (is_no_taker h.id h.giver h.taker)) (not (list_any (same_hand h) before))
-      (both_left (not (is_no_taker h.id h.giver h.taker) && not (list_any (same_hand h) before)) (is_hung before h) stands)) in
+      (both_right (not (is_no_grantee h.id h.grantor h.grantee)) (not (list_any (same_hand h) before))
+      (both_left (not (is_no_grantee h.id h.grantor h.grantee) && not (list_any (same_hand h) before)) (is_hung before h) stands)) in
       let none : list_any (same_hand h) gone ≡ false = refuted (list_any (same_hand h) gone) (λ e. sym new ∙ among h e) in
-      elim (test h || list_any (hangs_on h) gone) as (λ t. are_apart (ended_from test (if t then gone ++ h ∷ [] else gone) hs) ≡ true) [
+      elim (test h || list_any (is_child_of h) gone) as (λ t. links_are_apart (ended_from test (if t then gone ++ h ∷ [] else gone) hs) ≡ true) [
         | true ↦ ended_apart_from (before ++ h ∷ []) (gone ++ h ∷ []) hs rest
             (λ b e. elim (any_either (same_hand b) gone (h ∷ []) e) [
               | inl g ↦ any_before (same_hand b) before (h ∷ []) (among b g)
@@ -161,5 +161,5 @@ module _ (test : Hand → Bool) where
         | false ↦ ended_apart_from (before ++ h ∷ []) gone hs rest (λ b e. any_before (same_hand b) before (h ∷ []) (among b e)) a
       ]
 
-  pub ended_apart : (hands : List Hand) → AreHands hands → are_apart (ended_from test [] hands) ≡ true
+  pub ended_apart : (hands : List Hand) → AreHands hands → links_are_apart (ended_from test [] hands) ≡ true
   ended_apart hands h = ended_apart_from [] [] hands h.stand (λ b e. true_false e) refl

@@ -7,10 +7,10 @@ use Rattle.std.proofs.lemmas.Bool.Decides.{nat_tests}
 use Rattle.obj_id.specs.declared.ids.ObjectId.{ObjectId}
 use Rattle.obj_id.specs.Ids.{same_id}
 use Rattle.store_facts.proofs.Ids.{same_id-equal, same_id-itself}
-use Rattle.private_store.specs.Limits.{greatest_depth}
-use Rattle.private_store.specs.Hands.{Hand, hangs_on, same_hand}
+use Rattle.private_store.specs.rules.Limits.{greatest_depth}
+use Rattle.private_store.specs.rules.Hands.{Hand, is_child_of, same_hand}
 use Rattle.store_facts.proofs.Tests.{true_false, both, both_left, both_right, or_cases, or_left, or_right}
-use Rattle.grants.specs.Table.{AreHands, is_first, shows, hangs_right, is_hung, is_no_taker, may_stand, all_stand}
+use Rattle.grants.specs.Table.{AreHands, is_first, shows, hangs_right, is_hung, is_no_grantee, hand_may_stand, all_stand}
 use Rattle.grants.specs.Chains.{one_is, leads, is_led_to, sees}
 use Rattle.grants.proofs.Alike.{numbers_equal}
 
@@ -47,52 +47,52 @@ depth_left : (d n : ℕ) → d ≡ suc n → nat_le d greatest_depth ≡ true �
 depth_left d n e h = grind (arith, nat_tests)
 
 module _ (all : List Hand) where
-  -- a chain as long as the hand is deep leads to its taker
+  -- a chain as long as the hand is deep leads to its grantee
   abbrev led : Hand → Type 0
-  led h = (n : ℕ) × (h.depth ≡ suc n) × (n < greatest_depth) × leads all h.id (suc n) h.taker
+  led h = (n : ℕ) × (h.depth ≡ suc n) × (n < greatest_depth) × leads all h.id (suc n) h.grantee
 
   abbrev last : Hand → ℕ → Hand → Type 0
-  last h n hand = (same_id h.id hand.id ≡ true) × (hand.taker ≡ h.taker) × leads all h.id n hand.giver
+  last h n hand = (same_id h.id hand.id ≡ true) × (hand.grantee ≡ h.grantee) × leads all h.id n hand.grantor
 
-  led_one : (before hs : List Hand) (h : Hand) → before ++ h ∷ hs ≡ all → (n : ℕ) → leads all h.id n h.giver → leads all h.id (suc n) h.taker
+  led_one : (before hs : List Hand) (h : Hand) → before ++ h ∷ hs ≡ all → (n : ℕ) → leads all h.id n h.grantor → leads all h.id (suc n) h.grantee
   led_one before hs h is n l = subst (λ x. one_is (last h n) x) is (one_here (last h n) before hs h (same_id-itself h.id, refl, l))
 
   -- over the hand that it hangs on
-  led_over : (before hs : List Hand) (h : Hand) → before ++ h ∷ hs ≡ all → (b : Hand) → hangs_on h b ≡ true → h.depth ≡ suc b.depth → nat_le h.depth greatest_depth ≡ true → led b → led h
+  led_over : (before hs : List Hand) (h : Hand) → before ++ h ∷ hs ≡ all → (b : Hand) → is_child_of h b ≡ true → h.depth ≡ suc b.depth → nat_le h.depth greatest_depth ≡ true → led b → led h
   led_over before hs h is b on next shallow l =
-      let front = both_left (same_id h.id b.id && h.giver == b.taker) (option_map_or (λ g. g == b.giver) h.hangs_on false) on in
-      let ids : h.id ≡ b.id = same_id-equal h.id b.id (both_left (same_id h.id b.id) (h.giver == b.taker) front) in
-      let jobs : h.giver ≡ b.taker = numbers_equal h.giver b.taker (both_right (same_id h.id b.id) (h.giver == b.taker) front) in
-      let up : leads all h.id (suc l.0) h.giver = subst (λ x. x) (λ i. leads all (sym ids i) (suc l.0) (sym jobs i)) l.3 in
+      let front = both_left (same_id h.id b.id && h.grantor == b.grantee) (option_map_or (λ g. g == b.grantor) h.parent false) on in
+      let ids : h.id ≡ b.id = same_id-equal h.id b.id (both_left (same_id h.id b.id) (h.grantor == b.grantee) front) in
+      let jobs : h.grantor ≡ b.grantee = numbers_equal h.grantor b.grantee (both_right (same_id h.id b.id) (h.grantor == b.grantee) front) in
+      let up : leads all h.id (suc l.0) h.grantor = subst (λ x. x) (λ i. leads all (sym ids i) (suc l.0) (sym jobs i)) l.3 in
       let deep : h.depth ≡ suc (suc l.0) = next ∙ ap (λ d. suc d) l.1 in
       (suc l.0, deep, depth_left h.depth (suc l.0) deep shallow, led_one before hs h is (suc l.0) up)
 
   led_by : (before hs : List Hand) (h : Hand) → before ++ h ∷ hs ≡ all → each led before → (o : Option ℕ) → hangs_right before h o ≡ true → led h
   led_by before hs h is a None e =
-      let first : h.giver ≡ h.id.job.0 = numbers_equal h.giver h.id.job.0 (both_left (h.giver == h.id.job.0) (h.depth == 1) e) in
-      let depth : h.depth ≡ 1 = numbers_equal h.depth 1 (both_right (h.giver == h.id.job.0) (h.depth == 1) e) in
+      let first : h.grantor ≡ h.id.job.0 = numbers_equal h.grantor h.id.job.0 (both_left (h.grantor == h.id.job.0) (h.depth == 1) e) in
+      let depth : h.depth ≡ 1 = numbers_equal h.depth 1 (both_right (h.grantor == h.id.job.0) (h.depth == 1) e) in
       (0, depth, omega arith, led_one before hs h is 0 (sym first))
   led_by before hs h is a (Some g) e =
-      let over : Hand → Bool = λ b. hangs_on h b && h.depth == b.depth + 1 in
-      let front : Bool = not (h.giver == h.id.job.0) && nat_le h.depth greatest_depth in
+      let over : Hand → Bool = λ b. is_child_of h b && h.depth == b.depth + 1 in
+      let front : Bool = not (h.grantor == h.id.job.0) && nat_le h.depth greatest_depth in
       let b = pick led over before a (both_right front (list_any over before) e) in
-      let on = both_left (hangs_on h b.0) (h.depth == b.0.depth + 1) b.1 in
-      let next : h.depth ≡ suc b.0.depth = depth_next h.depth b.0.depth (numbers_equal h.depth (b.0.depth + 1) (both_right (hangs_on h b.0) (h.depth == b.0.depth + 1) b.1)) in
-      let shallow = both_right (not (h.giver == h.id.job.0)) (nat_le h.depth greatest_depth) (both_left front (list_any over before) e) in
+      let on = both_left (is_child_of h b.0) (h.depth == b.0.depth + 1) b.1 in
+      let next : h.depth ≡ suc b.0.depth = depth_next h.depth b.0.depth (numbers_equal h.depth (b.0.depth + 1) (both_right (is_child_of h b.0) (h.depth == b.0.depth + 1) b.1)) in
+      let shallow = both_right (not (h.grantor == h.id.job.0)) (nat_le h.depth greatest_depth) (both_left front (list_any over before) e) in
       led_over before hs h is b.0 on next shallow b.2
 
   led_from : (before hs : List Hand) → before ++ hs ≡ all → all_stand before hs ≡ true → each led before → each led hs
   led_from before [] is s a = tt
   led_from before (h ∷ hs) is s a =
-      let stands = both_left (may_stand before h) (all_stand (before ++ h ∷ []) hs) s in
-      let hung = both_right (not (is_no_taker h.id h.giver h.taker) && not (list_any (same_hand h) before)) (is_hung before h) stands in
-      let here = led_by before hs h is a h.hangs_on hung in
-      (here, led_from (before ++ h ∷ []) hs (append_in before (h ∷ []) hs ∙ is) (both_right (may_stand before h) (all_stand (before ++ h ∷ []) hs) s) (each_last led before h a here))
+      let stands = both_left (hand_may_stand before h) (all_stand (before ++ h ∷ []) hs) s in
+      let hung = both_right (not (is_no_grantee h.id h.grantor h.grantee) && not (list_any (same_hand h) before)) (is_hung before h) stands in
+      let here = led_by before hs h is a h.parent hung in
+      (here, led_from (before ++ h ∷ []) hs (append_in before (h ∷ []) hs ∙ is) (both_right (hand_may_stand before h) (all_stand (before ++ h ∷ []) hs) s) (each_last led before h a here))
 
   seen_at : (id : ObjectId) (job : ℕ) (h : Hand) → shows id job h ≡ true → led h → is_led_to all id job
   seen_at id job h e l =
-      let ids : id ≡ h.id = same_id-equal id h.id (both_left (same_id id h.id) (h.taker == job) e) in
-      let jobs : h.taker ≡ job = numbers_equal h.taker job (both_right (same_id id h.id) (h.taker == job) e) in
+      let ids : id ≡ h.id = same_id-equal id h.id (both_left (same_id id h.id) (h.grantee == job) e) in
+      let jobs : h.grantee ≡ job = numbers_equal h.grantee job (both_right (same_id id h.id) (h.grantee == job) e) in
       (l.0, l.2, subst (λ x. x) (λ i. leads all (sym ids i) (suc l.0) (jobs i)) l.3)
 
   seen_led : AreHands all → (id : ObjectId) (job : ℕ) → sees all id job → is_led_to all id job
@@ -102,8 +102,8 @@ module _ (all : List Hand) where
 
   led_seen : (id : ObjectId) (job : ℕ) → is_led_to all id job → sees all id job
   led_seen id job l =
-      any_of_one (λ hand. (same_id id hand.id ≡ true) × (hand.taker ≡ job) × leads all id l.0 hand.giver) (shows id job) all
-      (λ h p. both (same_id id h.id) (h.taker == job) p.0 (eq-eqb h.taker job p.1)) l.2
+      any_of_one (λ hand. (same_id id hand.id ≡ true) × (hand.grantee ≡ job) × leads all id l.0 hand.grantor) (shows id job) all
+      (λ h p. both (same_id id h.id) (h.grantee == job) p.0 (eq-eqb h.grantee job p.1)) l.2
 
   pub seen_where_led : AreHands all → (id : ObjectId) (job : ℕ) → sees all id job ↔ is_led_to all id job
   seen_where_led h id job = (seen_led h id job, led_seen id job)
@@ -116,13 +116,13 @@ module _ (all : List Hand) where
   -- a chain begins with a hand of the object's own job
   begins : (id : ObjectId) (n : ℕ) (job : ℕ) → leads all id (suc n) job → list_any (is_first id) all ≡ true
   begins id zero job l =
-      any_of_one (λ hand. (same_id id hand.id ≡ true) × (hand.taker ≡ job) × leads all id zero hand.giver) (is_first id) all
-      (λ h p. both (same_id id h.id) (h.giver == id.job.0) p.0 (eq-eqb h.giver id.job.0 (sym p.2))) l
-  begins id (suc n) job l = from_one (λ hand. (same_id id hand.id ≡ true) × (hand.taker ≡ job) × leads all id (suc n) hand.giver) all l (λ h p. begins id n h.giver p.2)
+      any_of_one (λ hand. (same_id id hand.id ≡ true) × (hand.grantee ≡ job) × leads all id zero hand.grantor) (is_first id) all
+      (λ h p. both (same_id id h.id) (h.grantor == id.job.0) p.0 (eq-eqb h.grantor id.job.0 (sym p.2))) l
+  begins id (suc n) job l = from_one (λ hand. (same_id id hand.id ≡ true) × (hand.grantee ≡ job) × leads all id (suc n) hand.grantor) all l (λ h p. begins id n h.grantor p.2)
 
   -- so where a hand of the object stands, its own job gave one
   pub first_stands : AreHands all → (id : ObjectId) → list_any (λ hand. same_id id hand.id) all ≡ true → list_any (is_first id) all ≡ true
   first_stands h id e =
       let at = pick led (λ hand. same_id id hand.id) all (led_from [] all refl h.stand tt) e in
       let ids : at.0.id ≡ id = sym (same_id-equal id at.0.id at.1) in
-      subst (λ i. list_any (is_first i) all ≡ true) ids (begins at.0.id at.2.0 at.0.taker at.2.3)
+      subst (λ i. list_any (is_first i) all ≡ true) ids (begins at.0.id at.2.0 at.0.grantee at.2.3)

@@ -10,10 +10,10 @@ use Rattle.obj_id.specs.declared.ids.ObjectId.{ObjectId}
 use Rattle.obj_id.specs.declared.commands.GrantedItem.{GrantedItem}
 use Rattle.obj_id.specs.Ids.{id_cmp, same_id}
 use Rattle.store_facts.proofs.Ids.{id_cmp-IsTotalOrder, id_cmp-IsAntisymmetric, same_id-equal, same_id-itself}
-use Rattle.private_store.specs.Commands.{granted_items}
-use Rattle.private_store.specs.Hands.{Hand}
-use Rattle.private_store.specs.Shape.{Shape, Seen, HandTaken}
-use Rattle.private_store.specs.Tables.{ById, at, with_entry}
+use Rattle.private_store.specs.rules.Commands.{granted_items}
+use Rattle.private_store.specs.rules.Hands.{Hand}
+use Rattle.private_store.specs.rules.Shape.{Shape, Seen, HandTaken}
+use Rattle.private_store.specs.rules.Tables.{ById, at, with_entry}
 use Rattle.store_facts.proofs.Filling.{below_none}
 use Rattle.store_facts.proofs.Tests.{both, and_left, and_right, none_some, true_T, T_true, less_is}
 use Rattle.grants.specs.Private.{as_taken, with_taken, taken_by}

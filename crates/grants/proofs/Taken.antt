@@ -7,9 +7,9 @@ use Rattle.std.proofs.lemmas.List.{append-nil, append_assoc}
 use Rattle.obj_id.specs.declared.ids.ObjectId.{ObjectId}
 use Rattle.obj_id.specs.Ids.{id_cmp, same_id}
 use Rattle.store_facts.proofs.Ids.{id_cmp-IsTotalOrder, id_cmp-IsAntisymmetric, same_id-equal}
-use Rattle.private_store.specs.Shape.{Shape, Seen, HandTaken}
-use Rattle.private_store.specs.Tables.{ById, at}
-use Rattle.private_store.specs.Hands.{Hand}
+use Rattle.private_store.specs.rules.Shape.{Shape, Seen, HandTaken}
+use Rattle.private_store.specs.rules.Tables.{ById, at}
+use Rattle.private_store.specs.rules.Hands.{Hand}
 use Rattle.store_facts.proofs.Rows.{at-put}
 use Rattle.store_facts.proofs.Tests.{T_true}
 use Rattle.grants.specs.Table.{shows, given_by, given_to}
@@ -40,7 +40,7 @@ module _ (lengths : ObjectId → ℕ) where
   given_shown : (q : ObjectId) (job : ℕ) (hs : List Hand) → filter (λ h. same_id q h.id) (given_to job hs) ≡ filter (shows q job) hs
   given_shown q job [] = refl
   given_shown q job (h ∷ hs) =
-      elim (h.taker == job) as (λ b. filter (λ h. same_id q h.id) (cond b (h ∷ given_to job hs) (given_to job hs)) ≡ cond (same_id q h.id && b) (h ∷ filter (shows q job) hs) (filter (shows q job) hs)) [
+      elim (h.grantee == job) as (λ b. filter (λ h. same_id q h.id) (cond b (h ∷ given_to job hs) (given_to job hs)) ≡ cond (same_id q h.id && b) (h ∷ filter (shows q job) hs) (filter (shows q job) hs)) [
         | true ↦
             (λ i. cond (same_id q h.id) (h ∷ given_shown q job hs i) (given_shown q job hs i))
             ∙ ap (λ b. cond b (h ∷ filter (shows q job) hs) (filter (shows q job) hs)) (sym (and_true (same_id q h.id)))

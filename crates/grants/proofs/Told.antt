@@ -3,7 +3,7 @@ use Rattle.std.proofs.Common.{◌≡◌, ◌+◌, ◌≤◌, Bool, true, false, 
 use Rattle.std.specs.List.{list_any}
 use Rattle.std.specs.Ordering.{is_lt}
 use Rattle.std.proofs.lemmas.List.{length_push}
-use Rattle.private_store.specs.Hands.{Hand, hangs_on, ended_from, hand_cmp, hand_placed, hands_sorted, hands_ended}
+use Rattle.private_store.specs.rules.Hands.{Hand, is_child_of, ended_from, hand_cmp, hand_placed, hands_sorted, hands_ended}
 
 placed_one : (hand : Hand) (hs : List Hand) → length (hand_placed hand hs) ≡ length hs + 1
 placed_one hand [] = refl
@@ -22,7 +22,7 @@ sorted_same (h ∷ hs) =
 
 ended_few : (test : Hand → Bool) (gone hs : List Hand) → length (ended_from test gone hs) ≤ length gone + length hs
 ended_few test gone [] = omega arith
-ended_few test gone (h ∷ hs) = by (test h || list_any (hangs_on h) gone) (λ more. ended_few test more hs)
+ended_few test gone (h ∷ hs) = by (test h || list_any (is_child_of h) gone) (λ more. ended_few test more hs)
   where
     by : (b : Bool) → ((more : List Hand) → length (ended_from test more hs) ≤ length more + length hs) → length (ended_from test (cond b (gone ++ h ∷ []) gone) hs) ≤ length gone + length (h ∷ hs)
     by true later = let rest = later (gone ++ h ∷ []) in let one = length_push gone h in omega (arith, rest, one)

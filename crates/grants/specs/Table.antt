@@ -6,8 +6,8 @@ use Rattle.obj_id.specs.declared.refusals.Refusal.{Refusal}
 use Rattle.obj_id.specs.declared.refusals.Refusal.TheVariants.{BadId, NotGranted, Exists, TooMany}
 use Rattle.std.specs.Ordering.{is_lt}
 use Rattle.obj_id.specs.Ids.{id_cmp, same_id}
-use Rattle.private_store.specs.Limits.{most_hands, greatest_depth}
-use Rattle.private_store.specs.Hands.{Hand, same_hand, ground, hangs_on, ended_from, is_withdrawn, is_of_task, is_given_by}
+use Rattle.private_store.specs.rules.Limits.{most_hands, greatest_depth}
+use Rattle.private_store.specs.rules.Hands.{Hand, same_hand, ground, is_child_of, ended_from, is_withdrawn, is_of_task, is_given_by}
 use Rattle.grants.specs.declared.endings.Ending.{Ending}
 use Rattle.grants.specs.declared.endings.Ending.TheVariants.{Withdrawn, OfObject, OfTask, GivenBy}
 
@@ -15,11 +15,11 @@ use Rattle.grants.specs.declared.endings.Ending.TheVariants.{Withdrawn, OfObject
 
 -- a hand of the object to the job
 abbrev pub shows : ObjectId → ℕ → Hand → Bool
-shows id job hand = same_id id hand.id && hand.taker == job
+shows id job hand = same_id id hand.id && hand.grantee == job
 
 -- a hand of the object from its own job
 abbrev pub is_first : ObjectId → Hand → Bool
-is_first id hand = same_id id hand.id && hand.giver == id.job.0
+is_first id hand = same_id id hand.id && hand.grantor == id.job.0
 
 -- the hands that the job gave, oldest first
 abbrev pub given_by : ℕ → List Hand → List Hand
@@ -27,7 +27,7 @@ given_by job hands = filter (is_given_by job) hands
 
 -- the hands to the job, oldest first
 abbrev pub given_to : ℕ → List Hand → List Hand
-given_to job hands = filter (λ hand. hand.taker == job) hands
+given_to job hands = filter (λ hand. hand.grantee == job) hands
 
 -- the first hand of each object, by rising id: the hand has its place unless an older one of the object is there
 abbrev pub with_seen : Hand → List Hand → List Hand
@@ -46,32 +46,32 @@ seen_list job hands = seen_from [] (given_to job hands)
 
 -- ---- granting
 
--- no job, the giver itself, or the job whose object it is
-abbrev pub is_no_taker : ObjectId → ℕ → ℕ → Bool
-is_no_taker id giver taker = taker == 0 || taker == giver || taker == id.job.0
+-- no job, the grantor itself, or the job whose object it is
+abbrev pub is_no_grantee : ObjectId → ℕ → ℕ → Bool
+is_no_grantee id grantor grantee = grantee == 0 || grantee == grantor || grantee == id.job.0
 
 -- why no hand can hang at this depth: it stands, or a limit is reached
 abbrev pub limits_check : List Hand → ℕ → ObjectId → ℕ → ℕ → Option Refusal
-limits_check hands giver id taker depth =
-    if list_any (is_withdrawn giver id taker) hands then Some Exists else
-    (if nat_le greatest_depth depth || nat_le most_hands (length (given_by giver hands)) then Some TooMany else None)
+limits_check hands grantor id grantee depth =
+    if list_any (is_withdrawn grantor id grantee) hands then Some Exists else
+    (if nat_le greatest_depth depth || nat_le most_hands (length (given_by grantor hands)) then Some TooMany else None)
 
 -- another job's object has to be seen
 abbrev pub hung_check : List Hand → ℕ → ObjectId → ℕ → Option Hand → Option Refusal
-hung_check hands giver id taker None = Some NotGranted
-hung_check hands giver id taker (Some hand) = limits_check hands giver id taker hand.depth
+hung_check hands grantor id grantee None = Some NotGranted
+hung_check hands grantor id grantee (Some hand) = limits_check hands grantor id grantee hand.depth
 
 -- why a grant is refused
 abbrev pub grant_check : List Hand → ℕ → ObjectId → ℕ → Option Refusal
-grant_check hands giver id taker =
-    if is_no_taker id giver taker then Some BadId else
-    (if id.job.0 == giver then limits_check hands giver id taker 0 else hung_check hands giver id taker (ground hands id giver))
+grant_check hands grantor id grantee =
+    if is_no_grantee id grantor grantee then Some BadId else
+    (if id.job.0 == grantor then limits_check hands grantor id grantee 0 else hung_check hands grantor id grantee (ground hands id grantor))
 
 -- ---- ending
 
--- the hands that end of their giver's own accord
+-- the hands that end of their grantor's own accord
 abbrev pub ends : Ending → Hand → Bool
-ends (Withdrawn giver id taker) = is_withdrawn giver.0 id taker.0
+ends (Withdrawn grantor id grantee) = is_withdrawn grantor.0 id grantee.0
 ends (OfObject id) = λ hand. same_id id hand.id
 ends (OfTask job task) = is_of_task job.0 task
 ends (GivenBy job) = is_given_by job.0
@@ -87,28 +87,28 @@ pub record AreFoundIn (hands ends : List Hand) : Type 0 where
 
 -- why a withdrawal is refused: there is no such hand
 abbrev pub withdraw_check : List Hand → ℕ → ObjectId → ℕ → Option Refusal
-withdraw_check hands giver id taker = if list_any (is_withdrawn giver id taker) hands then None else Some NotGranted
+withdraw_check hands grantor id grantee = if list_any (is_withdrawn grantor id grantee) hands then None else Some NotGranted
 
 -- ---- what is so of every table
 
 -- a hand of depth 1 is from the object's own job and hangs on nothing; any other hangs on an older one, one deeper
 abbrev pub hangs_right : List Hand → Hand → Option ℕ → Bool
-hangs_right before hand None = hand.giver == hand.id.job.0 && hand.depth == 1
+hangs_right before hand None = hand.grantor == hand.id.job.0 && hand.depth == 1
 hangs_right before hand (Some _) =
-    not (hand.giver == hand.id.job.0) && nat_le hand.depth greatest_depth && list_any (λ below. hangs_on hand below && hand.depth == below.depth + 1) before
+    not (hand.grantor == hand.id.job.0) && nat_le hand.depth greatest_depth && list_any (λ below. is_child_of hand below && hand.depth == below.depth + 1) before
 
 abbrev pub is_hung : List Hand → Hand → Bool
-is_hung before hand = hangs_right before hand hand.hangs_on
+is_hung before hand = hangs_right before hand hand.parent
 
 -- whether a hand may stand after the older ones
-abbrev pub may_stand : List Hand → Hand → Bool
-may_stand before hand =
-    not (is_no_taker hand.id hand.giver hand.taker) && not (list_any (same_hand hand) before) && is_hung before hand
+abbrev pub hand_may_stand : List Hand → Hand → Bool
+hand_may_stand before hand =
+    not (is_no_grantee hand.id hand.grantor hand.grantee) && not (list_any (same_hand hand) before) && is_hung before hand
 
 abbrev pub all_stand : List Hand → List Hand → Bool
 all_stand before [] = true
-all_stand before (hand ∷ hands) = may_stand before hand && all_stand (before ++ hand ∷ []) hands
+all_stand before (hand ∷ hands) = hand_may_stand before hand && all_stand (before ++ hand ∷ []) hands
 
 pub record AreHands (hands : List Hand) : Type 0 where
   pub stand : all_stand [] hands ≡ true
-  pub few : (giver : ℕ) → length (given_by giver hands) ≤ most_hands
+  pub few : (grantor : ℕ) → length (given_by grantor hands) ≤ most_hands

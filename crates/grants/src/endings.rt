@@ -1,9 +1,9 @@
 //! Which hands end, and in what order that is told.
 ghost use Rattle.std.specs.Prelude.{◌≡◌, ◌++◌, ◌∷◌, [], true, not, filter, IfOk, OnOk};
 ghost use Rattle.std.specs.List.{list_any};
-ghost use Rattle.private_store.specs.Hands.{hangs_on, same_hand, ended_from, hands_sorted};
+ghost use Rattle.private_store.specs.rules.Hands.{is_child_of, same_hand, ended_from, hands_sorted};
 ghost use Rattle.grants.specs.Table.{ends as ends_lem};
-ghost use Rattle.grants.specs.Links.{are_apart};
+ghost use Rattle.grants.specs.Links.{links_are_apart};
 
 use crate::hands::{Hand, Link, same_id, same_task};
 use indexmap::IndexSet;
@@ -12,14 +12,14 @@ use std::alloc::{AllocError, Global};
 use std::collections::BTreeMap;
 use std::marker::Model;
 
-/// Which hands end of their giver's own accord.
+/// Which hands end of their grantor's own accord.
 #[derive(Clone, Copy)]
 pub(crate) enum Ending {
-    /// The giver's hand of this object to this taker.
+    /// The grantor's hand of this object to this grantee.
     Withdrawn {
-        giver: JobNo,
+        grantor: JobNo,
         id: ObjectId,
-        taker: JobNo,
+        grantee: JobNo,
     },
     /// All hands of the object.
     OfObject(ObjectId),
@@ -35,10 +35,14 @@ impl Ending {
         ensures { result ≡ ends_lem self.now hand.now }
     {
         match *self {
-            Ending::Withdrawn { giver, id, taker } => hand.is_given(giver, &id, taker),
+            Ending::Withdrawn {
+                grantor,
+                id,
+                grantee,
+            } => hand.is_given(grantor, &id, grantee),
             Ending::OfObject(id) => same_id(&id, &hand.id()),
             Ending::OfTask(job, task) => {
-                hand.giver().0 == job.0
+                hand.grantor().0 == job.0
                     && hand.id().job().0 == job.0
                     && same_task(task, hand.id().task())
             }
@@ -54,7 +58,7 @@ pub(crate) fn any_ends(hands: &Vec<Hand>, ending: &Ending) -> bool
     hands.iter().any(|hand| ending.ends(hand))
 }
 
-/// Hands that end, found by what others hang on: object, giver and taker.
+/// Hands that end, found by what others hang on: object, grantor and grantee.
 #[derive(Drop)]
 pub(crate) struct Gone {
     hands: Vec<Hand>,
@@ -63,7 +67,7 @@ pub(crate) struct Gone {
 
 impl Model for Gone {
     ghost use Rattle.std.specs.Prelude.{List};
-    ghost use Rattle.private_store.specs.Hands.{Hand as StandingHand};
+    ghost use Rattle.private_store.specs.rules.Hands.{Hand as StandingHand};
     ghost use Rattle.grants.specs.Links.{AreLinked};
 
     ghost Value = { List StandingHand };
@@ -96,7 +100,7 @@ impl Gone {
 
     /// Whether the hand hangs on one of these.
     fn carries(&self, hand: &Hand) -> bool
-        ensures { result ≡ list_any (hangs_on hand.now) self.now }
+        ensures { result ≡ list_any (is_child_of hand.now) self.now }
     {
         match hand.below() {
             Some(link) => self.links.contains(&link),
@@ -130,7 +134,7 @@ pub struct EndingHands {
 
 impl Model for EndingHands {
     ghost use Rattle.std.specs.Prelude.{◌≡◌, List};
-    ghost use Rattle.private_store.specs.Hands.{Hand as StandingHand, hands_sorted};
+    ghost use Rattle.private_store.specs.rules.Hands.{Hand as StandingHand, hands_sorted};
 
     ghost Value = { List StandingHand };
 
@@ -152,7 +156,7 @@ impl EndingHands {
 
     /// These, no two of which are the same.
     pub(crate) fn of(alloc: Global, gone: Gone) -> Result<EndingHands, AllocError>
-        requires { are_apart gone ≡ true }
+        requires { links_are_apart gone ≡ true }
         ensures { IfOk result (λ ends. ends ≡ gone) }
     {
         let told = sorted(alloc, gone.hands())?;
@@ -162,7 +166,7 @@ impl EndingHands {
         })
     }
 
-    /// The hands, in the order in which their ends are told: by depth, object, giver and taker.
+    /// The hands, in the order in which their ends are told: by depth, object, grantor and grantee.
     pub fn hands(&self) -> &[Hand]
         ensures { result.now ≡ hands_sorted self.now }
     {
@@ -200,7 +204,7 @@ pub(crate) fn ended(alloc: Global, hands: &Vec<Hand>, ending: &Ending) -> Result
 
 /// The hands, no two of which are the same, in the order in which their ends are told.
 fn sorted(alloc: Global, hands: &Vec<Hand>) -> Result<Vec<Hand>, AllocError>
-    requires { are_apart hands.now.items ≡ true }
+    requires { links_are_apart hands.now.items ≡ true }
     ensures { IfOk result (λ told. told.items ≡ hands_sorted hands.now.items) }
 {
     let mut ranked = BTreeMap::new(alloc);

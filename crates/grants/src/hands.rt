@@ -3,9 +3,9 @@ ghost use Rattle.std.specs.Prelude.{◌≡◌, ◌==◌, Some, None, find, filte
 ghost use Rattle.std.specs.List.{list_any};
 ghost use Rattle.std.specs.Ordering.{is_lt};
 ghost use Rattle.obj_id.specs.Ids.{id_cmp, same_id as same_id_lem, same_task as same_task_lem};
-ghost use Rattle.private_store.specs.Hands.{ground as ground_lem, is_withdrawn as is_withdrawn_lem, is_given_by as is_given_by_lem};
+ghost use Rattle.private_store.specs.rules.Hands.{ground as ground_lem, is_withdrawn as is_withdrawn_lem, is_given_by as is_given_by_lem};
 ghost use Rattle.grants.specs.Table.{shows as shows_lem, is_first as is_first_lem, given_by as given_by_lem, given_to as given_to_lem, with_seen, seen_list};
-ghost use Rattle.grants.specs.Back.{number_of};
+ghost use Rattle.grants.specs.Back.{job_number_of};
 ghost use Rattle.grants.specs.Links.{link_of, below_of, rank_of};
 ghost use Rattle.std.specs.Option.{option_map};
 
@@ -17,8 +17,8 @@ use std::marker::Model;
 #[derive(Clone, Copy, PartialEq, Eq, Hash)]
 pub(crate) struct Link {
     pub id: ObjectId,
-    pub giver: JobNo,
-    pub taker: JobNo,
+    pub grantor: JobNo,
+    pub grantee: JobNo,
 }
 
 /// The order in which ends are told.
@@ -26,53 +26,53 @@ pub(crate) struct Link {
 pub(crate) struct Rank {
     depth: u32,
     id: ObjectId,
-    giver: JobNo,
-    taker: JobNo,
+    grantor: JobNo,
+    grantee: JobNo,
 }
 
-/// A standing grant of an object by one job to another. A contract sees giver and taker by their
+/// A standing grant of an object by one job to another. A contract sees grantor and grantee by their
 /// numbers.
 #[derive(Clone, Copy, Debug)]
 pub struct Hand {
     id: ObjectId,
-    giver: JobNo,
-    taker: JobNo,
+    grantor: JobNo,
+    grantee: JobNo,
     depth: u32,
-    hangs_on: Option<JobNo>,
+    parent: Option<JobNo>,
 }
 
 impl Model for Hand {
     ghost use Rattle.std.specs.Option.{option_map};
-    ghost use Rattle.private_store.specs.Hands.{Hand as StandingHand};
-    ghost use Rattle.grants.specs.Back.{number_of, job_of, jobs_back};
+    ghost use Rattle.private_store.specs.rules.Hands.{Hand as StandingHand};
+    ghost use Rattle.grants.specs.Back.{job_number_of, job_numbered, jobs_back};
 
     ghost Value = { StandingHand };
 
-    ghost view = { λ h. record { id = h.id; giver = h.giver.0; taker = h.taker.0; depth = h.depth; hangs_on = option_map number_of h.hangs_on } };
+    ghost view = { λ h. record { id = h.id; grantor = h.grantor.0; grantee = h.grantee.0; depth = h.depth; parent = option_map job_number_of h.parent } };
 
-    ghost inverse = { λ h. record { id = h.id; giver = job_of h.giver; taker = job_of h.taker; depth = h.depth; hangs_on = option_map job_of h.hangs_on } };
+    ghost inverse = { λ h. record { id = h.id; grantor = job_numbered h.grantor; grantee = job_numbered h.grantee; depth = h.depth; parent = option_map job_numbered h.parent } };
 
-    ghost inverse_ok = { λ a h i. record a { hangs_on = jobs_back a.hangs_on i } };
+    ghost inverse_ok = { λ a h i. record a { parent = jobs_back a.parent i } };
 }
 
 impl Hand {
-    /// The hand of an object from its giver to its taker, at a depth from 1 on, and the giver of the
+    /// The hand of an object from its grantor to its grantee, at a depth from 1 on, and the grantor of the
     /// hand that it hangs on.
     pub(crate) fn new(
         id: ObjectId,
-        giver: JobNo,
-        taker: JobNo,
+        grantor: JobNo,
+        grantee: JobNo,
         depth: u32,
-        hangs_on: Option<JobNo>,
+        parent: Option<JobNo>,
     ) -> Hand
-        ensures { result ≡ record { id = id; giver = giver.0; taker = taker.0; depth = depth; hangs_on = option_map number_of hangs_on } }
+        ensures { result ≡ record { id = id; grantor = grantor.0; grantee = grantee.0; depth = depth; parent = option_map job_number_of parent } }
     {
         Hand {
             id,
-            giver,
-            taker,
+            grantor,
+            grantee,
             depth,
-            hangs_on,
+            parent,
         }
     }
 
@@ -84,17 +84,17 @@ impl Hand {
     }
 
     /// The job that granted it.
-    pub fn giver(&self) -> JobNo
-        ensures { result.0 ≡ self.now.giver }
+    pub fn grantor(&self) -> JobNo
+        ensures { result.0 ≡ self.now.grantor }
     {
-        self.giver
+        self.grantor
     }
 
     /// The job that it was granted to.
-    pub fn taker(&self) -> JobNo
-        ensures { result.0 ≡ self.now.taker }
+    pub fn grantee(&self) -> JobNo
+        ensures { result.0 ≡ self.now.grantee }
     {
-        self.taker
+        self.grantee
     }
 
     /// How often the object was handed on up to here: 1 from its own job, 3 at most.
@@ -104,56 +104,56 @@ impl Hand {
         self.depth
     }
 
-    /// The giver of the hand that it hangs on; none at depth 1.
-    pub fn hangs_on(&self) -> Option<JobNo>
-        ensures { option_map number_of result ≡ self.now.hangs_on }
+    /// The grantor of the hand that it hangs on; none at depth 1.
+    pub fn parent(&self) -> Option<JobNo>
+        ensures { option_map job_number_of result ≡ self.now.parent }
     {
-        self.hangs_on
+        self.parent
     }
 
     /// Whether the job gave it.
     pub(crate) fn is_from(&self, job: JobNo) -> bool
         ensures { result ≡ is_given_by_lem job.0 self.now }
     {
-        self.giver.0 == job.0
+        self.grantor.0 == job.0
     }
 
     /// Whether it was given to the job.
     pub(crate) fn is_to(&self, job: JobNo) -> bool
-        ensures { result ≡ (self.now.taker == job.0) }
+        ensures { result ≡ (self.now.grantee == job.0) }
     {
-        self.taker.0 == job.0
+        self.grantee.0 == job.0
     }
 
     /// Whether it is a hand of the object to the job.
     pub(crate) fn shows(&self, id: &ObjectId, job: JobNo) -> bool
         ensures { result ≡ shows_lem id.now job.0 self.now }
     {
-        same_id(id, &self.id) && self.taker.0 == job.0
+        same_id(id, &self.id) && self.grantee.0 == job.0
     }
 
     /// Whether it is a hand of the object from its own job.
     pub(crate) fn is_first(&self, id: &ObjectId) -> bool
         ensures { result ≡ is_first_lem id.now self.now }
     {
-        same_id(id, &self.id) && self.giver.0 == id.job().0
+        same_id(id, &self.id) && self.grantor.0 == id.job().0
     }
 
-    /// Whether the giver gave the taker this object by it.
-    pub(crate) fn is_given(&self, giver: JobNo, id: &ObjectId, taker: JobNo) -> bool
-        ensures { result ≡ is_withdrawn_lem giver.0 id.now taker.0 self.now }
+    /// Whether the grantor gave the grantee this object by it.
+    pub(crate) fn is_given(&self, grantor: JobNo, id: &ObjectId, grantee: JobNo) -> bool
+        ensures { result ≡ is_withdrawn_lem grantor.0 id.now grantee.0 self.now }
     {
-        self.giver.0 == giver.0 && same_id(id, &self.id) && self.taker.0 == taker.0
+        self.grantor.0 == grantor.0 && same_id(id, &self.id) && self.grantee.0 == grantee.0
     }
 
-    /// Its object, giver and taker.
+    /// Its object, grantor and grantee.
     pub(crate) fn link(&self) -> Link
         ensures { result ≡ link_of self.now }
     {
         Link {
             id: self.id,
-            giver: self.giver,
-            taker: self.taker,
+            grantor: self.grantor,
+            grantee: self.grantee,
         }
     }
 
@@ -161,11 +161,11 @@ impl Hand {
     pub(crate) fn below(&self) -> Option<Link>
         ensures { result ≡ below_of self.now }
     {
-        let giver = self.hangs_on?;
+        let grantor = self.parent?;
         Some(Link {
             id: self.id,
-            giver,
-            taker: self.giver,
+            grantor,
+            grantee: self.grantor,
         })
     }
 
@@ -176,15 +176,15 @@ impl Hand {
         self.id.cmp(&other.id).is_lt()
     }
 
-    /// Where its end is told among others: by depth, object, giver and taker.
+    /// Where its end is told among others: by depth, object, grantor and grantee.
     pub(crate) fn rank(&self) -> Rank
         ensures { result ≡ rank_of self.now }
     {
         Rank {
             depth: self.depth,
             id: self.id,
-            giver: self.giver,
-            taker: self.taker,
+            grantor: self.grantor,
+            grantee: self.grantee,
         }
     }
 }
@@ -215,11 +215,11 @@ pub(crate) fn oldest(hands: &Vec<Hand>, id: &ObjectId, job: JobNo) -> Option<Han
     None
 }
 
-/// Whether the giver gave the taker the object.
-pub(crate) fn is_given(hands: &Vec<Hand>, giver: JobNo, id: &ObjectId, taker: JobNo) -> bool
-    ensures { result ≡ list_any (is_withdrawn_lem giver.0 id.now taker.0) hands.now.items }
+/// Whether the grantor gave the grantee the object.
+pub(crate) fn is_given(hands: &Vec<Hand>, grantor: JobNo, id: &ObjectId, grantee: JobNo) -> bool
+    ensures { result ≡ list_any (is_withdrawn_lem grantor.0 id.now grantee.0) hands.now.items }
 {
-    hands.iter().any(|hand| hand.is_given(giver, id, taker))
+    hands.iter().any(|hand| hand.is_given(grantor, id, grantee))
 }
 
 /// How many hands the job gave.

@@ -2,20 +2,20 @@
 //! contract sees the list of the standing hands, oldest first; what a grant adds and what an end takes
 //! out are the definitions that the jobs' own stores are told by.
 //!
-//! At most 64 hands of one giver stand, and 64 jobs live, so the list has at most 4,096 hands. Each call
+//! At most 64 hands of one grantor stand, and 64 jobs live, so the list has at most 4,096 hands. Each call
 //! scans it; a call that ends hands finds those that have ended already by their links.
 #![tactic(auto)]
 
 ghost use Rattle.std.specs.Prelude.{◌≡◌, ◌≢◌, ◌↔◌, ◌<◌, ◌≤◌, ◌==◌, ℕ, Bool, true, IsTrue, map, filter, length, List, [], Some, None, find, IfOk, OnOk, OnErr, IsErrOf, IsOk, MatchResult};
 ghost use Rattle.std.specs.List.{list_any, list_all};
-ghost use Rattle.private_store.specs.Answers.{AreGrantedWithin};
+ghost use Rattle.private_store.specs.laws.Answers.{AreGrantedWithin};
 ghost use Rattle.obj_id.specs.declared.ids.ObjectId.{ObjectId};
 ghost use Rattle.obj_id.specs.declared.refusals.Refusal.{Refusal};
 ghost use Rattle.obj_id.specs.declared.refusals.Refusal.TheVariants.{NoMemory};
-ghost use Rattle.private_store.specs.Limits.{greatest_depth, most_hands, most_live_jobs};
-ghost use Rattle.private_store.specs.Hands.{Hand as StandingHand, new_hand, with_hand, hands_ended, hands_left, ground, is_withdrawn, is_of_task, is_given_by};
+ghost use Rattle.private_store.specs.rules.Limits.{greatest_depth, most_hands, most_live_jobs};
+ghost use Rattle.private_store.specs.rules.Hands.{Hand as StandingHand, new_hand, with_hand, hands_ended, hands_left, ground, is_withdrawn, is_of_task, is_given_by};
 ghost use Rattle.grants.specs.Table.{AreHands, is_first, given_by, given_to, seen_list, limits_check, grant_check as grant_check_lem, withdraw_check, ends, ends_found, AreFoundIn};
-ghost use Rattle.private_store.specs.Shape.{Shape};
+ghost use Rattle.private_store.specs.rules.Shape.{Shape};
 ghost use Rattle.grants.specs.Private.{as_given, taken_by, HasHands, RefusesAlike, GrantsAlike, RestAlike, EndsAlike};
 ghost use Rattle.grants.specs.Chains.{sees, is_led_to};
 ghost use Rattle.obj_id.specs.Ids.{id_cmp, same_id};
@@ -51,7 +51,7 @@ impl Drop for Grants {
 
 impl Model for Grants {
     ghost use Rattle.std.specs.Prelude.{List};
-    ghost use Rattle.private_store.specs.Hands.{Hand as StandingHand};
+    ghost use Rattle.private_store.specs.rules.Hands.{Hand as StandingHand};
     ghost use Rattle.grants.specs.Table.{AreHands};
 
     ghost Value = { List StandingHand };
@@ -79,61 +79,61 @@ impl Grants {
         self.hands.len()
     }
 
-    /// Why the giver can't grant the object to the target: `BadId` if the target is no job, the giver
-    /// or the object's own job; `NotGranted` if it is another job's object and the giver doesn't see
-    /// it; `Exists` if the hand stands; `TooMany` if the giver's oldest hand of it has depth 3, or
-    /// 64 hands of the giver stand. Who the target is, and whether it lives, is never asked.
-    pub fn grant_check(&self, giver: JobNo, id: ObjectId, target: JobNo) -> Option<Refusal>
-        ensures { result ≡ grant_check_lem self.now giver.0 id target.0 }
+    /// Why the grantor can't grant the object to the target: `BadId` if the target is no job, the grantor
+    /// or the object's own job; `NotGranted` if it is another job's object and the grantor doesn't see
+    /// it; `Exists` if the hand stands; `TooMany` if the grantor's oldest hand of it has depth 3, or
+    /// 64 hands of the grantor stand. Who the target is, and whether it lives, is never asked.
+    pub fn grant_check(&self, grantor: JobNo, id: ObjectId, target: JobNo) -> Option<Refusal>
+        ensures { result ≡ grant_check_lem self.now grantor.0 id target.0 }
     {
-        self.next_hand(giver, id, target).err()
+        self.next_hand(grantor, id, target).err()
     }
 
-    /// Grants an object: a hand from the giver to the target stands, the youngest, and is given back. Another job's
-    /// object is handed on: the hand hangs on the giver's oldest hand of it.
+    /// Grants an object: a hand from the grantor to the target stands, the youngest, and is given back. Another job's
+    /// object is handed on: the hand hangs on the grantor's oldest hand of it.
     ///
     /// Refused as `grant_check` says, with `NoMemory` last. A refusal changes nothing.
-    pub fn grant(&mut self, giver: JobNo, id: ObjectId, target: JobNo) -> Result<Hand, Refusal>
-        ensures hand { IfOk result (λ hand. hand ≡ new_hand self.old id giver.0 target.0) }
-        ensures ok { OnOk result (self.new ≡ with_hand self.old id giver.0 target.0) }
-        ensures passed { IsOk result → grant_check_lem self.old giver.0 id target.0 ≡ None }
-        ensures refused { (r : Refusal) → r ≢ NoMemory → IsErrOf result r → grant_check_lem self.old giver.0 id target.0 ≡ Some r }
-        ensures memory { IsErrOf result NoMemory → grant_check_lem self.old giver.0 id target.0 ≡ None }
+    pub fn grant(&mut self, grantor: JobNo, id: ObjectId, target: JobNo) -> Result<Hand, Refusal>
+        ensures hand { IfOk result (λ hand. hand ≡ new_hand self.old id grantor.0 target.0) }
+        ensures ok { OnOk result (self.new ≡ with_hand self.old id grantor.0 target.0) }
+        ensures passed { IsOk result → grant_check_lem self.old grantor.0 id target.0 ≡ None }
+        ensures refused { (r : Refusal) → r ≢ NoMemory → IsErrOf result r → grant_check_lem self.old grantor.0 id target.0 ≡ Some r }
+        ensures memory { IsErrOf result NoMemory → grant_check_lem self.old grantor.0 id target.0 ≡ None }
         ensures err { OnErr result (self.new ≡ self.old) }
     {
-        let hand = self.next_hand(giver, id, target)?;
+        let hand = self.next_hand(grantor, id, target)?;
         match self.hands.push(hand) {
             Err(_) => Err(Refusal::NoMemory),
             Ok(()) => Ok(hand),
         }
     }
 
-    /// Withdraws the giver's hand of the object to the target. It ends, and in the same step every hand
-    /// that hangs on it; no other hand to the same taker does. Gives the hands that ended by depth, id,
-    /// giver and taker.
+    /// Withdraws the grantor's hand of the object to the target. It ends, and in the same step every hand
+    /// that hangs on it; no other hand to the same grantee does. Gives the hands that ended by depth, id,
+    /// grantor and grantee.
     ///
     /// `NotGranted` if no such hand stands, `NoMemory` last. A refusal changes nothing.
     pub fn withdraw(
         &mut self,
-        giver: JobNo,
+        grantor: JobNo,
         id: ObjectId,
         target: JobNo,
     ) -> Result<Items<Hand>, Refusal>
-        ensures told { IfOk result (λ told. told ≡ hands_ended (is_withdrawn giver.0 id target.0) self.old) }
-        ensures ok { OnOk result (self.new ≡ hands_left (is_withdrawn giver.0 id target.0) self.old) }
-        ensures passed { IsOk result → withdraw_check self.old giver.0 id target.0 ≡ None }
-        ensures refused { (r : Refusal) → r ≢ NoMemory → IsErrOf result r → withdraw_check self.old giver.0 id target.0 ≡ Some r }
-        ensures memory { IsErrOf result NoMemory → withdraw_check self.old giver.0 id target.0 ≡ None }
-        ensures gone { OnOk result (filter (is_withdrawn giver.0 id target.0) self.new ≡ []) }
+        ensures told { IfOk result (λ told. told ≡ hands_ended (is_withdrawn grantor.0 id target.0) self.old) }
+        ensures ok { OnOk result (self.new ≡ hands_left (is_withdrawn grantor.0 id target.0) self.old) }
+        ensures passed { IsOk result → withdraw_check self.old grantor.0 id target.0 ≡ None }
+        ensures refused { (r : Refusal) → r ≢ NoMemory → IsErrOf result r → withdraw_check self.old grantor.0 id target.0 ≡ Some r }
+        ensures memory { IsErrOf result NoMemory → withdraw_check self.old grantor.0 id target.0 ≡ None }
+        ensures gone { OnOk result (filter (is_withdrawn grantor.0 id target.0) self.new ≡ []) }
         ensures err { OnErr result (self.new ≡ self.old) }
     {
-        if !hands::is_given(&self.hands, giver, &id, target) {
+        if !hands::is_given(&self.hands, grantor, &id, target) {
             return Err(Refusal::NotGranted);
         }
         match self.end(Ending::Withdrawn {
-            giver,
+            grantor,
             id,
-            taker: target,
+            grantee: target,
         }) {
             Err(_) => Err(Refusal::NoMemory),
             Ok(told) => Ok(told),
@@ -152,21 +152,21 @@ impl Grants {
         self.end(Ending::OfObject(id))
     }
 
-    /// The hand of the object from the giver to the target, and what hangs on it: none if it doesn't stand, and then
+    /// The hand of the object from the grantor to the target, and what hangs on it: none if it doesn't stand, and then
     /// there is no failure. Nothing changes.
     pub fn ends_with_hand(
         &self,
-        giver: JobNo,
+        grantor: JobNo,
         id: ObjectId,
         target: JobNo,
     ) -> Result<EndingHands, AllocError>
-        ensures found { IfOk result (λ ends. ends ≡ ends_found (is_withdrawn giver.0 id target.0) self.now) }
-        ensures succeeds { filter (is_withdrawn giver.0 id target.0) self.now ≡ [] → IsOk result }
+        ensures found { IfOk result (λ ends. ends ≡ ends_found (is_withdrawn grantor.0 id target.0) self.now) }
+        ensures succeeds { filter (is_withdrawn grantor.0 id target.0) self.now ≡ [] → IsOk result }
     {
         self.found(Ending::Withdrawn {
-            giver,
+            grantor,
             id,
-            taker: target,
+            grantee: target,
         })
     }
 
@@ -212,11 +212,11 @@ impl Grants {
         self.hands.iter().any(|hand| hand.is_first(&id))
     }
 
-    /// Whether the giver gave the taker the object.
-    pub fn has_given(&self, giver: JobNo, id: ObjectId, taker: JobNo) -> bool
-        ensures { result ≡ list_any (is_withdrawn giver.0 id taker.0) self.now }
+    /// Whether the grantor gave the grantee the object.
+    pub fn has_given(&self, grantor: JobNo, id: ObjectId, grantee: JobNo) -> bool
+        ensures { result ≡ list_any (is_withdrawn grantor.0 id grantee.0) self.now }
     {
-        hands::is_given(&self.hands, giver, &id, taker)
+        hands::is_given(&self.hands, grantor, &id, grantee)
     }
 
     /// The hands that the job gave, oldest first: at most 64.
@@ -245,35 +245,47 @@ impl Grants {
     }
 
     /// The hand that a grant makes, or why it is refused.
-    fn next_hand(&self, giver: JobNo, id: ObjectId, target: JobNo) -> Result<Hand, Refusal>
-        ensures hand { IfOk result (λ hand. hand ≡ new_hand self.now id giver.0 target.0) }
-        ensures check { MatchResult result (λ _. grant_check_lem self.now giver.0 id target.0 ≡ None) (λ r. grant_check_lem self.now giver.0 id target.0 ≡ Some r) }
+    fn next_hand(&self, grantor: JobNo, id: ObjectId, target: JobNo) -> Result<Hand, Refusal>
+        ensures hand { IfOk result (λ hand. hand ≡ new_hand self.now id grantor.0 target.0) }
+        ensures check { MatchResult result (λ _. grant_check_lem self.now grantor.0 id target.0 ≡ None) (λ r. grant_check_lem self.now grantor.0 id target.0 ≡ Some r) }
     {
-        if target.0 == 0 || target.0 == giver.0 || target.0 == id.job().0 {
+        if target.0 == 0 || target.0 == grantor.0 || target.0 == id.job().0 {
             return Err(Refusal::BadId);
         }
-        if id.job().0 == giver.0 {
-            self.limits(giver, &id, target, 0)?;
-            return Ok(Hand::new(id, giver, target, 1, None));
+        if id.job().0 == grantor.0 {
+            self.limits(grantor, &id, target, 0)?;
+            return Ok(Hand::new(id, grantor, target, 1, None));
         }
-        match hands::oldest(&self.hands, &id, giver) {
+        match hands::oldest(&self.hands, &id, grantor) {
             None => Err(Refusal::NotGranted),
             Some(below) => {
-                self.limits(giver, &id, target, below.depth())?;
-                Ok(Hand::new(id, giver, target, below.depth() + 1, Some(below.giver())))
+                self.limits(grantor, &id, target, below.depth())?;
+                Ok(Hand::new(
+                    id,
+                    grantor,
+                    target,
+                    below.depth() + 1,
+                    Some(below.grantor()),
+                ))
             }
         }
     }
 
     /// Whether a hand can hang at this depth.
-    fn limits(&self, giver: JobNo, id: &ObjectId, target: JobNo, depth: u32) -> Result<(), Refusal>
+    fn limits(
+        &self,
+        grantor: JobNo,
+        id: &ObjectId,
+        target: JobNo,
+        depth: u32,
+    ) -> Result<(), Refusal>
         ensures ok { IsOk result → depth < greatest_depth }
-        ensures check { MatchResult result (λ _. limits_check self.now giver.0 id.now target.0 depth ≡ None) (λ r. limits_check self.now giver.0 id.now target.0 depth ≡ Some r) }
+        ensures check { MatchResult result (λ _. limits_check self.now grantor.0 id.now target.0 depth ≡ None) (λ r. limits_check self.now grantor.0 id.now target.0 depth ≡ Some r) }
     {
-        if hands::is_given(&self.hands, giver, id, target) {
+        if hands::is_given(&self.hands, grantor, id, target) {
             return Err(Refusal::Exists);
         }
-        if depth >= GREATEST_DEPTH || hands::count_given(&self.hands, giver) >= MOST_HANDS {
+        if depth >= GREATEST_DEPTH || hands::count_given(&self.hands, grantor) >= MOST_HANDS {
             return Err(Refusal::TooMany);
         }
         Ok(())
@@ -325,21 +337,21 @@ pub fn a_store_refuses_what_the_table_refuses()
     ensures { (lengths : ObjectId → ℕ) (hands : List StandingHand) (store : Shape) → HasHands lengths hands store → RefusesAlike hands store }
 {}
 
-/// A law of every job's own store that has the hands of the table: after a grant that the table takes, the giver's
-/// store by its command, the taker's by what it receives and all others as they are have the hands of the new table.
+/// A law of every job's own store that has the hands of the table: after a grant that the table takes, the grantor's
+/// store by its command, the grantee's by what it receives and all others as they are have the hands of the new table.
 pub fn a_grant_is_every_stores()
-    ensures { (lengths : ObjectId → ℕ) (hands : List StandingHand) (giver : ℕ) (id : ObjectId) (taker : ℕ) → grant_check_lem hands giver id taker ≡ None → GrantsAlike lengths hands giver id taker }
+    ensures { (lengths : ObjectId → ℕ) (hands : List StandingHand) (grantor : ℕ) (id : ObjectId) (grantee : ℕ) → grant_check_lem hands grantor id grantee ≡ None → GrantsAlike lengths hands grantor id grantee }
 {}
 
-/// A law of every job's own store that has the hands of the table: what ends with a giver's command, and what each
-/// taker's store is told of, in the table's order, leaves to every store the hands that the table has left.
+/// A law of every job's own store that has the hands of the table: what ends with a grantor's command, and what each
+/// grantee's store is told of, in the table's order, leaves to every store the hands that the table has left.
 pub fn an_end_is_every_stores()
     ensures rest { (lengths : ObjectId → ℕ) (hands : List StandingHand) (store : Shape) → HasHands lengths hands store → RestAlike lengths hands store }
     ensures left { (lengths : ObjectId → ℕ) (hands : List StandingHand) → AreHands hands → (test : StandingHand → Bool) → EndsAlike lengths test hands }
 {}
 
-/// A law of every table: what a job was given that is one of at most 64 givers is of others, so it sees no more than 4,032
+/// A law of every table: what a job was given that is one of at most 64 grantors is of others, so it sees no more than 4,032
 /// objects, by no hand deeper than 3.
 pub fn few_objects_are_seen()
-    ensures { (lengths : ObjectId → ℕ) (hands : List StandingHand) (lives : List ℕ) (job : ℕ) → AreHands hands → list_all (λ hand. list_any (λ live. live == hand.giver) lives) hands ≡ true → length lives ≤ most_live_jobs → list_any (λ live. live == job) lives ≡ true → AreGrantedWithin (taken_by lengths job hands) }
+    ensures { (lengths : ObjectId → ℕ) (hands : List StandingHand) (lives : List ℕ) (job : ℕ) → AreHands hands → list_all (λ hand. list_any (λ live. live == hand.grantor) lives) hands ≡ true → length lives ≤ most_live_jobs → list_any (λ live. live == job) lives ≡ true → AreGrantedWithin (taken_by lengths job hands) }
 {}

@@ -6,39 +6,39 @@ use Rattle.std.specs.Option.{option_map_or}
 use Rattle.obj_id.specs.declared.ids.ObjectId.{ObjectId}
 use Rattle.private_store.specs.declared.inputs.Input.{Input}
 use Rattle.private_store.specs.declared.inputs.Input.TheVariants as input
-use Rattle.private_store.specs.Tables.{at}
-use Rattle.private_store.specs.Shape.{Shape}
-use Rattle.private_store.specs.Events.{hands_of, withdrawn, is_hand, hand_ended}
-use Rattle.private_store.specs.Private.{Store, private_step, store_from}
-use Rattle.private_store.specs.Hands.{Hand, hands_ended, hands_left}
+use Rattle.private_store.specs.rules.Tables.{at}
+use Rattle.private_store.specs.rules.Shape.{Shape}
+use Rattle.private_store.specs.rules.Events.{hands_of, withdrawn, is_hand, hand_ended}
+use Rattle.private_store.specs.rules.Private.{Store, private_step, store_from}
+use Rattle.private_store.specs.rules.Hands.{Hand, hands_ended, hands_left}
 use Rattle.grants.specs.Table.{AreHands, given_by}
 use Rattle.grants.specs.Private.{as_given, HasHands, told_ends}
 use Rattle.grants.proofs.ForCallers.{ends_alike}
 use Rattle.hand_laws.proofs.Halves.{taken_half, AreKnown, HasHalves, lengths_in, its_lengths, taken_rows, hands_halve}
 
--- what the taker of a hand is told when it ends
+-- what the grantee of a hand is told when it ends
 abbrev pub end_told : Hand → Input
-end_told hand = input.Withdrawn hand.id (record { 0 = hand.giver }) hand.depth
+end_told hand = input.Withdrawn hand.id (record { 0 = hand.grantor }) hand.depth
 
 -- the hands to the job that end, in the order in which they are told
 abbrev pub told_to : ℕ → (Hand → Bool) → List Hand → List Hand
-told_to j test hands = filter (λ h. h.taker == j) (hands_ended test hands)
+told_to j test hands = filter (λ h. h.grantee == j) (hands_ended test hands)
 
 -- the inputs leave the store that the ends leave
 store_told : (node : ℕ) (store : Store) (ended : List Hand) → (store_from node store (map end_told ended)).shape ≡ told_ends store.shape ended
 store_told node store [] = refl
 store_told node store (hand ∷ ended) = store_told node (private_step node store (end_told hand)) ended
 
-same_job : (store : Shape) (id : ObjectId) (giver depth : ℕ) → (withdrawn store id giver depth).shape.job ≡ store.job
-same_job store id giver depth =
-    elim (at store.received id) as (λ o. (option_map_or (λ seen. cond (list_any (is_hand giver depth) seen.hands) (hand_ended store id giver depth seen) store) o store).job ≡ store.job) [
+same_job : (store : Shape) (id : ObjectId) (grantor depth : ℕ) → (withdrawn store id grantor depth).shape.job ≡ store.job
+same_job store id grantor depth =
+    elim (at store.received id) as (λ o. (option_map_or (λ seen. cond (list_any (is_hand grantor depth) seen.hands) (hand_ended store id grantor depth seen) store) o store).job ≡ store.job) [
       | None ↦ refl
-      | Some seen ↦ elim (list_any (is_hand giver depth) seen.hands) as (λ t. (cond t (hand_ended store id giver depth seen) store).job ≡ store.job) [ true ↦ refl | false ↦ refl ]
+      | Some seen ↦ elim (list_any (is_hand grantor depth) seen.hands) as (λ t. (cond t (hand_ended store id grantor depth seen) store).job ≡ store.job) [ true ↦ refl | false ↦ refl ]
     ]
 
 told_job : (store : Shape) (ended : List Hand) → (told_ends store ended).job ≡ store.job
 told_job store [] = refl
-told_job store (hand ∷ ended) = told_job (withdrawn store hand.id hand.giver hand.depth).shape ended ∙ same_job store hand.id hand.giver hand.depth
+told_job store (hand ∷ ended) = told_job (withdrawn store hand.id hand.grantor hand.depth).shape ended ∙ same_job store hand.id hand.grantor hand.depth
 
 module _ (j : ℕ) (hands : List Hand) (table : AreHands hands) (test : Hand → Bool) where
   abbrev rest : ℕ → List Hand

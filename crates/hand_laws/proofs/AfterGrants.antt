@@ -10,16 +10,16 @@ use Rattle.obj_id.specs.declared.refusals.Refusal.{Refusal}
 use Rattle.obj_id.specs.declared.refusals.Refusal.TheVariants.{BadId, Absent}
 use Rattle.obj_id.specs.Ids.{same_id}
 use Rattle.private_store.specs.declared.inputs.Judged.TheVariants as judged
-use Rattle.private_store.specs.Tables.{at}
-use Rattle.private_store.specs.Shape.{Shape, Change}
-use Rattle.private_store.specs.Change.{refused}
-use Rattle.private_store.specs.Copies.{visible}
-use Rattle.private_store.specs.Commands.{gives, grant}
-use Rattle.private_store.specs.Events.{received}
-use Rattle.private_store.specs.Hands.{Hand, ground, new_hand}
-use Rattle.private_store.specs.Step.{step}
+use Rattle.private_store.specs.rules.Tables.{at}
+use Rattle.private_store.specs.rules.Shape.{Shape, Change}
+use Rattle.private_store.specs.rules.Change.{refused}
+use Rattle.private_store.specs.rules.Copies.{visible}
+use Rattle.private_store.specs.rules.Commands.{gives, grant}
+use Rattle.private_store.specs.rules.Events.{received}
+use Rattle.private_store.specs.rules.Hands.{Hand, ground, new_hand}
+use Rattle.private_store.specs.rules.Step.{step}
 use Rattle.store_facts.proofs.Checks.{checked_past, checked_has, needing_has}
-use Rattle.grants.specs.Table.{is_no_taker, limits_check, hung_check, grant_check}
+use Rattle.grants.specs.Table.{is_no_grantee, limits_check, hung_check, grant_check}
 use Rattle.grants.specs.Private.{as_given, as_taken, HasHands, unless}
 use Rattle.grants.proofs.ForCallers.{refuses_alike, made_for}
 use Rattle.hand_laws.proofs.Halves.{given_half, taken_half, HasHalves, given_more, taken_more, received_hands, received_known}
@@ -43,20 +43,20 @@ module _ (lengths : ObjectId → ℕ) (hands : List Hand) (store : Shape) (has :
   no : (r : Refusal) → Passes (refused store r)
   no r e = cc
 
-  given_unless : (check : Option Refusal) → (check ≡ None → grant_check hands store.job id target ≡ None) → Passes (unless store check (gives store id target hand.hangs_on))
+  given_unless : (check : Option Refusal) → (check ≡ None → grant_check hands store.job id target ≡ None) → Passes (unless store check (gives store id target hand.parent))
   given_unless (Some r) passes e = no r e
   given_unless None passes e =
       let made = made_for lengths hands store.job id target in
       record {
         check = passes refl;
         job = refl;
-        given = λ i. store.given ++ record { id = sym made.0 i; target = sym made.2 i; hangs_on = hand.hangs_on } ∷ [];
+        given = λ i. store.given ++ record { id = sym made.0 i; target = sym made.2 i; parent = hand.parent } ∷ [];
         received = refl;
       }
 
-  own_check : (id.job.0 == store.job) ≡ true → is_no_taker id store.job target ≡ false → limits_check hands store.job id target 0 ≡ None → grant_check hands store.job id target ≡ None
-  own_check mine taker limits =
-      ap (λ t. if t then Some BadId else (if id.job.0 == store.job then limits_check hands store.job id target 0 else hung_check hands store.job id target (ground hands id store.job))) taker
+  own_check : (id.job.0 == store.job) ≡ true → is_no_grantee id store.job target ≡ false → limits_check hands store.job id target 0 ≡ None → grant_check hands store.job id target ≡ None
+  own_check mine grantee limits =
+      ap (λ t. if t then Some BadId else (if id.job.0 == store.job then limits_check hands store.job id target 0 else hung_check hands store.job id target (ground hands id store.job))) grantee
       ∙ ap (λ t. if t then limits_check hands store.job id target 0 else hung_check hands store.job id target (ground hands id store.job)) mine
       ∙ limits
 
@@ -85,35 +85,35 @@ and_yes true = refl
 and_yes false = refl
 
 module _ (j : ℕ) (hands : List Hand) (hand : Hand) (store : Shape) (fits : HasHalves j hands store) where
-  none_given : (hand.giver == j) ≡ false → given_half j hands ≡ given_half j (hands ++ hand ∷ [])
+  none_given : (hand.grantor == j) ≡ false → given_half j hands ≡ given_half j (hands ++ hand ∷ [])
   none_given other = sym (given_more j hands hand ∙ ap (λ t. given_half j hands ++ cond t (as_given hand ∷ []) []) other ∙ append-nil (given_half j hands))
 
-  none_taken : (hand.taker == j) ≡ false → (q : ObjectId) → taken_half j q hands ≡ taken_half j q (hands ++ hand ∷ [])
+  none_taken : (hand.grantee == j) ≡ false → (q : ObjectId) → taken_half j q hands ≡ taken_half j q (hands ++ hand ∷ [])
   none_taken other q =
       sym (taken_more j hands hand q ∙ ap (λ t. taken_half j q hands ++ cond t (as_taken hand ∷ []) []) (ap (λ t. same_id q hand.id && t) other ∙ and_no (same_id q hand.id)) ∙ append-nil (taken_half j q hands))
 
-  -- of the giver
-  pub giver_fits : (after : Shape) → hand.giver ≡ j → (hand.taker == j) ≡ false → after.job ≡ store.job → after.given ≡ store.given ++ as_given hand ∷ [] → after.received ≡ store.received → HasHalves j (hands ++ hand ∷ []) after
-  giver_fits after is other job given received = record {
+  -- of the grantor
+  pub grantor_fits : (after : Shape) → hand.grantor ≡ j → (hand.grantee == j) ≡ false → after.job ≡ store.job → after.given ≡ store.given ++ as_given hand ∷ [] → after.received ≡ store.received → HasHalves j (hands ++ hand ∷ []) after
+  grantor_fits after is other job given received = record {
     job = job ∙ fits.job;
-    given = given ∙ ap (λ l. l ++ as_given hand ∷ []) fits.given ∙ sym (given_more j hands hand ∙ ap (λ t. given_half j hands ++ cond t (as_given hand ∷ []) []) (eq-eqb hand.giver j is));
+    given = given ∙ ap (λ l. l ++ as_given hand ∷ []) fits.given ∙ sym (given_more j hands hand ∙ ap (λ t. given_half j hands ++ cond t (as_given hand ∷ []) []) (eq-eqb hand.grantor j is));
     taken = λ q. ap (λ r. option_map_or (λ seen. seen.hands) (at r q) []) received ∙ fits.taken q ∙ none_taken other q;
     known = λ q seen e. fits.known q seen (ap (λ r. at r q) (sym received) ∙ e);
   }
 
-  -- of the taker
-  pub taker_fits : (n : ℕ) → hand.taker ≡ j → (hand.giver == j) ≡ false → HasHalves j (hands ++ hand ∷ []) (received store hand.id n hand.giver hand.depth).shape
-  taker_fits n is other = record {
+  -- of the grantee
+  pub grantee_fits : (n : ℕ) → hand.grantee ≡ j → (hand.grantor == j) ≡ false → HasHalves j (hands ++ hand ∷ []) (received store hand.id n hand.grantor hand.depth).shape
+  grantee_fits n is other = record {
     job = fits.job;
     given = fits.given ∙ none_given other;
     taken = λ q.
-        received_hands store hand.id n hand.giver hand.depth q
+        received_hands store hand.id n hand.grantor hand.depth q
         ∙ ap (λ l. l ++ cond (same_id q hand.id) (as_taken hand ∷ []) []) (fits.taken q)
-        ∙ ap (λ t. taken_half j q hands ++ cond t (as_taken hand ∷ []) []) (sym (ap (λ t. same_id q hand.id && t) (eq-eqb hand.taker j is) ∙ and_yes (same_id q hand.id)))
+        ∙ ap (λ t. taken_half j q hands ++ cond t (as_taken hand ∷ []) []) (sym (ap (λ t. same_id q hand.id && t) (eq-eqb hand.grantee j is) ∙ and_yes (same_id q hand.id)))
         ∙ sym (taken_more j hands hand q);
-    known = received_known store hand.id n hand.giver hand.depth fits.known;
+    known = received_known store hand.id n hand.grantor hand.depth fits.known;
   }
 
   -- of any other job
-  pub other_fits : (hand.giver == j) ≡ false → (hand.taker == j) ≡ false → HasHalves j (hands ++ hand ∷ []) store
+  pub other_fits : (hand.grantor == j) ≡ false → (hand.grantee == j) ≡ false → HasHalves j (hands ++ hand ∷ []) store
   other_fits given taken = record { job = fits.job; given = fits.given ∙ none_given given; taken = λ q. fits.taken q ∙ none_taken taken q; known = fits.known }

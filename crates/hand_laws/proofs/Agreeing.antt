@@ -17,17 +17,17 @@ use Rattle.private_store.specs.declared.schedules.Event.TheVariants as event
 use Rattle.private_store.specs.declared.schedules.Step.{Step}
 use Rattle.private_store.specs.declared.schedules.Step.TheVariants as steps
 use Rattle.private_store.specs.declared.schedules.StepAnswer.TheVariants as answer
-use Rattle.private_store.specs.Contents.{View, judge}
+use Rattle.private_store.specs.rules.Contents.{View, judge}
 use Rattle.hand_laws.proofs.Moving.{Stand}
 use Rattle.hand_laws.proofs.OwnSteps.{is_plain}
 use Rattle.private_store.specs.declared.schedules.StepAnswer.{StepAnswer}
 use Rattle.private_store.specs.declared.schedules.Traced.{Traced}
-use Rattle.private_store.specs.Trace.{is_no_memory, reply_of, replies_of}
-use Rattle.private_store.specs.Shared.{shared_answer, answer_due, answers_due}
+use Rattle.private_store.specs.rules.Trace.{is_no_memory, reply_of, replies_of}
+use Rattle.private_store.specs.rules.Shared.{shared_answer, answer_due, answers_due}
 use Rattle.store_facts.proofs.Runs.{EachPrivate}
 use Rattle.store_facts.proofs.Tests.{true_false, both_left, both_right}
-use Rattle.hand_laws.specs.Standing.{is_told, ArePrivate}
-use Rattle.hand_laws.specs.Telling.{is_aside, Heard, all, whether, heard_of, heard, heard_where_due, Counted, counted, counting, ShowsAlike, OthersDontShow, OthersDontShowWhereDue}
+use Rattle.hand_laws.specs.Standing.{is_told_of, ArePrivate}
+use Rattle.hand_laws.specs.Telling.{is_aside, Heard, all, whether, heard_of, heard, heard_where_due, Counted, counted_answers, counting, ShowsAlike, OthersDontShow, OthersDontShowWhereDue}
 use Rattle.hand_laws.proofs.Histories.{all_told, told_back, trace_private, stand_until}
 use Rattle.hand_laws.proofs.OwnClusters.{same_itself}
 use Rattle.hand_laws.proofs.SharedAlike.{shared_same}
@@ -39,7 +39,7 @@ record IsAnswered (nodes : ℕ) (history : List Traced) : Type 0 where
   each : (k : ℕ) → EachPrivate nodes k history
 
 before_answered : (nodes : ℕ) (entry : Traced) (before : List Traced) → IsAnswered nodes (entry ∷ before) → IsAnswered nodes before
-before_answered nodes entry before h = record { told = both_right (is_told entry.step entry.answer) (all_told before) h.told; each = λ k. (h.each k).0 }
+before_answered nodes entry before h = record { told = both_right (is_told_of entry.step entry.answer) (all_told before) h.told; each = λ k. (h.each k).0 }
 
 -- ---- two entries that count the same
 
@@ -67,7 +67,7 @@ module _ (nodes j : ℕ) where
         let hf : IsAnswered nodes (after s t b) = subst (λ x. IsAnswered nodes (after s x b)) (sym is) hb in
         subst (λ x. SameFor nodes j (after s t a) (after s x b)) is
         (shown nodes j a b same (stand_until nodes a (before_answered nodes (record { step = s; answer = t }) a ha).each) (stand_until nodes b (before_answered nodes (record { step = s; answer = t }) b hf).each) s t (stand_until nodes (after s t a) ha.each)
-        (both_left (is_told s t) (all_told a) ha.told) (λ k. (ha.each k).1) (λ k. (hf.each k).1))
+        (both_left (is_told_of s t) (all_told a) ha.told) (λ k. (ha.each k).1) (λ k. (hf.each k).1))
 
     module _ (m session : ℕ) (k : JobNo) (c : Command (List ℕ)) where
       abbrev called : Step
@@ -84,8 +84,8 @@ module _ (nodes j : ℕ) where
             | false ↦ λ t. told t (sym one ∙ t)
           ] refl))
 
-      not_told : {B : Type 0} (t : StepAnswer) (history : List Traced) → is_told called t ≡ false → IsAnswered nodes (after called t history) → B
-      not_told t history untold h = true_false (sym untold ∙ both_left (is_told called t) (all_told history) h.told)
+      not_told : {B : Type 0} (t : StepAnswer) (history : List Traced) → is_told_of called t ≡ false → IsAnswered nodes (after called t history) → B
+      not_told t history untold h = true_false (sym untold ∙ both_left (is_told_of called t) (all_told history) h.told)
 
       stand : (history : List Traced) (t : StepAnswer) → IsAnswered nodes (after called t history) → Stand nodes history
       stand history t h = stand_until nodes history (before_answered nodes (record { step = called; answer = t }) history h).each
@@ -140,7 +140,7 @@ module _ (nodes j : ℕ) where
 
     -- entries with the same step and what counts of the answers
     module _ (P : List Traced → Type 0) (hear : Step → StepAnswer → Heard) (each : (s : Step) (t u : StepAnswer) → P (after s t a) → P (after s u b) → hear s t ≡ hear s u → SameFor nodes j (after s t a) (after s u b)) where
-      same_counted : (e f : Traced) → P (e ∷ a) → P (f ∷ b) → counted hear e ≡ counted hear f → SameFor nodes j (e ∷ a) (f ∷ b)
+      same_counted : (e f : Traced) → P (e ∷ a) → P (f ∷ b) → counted_answers hear e ≡ counted_answers hear f → SameFor nodes j (e ∷ a) (f ∷ b)
       same_counted e f ha hb is =
           let one : e.step ≡ f.step = ap (λ c. c.step) is in
           subst (λ s. SameFor nodes j (e ∷ a) (after s f.answer b)) one
@@ -159,26 +159,26 @@ module _ (nodes j : ℕ) where
     none_same : (b : List Traced) → P b → [] ≡ counting hear j b → SameFor nodes j [] b
     none_same [] hb is = record { inputs = refl; parts = λ k other. same_itself _; hands = λ n. refl; out = λ n k number. refl; replies = refl; lives = λ memory n. refl; admissions = λ n k. refl; waits = λ n. refl }
     none_same (f ∷ b) hb is =
-        elim (is_aside j f.step) as (λ t. is_aside j f.step ≡ t → [] ≡ map (counted hear) (cond (not t) (f ∷ filter counts b) (filter counts b)) → SameFor nodes j [] (f ∷ b)) [
+        elim (is_aside j f.step) as (λ t. is_aside j f.step ≡ t → [] ≡ map (counted_answers hear) (cond (not t) (f ∷ filter counts b) (filter counts b)) → SameFor nodes j [] (f ∷ b)) [
           | true ↦ λ t e. same_for_then nodes j [] b (f ∷ b) (none_same b (older f b hb) e) (same_for_back nodes j (f ∷ b) b (hidden b f (answers (f ∷ b) hb) t))
-          | false ↦ λ t e. absurd (no_more (counted hear f) (counting hear j b) e)
+          | false ↦ λ t e. absurd (no_more (counted_answers hear f) (counting hear j b) e)
         ] refl is
 
     -- one entry that counts, and then what counts of the other history
     one_same : (a : List Traced) (e : Traced) → P (e ∷ a) → ((b : List Traced) → P b → counting hear j a ≡ counting hear j b → SameFor nodes j a b)
-        → (b : List Traced) → P b → counted hear e ∷ counting hear j a ≡ counting hear j b → SameFor nodes j (e ∷ a) b
-    one_same a e ha rest [] hb is = absurd (no_more (counted hear e) (counting hear j a) (sym is))
+        → (b : List Traced) → P b → counted_answers hear e ∷ counting hear j a ≡ counting hear j b → SameFor nodes j (e ∷ a) b
+    one_same a e ha rest [] hb is = absurd (no_more (counted_answers hear e) (counting hear j a) (sym is))
     one_same a e ha rest (f ∷ b) hb is =
-        elim (is_aside j f.step) as (λ t. is_aside j f.step ≡ t → counted hear e ∷ counting hear j a ≡ map (counted hear) (cond (not t) (f ∷ filter counts b) (filter counts b)) → SameFor nodes j (e ∷ a) (f ∷ b)) [
+        elim (is_aside j f.step) as (λ t. is_aside j f.step ≡ t → counted_answers hear e ∷ counting hear j a ≡ map (counted_answers hear) (cond (not t) (f ∷ filter counts b) (filter counts b)) → SameFor nodes j (e ∷ a) (f ∷ b)) [
           | true ↦ λ t same. same_for_then nodes j (e ∷ a) b (f ∷ b) (one_same a e ha rest b (older f b hb) same) (same_for_back nodes j (f ∷ b) b (hidden b f (answers (f ∷ b) hb) t))
-          | false ↦ λ t same. (let tails = rest b (older f b hb) (ap (drop 1) same) in same_counted a b tails P hear (each a b tails) e f ha hb (ap (λ l. get_or l 0 (counted hear e)) same))
+          | false ↦ λ t same. (let tails = rest b (older f b hb) (ap (drop 1) same) in same_counted a b tails P hear (each a b tails) e f ha hb (ap (λ l. get_or l 0 (counted_answers hear e)) same))
         ] refl is
 
     histories_same : (a : List Traced) → P a → (b : List Traced) → P b → counting hear j a ≡ counting hear j b → SameFor nodes j a b
     histories_same [] ha b hb is = none_same b hb is
     histories_same (e ∷ a) ha b hb is =
         let before = older e a ha in
-        elim (is_aside j e.step) as (λ t. is_aside j e.step ≡ t → map (counted hear) (cond (not t) (e ∷ filter counts a) (filter counts a)) ≡ counting hear j b → SameFor nodes j (e ∷ a) b) [
+        elim (is_aside j e.step) as (λ t. is_aside j e.step ≡ t → map (counted_answers hear) (cond (not t) (e ∷ filter counts a) (filter counts a)) ≡ counting hear j b → SameFor nodes j (e ∷ a) b) [
           | true ↦ λ t same. same_for_then nodes j (e ∷ a) a b (hidden a e (answers (e ∷ a) ha) t) (histories_same a before b hb same)
           | false ↦ λ t same. one_same a e ha (histories_same a before) b hb same
         ] refl is
@@ -187,15 +187,15 @@ module _ (nodes j : ℕ) where
 
   module _ (hear : Step → StepAnswer → Heard) where
     counting_more : (xs ys : List Traced) → counting hear j (xs ++ ys) ≡ counting hear j xs ++ counting hear j ys
-    counting_more xs ys = ap (map (counted hear)) (filter-append counts xs ys) ∙ map-append (counted hear) (filter counts xs) (filter counts ys)
+    counting_more xs ys = ap (map (counted_answers hear)) (filter-append counts xs ys) ∙ map-append (counted_answers hear) (filter counts xs) (filter counts ys)
 
     counting_back : (trace : List Traced) → counting hear j (reverse trace) ≡ reverse (counting hear j trace)
     counting_back [] = refl
     counting_back (entry ∷ trace) =
         ap (counting hear j) (reverse-append (entry ∷ []) trace) ∙ counting_more (reverse trace) (entry ∷ [])
-        ∙ elim (is_aside j entry.step) as (λ t. counting hear j (reverse trace) ++ map (counted hear) (cond (not t) (entry ∷ []) []) ≡ reverse (map (counted hear) (cond (not t) (entry ∷ filter counts trace) (filter counts trace)))) [
+        ∙ elim (is_aside j entry.step) as (λ t. counting hear j (reverse trace) ++ map (counted_answers hear) (cond (not t) (entry ∷ []) []) ≡ reverse (map (counted_answers hear) (cond (not t) (entry ∷ filter counts trace) (filter counts trace)))) [
           | true ↦ append-nil (counting hear j (reverse trace)) ∙ counting_back trace
-          | false ↦ ap (λ l. l ++ counted hear entry ∷ []) (counting_back trace) ∙ sym (reverse-append (counted hear entry ∷ []) (counting hear j trace))
+          | false ↦ ap (λ l. l ++ counted_answers hear entry ∷ []) (counting_back trace) ∙ sym (reverse-append (counted_answers hear entry ∷ []) (counting hear j trace))
         ]
 
   replies_back : (trace : List Traced) → replies_of j (reverse trace) ≡ reverse (replies_of j trace)

@@ -15,15 +15,15 @@ use Rattle.obj_id.specs.Ids.{same_id}
 use Rattle.store_facts.proofs.Ids.{same_id-equal}
 use Rattle.private_store.specs.declared.inputs.Judged.{Judged}
 use Rattle.private_store.specs.declared.inputs.Judged.TheVariants as judged
-use Rattle.private_store.specs.Tables.{at}
-use Rattle.private_store.specs.Shape.{Shape, Change, HandGiven}
-use Rattle.private_store.specs.Copies.{visible, is_idle}
-use Rattle.private_store.specs.Room.{drop_copy}
-use Rattle.private_store.specs.Change.{refused, erasing, settled}
-use Rattle.private_store.specs.Commands.{grant, grant_own, grant_foreign, withdraw, peek, oldest}
-use Rattle.private_store.specs.Events.{withdrawn, is_hand, hand_ended, hangs_on}
-use Rattle.private_store.specs.Step.{commanded, step}
-use Rattle.private_store.specs.Kept.{IsShapeKept}
+use Rattle.private_store.specs.rules.Tables.{at}
+use Rattle.private_store.specs.rules.Shape.{Shape, Change, HandGiven}
+use Rattle.private_store.specs.rules.Copies.{visible, is_idle}
+use Rattle.private_store.specs.rules.Room.{drop_copy}
+use Rattle.private_store.specs.rules.Change.{refused, erasing, settled}
+use Rattle.private_store.specs.rules.Commands.{grant, grant_own, grant_foreign, withdraw, peek, oldest}
+use Rattle.private_store.specs.rules.Events.{withdrawn, is_hand, hand_ended, is_child_of}
+use Rattle.private_store.specs.rules.Step.{commanded, step}
+use Rattle.private_store.specs.laws.Invariants.{IsShapeKept}
 use Rattle.store_facts.proofs.Checks.{checked_has, needing_has}
 use Rattle.store_facts.proofs.Tests.{true_false, true_T, not_true, both, both_left, both_right}
 use Rattle.hand_laws.proofs.WhatEnds.{and_no}
@@ -74,14 +74,14 @@ given_aside store keep all = λ i. record (own_part store) { given = own_kept st
 -- what a grant of any object does: it is refused, or the hand is given
 pub data IsGrant (store : Shape) (id : ObjectId) (target : ℕ) (c : Change) : Type 0 where
   left : (r : Refusal) → c.shape ≡ store → c.reply ≡ reply.Refused r → c.sent ≡ [] → c.used ≡ None → IsGrant store id target c
-  gave : (below : Option ℕ) → (id.job.0 == store.job ≡ true → below ≡ None) → c.shape ≡ record store { given = store.given ++ record { id = id; target = target; hangs_on = below } ∷ [] } → c.reply ≡ reply.Ok → c.sent ≡ [] → c.used ≡ None → IsGrant store id target c
+  gave : (below : Option ℕ) → (id.job.0 == store.job ≡ true → below ≡ None) → c.shape ≡ record store { given = store.given ++ record { id = id; target = target; parent = below } ∷ [] } → c.reply ≡ reply.Ok → c.sent ≡ [] → c.used ≡ None → IsGrant store id target c
 
 is_grant : (store : Shape) (id : ObjectId) (target : ℕ) → IsGrant store id target (grant store id target)
 is_grant store id target =
     elim (id.job.0 == store.job) as (λ b. (id.job.0 == store.job) ≡ b → P (cond b (grant_own store id target) (grant_foreign store id target))) [
       | true ↦ λ _. checked_has P store _ _ no (needing_has P store (visible store id) Absent _ (no Absent) (λ copy v. checked_has P store _ _ no (gave None (λ _. refl) refl refl refl refl)))
       | false ↦ λ foreign. checked_has P store _ _ no (needing_has P store (oldest store id) NotGranted _ (no NotGranted) (λ hand o. checked_has P store _ _ no
-          (gave (Some hand.giver) (λ own. true_false (sym foreign ∙ own)) refl refl refl refl)))
+          (gave (Some hand.grantor) (λ own. true_false (sym foreign ∙ own)) refl refl refl refl)))
     ] refl
   where
     P : Change → Type 0
@@ -100,7 +100,7 @@ grant_is order store session id target = checked_has (IsGrant store id target) s
 foreign_grant : (store : Shape) (id : ObjectId) (target : ℕ) (c : Change) → (id.job.0 == store.job) ≡ false → IsGrant store id target c → IsAside store c
 foreign_grant store id target c foreign (left r s t m u) = record { own = ap own_part s; silent = m; unused = u }
 foreign_grant store id target c foreign (gave below n s t m u) =
-    let hand : HandGiven = record { id = id; target = target; hangs_on = below } in
+    let hand : HandGiven = record { id = id; target = target; parent = below } in
     record {
       own = ap own_part s ∙ (λ i. record (own_part store) { given = added hand foreign i });
       silent = m;
@@ -142,14 +142,14 @@ foreign_withdraw store id target has foreign =
 
 -- ---- notes
 
-withdrawn_aside : (store : Shape) → IsShapeKept store → (id : ObjectId) (giver depth : ℕ) → IsAside store (withdrawn store id giver depth)
-withdrawn_aside store kept id giver depth = record {
-  own = elim (at store.received id) as (λ o. own_part (option_map_or (λ seen. cond (list_any (is_hand giver depth) seen.hands) (hand_ended store id giver depth seen) store) o store) ≡ own_part store) [
+withdrawn_aside : (store : Shape) → IsShapeKept store → (id : ObjectId) (grantor depth : ℕ) → IsAside store (withdrawn store id grantor depth)
+withdrawn_aside store kept id grantor depth = record {
+  own = elim (at store.received id) as (λ o. own_part (option_map_or (λ seen. cond (list_any (is_hand grantor depth) seen.hands) (hand_ended store id grantor depth seen) store) o store) ≡ own_part store) [
     | None ↦ refl
-    | Some seen ↦ elim (list_any (is_hand giver depth) seen.hands) as (λ b. own_part (cond b (hand_ended store id giver depth seen) store) ≡ own_part store) [
-      | true ↦ given_aside store (λ hand. not (hangs_on id giver hand))
-          (all_more (λ hand. not (hand.id.job.0 == store.job) || is_none hand.hangs_on) (λ hand. not (hand.id.job.0 == store.job) || not (hangs_on id giver hand)) store.given hangs_on_none
-          (true_T (list_all (λ hand. not (hand.id.job.0 == store.job) || is_none hand.hangs_on) store.given) (subst T (sym kept.own_hands) tt)))
+    | Some seen ↦ elim (list_any (is_hand grantor depth) seen.hands) as (λ b. own_part (cond b (hand_ended store id grantor depth seen) store) ≡ own_part store) [
+      | true ↦ given_aside store (λ hand. not (is_child_of id grantor hand))
+          (all_more (λ hand. not (hand.id.job.0 == store.job) || is_none hand.parent) (λ hand. not (hand.id.job.0 == store.job) || not (is_child_of id grantor hand)) store.given hangs_on_none
+          (true_T (list_all (λ hand. not (hand.id.job.0 == store.job) || is_none hand.parent) store.given) (subst T (sym kept.own_hands) tt)))
       | false ↦ refl
     ]
   ];
@@ -157,10 +157,10 @@ withdrawn_aside store kept id giver depth = record {
   unused = refl;
 }
   where
-    hangs_on_none : (hand : HandGiven) → not (hand.id.job.0 == store.job) || is_none hand.hangs_on ≡ true → not (hand.id.job.0 == store.job) || not (hangs_on id giver hand) ≡ true
-    hangs_on_none hand = by (not (hand.id.job.0 == store.job)) (same_id id hand.id) hand.hangs_on
+    hangs_on_none : (hand : HandGiven) → not (hand.id.job.0 == store.job) || is_none hand.parent ≡ true → not (hand.id.job.0 == store.job) || not (is_child_of id grantor hand) ≡ true
+    hangs_on_none hand = by (not (hand.id.job.0 == store.job)) (same_id id hand.id) hand.parent
       where
-        by : (b c : Bool) (o : Option ℕ) → b || is_none o ≡ true → b || not (c && option_map_or (λ g. g == giver) o false) ≡ true
+        by : (b c : Bool) (o : Option ℕ) → b || is_none o ≡ true → b || not (c && option_map_or (λ g. g == grantor) o false) ≡ true
         by true c o e = refl
         by false c None e = ap not (and_no c)
         by false c (Some g) e = true_false e
@@ -176,8 +176,8 @@ is_aside_command job _ = false
 
 abbrev pub is_aside_input : ℕ → Judged → Bool
 is_aside_input job (judged.Call session c) = is_aside_command job c
-is_aside_input job (judged.Received id n giver depth) = true
-is_aside_input job (judged.Withdrawn id giver depth) = true
+is_aside_input job (judged.Received id n grantor depth) = true
+is_aside_input job (judged.Withdrawn id grantor depth) = true
 is_aside_input job _ = false
 
 erased_aside : (store : Shape) (c : Change) → IsAside store c → IsAside store (erasing store c)
@@ -196,7 +196,7 @@ module _ (order : List ObjectId) (store : Shape) (kept : IsShapeKept store) (has
   step_aside (judged.Call session (command.Withdraw id target)) p = call_aside session (command.Withdraw id target) (foreign_withdraw store id target.0 has (not_true (id.job.0 == store.job) p))
   step_aside (judged.Call session (command.Peek id offset n)) p = call_aside session (command.Peek id offset n) (peek_aside store id offset n)
   step_aside (judged.Call session command.List) p = call_aside session command.List (record { own = refl; silent = refl; unused = refl })
-  step_aside (judged.Received id n giver depth) p = record { own = refl; silent = refl; unused = refl }
-  step_aside (judged.Withdrawn id giver depth) p = withdrawn_aside store kept id giver.0 depth
+  step_aside (judged.Received id n grantor depth) p = record { own = refl; silent = refl; unused = refl }
+  step_aside (judged.Withdrawn id grantor depth) p = withdrawn_aside store kept id grantor.0 depth
   step_aside (judged.Call session c) p = true_false p
   step_aside x p = true_false p

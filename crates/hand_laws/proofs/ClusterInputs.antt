@@ -5,8 +5,8 @@ use Rattle.std.specs.Option.{option_map, option_map_or}
 use Rattle.std.proofs.lemmas.Bool.{eqb-true}
 use Rattle.std.proofs.lemmas.Bool.Decides.{nat_tests}
 use Rattle.hand_laws.proofs.WhatEnds.{same_test}
-use Rattle.obj_id.specs.declared.messages.Place.{Place}
-use Rattle.obj_id.specs.declared.messages.Place.TheVariants.{Node, Directory}
+use Rattle.obj_id.specs.declared.messages.Endpoint.{Endpoint}
+use Rattle.obj_id.specs.declared.messages.Endpoint.TheVariants.{Node, Directory}
 use Rattle.obj_id.specs.declared.messages.Message.{Message}
 use Rattle.obj_id.specs.declared.messages.Message.TheVariants as message
 use Rattle.obj_id.specs.declared.messages.PeerMessage.TheVariants as peer
@@ -14,9 +14,9 @@ use Rattle.obj_id.specs.declared.messages.Arrival.{Arrival}
 use Rattle.obj_id.specs.declared.messages.Arrival.TheVariants as arrival
 use Rattle.private_store.specs.declared.inputs.Input.{Input}
 use Rattle.private_store.specs.declared.inputs.Input.TheVariants.{Arrive}
-use Rattle.private_store.specs.Private.{Store, private_step, private_outcome, store_from, view_of, no_store}
-use Rattle.private_store.specs.Cluster.{Cluster, ClusterInput, at_node, deliver, cluster_step, cluster_from, input_at, moved_at, unmoved, handed_over, handed_to_directory, message_at, damaged, arrival_of, no_cluster}
-use Rattle.private_store.specs.Contents.{chunk_verdict, source_in, pull_matches}
+use Rattle.private_store.specs.rules.Private.{Store, private_step, private_outcome, store_from, view_of, no_store}
+use Rattle.private_store.specs.rules.Cluster.{Cluster, ClusterInput, at_node, deliver, cluster_step, cluster_from, input_at, moved_at, unmoved, handed_over, handed_to_directory, message_at, damaged, arrival_of, no_cluster}
+use Rattle.private_store.specs.rules.Contents.{chunk_verdict, source_in, pull_matches}
 use Rattle.store_facts.proofs.Tests.{none_some, some_value}
 use Rattle.hand_laws.proofs.HandsStay.{SameHands, same_hands}
 use Rattle.hand_laws.proofs.EachInput.{located_same, chunk_same, pull_same, not_here_same}
@@ -112,7 +112,7 @@ directory_still C (message.ToDirectory m) n after e = still_unmoved C n after e
 directory_still C (message.Located id number entries) n after e = still_unmoved C n after e
 directory_still C (message.ToPeer m) n after e = still_unmoved C n after e
 
-handed_still : (C : Cluster) (from to : Place) (m : Message) (n : ℕ) (after : Store) → slice_get (handed_over C from to m).cluster.stores n ≡ Some after → (s : Store) × (slice_get C.stores n ≡ Some s) × SameHands s.shape after.shape
+handed_still : (C : Cluster) (from to : Endpoint) (m : Message) (n : ℕ) (after : Store) → slice_get (handed_over C from to m).cluster.stores n ≡ Some after → (s : Store) × (slice_get C.stores n ≡ Some s) × SameHands s.shape after.shape
 handed_still C from Directory m n after e = directory_still C m n after e
 handed_still C from (Node node) m n after e =
     elim (arrival_of from m) as (λ o. slice_get (option_map_or (λ a. input_at C node (Arrive a)) o (unmoved C)).cluster.stores n ≡ Some after → (s : Store) × (slice_get C.stores n ≡ Some s) × SameHands s.shape after.shape) [
@@ -120,7 +120,7 @@ handed_still C from (Node node) m n after e =
       | Some a ↦ λ f. still_at C node (Arrive a) (λ s _. arrive_still node s a) n after f
     ] e
 
-pub still_deliver : (C : Cluster) (from to : Place) (k : ℕ) (damage : Bool) → StillInput C (deliver from to k damage)
+pub still_deliver : (C : Cluster) (from to : Endpoint) (k : ℕ) (damage : Bool) → StillInput C (deliver from to k damage)
 still_deliver C from to k damage n after e =
     elim (message_at C from to k) as (λ o. slice_get (option_map_or (λ message. handed_over C from to (if damage then damaged message else message)) o (unmoved C)).cluster.stores n ≡ Some after → (s : Store) × (slice_get C.stores n ≡ Some s) × SameHands s.shape after.shape) [
       | None ↦ λ f. still_unmoved C n after f

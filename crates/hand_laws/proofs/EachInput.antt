@@ -19,14 +19,14 @@ use Rattle.private_store.specs.declared.inputs.ChunkVerdict.{ChunkVerdict}
 use Rattle.private_store.specs.declared.inputs.ChunkVerdict.TheVariants as chunk
 use Rattle.private_store.specs.declared.inputs.WorkVerdict.{WorkVerdict}
 use Rattle.private_store.specs.declared.inputs.WorkVerdict.TheVariants as work
-use Rattle.private_store.specs.Tables.{at, ids_of}
-use Rattle.private_store.specs.Shape.{Copy, Shape, Change, Sending, Fetch, locating, sized, pulling, failed, HandGiven, WorkInFlight, chunks, not_here, remove_source}
-use Rattle.private_store.specs.Copies.{visible, in_scope}
-use Rattle.private_store.specs.Room.{set_copy}
-use Rattle.private_store.specs.Change.{refused, done, sending, erasing, settled, doom}
-use Rattle.private_store.specs.Commands.{restore, scoped, at_each, then_change, give_up_one, has_borrower, without_borrower, of_task, task_ended, grant, grant_own, grant_foreign, oldest, list, usage}
-use Rattle.private_store.specs.Events.{end_job_here, answer, written, without_work, read_back, with_fetch, fetch_of, located, located_copy, fetch_failed, chunk_taken, chunk_arrived, is_missing, not_here_arrived, quiet, pull_answer, pull_arrived, is_live}
-use Rattle.private_store.specs.Step.{step, owned, commanded}
+use Rattle.private_store.specs.rules.Tables.{at, ids_of}
+use Rattle.private_store.specs.rules.Shape.{Copy, Shape, Change, Sending, Fetch, locating, sized, pulling, failed, HandGiven, WorkInFlight, chunks, not_here, remove_source}
+use Rattle.private_store.specs.rules.Copies.{visible, in_scope}
+use Rattle.private_store.specs.rules.Room.{set_copy}
+use Rattle.private_store.specs.rules.Change.{refused, done, sending, erasing, settled, doom}
+use Rattle.private_store.specs.rules.Commands.{restore, scoped, at_each, then_change, give_up_one, has_borrower, without_borrower, of_task, task_ended, grant, grant_own, grant_foreign, oldest, list, usage}
+use Rattle.private_store.specs.rules.Events.{end_job_here, answer, written, without_work, read_back, with_fetch, fetch_of, located, located_copy, fetch_failed, chunk_taken, chunk_arrived, is_missing, not_here_arrived, quiet, pull_answer, pull_arrived, is_live}
+use Rattle.private_store.specs.rules.Step.{step, owned, commanded}
 use Rattle.store_facts.proofs.Checks.{checked-nil, checked-true, checked-false, checked_has, needing_has}
 use Rattle.hand_laws.proofs.HandsStay.{SameHands, same_hands, then_hands, IsStill, settled_still, set_still, stays, checked_still, needing_still, sending_still, erasing_still, create_still, write_still, seal_still, restore_still, get_still, read_still, release_still, doom_still, delete_still, borrow_still, unpin_still, give_up_still, give_up_one_still, peek_still, begin_still, requota_still, at_each_still, leave_still}
 

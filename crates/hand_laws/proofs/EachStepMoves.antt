@@ -20,12 +20,12 @@ use Rattle.private_store.specs.declared.schedules.Step.TheVariants as steps
 use Rattle.private_store.specs.declared.schedules.StepAnswer.{StepAnswer}
 use Rattle.private_store.specs.declared.schedules.StepAnswer.TheVariants as answer
 use Rattle.private_store.specs.declared.schedules.Traced.{Traced}
-use Rattle.private_store.specs.Tables.{at}
-use Rattle.private_store.specs.Shape.{Shape, HandGiven}
-use Rattle.private_store.specs.Private.{Store, private_step, private_outcome, store_from}
-use Rattle.private_store.specs.Cluster.{Cluster, at_node, deliver, cluster_step, moved_at, unmoved, Told, told, told_from}
-use Rattle.private_store.specs.Hands.{Hand, ground, new_hand, with_hand, hands_ended, hands_left, is_given_by, is_withdrawn, is_of_task}
-use Rattle.private_store.specs.Trace.{Given, hands_at, hands_step, own_input, notes, for_job, cluster_until, inputs_until, reply_of, is_answered, is_no_memory, received_note, withdrawn_note}
+use Rattle.private_store.specs.rules.Tables.{at}
+use Rattle.private_store.specs.rules.Shape.{Shape, HandGiven}
+use Rattle.private_store.specs.rules.Private.{Store, private_step, private_outcome, store_from}
+use Rattle.private_store.specs.rules.Cluster.{Cluster, at_node, deliver, cluster_step, moved_at, unmoved, Told, told, told_from}
+use Rattle.private_store.specs.rules.Hands.{Hand, ground, new_hand, with_hand, hands_ended, hands_left, is_given_by, is_withdrawn, is_of_task}
+use Rattle.private_store.specs.rules.Trace.{Given, hands_at, hands_step, own_input, notes, for_job, cluster_until, inputs_until, reply_of, is_answered, is_no_memory, received_note, withdrawn_note}
 use Rattle.store_facts.proofs.Tests.{true_false, none_some, some_value, or_false_left, or_false_right}
 use Rattle.grants.specs.Table.{given_by, grant_check}
 use Rattle.grants.specs.Private.{as_given}
@@ -39,17 +39,17 @@ use Rattle.std.proofs.Common.{length}
 use Rattle.obj_id.specs.declared.works.DeviceAnswer.{DeviceAnswer}
 use Rattle.obj_id.specs.declared.refusals.Refusal.{Refusal}
 use Rattle.obj_id.specs.declared.refusals.Refusal.TheVariants.{BadId}
-use Rattle.private_store.specs.Contents.{View, brief, whole_reply, work_verdict}
-use Rattle.private_store.specs.Private.{view_of}
-use Rattle.private_store.specs.Step.{step}
-use Rattle.private_store.specs.Shape.{Change}
-use Rattle.private_store.specs.Events.{is_live}
+use Rattle.private_store.specs.rules.Contents.{View, without_payload, whole_reply, work_verdict}
+use Rattle.private_store.specs.rules.Private.{view_of}
+use Rattle.private_store.specs.rules.Step.{step}
+use Rattle.private_store.specs.rules.Shape.{Change}
+use Rattle.private_store.specs.rules.Events.{is_live}
 use Rattle.private_store.specs.declared.inputs.Judged.TheVariants as judged
-use Rattle.private_store.specs.Trace.{is_out, granted_bytes}
+use Rattle.private_store.specs.rules.Trace.{is_out, granted_bytes}
 use Rattle.store_facts.proofs.Tests.{both_left}
-use Rattle.grants.specs.Table.{is_no_taker, limits_check, hung_check}
+use Rattle.grants.specs.Table.{is_no_grantee, limits_check, hung_check}
 use Rattle.hand_laws.proofs.EachInput.{is_of_hands_command, call_still, begin_same, requota_same, answer_same, grant_step, withdraw_step, end_task_step, GrantDone, left, gave, EndDone, ended, JobEndDone, was_dead, is_over, job_end_step, keeps_others, keeps_other_tasks}
-use Rattle.hand_laws.proofs.AfterGrants.{granted_step, giver_fits, taker_fits, other_fits}
+use Rattle.hand_laws.proofs.AfterGrants.{granted_step, grantor_fits, grantee_fits, other_fits}
 use Rattle.hand_laws.proofs.StoresKept.{store_kept}
 use Rattle.hand_laws.proofs.Moving.{Stand, Moved, Answers, still_moves, node_moves, told_notes, Ends, ends_fit, own_answer}
 
@@ -72,7 +72,7 @@ whole_ok view x reply.NoWork e = cc
 whole_ok view x (reply.Refused refusal) e = cc
 
 -- only an accepted Grant, Withdraw or EndTask changes the hands of the job whose command it is
-still_call : (m : ℕ) (s : Store) (session : ℕ) (c : Command (List ℕ)) (r : Reply (List ℕ)) → (is_of_hands_command (brief c) ≡ true → r ≡ reply.Ok → ⊥) → r ≡ (private_outcome m s (input.Call session c)).reply
+still_call : (m : ℕ) (s : Store) (session : ℕ) (c : Command (List ℕ)) (r : Reply (List ℕ)) → (is_of_hands_command (without_payload c) ≡ true → r ≡ reply.Ok → ⊥) → r ≡ (private_outcome m s (input.Call session c)).reply
     → SameHands s.shape (private_step m s (input.Call session c)).shape
 still_call m s session (command.Grant id target) r not_ok is = by_done (step (view_of s).order s.shape (judged.Call session (command.Grant id target))) (grant_step (view_of s).order s.shape session id target.0) is
   where
@@ -89,7 +89,7 @@ still_call m s session (command.EndTask task) r not_ok is = by_done (step (view_
     by_done : (c : Change) → EndDone (keeps_other_tasks s.shape.job task) s.shape c → r ≡ whole_reply (view_of s) (input.Call session (command.EndTask task)) c.reply → SameHands s.shape c.shape
     by_done c (left same n) e = same
     by_done c (ended j g f t) e = absurd (not_ok refl (e ∙ ap (whole_reply (view_of s) (input.Call session (command.EndTask task))) t))
-still_call m s session c r not_ok is = call_still (view_of s).order s.shape session (brief c) refl
+still_call m s session c r not_ok is = call_still (view_of s).order s.shape session (without_payload c) refl
 
 module _ (nodes : ℕ) (before : List Traced) (stand : Stand nodes before) where
   abbrev C : ℕ → Cluster
@@ -115,7 +115,7 @@ module _ (nodes : ℕ) (before : List Traced) (stand : Stand nodes before) where
     abbrev given : Given
     given = record { job = k.0; input = at_node m (input.Call session c) }
 
-    call_quiet : (r : Reply (List ℕ)) → (is_of_hands_command (brief c) ≡ true → r ≡ reply.Ok → ⊥) → noted called (answer.Told r) ≡ [] → ((n : ℕ) → hands_step n (hands_at n before) called (answer.Told r) ≡ hands_at n before)
+    call_quiet : (r : Reply (List ℕ)) → (is_of_hands_command (without_payload c) ≡ true → r ≡ reply.Ok → ⊥) → noted called (answer.Told r) ≡ [] → ((n : ℕ) → hands_step n (hands_at n before) called (answer.Told r) ≡ hands_at n before)
         → Answers nodes before called (answer.Told r) → Moved nodes before called (answer.Told r)
     call_quiet r not_ok silent same answers = by_memory (is_no_memory (answer.Told r)) refl
       where
@@ -129,7 +129,7 @@ module _ (nodes : ℕ) (before : List Traced) (stand : Stand nodes before) where
 
   -- ---- ends
 
-  pub end_moves : (m : ℕ) (k : JobNo) (e : Event) (test : Hand → Bool) (x : Input) → ((h : Hand) → test h ≡ true → h.giver ≡ k.0)
+  pub end_moves : (m : ℕ) (k : JobNo) (e : Event) (test : Hand → Bool) (x : Input) → ((h : Hand) → test h ≡ true → h.grantor ≡ k.0)
       → ((n : ℕ) → hands_step n (hands_at n before) (steps.At m e) (answer.Told reply.Ok) ≡ (if m == n then hands_left test (hands_at n before) else hands_at n before))
       → own_input before (steps.At m e) (answer.Told reply.Ok) ≡ Some (record { job = k.0; input = at_node m x })
       → noted (steps.At m e) (answer.Told reply.Ok) ≡ map (withdrawn_note m) (hands_ended test (hands_at m before))
@@ -148,21 +148,21 @@ module _ (nodes : ℕ) (before : List Traced) (stand : Stand nodes before) where
 
   -- notes of ends have no replies
   quiet_ends : (m j : ℕ) (gone : List Hand) (E : Cluster) → told_from E (for_job j (map (withdrawn_note m) gone)) ≡ []
-  quiet_ends m j gone E = ap (told_from E) (told_notes nodes before stand m j gone) ∙ quiet (filter (λ h. h.taker == j) gone) E
+  quiet_ends m j gone E = ap (told_from E) (told_notes nodes before stand m j gone) ∙ quiet (filter (λ h. h.grantee == j) gone) E
     where
       quiet : (hs : List Hand) (E : Cluster) → told_from E (map (at_node m) (map end_told hs)) ≡ []
       quiet [] E = refl
       quiet (h ∷ hs) E = quiet hs (cluster_step E (at_node m (end_told h))).cluster
 
-  -- what the giver's store keeps, in the words of the table
-  kept_half : (k : ℕ) (hands : List Hand) (test : Hand → Bool) (keep : HandGiven → Bool) → ((h : Hand) → h.giver ≡ k → keep (as_given h) ≡ not (test h))
+  -- what the grantor's store keeps, in the words of the table
+  kept_half : (k : ℕ) (hands : List Hand) (test : Hand → Bool) (keep : HandGiven → Bool) → ((h : Hand) → h.grantor ≡ k → keep (as_given h) ≡ not (test h))
       → (gs : List HandGiven) → gs ≡ given_half k hands → filter keep gs ≡ map as_given (filter (λ h. not (test h)) (given_by k hands))
   kept_half k hands test keep same gs is =
       ap (filter keep) is ∙ filter_map as_given keep (given_by k hands)
-      ∙ ap (map as_given) (filter_same (λ h. keep (as_given h)) (λ h. not (test h)) (given_by k hands) (λ h a. same h (eqb-true h.giver k (stands_filtered h (is_given_by k) hands a).1)))
+      ∙ ap (map as_given) (filter_same (λ h. keep (as_given h)) (λ h. not (test h)) (given_by k hands) (λ h a. same h (eqb-true h.grantor k (stands_filtered h (is_given_by k) hands a).1)))
 
   ended_by_reply : (s : Store) (x : Input) (keep : HandGiven → Bool) (test : Hand → Bool) (hands : List Hand) (k : ℕ) (c : Change) → EndDone keep s.shape c → reply.Ok ≡ whole_reply (view_of s) x c.reply
-      → ((h : Hand) → h.giver ≡ k → keep (as_given h) ≡ not (test h)) → HasHalves k hands s.shape → Ends nodes before stand test hands k s.shape c.shape
+      → ((h : Hand) → h.grantor ≡ k → keep (as_given h) ≡ not (test h)) → HasHalves k hands s.shape → Ends nodes before stand test hands k s.shape c.shape
   ended_by_reply s x keep test hands k c (left same not_ok) is keeps fits = absurd (not_ok (whole_ok (view_of s) x c.reply is))
   ended_by_reply s x keep test hands k c (ended j g r t) is keeps fits = record { job = j; given = g ∙ kept_half k hands test keep keeps s.shape.given fits.given; received = r }
 
@@ -181,10 +181,10 @@ module _ (nodes : ℕ) (before : List Traced) (stand : Stand nodes before) where
       let test = is_withdrawn k.0 id target.0 in
       let gone = hands_ended test (hands_at m before) in
       let a = own_answer nodes before m session k c reply.Ok (map (withdrawn_note m) gone) refl (answers k.0) (quiet_ends m k.0 gone) in
-      end_moves m k (event.Call k session c) test x (λ h t. eqb-true h.giver k.0 (both_left (h.giver == k.0) (same_id id h.id) (both_left (h.giver == k.0 && same_id id h.id) (h.taker == target.0) t))) (λ n. refl) refl refl
+      end_moves m k (event.Call k session c) test x (λ h t. eqb-true h.grantor k.0 (both_left (h.grantor == k.0) (same_id id h.id) (both_left (h.grantor == k.0 && same_id id h.id) (h.grantee == target.0) t))) (λ n. refl) refl refl
       (λ s at. of_that m k.0 (λ s. Ends nodes before stand test (hands_at m before) k.0 s.shape (private_step m s x).shape) a.0 a.1
       (ended_by_reply a.0 x (keeps_others id target.0) test (hands_at m before) k.0 (step (view_of a.0).order a.0.shape (judged.Call session (command.Withdraw id target))) (withdraw_step (view_of a.0).order a.0.shape session id target.0) a.2
-      (λ h is. ap not (and_moved (h.giver == k.0) (same_id id h.id) (h.taker == target.0) (eq-eqb h.giver k.0 is))) (stand.fit m k.0 a.0 a.1)) s at)
+      (λ h is. ap not (and_moved (h.grantor == k.0) (same_id id h.id) (h.grantee == target.0) (eq-eqb h.grantor k.0 is))) (stand.fit m k.0 a.0 a.1)) s at)
 
   end_task_moves : (m session : ℕ) (k : JobNo) (task : TaskNo) → Answers nodes before (called m session k (command.EndTask task)) (answer.Told reply.Ok) → Moved nodes before (called m session k (command.EndTask task)) (answer.Told reply.Ok)
   end_task_moves m session k task answers =
@@ -194,10 +194,10 @@ module _ (nodes : ℕ) (before : List Traced) (stand : Stand nodes before) where
       let gone = hands_ended test (hands_at m before) in
       let a = own_answer nodes before m session k c reply.Ok (map (withdrawn_note m) gone) refl (answers k.0) (quiet_ends m k.0 gone) in
       let fits = stand.fit m k.0 a.0 a.1 in
-      end_moves m k (event.Call k session c) test x (λ h t. eqb-true h.giver k.0 (both_left (h.giver == k.0) (h.id.job.0 == k.0) (both_left (h.giver == k.0 && h.id.job.0 == k.0) (same_task task h.id.task) t))) (λ n. refl) refl refl
+      end_moves m k (event.Call k session c) test x (λ h t. eqb-true h.grantor k.0 (both_left (h.grantor == k.0) (h.id.job.0 == k.0) (both_left (h.grantor == k.0 && h.id.job.0 == k.0) (same_task task h.id.task) t))) (λ n. refl) refl refl
       (λ s at. of_that m k.0 (λ s. Ends nodes before stand test (hands_at m before) k.0 s.shape (private_step m s x).shape) a.0 a.1
       (ended_by_reply a.0 x (keeps_other_tasks a.0.shape.job task) test (hands_at m before) k.0 (step (view_of a.0).order a.0.shape (judged.Call session (command.EndTask task))) (end_task_step (view_of a.0).order a.0.shape session task) a.2
-      (λ h is. ap (λ i. not (h.id.job.0 == i && same_task task h.id.task)) fits.job ∙ ap not (and_moved (h.giver == k.0) (h.id.job.0 == k.0) (same_task task h.id.task) (eq-eqb h.giver k.0 is))) fits) s at)
+      (λ h is. ap (λ i. not (h.id.job.0 == i && same_task task h.id.task)) fits.job ∙ ap not (and_moved (h.grantor == k.0) (h.id.job.0 == k.0) (same_task task h.id.task) (eq-eqb h.grantor k.0 is))) fits) s at)
 
   none_of_it : {X : Type 0} (xs : List X) → filter (λ x. false) xs ≡ []
   none_of_it [] = refl
@@ -207,10 +207,10 @@ module _ (nodes : ℕ) (before : List Traced) (stand : Stand nodes before) where
   job_end_moves m k =
       let test = is_given_by k.0 in
       let hands = hands_at m before in
-      end_moves m k (event.JobEnd k) test input.End (λ h t. eqb-true h.giver k.0 t) (λ n. refl) refl refl (λ s at.
+      end_moves m k (event.JobEnd k) test input.End (λ h t. eqb-true h.grantor k.0 t) (λ n. refl) refl refl (λ s at.
       let fits = stand.fit m k.0 s at in
       let none : [] ≡ map as_given (filter (λ h. not (test h)) (given_by k.0 hands)) =
-      sym (none_of_it s.shape.given) ∙ kept_half k.0 hands test (λ g. false) (λ h is. sym (ap not (eq-eqb h.giver k.0 is))) s.shape.given fits.given in
+      sym (none_of_it s.shape.given) ∙ kept_half k.0 hands test (λ g. false) (λ h is. sym (ap not (eq-eqb h.grantor k.0 is))) s.shape.given fits.given in
       let kept = (store_kept k.0 nodes (inputs_until nodes k.0 before) m s at).kept.shape in
       by_done s (step (view_of s).order s.shape judged.End) (job_end_step (view_of s).order s.shape) none (λ l. (kept.dead l).2))
     where
@@ -221,11 +221,11 @@ module _ (nodes : ℕ) (before : List Traced) (stand : Stand nodes before) where
 
   -- ---- grants
 
-  taker_off : (b : Bool) (o : Option Refusal) → (if b then Some BadId else o) ≡ None → b ≡ false
-  taker_off true o e = none_some BadId (sym e)
-  taker_off false o e = refl
+  grantee_off : (b : Bool) (o : Option Refusal) → (if b then Some BadId else o) ≡ None → b ≡ false
+  grantee_off true o e = none_some BadId (sym e)
+  grantee_off false o e = refl
 
-  -- what an accepted grant did to the giver's store
+  -- what an accepted grant did to the grantor's store
   record Granted (m k : ℕ) (id : ObjectId) (target : ℕ) (s : Store) (after : Shape) : Type 0 where
     check : grant_check (hands_at m before) k id target ≡ None
     job : after.job ≡ s.shape.job
@@ -252,39 +252,39 @@ module _ (nodes : ℕ) (before : List Traced) (stand : Stand nodes before) where
       let h = new_hand hands id k.0 target.0 in
       let bytes = granted_bytes nodes m (λ other. inputs_until nodes other before) h.id in
       let note : Given = received_note nodes m (λ other. inputs_until nodes other before) h in
-      let rcv : Input = input.Received h.id bytes (record { 0 = h.giver }) h.depth in
+      let rcv : Input = input.Received h.id bytes (record { 0 = h.grantor }) h.depth in
       let a = own_answer nodes before m session k c reply.Ok (note ∷ []) refl (answers k.0)
-      (λ E. elim (h.taker == k.0) as (λ t. told_from E (map (λ g. g.input) (cond t (note ∷ []) [])) ≡ []) [ true ↦ refl | false ↦ refl ]) in
+      (λ E. elim (h.grantee == k.0) as (λ t. told_from E (map (λ g. g.input) (cond t (note ∷ []) [])) ≡ []) [ true ↦ refl | false ↦ refl ]) in
       let fits = stand.fit m k.0 a.0 a.1 in
       let change = step (view_of a.0).order a.0.shape (judged.Call session (command.Grant id target)) in
       let g = granted_by m session k.0 id target.0 a.0 fits (whole_ok (view_of a.0) x change.reply a.2) in
-      let off : is_no_taker id k.0 target.0 ≡ false =
-      taker_off (is_no_taker id k.0 target.0) (if id.job.0 == k.0 then limits_check hands k.0 id target.0 0 else hung_check hands k.0 id target.0 (ground hands id k.0)) g.check in
+      let off : is_no_grantee id k.0 target.0 ≡ false =
+      grantee_off (is_no_grantee id k.0 target.0) (if id.job.0 == k.0 then limits_check hands k.0 id target.0 0 else hung_check hands k.0 id target.0 (ground hands id k.0)) g.check in
       let apart : (target.0 == k.0) ≡ false = or_false_right (target.0 == 0) (target.0 == k.0) (or_false_left (target.0 == 0 || target.0 == k.0) (target.0 == id.job.0) off) in
       let made = made_for (λ q. 0) hands k.0 id target.0 in
-      let from : h.giver ≡ k.0 = made.1 in
-      let to : h.taker ≡ target.0 = made.2 in
-      let xs : ℕ → List Input = λ j. cond (k.0 == j) (x ∷ cond (h.taker == j) (rcv ∷ []) []) (cond (h.taker == j) (rcv ∷ []) []) in
+      let from : h.grantor ≡ k.0 = made.1 in
+      let to : h.grantee ≡ target.0 = made.2 in
+      let xs : ℕ → List Input = λ j. cond (k.0 == j) (x ∷ cond (h.grantee == j) (rcv ∷ []) []) (cond (h.grantee == j) (rcv ∷ []) []) in
       let own_after : HasHalves k.0 (with_hand hands id k.0 target.0) (private_step m a.0 x).shape =
-      giver_fits k.0 hands h a.0.shape fits (private_step m a.0 x).shape from (ap (λ i. i == k.0) to ∙ apart) g.job g.given g.received in
+      grantor_fits k.0 hands h a.0.shape fits (private_step m a.0 x).shape from (ap (λ i. i == k.0) to ∙ apart) g.job g.given g.received in
       node_moves nodes before stand m (λ hs. with_hand hs id k.0 target.0) (called m session k c) (answer.Told reply.Ok) (λ n. refl) (pushed_are_hands hands k.0 id target.0 h true (with_hand hands id k.0 target.0) (stand.table m) g.check refl refl) xs
-      (λ j. elim (k.0 == j) as (λ t. map (λ g. g.input) (cond t (record { job = k.0; input = at_node m x } ∷ cond (h.taker == j) (note ∷ []) []) (cond (h.taker == j) (note ∷ []) [])) ≡ map (at_node m) (cond t (x ∷ cond (h.taker == j) (rcv ∷ []) []) (cond (h.taker == j) (rcv ∷ []) []))) [
-        | true ↦ elim (h.taker == j) as (λ t. map (λ g. g.input) (record { job = k.0; input = at_node m x } ∷ cond t (note ∷ []) []) ≡ map (at_node m) (x ∷ cond t (rcv ∷ []) [])) [ true ↦ refl | false ↦ refl ]
-        | false ↦ elim (h.taker == j) as (λ t. map (λ g. g.input) (cond t (note ∷ []) []) ≡ map (at_node m) (cond t (rcv ∷ []) [])) [ true ↦ refl | false ↦ refl ]
+      (λ j. elim (k.0 == j) as (λ t. map (λ g. g.input) (cond t (record { job = k.0; input = at_node m x } ∷ cond (h.grantee == j) (note ∷ []) []) (cond (h.grantee == j) (note ∷ []) [])) ≡ map (at_node m) (cond t (x ∷ cond (h.grantee == j) (rcv ∷ []) []) (cond (h.grantee == j) (rcv ∷ []) []))) [
+        | true ↦ elim (h.grantee == j) as (λ t. map (λ g. g.input) (record { job = k.0; input = at_node m x } ∷ cond t (note ∷ []) []) ≡ map (at_node m) (x ∷ cond t (rcv ∷ []) [])) [ true ↦ refl | false ↦ refl ]
+        | false ↦ elim (h.grantee == j) as (λ t. map (λ g. g.input) (cond t (note ∷ []) []) ≡ map (at_node m) (cond t (rcv ∷ []) [])) [ true ↦ refl | false ↦ refl ]
       ])
-      (λ j s at. elim (k.0 == j) as (λ t. (k.0 == j) ≡ t → HasHalves j (with_hand hands id k.0 target.0) (store_from m s (cond t (x ∷ cond (h.taker == j) (rcv ∷ []) []) (cond (h.taker == j) (rcv ∷ []) []))).shape) [
+      (λ j s at. elim (k.0 == j) as (λ t. (k.0 == j) ≡ t → HasHalves j (with_hand hands id k.0 target.0) (store_from m s (cond t (x ∷ cond (h.grantee == j) (rcv ∷ []) []) (cond (h.grantee == j) (rcv ∷ []) []))).shape) [
         | true ↦ λ t.
             let is : k.0 ≡ j = eqb-true k.0 j t in
-            let other : (h.taker == j) ≡ false = ap (λ i. h.taker == i) (sym is) ∙ ap (λ i. i == k.0) to ∙ apart in
+            let other : (h.grantee == j) ≡ false = ap (λ i. h.grantee == i) (sym is) ∙ ap (λ i. i == k.0) to ∙ apart in
             let mine : HasHalves j (with_hand hands id k.0 target.0) (private_step m s x).shape =
             subst (λ i. HasHalves i (with_hand hands id k.0 target.0) (private_step m s x).shape) is
             (of_that m k.0 (λ s. HasHalves k.0 (with_hand hands id k.0 target.0) (private_step m s x).shape) a.0 a.1 own_after s (ap (λ i. slice_get (C i).stores m) is ∙ at)) in
             subst (λ b. HasHalves j (with_hand hands id k.0 target.0) (store_from m (private_step m s x) (cond b (rcv ∷ []) [])).shape) (sym other) mine
         | false ↦ λ t.
-            let giver : (h.giver == j) ≡ false = ap (λ i. i == j) from ∙ t in
-            elim (h.taker == j) as (λ u. (h.taker == j) ≡ u → HasHalves j (with_hand hands id k.0 target.0) (store_from m s (cond u (rcv ∷ []) [])).shape) [
-              | true ↦ λ u. taker_fits j hands h s.shape (stand.fit m j s at) (length bytes) (eqb-true h.taker j u) giver
-              | false ↦ λ u. other_fits j hands h s.shape (stand.fit m j s at) giver u
+            let grantor : (h.grantor == j) ≡ false = ap (λ i. i == j) from ∙ t in
+            elim (h.grantee == j) as (λ u. (h.grantee == j) ≡ u → HasHalves j (with_hand hands id k.0 target.0) (store_from m s (cond u (rcv ∷ []) [])).shape) [
+              | true ↦ λ u. grantee_fits j hands h s.shape (stand.fit m j s at) (length bytes) (eqb-true h.grantee j u) grantor
+              | false ↦ λ u. other_fits j hands h s.shape (stand.fit m j s at) grantor u
             ] refl
       ] refl)
 

@@ -6,10 +6,10 @@ use Rattle.std.proofs.lemmas.List.Elements.{filter-append}
 use Rattle.obj_id.specs.declared.ids.ObjectId.{ObjectId}
 use Rattle.obj_id.specs.Ids.{same_id}
 use Rattle.store_facts.proofs.Ids.{same_id-equal}
-use Rattle.private_store.specs.Tables.{at}
-use Rattle.private_store.specs.Shape.{Shape, Seen, HandGiven, HandTaken}
-use Rattle.private_store.specs.Events.{hands_of, received}
-use Rattle.private_store.specs.Hands.{Hand, is_given_by}
+use Rattle.private_store.specs.rules.Tables.{at}
+use Rattle.private_store.specs.rules.Shape.{Shape, Seen, HandGiven, HandTaken}
+use Rattle.private_store.specs.rules.Events.{hands_of, received}
+use Rattle.private_store.specs.rules.Hands.{Hand, is_given_by}
 use Rattle.store_facts.proofs.Rows.{at-put}
 use Rattle.store_facts.proofs.Tests.{none_some, some_value}
 use Rattle.grants.specs.Table.{shows, given_by}
@@ -82,19 +82,19 @@ hands_halve lengths j hands store job h = record {
 -- ---- one hand more
 
 module _ (j : ℕ) (hands : List Hand) (hand : Hand) where
-  pub given_more : given_half j (hands ++ hand ∷ []) ≡ given_half j hands ++ cond (hand.giver == j) (as_given hand ∷ []) []
-  given_more = ap (map as_given) (filter-append (is_given_by j) hands (hand ∷ [])) ∙ map-append as_given (given_by j hands) (cond (hand.giver == j) (hand ∷ []) []) ∙ by_giver (hand.giver == j)
+  pub given_more : given_half j (hands ++ hand ∷ []) ≡ given_half j hands ++ cond (hand.grantor == j) (as_given hand ∷ []) []
+  given_more = ap (map as_given) (filter-append (is_given_by j) hands (hand ∷ [])) ∙ map-append as_given (given_by j hands) (cond (hand.grantor == j) (hand ∷ []) []) ∙ by_grantor (hand.grantor == j)
     where
-      by_giver : (t : Bool) → given_half j hands ++ map as_given (cond t (hand ∷ []) []) ≡ given_half j hands ++ cond t (as_given hand ∷ []) []
-      by_giver true = refl
-      by_giver false = refl
+      by_grantor : (t : Bool) → given_half j hands ++ map as_given (cond t (hand ∷ []) []) ≡ given_half j hands ++ cond t (as_given hand ∷ []) []
+      by_grantor true = refl
+      by_grantor false = refl
 
   pub taken_more : (id : ObjectId) → taken_half j id (hands ++ hand ∷ []) ≡ taken_half j id hands ++ cond (shows id j hand) (as_taken hand ∷ []) []
-  taken_more id = ap (map as_taken) (filter-append (shows id j) hands (hand ∷ [])) ∙ map-append as_taken (filter (shows id j) hands) (cond (shows id j hand) (hand ∷ []) []) ∙ by_taker (shows id j hand)
+  taken_more id = ap (map as_taken) (filter-append (shows id j) hands (hand ∷ [])) ∙ map-append as_taken (filter (shows id j) hands) (cond (shows id j hand) (hand ∷ []) []) ∙ by_grantee (shows id j hand)
     where
-      by_taker : (t : Bool) → taken_half j id hands ++ map as_taken (cond t (hand ∷ []) []) ≡ taken_half j id hands ++ cond t (as_taken hand ∷ []) []
-      by_taker true = refl
-      by_taker false = refl
+      by_grantee : (t : Bool) → taken_half j id hands ++ map as_taken (cond t (hand ∷ []) []) ≡ taken_half j id hands ++ cond t (as_taken hand ∷ []) []
+      by_grantee true = refl
+      by_grantee false = refl
 
 -- ---- a note of a hand
 
@@ -103,21 +103,21 @@ nonempty_push [] x = λ e. cc
 nonempty_push (y ∷ xs) x = λ e. cc
 
 -- the store has one hand more, of that object
-pub received_hands : (store : Shape) (id : ObjectId) (n giver depth : ℕ) (q : ObjectId)
-    → hands_of (received store id n giver depth).shape q ≡ hands_of store q ++ cond (same_id q id) (record { giver = giver; depth = depth } ∷ []) []
-received_hands store id n giver depth q =
-    let seen : Seen = record { length = n; hands = hands_of store id ++ record { giver = giver; depth = depth } ∷ [] } in
+pub received_hands : (store : Shape) (id : ObjectId) (n grantor depth : ℕ) (q : ObjectId)
+    → hands_of (received store id n grantor depth).shape q ≡ hands_of store q ++ cond (same_id q id) (record { grantor = grantor; depth = depth } ∷ []) []
+received_hands store id n grantor depth q =
+    let seen : Seen = record { length = n; hands = hands_of store id ++ record { grantor = grantor; depth = depth } ∷ [] } in
     ap (λ o. option_map_or (λ s. s.hands) o []) (at-put store.received id seen q)
-    ∙ elim (same_id q id) as (λ t. same_id q id ≡ t → option_map_or (λ s. s.hands) (cond t (Some seen) (at store.received q)) [] ≡ hands_of store q ++ cond t (record { giver = giver; depth = depth } ∷ []) []) [
-      | true ↦ λ t. ap (λ x. hands_of store x ++ record { giver = giver; depth = depth } ∷ []) (sym (same_id-equal q id t))
+    ∙ elim (same_id q id) as (λ t. same_id q id ≡ t → option_map_or (λ s. s.hands) (cond t (Some seen) (at store.received q)) [] ≡ hands_of store q ++ cond t (record { grantor = grantor; depth = depth } ∷ []) []) [
+      | true ↦ λ t. ap (λ x. hands_of store x ++ record { grantor = grantor; depth = depth } ∷ []) (sym (same_id-equal q id t))
       | false ↦ λ t. sym (append-nil (hands_of store q))
     ] refl
 
-pub received_known : (store : Shape) (id : ObjectId) (n giver depth : ℕ) → ((q : ObjectId) (seen : Seen) → at store.received q ≡ Some seen → seen.hands ≢ [])
-    → (q : ObjectId) (seen : Seen) → at (received store id n giver depth).shape.received q ≡ Some seen → seen.hands ≢ []
-received_known store id n giver depth known q seen e =
-    let new : Seen = record { length = n; hands = hands_of store id ++ record { giver = giver; depth = depth } ∷ [] } in
+pub received_known : (store : Shape) (id : ObjectId) (n grantor depth : ℕ) → ((q : ObjectId) (seen : Seen) → at store.received q ≡ Some seen → seen.hands ≢ [])
+    → (q : ObjectId) (seen : Seen) → at (received store id n grantor depth).shape.received q ≡ Some seen → seen.hands ≢ []
+received_known store id n grantor depth known q seen e =
+    let new : Seen = record { length = n; hands = hands_of store id ++ record { grantor = grantor; depth = depth } ∷ [] } in
     elim (same_id q id) as (λ t. cond t (Some new) (at store.received q) ≡ Some seen → seen.hands ≢ []) [
-      | true ↦ λ f. subst (λ s. s.hands ≢ []) (some_value new seen f) (nonempty_push (hands_of store id) (record { giver = giver; depth = depth }))
+      | true ↦ λ f. subst (λ s. s.hands ≢ []) (some_value new seen f) (nonempty_push (hands_of store id) (record { grantor = grantor; depth = depth }))
       | false ↦ λ f. known q seen f
     ] (sym (at-put store.received id new q) ∙ e)

@@ -6,12 +6,12 @@ use Rattle.obj_id.specs.declared.commands.CopyState.TheVariants.{Created, Sealed
 use Rattle.obj_id.specs.Ids.{same_id}
 use Rattle.store_facts.proofs.Ids.{same_id-equal, same_id-itself}
 use Rattle.private_store.specs.declared.schedules.Traced.{Traced}
-use Rattle.private_store.specs.Tables.{at}
-use Rattle.private_store.specs.Shape.{Copy, Shape, Fetch}
-use Rattle.private_store.specs.Copies.{is_sealed}
-use Rattle.private_store.specs.Kept.{IsShapeKept, has_hand, has_extent}
-use Rattle.private_store.specs.Hands.{Hand, is_given_by}
-use Rattle.private_store.specs.Trace.{hands_at, inputs_until}
+use Rattle.private_store.specs.rules.Tables.{at}
+use Rattle.private_store.specs.rules.Shape.{Copy, Shape, Fetch}
+use Rattle.private_store.specs.rules.Copies.{is_sealed}
+use Rattle.private_store.specs.laws.Invariants.{IsShapeKept, has_hand, has_extent}
+use Rattle.private_store.specs.rules.Hands.{Hand, is_given_by}
+use Rattle.private_store.specs.rules.Trace.{hands_at, inputs_until}
 use Rattle.store_facts.proofs.Tests.{true_false, both, both_left}
 use Rattle.grants.specs.Table.{AreHands, given_by}
 use Rattle.hand_laws.specs.Ending.{stands}
@@ -34,7 +34,7 @@ one_deep : (d : ℕ) → d ≡ 1 → d ≤ 0 → ⊥
 one_deep d e h = omega (arith, e, h)
 
 -- what a hand hangs on leads to a hand from the object's own job
-root : (hands : List Hand) → AreHands hands → (n : ℕ) (h : Hand) → stands h hands → h.depth ≤ n → (r : Hand) × stands r hands × (r.giver ≡ h.id.job.0) × (r.id ≡ h.id)
+root : (hands : List Hand) → AreHands hands → (n : ℕ) (h : Hand) → stands h hands → h.depth ≤ n → (r : Hand) × stands r hands × (r.grantor ≡ h.id.job.0) × (r.id ≡ h.id)
 root hands table zero h a d =
     elim (hung hands table h a) [
       | on_nothing f e none ↦ absurd (one_deep h.depth e d)
@@ -45,7 +45,7 @@ root hands table (suc n) h a d =
       | on_nothing f e none ↦ (h, a, f, refl)
       | on b at o e s ↦
           (let r = root hands table n b at (less_deep h.depth b.depth n e d) in
-          let ids : b.id ≡ h.id = sym (same_id-equal h.id b.id (both_left (same_id h.id b.id) (h.giver == b.taker) (both_left (same_id h.id b.id && h.giver == b.taker) _ o))) in
+          let ids : b.id ≡ h.id = sym (same_id-equal h.id b.id (both_left (same_id h.id b.id) (h.grantor == b.grantee) (both_left (same_id h.id b.id && h.grantor == b.grantee) _ o))) in
           (r.0, r.1, r.2 ∙ ap (λ i. i.job.0) ids, r.3 ∙ ids))
     ]
 
@@ -56,8 +56,8 @@ was_given hands table h a own fits =
     ap (list_any (λ g. same_id h.id g.id)) fits.given
     ∙ any_map as_given (λ g. same_id h.id g.id) (given_by h.id.job.0 hands)
     ∙ any_filter (λ g. same_id h.id g.id) (is_given_by h.id.job.0) hands
-    ∙ any_of (λ g. g.giver == h.id.job.0 && same_id h.id g.id) r.0 hands r.1
-    (both (r.0.giver == h.id.job.0) (same_id h.id r.0.id) (eq-eqb r.0.giver h.id.job.0 r.2) (ap (same_id h.id) r.3 ∙ same_id-itself h.id))
+    ∙ any_of (λ g. g.grantor == h.id.job.0 && same_id h.id g.id) r.0 hands r.1
+    (both (r.0.grantor == h.id.job.0) (same_id h.id r.0.id) (eq-eqb r.0.grantor h.id.job.0 r.2) (ap (same_id h.id) r.3 ∙ same_id-itself h.id))
 
 extent_of_sealed : (state : CopyState) (fetch : Option Fetch) → is_sealed state ≡ true → has_extent state fetch ≡ true
 extent_of_sealed Created fetch s = refl

@@ -18,13 +18,13 @@ use Rattle.private_store.specs.declared.schedules.Step.TheVariants as steps
 use Rattle.private_store.specs.declared.schedules.StepAnswer.{StepAnswer}
 use Rattle.private_store.specs.declared.schedules.StepAnswer.TheVariants as answer
 use Rattle.private_store.specs.declared.schedules.Traced.{Traced}
-use Rattle.private_store.specs.Private.{no_store, private_outcome}
-use Rattle.private_store.specs.Cluster.{Cluster, ClusterInput, Told, at_node, deliver, cluster_step, moved_at, unmoved, told, told_from, no_cluster}
-use Rattle.private_store.specs.Hands.{Hand}
-use Rattle.private_store.specs.Trace.{Given, notes, own_input, for_job, cluster_until, inputs_until, reply_of, replies_of, is_answered, is_no_memory, is_out, withdrawn_note}
+use Rattle.private_store.specs.rules.Private.{no_store, private_outcome}
+use Rattle.private_store.specs.rules.Cluster.{Cluster, ClusterInput, Told, at_node, deliver, cluster_step, moved_at, unmoved, told, told_from, no_cluster}
+use Rattle.private_store.specs.rules.Hands.{Hand}
+use Rattle.private_store.specs.rules.Trace.{Given, notes, own_input, for_job, cluster_until, inputs_until, reply_of, replies_of, is_answered, is_no_memory, is_out, withdrawn_note}
 use Rattle.store_facts.proofs.Runs.{inputs_now, cluster_until-step, told_from-append, EachPrivate}
 use Rattle.store_facts.proofs.Tests.{none_some, true_false, both_left, both_right}
-use Rattle.hand_laws.specs.Standing.{is_told, ArePrivate}
+use Rattle.hand_laws.specs.Standing.{is_told_of, ArePrivate}
 use Rattle.hand_laws.proofs.Halves.{HasHalves}
 use Rattle.hand_laws.proofs.ClusterInputs.{no_stores}
 use Rattle.hand_laws.proofs.Moving.{Stand}
@@ -37,7 +37,7 @@ no_hands j = record { job = refl; given = refl; taken = λ id. refl; known = λ 
 
 pub stand_until : (nodes : ℕ) (history : List Traced) → ((j : ℕ) → EachPrivate nodes j history) → Stand nodes history
 stand_until nodes [] h = record {
-  table = λ n. record { stand = refl; few = λ giver. omega arith };
+  table = λ n. record { stand = refl; few = λ grantor. omega arith };
   fit = λ n j s e. subst (λ x. HasHalves j [] x.shape) (sym (no_stores j nodes n s e)) (no_hands j);
 }
 stand_until nodes (entry ∷ before) h =
@@ -155,7 +155,7 @@ module _ (nodes : ℕ) (before : List Traced) (j : ℕ) where
             | false ↦ none_less _ _ (quiet E)
           ])
 
-  tells_less : (s : Step) (a : StepAnswer) → is_told s a ≡ true → length (tells s a) ≤ length (replied s a)
+  tells_less : (s : Step) (a : StepAnswer) → is_told_of s a ≡ true → length (tells s a) ≤ length (replied s a)
   tells_less (steps.At m (event.Call k session c)) (answer.Told r) h = call_less m session k c r
   tells_less (steps.At m (event.Call k session c)) (answer.HandedOver message) h = true_false h
   tells_less (steps.At m (event.Call k session c)) answer.NoMessage h = true_false h
@@ -198,7 +198,7 @@ answered_more j entry before =
     ∙ filter-append is_answered (replies_of j (reverse before)) (option_to_list (reply_of j entry.step entry.answer))
 
 abbrev pub all_told : List Traced → Bool
-all_told history = list_all (λ entry. is_told entry.step entry.answer) history
+all_told history = list_all (λ entry. is_told_of entry.step entry.answer) history
 
 sum_less : (a b c d x y : ℕ) → a ≤ b → c ≤ d → x ≡ a + c → y ≡ b + d → x ≤ y
 sum_less a b c d x y h k e f = omega (arith, h, k, e, f)
@@ -206,8 +206,8 @@ sum_less a b c d x y h k e f = omega (arith, h, k, e, f)
 run_less : (nodes j : ℕ) (history : List Traced) → all_told history ≡ true → length (told_from (no_cluster j nodes) (inputs_until nodes j history)) ≤ length (answered j history)
 run_less nodes j [] h = omega arith
 run_less nodes j (entry ∷ before) h =
-    let rest = run_less nodes j before (both_right (is_told entry.step entry.answer) (all_told before) h) in
-    let here = tells_less nodes before j entry.step entry.answer (both_left (is_told entry.step entry.answer) (all_told before) h) in
+    let rest = run_less nodes j before (both_right (is_told_of entry.step entry.answer) (all_told before) h) in
+    let here = tells_less nodes before j entry.step entry.answer (both_left (is_told_of entry.step entry.answer) (all_told before) h) in
     let A = told_from (no_cluster j nodes) (inputs_until nodes j before) in
     let a = told_from (cluster_until nodes j before) (inputs_now nodes j entry before) in
     let B = answered j before in
@@ -219,12 +219,12 @@ run_less nodes j (entry ∷ before) h =
 pub each_private : (nodes j : ℕ) (history : List Traced) → all_told history ≡ true → answered j history ≡ told_from (no_cluster j nodes) (inputs_until nodes j history) → EachPrivate nodes j history
 each_private nodes j [] h e = tt
 each_private nodes j (entry ∷ before) h e =
-    let told_before = both_right (is_told entry.step entry.answer) (all_told before) h in
+    let told_before = both_right (is_told_of entry.step entry.answer) (all_told before) h in
     let p = split_even (answered j before) (told_from (no_cluster j nodes) (inputs_until nodes j before))
     (filter is_answered (option_to_list (reply_of j entry.step entry.answer))) (told_from (cluster_until nodes j before) (inputs_now nodes j entry before))
     (sym (answered_more j entry before) ∙ e ∙ told_from-append (no_cluster j nodes) (inputs_until nodes j before) (inputs_now nodes j entry before))
     (run_less nodes j before told_before)
-    (tells_less nodes before j entry.step entry.answer (both_left (is_told entry.step entry.answer) (all_told before) h)) in
+    (tells_less nodes before j entry.step entry.answer (both_left (is_told_of entry.step entry.answer) (all_told before) h)) in
     (each_private nodes j before told_before p.0, p.1)
 
 and_turned : (a b : Bool) → (a && (b && true)) ≡ (b && a)
@@ -236,8 +236,8 @@ and_turned false false = refl
 pub told_back : (trace : List Traced) → all_told (reverse trace) ≡ all_told trace
 told_back [] = refl
 told_back (entry ∷ trace) =
-    ap all_told (reverse-append (entry ∷ []) trace) ∙ list_all-append (λ e. is_told e.step e.answer) (reverse trace) (entry ∷ [])
-    ∙ and_turned (all_told (reverse trace)) (is_told entry.step entry.answer) ∙ ap (λ b. is_told entry.step entry.answer && b) (told_back trace)
+    ap all_told (reverse-append (entry ∷ []) trace) ∙ list_all-append (λ e. is_told_of e.step e.answer) (reverse trace) (entry ∷ [])
+    ∙ and_turned (all_told (reverse trace)) (is_told_of entry.step entry.answer) ∙ ap (λ b. is_told_of entry.step entry.answer && b) (told_back trace)
 
 pub trace_private : (nodes : ℕ) (trace : List Traced) → ArePrivate nodes trace → (j : ℕ) → EachPrivate nodes j (reverse trace)
 trace_private nodes trace h j =

@@ -1,4 +1,4 @@
--- Ends are told in order of depth, object, giver and taker.
+-- Ends are told in order of depth, object, grantor and grantee.
 use Rattle.std.proofs.Common.{◌≡◌, true, false, not, cond, ◌&&◌, Bool, List, [], ◌∷◌, filter, refl, sym, ap, ◌∙◌}
 use Rattle.std.specs.Cmp.{IsTotalOrder}
 use Rattle.std.specs.Ordering.{is_lt, ordering_reverse}
@@ -6,14 +6,14 @@ use Rattle.std.specs.declared.cmp.Ordering.{Ordering}
 use Rattle.std.specs.declared.cmp.Ordering.TheVariants.{Less, Equal, Greater}
 use Rattle.std.proofs.lemmas.Cmp.{nat_cmp_total, on_total, then_total, alike_right}
 use Rattle.store_facts.proofs.Ids.{id_cmp-IsTotalOrder}
-use Rattle.private_store.specs.Hands.{Hand, hand_cmp, hand_placed, hands_sorted}
+use Rattle.private_store.specs.rules.Hands.{Hand, hand_cmp, hand_placed, hands_sorted}
 use Rattle.store_facts.proofs.Tests.{true_false, both, both_left, both_right}
 use Rattle.hand_laws.specs.Ending.{rises_from, rises}
 
 hand_cmp_total : IsTotalOrder hand_cmp
 hand_cmp_total =
     then_total (on_total (λ (a : Hand). a.depth) nat_cmp_total)
-    (then_total (on_total (λ (a : Hand). a.id) id_cmp-IsTotalOrder) (then_total (on_total (λ (a : Hand). a.giver) nat_cmp_total) (on_total (λ (a : Hand). a.taker) nat_cmp_total)))
+    (then_total (on_total (λ (a : Hand). a.id) id_cmp-IsTotalOrder) (then_total (on_total (λ (a : Hand). a.grantor) nat_cmp_total) (on_total (λ (a : Hand). a.grantee) nat_cmp_total)))
 
 turned : (r : Ordering) → is_lt r ≡ true → not (is_lt (ordering_reverse r)) ≡ true
 turned Less e = refl

@@ -5,17 +5,17 @@ use Rattle.std.specs.Option.{option_map_or}
 use Rattle.obj_id.specs.declared.ids.ObjectId.{ObjectId}
 use Rattle.obj_id.specs.declared.messages.Message.{Message}
 use Rattle.obj_id.specs.declared.messages.Message.TheVariants as message
-use Rattle.obj_id.specs.declared.messages.Place.{Place}
-use Rattle.obj_id.specs.declared.messages.Place.TheVariants.{Node, Directory}
+use Rattle.obj_id.specs.declared.messages.Endpoint.{Endpoint}
+use Rattle.obj_id.specs.declared.messages.Endpoint.TheVariants.{Node, Directory}
 use Rattle.private_store.specs.declared.inputs.Input.{Input}
 use Rattle.private_store.specs.declared.inputs.Input.TheVariants.{Arrive}
 use Rattle.private_store.specs.declared.schedules.Traced.{Traced}
-use Rattle.private_store.specs.Tables.{at}
-use Rattle.private_store.specs.Shape.{Seen}
-use Rattle.private_store.specs.Contents.{bytes_at}
-use Rattle.private_store.specs.Private.{Store, private_step}
-use Rattle.private_store.specs.Cluster.{Cluster, ClusterInput, at_node, deliver, cluster_step, cluster_from, no_cluster, handed_over, handed_to_directory, message_at, damaged, arrival_of, input_at, unmoved}
-use Rattle.private_store.specs.Trace.{hands_at, inputs_until, cluster_until}
+use Rattle.private_store.specs.rules.Tables.{at}
+use Rattle.private_store.specs.rules.Shape.{Seen}
+use Rattle.private_store.specs.rules.Contents.{bytes_at}
+use Rattle.private_store.specs.rules.Private.{Store, private_step}
+use Rattle.private_store.specs.rules.Cluster.{Cluster, ClusterInput, at_node, deliver, cluster_step, cluster_from, no_cluster, handed_over, handed_to_directory, message_at, damaged, arrival_of, input_at, unmoved}
+use Rattle.private_store.specs.rules.Trace.{hands_at, inputs_until, cluster_until}
 use Rattle.store_facts.proofs.Tests.{true_false}
 use Rattle.grants.specs.Private.{HasHands}
 use Rattle.hand_laws.specs.Standing.{ArePrivate, HaveHands, own_lengths}
@@ -39,7 +39,7 @@ directory_there C (message.ToDirectory m) n = refl
 directory_there C (message.Located id number entries) n = refl
 directory_there C (message.ToPeer m) n = refl
 
-handed_there : (C : Cluster) (from to : Place) (m : Message) (n : ℕ) → is_some (slice_get (handed_over C from to m).cluster.stores n) ≡ is_some (slice_get C.stores n)
+handed_there : (C : Cluster) (from to : Endpoint) (m : Message) (n : ℕ) → is_some (slice_get (handed_over C from to m).cluster.stores n) ≡ is_some (slice_get C.stores n)
 handed_there C from Directory m n = directory_there C m n
 handed_there C from (Node node) m n =
     elim (arrival_of from m) as (λ o. is_some (slice_get (option_map_or (λ a. input_at C node (Arrive a)) o (unmoved C)).cluster.stores n) ≡ is_some (slice_get C.stores n)) [

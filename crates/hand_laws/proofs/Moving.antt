@@ -15,12 +15,12 @@ use Rattle.private_store.specs.declared.schedules.Step.TheVariants as steps
 use Rattle.private_store.specs.declared.schedules.StepAnswer.{StepAnswer}
 use Rattle.private_store.specs.declared.schedules.StepAnswer.TheVariants as answer
 use Rattle.private_store.specs.declared.schedules.Traced.{Traced}
-use Rattle.private_store.specs.Tables.{at}
-use Rattle.private_store.specs.Shape.{Shape}
-use Rattle.private_store.specs.Private.{Store, private_step, private_outcome, store_from}
-use Rattle.private_store.specs.Cluster.{Cluster, ClusterInput, at_node, cluster_step, cluster_from, moved_at, unmoved, Told, told, told_from}
-use Rattle.private_store.specs.Hands.{Hand, hands_left, is_given_by}
-use Rattle.private_store.specs.Trace.{Given, hands_at, hands_step, own_input, notes, for_job, cluster_until, inputs_until, reply_of, is_answered, is_no_memory, withdrawn_note}
+use Rattle.private_store.specs.rules.Tables.{at}
+use Rattle.private_store.specs.rules.Shape.{Shape}
+use Rattle.private_store.specs.rules.Private.{Store, private_step, private_outcome, store_from}
+use Rattle.private_store.specs.rules.Cluster.{Cluster, ClusterInput, at_node, cluster_step, cluster_from, moved_at, unmoved, Told, told, told_from}
+use Rattle.private_store.specs.rules.Hands.{Hand, hands_left, is_given_by}
+use Rattle.private_store.specs.rules.Trace.{Given, hands_at, hands_step, own_input, notes, for_job, cluster_until, inputs_until, reply_of, is_answered, is_no_memory, withdrawn_note}
 use Rattle.store_facts.proofs.Runs.{inputs_now}
 use Rattle.grants.specs.Table.{AreHands, given_by}
 use Rattle.grants.specs.Private.{as_given}
@@ -122,26 +122,26 @@ module _ (nodes : ℕ) (before : List Traced) (stand : Stand nodes before) where
 
   -- ---- ends
 
-  pub told_notes : (m j : ℕ) (gone : List Hand) → map (λ g. g.input) (filter (λ g. g.job == j) (map (withdrawn_note m) gone)) ≡ map (at_node m) (map end_told (filter (λ h. h.taker == j) gone))
+  pub told_notes : (m j : ℕ) (gone : List Hand) → map (λ g. g.input) (filter (λ g. g.job == j) (map (withdrawn_note m) gone)) ≡ map (at_node m) (map end_told (filter (λ h. h.grantee == j) gone))
   told_notes m j [] = refl
   told_notes m j (h ∷ gone) =
-      elim (h.taker == j) as (λ t. map (λ g. g.input) (cond t (withdrawn_note m h ∷ filter (λ g. g.job == j) (map (withdrawn_note m) gone)) (filter (λ g. g.job == j) (map (withdrawn_note m) gone))) ≡ map (at_node m) (map end_told (cond t (h ∷ filter (λ h. h.taker == j) gone) (filter (λ h. h.taker == j) gone)))) [
+      elim (h.grantee == j) as (λ t. map (λ g. g.input) (cond t (withdrawn_note m h ∷ filter (λ g. g.job == j) (map (withdrawn_note m) gone)) (filter (λ g. g.job == j) (map (withdrawn_note m) gone))) ≡ map (at_node m) (map end_told (cond t (h ∷ filter (λ h. h.grantee == j) gone) (filter (λ h. h.grantee == j) gone)))) [
         | true ↦ ap (λ l. at_node m (end_told h) ∷ l) (told_notes m j gone)
         | false ↦ told_notes m j gone
       ]
 
-  -- the giver's store loses what the giver ends
+  -- the grantor's store loses what the grantor ends
   pub record Ends (test : Hand → Bool) (hands : List Hand) (k : ℕ) (store after : Shape) : Type 0 where
     pub job : after.job ≡ store.job
     pub given : after.given ≡ map as_given (filter (λ h. not (test h)) (given_by k hands))
     pub received : after.received ≡ store.received
 
-  module _ (m k : ℕ) (test : Hand → Bool) (theirs : (h : Hand) → test h ≡ true → h.giver ≡ k) where
+  module _ (m k : ℕ) (test : Hand → Bool) (theirs : (h : Hand) → test h ≡ true → h.grantor ≡ k) where
     others_keep : (j : ℕ) (hands : List Hand) → (k == j) ≡ false → given_half j hands ≡ map as_given (filter (λ h. not (test h)) (given_by j hands))
     others_keep j hands other =
         ap (map as_given) (sym (filter_same (λ h. not (test h)) (λ h. true) (given_by j hands) (λ h a. ap not
         (elim (test h) as (λ t. test h ≡ t → t ≡ false) [
-          | true ↦ λ t. sym (eq-eqb k j (sym (theirs h t) ∙ eqb-true h.giver j (stands_filtered h (is_given_by j) hands a).1)) ∙ other
+          | true ↦ λ t. sym (eq-eqb k j (sym (theirs h t) ∙ eqb-true h.grantor j (stands_filtered h (is_given_by j) hands a).1)) ∙ other
           | false ↦ λ t. refl
         ] refl)) ∙ filter_true (given_by j hands)))
 

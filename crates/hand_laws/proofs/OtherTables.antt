@@ -7,8 +7,8 @@ use Rattle.std.proofs.lemmas.Bool.{eqb-true}
 use Rattle.obj_id.specs.declared.ids.ObjectId.{ObjectId}
 use Rattle.obj_id.specs.Ids.{same_id}
 use Rattle.store_facts.proofs.Ids.{same_id-equal}
-use Rattle.private_store.specs.Limits.{greatest_depth}
-use Rattle.private_store.specs.Hands.{Hand, ground, new_hand, with_hand, hangs_on, hands_sorted, hands_ended, hands_left}
+use Rattle.private_store.specs.rules.Limits.{greatest_depth}
+use Rattle.private_store.specs.rules.Hands.{Hand, ground, new_hand, with_hand, is_child_of, hands_sorted, hands_ended, hands_left}
 use Rattle.store_facts.proofs.Tests.{both_left, neither, refuted}
 use Rattle.grants.specs.Table.{AreHands}
 use Rattle.grants.proofs.ForCallers.{any_filter, filter_filter, filter_swap, made_for, filter_both, append_nothing}
@@ -32,42 +32,42 @@ filter_false (h ∷ hands) = filter_false hands
 -- ---- a new hand
 
 module _ (job : ℕ) where
-  ground_by : (hands : List Hand) (id : ObjectId) (giver : ℕ) → (id.job.0 == job) ≡ false → ground hands id giver ≡ ground (foreign_hands job hands) id giver
-  ground_by [] id giver foreign = refl
-  ground_by (h ∷ hands) id giver foreign =
-      let at : Hand → Bool = λ hand. same_id id hand.id && hand.taker == giver in
-      let rest = ground_by hands id giver foreign in
+  ground_by : (hands : List Hand) (id : ObjectId) (grantor : ℕ) → (id.job.0 == job) ≡ false → ground hands id grantor ≡ ground (foreign_hands job hands) id grantor
+  ground_by [] id grantor foreign = refl
+  ground_by (h ∷ hands) id grantor foreign =
+      let at : Hand → Bool = λ hand. same_id id hand.id && hand.grantee == grantor in
+      let rest = ground_by hands id grantor foreign in
       elim (h.id.job.0 == job) as (λ b. (h.id.job.0 == job) ≡ b → cond (at h) (Some h) (find at hands) ≡ find at (cond (not b) (h ∷ foreign_hands job hands) (foreign_hands job hands))) [
         | true ↦ λ own.
-            ap (λ b. cond b (Some h) (find at hands)) (refuted (at h) (λ t. sym foreign ∙ ap (λ x. x.job.0 == job) (same_id-equal id h.id (both_left (same_id id h.id) (h.taker == giver) t)) ∙ own)) ∙ rest
+            ap (λ b. cond b (Some h) (find at hands)) (refuted (at h) (λ t. sym foreign ∙ ap (λ x. x.job.0 == job) (same_id-equal id h.id (both_left (same_id id h.id) (h.grantee == grantor) t)) ∙ own)) ∙ rest
         | false ↦ λ _. ap (λ o. cond (at h) (Some h) o) rest
       ] refl
 
-  new_by : (hands : List Hand) (id : ObjectId) (giver taker : ℕ) → (id.job.0 == job) ≡ false → new_hand hands id giver taker ≡ new_hand (foreign_hands job hands) id giver taker
-  new_by hands id giver taker foreign = λ i. elim (if id.job.0 == giver then None else ground_by hands id giver foreign i) [
-    | None ↦ record { id = id; giver = giver; taker = taker; depth = 1; hangs_on = None }
-    | Some hand ↦ record { id = id; giver = giver; taker = taker; depth = hand.depth + 1; hangs_on = Some hand.giver }
+  new_by : (hands : List Hand) (id : ObjectId) (grantor grantee : ℕ) → (id.job.0 == job) ≡ false → new_hand hands id grantor grantee ≡ new_hand (foreign_hands job hands) id grantor grantee
+  new_by hands id grantor grantee foreign = λ i. elim (if id.job.0 == grantor then None else ground_by hands id grantor foreign i) [
+    | None ↦ record { id = id; grantor = grantor; grantee = grantee; depth = 1; parent = None }
+    | Some hand ↦ record { id = id; grantor = grantor; grantee = grantee; depth = hand.depth + 1; parent = Some hand.grantor }
   ]
 
   -- tables with the same foreign hands get the same new hand of a foreign object
-  pub new_same : (a b : List Hand) → foreign_hands job a ≡ foreign_hands job b → (id : ObjectId) (giver taker : ℕ) → (id.job.0 == job) ≡ false → new_hand a id giver taker ≡ new_hand b id giver taker
-  new_same a b same id giver taker foreign = new_by a id giver taker foreign ∙ ap (λ hands. new_hand hands id giver taker) same ∙ sym (new_by b id giver taker foreign)
+  pub new_same : (a b : List Hand) → foreign_hands job a ≡ foreign_hands job b → (id : ObjectId) (grantor grantee : ℕ) → (id.job.0 == job) ≡ false → new_hand a id grantor grantee ≡ new_hand b id grantor grantee
+  new_same a b same id grantor grantee foreign = new_by a id grantor grantee foreign ∙ ap (λ hands. new_hand hands id grantor grantee) same ∙ sym (new_by b id grantor grantee foreign)
 
-  with_new : (hands : List Hand) (id : ObjectId) (giver taker : ℕ) (t : Bool) → (id.job.0 == job) ≡ t → foreign_hands job (with_hand hands id giver taker) ≡ foreign_hands job hands ++ cond (not t) (new_hand hands id giver taker ∷ []) []
-  with_new hands id giver taker t e =
-      filter_both (is_foreign job) hands (new_hand hands id giver taker ∷ [])
-      ∙ ap (λ b. foreign_hands job hands ++ cond (not b) (new_hand hands id giver taker ∷ []) []) (ap (λ x. x.job.0 == job) (made_for (λ _. 0) hands giver id taker).0 ∙ e)
+  with_new : (hands : List Hand) (id : ObjectId) (grantor grantee : ℕ) (t : Bool) → (id.job.0 == job) ≡ t → foreign_hands job (with_hand hands id grantor grantee) ≡ foreign_hands job hands ++ cond (not t) (new_hand hands id grantor grantee ∷ []) []
+  with_new hands id grantor grantee t e =
+      filter_both (is_foreign job) hands (new_hand hands id grantor grantee ∷ [])
+      ∙ ap (λ b. foreign_hands job hands ++ cond (not b) (new_hand hands id grantor grantee ∷ []) []) (ap (λ x. x.job.0 == job) (made_for (λ _. 0) hands grantor id grantee).0 ∙ e)
 
-  pub with_same : (a b : List Hand) → foreign_hands job a ≡ foreign_hands job b → (id : ObjectId) (giver taker : ℕ) → foreign_hands job (with_hand a id giver taker) ≡ foreign_hands job (with_hand b id giver taker)
-  with_same a b same id giver taker =
-      elim (id.job.0 == job) as (λ t. (id.job.0 == job) ≡ t → foreign_hands job (with_hand a id giver taker) ≡ foreign_hands job (with_hand b id giver taker)) [
-        | true ↦ λ own. with_new a id giver taker true own ∙ ap (λ l. l ++ []) same ∙ sym (with_new b id giver taker true own)
-        | false ↦ λ foreign. with_new a id giver taker false foreign ∙ (λ i. same i ++ new_same a b same id giver taker foreign i ∷ []) ∙ sym (with_new b id giver taker false foreign)
+  pub with_same : (a b : List Hand) → foreign_hands job a ≡ foreign_hands job b → (id : ObjectId) (grantor grantee : ℕ) → foreign_hands job (with_hand a id grantor grantee) ≡ foreign_hands job (with_hand b id grantor grantee)
+  with_same a b same id grantor grantee =
+      elim (id.job.0 == job) as (λ t. (id.job.0 == job) ≡ t → foreign_hands job (with_hand a id grantor grantee) ≡ foreign_hands job (with_hand b id grantor grantee)) [
+        | true ↦ λ own. with_new a id grantor grantee true own ∙ ap (λ l. l ++ []) same ∙ sym (with_new b id grantor grantee true own)
+        | false ↦ λ foreign. with_new a id grantor grantee false foreign ∙ (λ i. same i ++ new_same a b same id grantor grantee foreign i ∷ []) ∙ sym (with_new b id grantor grantee false foreign)
       ] refl
 
   -- a hand of an own object is none of them
-  pub with_own : (hands : List Hand) (id : ObjectId) (giver taker : ℕ) → (id.job.0 == job) ≡ true → foreign_hands job (with_hand hands id giver taker) ≡ foreign_hands job hands
-  with_own hands id giver taker own = with_new hands id giver taker true own ∙ append_nothing (foreign_hands job hands)
+  pub with_own : (hands : List Hand) (id : ObjectId) (grantor grantee : ℕ) → (id.job.0 == job) ≡ true → foreign_hands job (with_hand hands id grantor grantee) ≡ foreign_hands job hands
+  with_own hands id grantor grantee own = with_new hands id grantor grantee true own ∙ append_nothing (foreign_hands job hands)
 
   -- ---- ends
 
@@ -76,11 +76,11 @@ module _ (job : ℕ) where
   ends_by test hands zero h foreign = refl
   ends_by test hands (suc n) h foreign =
       let few = foreign_hands job hands in
-      let q : Hand → Bool = λ b. hangs_on h b && ends_within n test hands b in
-      let r : Hand → Bool = λ b. hangs_on h b && ends_within n test few b in
+      let q : Hand → Bool = λ b. is_child_of h b && ends_within n test hands b in
+      let r : Hand → Bool = λ b. is_child_of h b && ends_within n test few b in
       ap (λ x. test h || x)
       (any_same q (λ b. is_foreign job b && r b) hands (λ b at.
-      elim (hangs_on h b) as (λ t. hangs_on h b ≡ t → (t && ends_within n test hands b) ≡ (is_foreign job b && (t && ends_within n test few b))) [
+      elim (is_child_of h b) as (λ t. is_child_of h b ≡ t → (t && ends_within n test hands b) ≡ (is_foreign job b && (t && ends_within n test few b))) [
         | true ↦ λ o.
             let below : is_foreign job b ≡ true = ap (λ x. not (x.job.0 == job)) (sym (same_id-equal h.id b.id (under h b o))) ∙ foreign in
             ends_by test hands n b below ∙ sym (ap (λ t. t && ends_within n test few b) below)
@@ -88,8 +88,8 @@ module _ (job : ℕ) where
       ] refl)
       ∙ sym (any_filter r (is_foreign job) hands))
     where
-      under : (h b : Hand) → hangs_on h b ≡ true → same_id h.id b.id ≡ true
-      under h b o = both_left (same_id h.id b.id) (h.giver == b.taker) (both_left (same_id h.id b.id && h.giver == b.taker) (option_map_or (λ g. g == b.giver) h.hangs_on false) o)
+      under : (h b : Hand) → is_child_of h b ≡ true → same_id h.id b.id ≡ true
+      under h b o = both_left (same_id h.id b.id) (h.grantor == b.grantee) (both_left (same_id h.id b.id && h.grantor == b.grantee) (option_map_or (λ g. g == b.grantor) h.parent false) o)
 
   module _ (test : Hand → Bool) where
     goes_by : (hands : List Hand) (h : Hand) → is_foreign job h ≡ true → ends_with test hands h ≡ ends_with test (foreign_hands job hands) h
@@ -109,15 +109,15 @@ module _ (job : ℕ) where
 
     -- hands to the job are of foreign objects
     abbrev is_to : Hand → Bool
-    is_to h = h.taker == job
+    is_to h = h.grantee == job
 
     to_foreign : (hands : List Hand) → AreHands hands → filter is_to (foreign_hands job hands) ≡ filter is_to hands
     to_foreign hands table =
         filter_filter is_to (is_foreign job) hands
         ∙ filter_same (λ h. is_foreign job h && is_to h) is_to hands (λ h at.
-        elim (h.taker == job) as (λ t. (h.taker == job) ≡ t → (is_foreign job h && t) ≡ t) [
+        elim (h.grantee == job) as (λ t. (h.grantee == job) ≡ t → (is_foreign job h && t) ≡ t) [
           | true ↦ λ to. ap (λ t. not t && true) (refuted (h.id.job.0 == job) (λ own.
-              sym (not_home [] hands table.stand h at) ∙ eq-eqb h.taker h.id.job.0 (eqb-true h.taker job to ∙ sym (eqb-true h.id.job.0 job own))))
+              sym (not_home [] hands table.stand h at) ∙ eq-eqb h.grantee h.id.job.0 (eqb-true h.grantee job to ∙ sym (eqb-true h.id.job.0 job own))))
           | false ↦ λ _. and_no (is_foreign job h)
         ] refl)
 
@@ -139,8 +139,8 @@ module _ (job : ℕ) where
     none_end stay hands zero h foreign = stay h foreign
     none_end stay hands (suc n) h foreign =
         let few = foreign_hands job hands in
-        neither (test h) (list_any (λ b. hangs_on h b && ends_within n test few b) few) (stay h foreign)
-        (any_none (λ b. hangs_on h b && ends_within n test few b) few (λ b at. ap (λ t. hangs_on h b && t) (none_end stay hands n b (stands_filtered b (is_foreign job) hands at).1) ∙ and_no (hangs_on h b)))
+        neither (test h) (list_any (λ b. is_child_of h b && ends_within n test few b) few) (stay h foreign)
+        (any_none (λ b. is_child_of h b && ends_within n test few b) few (λ b at. ap (λ t. is_child_of h b && t) (none_end stay hands n b (stands_filtered b (is_foreign job) hands at).1) ∙ and_no (is_child_of h b)))
 
     -- .. they all stay, and the job is told of nothing
     pub all_left : ((h : Hand) → is_foreign job h ≡ true → test h ≡ false) → (hands : List Hand) → AreHands hands → foreign_hands job (hands_left test hands) ≡ foreign_hands job hands

@@ -6,8 +6,8 @@ use Rattle.std.proofs.lemmas.Bool.{eqb-true}
 use Rattle.obj_id.specs.declared.commands.Command.TheVariants as command
 use Rattle.obj_id.specs.declared.commands.Reply.TheVariants as reply
 use Rattle.obj_id.specs.declared.messages.Arrival.{Arrival}
-use Rattle.obj_id.specs.declared.messages.Place.{Place}
-use Rattle.obj_id.specs.declared.messages.Place.TheVariants.{Node, Directory}
+use Rattle.obj_id.specs.declared.messages.Endpoint.{Endpoint}
+use Rattle.obj_id.specs.declared.messages.Endpoint.TheVariants.{Node, Directory}
 use Rattle.obj_id.specs.declared.messages.Message.{Message}
 use Rattle.obj_id.specs.declared.messages.Message.TheVariants as message
 use Rattle.private_store.specs.declared.inputs.Input.{Input}
@@ -18,10 +18,10 @@ use Rattle.private_store.specs.declared.schedules.Step.TheVariants as steps
 use Rattle.private_store.specs.declared.schedules.StepAnswer.{StepAnswer}
 use Rattle.private_store.specs.declared.schedules.StepAnswer.TheVariants as answer
 use Rattle.private_store.specs.declared.schedules.Traced.{Traced}
-use Rattle.private_store.specs.Private.{Store, private_step}
-use Rattle.private_store.specs.Cluster.{Cluster, ClusterInput, at_node, deliver, cluster_step, cluster_from, input_at, unmoved, handed_over, handed_to_directory, message_at, damaged, arrival_of}
-use Rattle.private_store.specs.Hands.{Hand, new_hand}
-use Rattle.private_store.specs.Trace.{Given, hands_at, own_input, notes, for_job, is_out, is_no_memory, received_note, withdrawn_note}
+use Rattle.private_store.specs.rules.Private.{Store, private_step}
+use Rattle.private_store.specs.rules.Cluster.{Cluster, ClusterInput, at_node, deliver, cluster_step, cluster_from, input_at, unmoved, handed_over, handed_to_directory, message_at, damaged, arrival_of}
+use Rattle.private_store.specs.rules.Hands.{Hand, new_hand}
+use Rattle.private_store.specs.rules.Trace.{Given, hands_at, own_input, notes, for_job, is_out, is_no_memory, received_note, withdrawn_note}
 use Rattle.hand_laws.proofs.ClusterInputs.{input_stores, some_of_map}
 
 abbrev pub AllStores : (ℕ → Store → Type 0) → Cluster → Type 0
@@ -47,7 +47,7 @@ module _ (Q R : ℕ → Store → Type 0) (weak : (n : ℕ) (s : Store) → Q n 
   directory_leads C (message.Located id number entries) all n s e = weak n s (all n s e)
   directory_leads C (message.ToPeer m) all n s e = weak n s (all n s e)
 
-  handed_leads : (C : Cluster) (from to : Place) (m : Message) → AllStores Q C → ((m : ℕ) (a : Arrival) (s : Store) → Q m s → R m (private_step m s (input.Arrive a))) → AllStores R (handed_over C from to m).cluster
+  handed_leads : (C : Cluster) (from to : Endpoint) (m : Message) → AllStores Q C → ((m : ℕ) (a : Arrival) (s : Store) → Q m s → R m (private_step m s (input.Arrive a))) → AllStores R (handed_over C from to m).cluster
   handed_leads C from Directory m all leads = directory_leads C m all
   handed_leads C from (Node node) m all leads =
       elim (arrival_of from m) as (λ o. AllStores R (option_map_or (λ a. input_at C node (input.Arrive a)) o (unmoved C)).cluster) [
@@ -99,8 +99,8 @@ notes_each P nodes inputs before (steps.Deliver k from to number damage) a w r =
 
 -- not a note of a hand
 abbrev pub is_own : Input → Bool
-is_own (input.Received id bytes giver depth) = false
-is_own (input.Withdrawn id giver depth) = false
+is_own (input.Received id bytes grantor depth) = false
+is_own (input.Withdrawn id grantor depth) = false
 is_own _ = true
 
 abbrev OptionEach : (ClusterInput → Type 0) → Option Given → Type 0
@@ -115,7 +115,7 @@ when : (P : ClusterInput → Type 0) (b : Bool) (o : Option Given) → OptionEac
 when P true o p = p
 when P false o p = tt
 
-own_option : (P : ClusterInput → Type 0) → ((m : ℕ) (x : Input) → is_own x ≡ true → P (at_node m x)) → ((from to : Place) (k : ℕ) (damage : Bool) → P (deliver from to k damage))
+own_option : (P : ClusterInput → Type 0) → ((m : ℕ) (x : Input) → is_own x ≡ true → P (at_node m x)) → ((from to : Endpoint) (k : ℕ) (damage : Bool) → P (deliver from to k damage))
     → (before : List Traced) (s : Step) (a : StepAnswer) → OptionEach P (own_input before s a)
 own_option P o d before (steps.At m (event.Admit k quota key)) (answer.Told reply.Ok) = o m (input.Begin quota) refl
 own_option P o d before (steps.At m (event.Requota k quota)) (answer.Told reply.Ok) = o m (input.Requota quota) refl
@@ -129,7 +129,7 @@ own_option P o d before (steps.At m (event.Requota k quota)) a = tt
 own_option P o d before (steps.At m (event.JobEnd k)) a = tt
 own_option P o d before (steps.At m event.Take) a = tt
 
-pub own_each : (P : ClusterInput → Type 0) → ((m : ℕ) (x : Input) → is_own x ≡ true → P (at_node m x)) → ((from to : Place) (k : ℕ) (damage : Bool) → P (deliver from to k damage))
+pub own_each : (P : ClusterInput → Type 0) → ((m : ℕ) (x : Input) → is_own x ≡ true → P (at_node m x)) → ((from to : Endpoint) (k : ℕ) (damage : Bool) → P (deliver from to k damage))
     → (before : List Traced) (s : Step) (a : StepAnswer) → Each P (option_to_list (own_input before s a))
 own_each P o d before s a = listed (own_input before s a) (own_option P o d before s a)
   where

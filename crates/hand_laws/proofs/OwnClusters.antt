@@ -5,18 +5,18 @@ use Rattle.std.specs.Prelude.{if◌then◌else◌}
 use Rattle.std.specs.Option.{option_map_or}
 use Rattle.std.proofs.lemmas.Bool.{eqb-true}
 use Rattle.std.proofs.lemmas.List.{append-nil}
-use Rattle.obj_id.specs.declared.messages.Place.{Place}
-use Rattle.obj_id.specs.declared.messages.Place.TheVariants.{Node, Directory}
+use Rattle.obj_id.specs.declared.messages.Endpoint.{Endpoint}
+use Rattle.obj_id.specs.declared.messages.Endpoint.TheVariants.{Node, Directory}
 use Rattle.obj_id.specs.declared.messages.Message.{Message}
 use Rattle.obj_id.specs.declared.messages.Message.TheVariants as message
 use Rattle.private_store.specs.declared.inputs.Input.{Input}
 use Rattle.private_store.specs.declared.inputs.Input.TheVariants as input
-use Rattle.private_store.specs.Contents.{View, judge}
-use Rattle.private_store.specs.Directory.{locations_after, directory_posts}
-use Rattle.private_store.specs.Private.{Store, view_of, private_outcome, private_step}
-use Rattle.private_store.specs.Shared.{AskedWork, outcome_works}
-use Rattle.private_store.specs.Cluster.{Cluster, ClusterOutcome, ClusterInput, at_node, deliver, cluster_step, cluster_from, input_at, moved_at, unmoved, handed_over, handed_to_directory, message_at, messages_between, damaged, arrival_of, posted}
-use Rattle.private_store.specs.Trace.{Given, for_job}
+use Rattle.private_store.specs.rules.Contents.{View, judge}
+use Rattle.private_store.specs.rules.Directory.{locations_after, directory_posts}
+use Rattle.private_store.specs.rules.Private.{Store, view_of, private_outcome, private_step}
+use Rattle.private_store.specs.rules.Shared.{AskedWork, outcome_works}
+use Rattle.private_store.specs.rules.Cluster.{Cluster, ClusterOutcome, ClusterInput, at_node, deliver, cluster_step, cluster_from, input_at, moved_at, unmoved, handed_over, handed_to_directory, message_at, messages_between, damaged, arrival_of, posted}
+use Rattle.private_store.specs.rules.Trace.{Given, for_job}
 use Rattle.store_facts.proofs.Tests.{true_false, none_some, some_value}
 use Rattle.hand_laws.proofs.ClusterInputs.{input_stores}
 use Rattle.hand_laws.proofs.OverStores.{Each}
@@ -160,7 +160,7 @@ module _ (job : ℕ) where
 
   -- ---- messages
 
-  pub at_same : (C D : Cluster) → SamePart C D → (from to : Place) (k : ℕ) → message_at C from to k ≡ message_at D from to k
+  pub at_same : (C D : Cluster) → SamePart C D → (from to : Endpoint) (k : ℕ) → message_at C from to k ≡ message_at D from to k
   at_same C D h from to zero = refl
   at_same C D h from to (suc k) = ap (λ sent. slice_get (messages_between from to sent) k) h.sent
 
@@ -173,7 +173,7 @@ module _ (job : ℕ) where
   directory_same C D h (message.Located id number entries) = h
   directory_same C D h (message.ToPeer m) = h
 
-  handed_same : (C D : Cluster) → AllHaveCome job C → AllHaveCome job D → SamePart C D → (from to : Place) (m : Message) → SamePart (handed_over C from to m).cluster (handed_over D from to m).cluster
+  handed_same : (C D : Cluster) → AllHaveCome job C → AllHaveCome job D → SamePart C D → (from to : Endpoint) (m : Message) → SamePart (handed_over C from to m).cluster (handed_over D from to m).cluster
   handed_same C D come_c come_d h from Directory m = directory_same C D h m
   handed_same C D come_c come_d h from (Node node) m =
       elim (arrival_of from m) as (λ o. SamePart (option_map_or (λ a. input_at C node (input.Arrive a)) o (unmoved C)).cluster (option_map_or (λ a. input_at D node (input.Arrive a)) o (unmoved D)).cluster) [
@@ -201,7 +201,7 @@ module _ (job : ℕ) where
   directory_works C D (message.Located id number entries) = refl
   directory_works C D (message.ToPeer m) = refl
 
-  handed_works : (C D : Cluster) → AllHaveCome job C → AllHaveCome job D → SamePart C D → (from to : Place) (m : Message) → works_of (handed_over C from to m) ≡ works_of (handed_over D from to m)
+  handed_works : (C D : Cluster) → AllHaveCome job C → AllHaveCome job D → SamePart C D → (from to : Endpoint) (m : Message) → works_of (handed_over C from to m) ≡ works_of (handed_over D from to m)
   handed_works C D come_c come_d h from Directory m = directory_works C D m
   handed_works C D come_c come_d h from (Node node) m =
       elim (arrival_of from m) as (λ o. works_of (option_map_or (λ a. input_at C node (input.Arrive a)) o (unmoved C)) ≡ works_of (option_map_or (λ a. input_at D node (input.Arrive a)) o (unmoved D))) [

@@ -10,12 +10,12 @@ use Rattle.obj_id.specs.declared.refusals.Refusal.TheVariants.{Pending, DeviceFa
 use Rattle.obj_id.specs.Ids.{same_id}
 use Rattle.obj_id.specs.Kinds.{is_primary}
 use Rattle.store_facts.proofs.Ids.{same_id-equal}
-use Rattle.private_store.specs.Limits.{has_numbers}
-use Rattle.private_store.specs.Tables.{at}
-use Rattle.private_store.specs.Shape.{Copy, Shape, Change, Sending, HandGiven}
-use Rattle.private_store.specs.Copies.{is_granted, is_idle, is_held, is_working, is_evictable, is_passing, is_spillable, may_evict, may_spill, may_pass}
-use Rattle.private_store.specs.Room.{Room, Plan, fits, wait, full, busy, evict, spill, shortest, in_order, offset_without, victims, spilled, spill_plan, plan, set_copy, drop_copy, evicted, asked, no_room, spill_room, evict_room, room_by, make_room}
-use Rattle.private_store.specs.Change.{refused, done, checked, needing, sending, in_room, settled, doomed, doom}
+use Rattle.private_store.specs.rules.Limits.{has_numbers}
+use Rattle.private_store.specs.rules.Tables.{at}
+use Rattle.private_store.specs.rules.Shape.{Copy, Shape, Change, Sending, HandGiven}
+use Rattle.private_store.specs.rules.Copies.{is_granted, is_idle, is_held, is_working, is_evictable, is_draining, is_spillable, may_evict, may_spill, may_drain}
+use Rattle.private_store.specs.rules.Room.{Room, Plan, fits, wait, full, busy, evict, spill, shortest, in_order, offset_without, victims, spilled, spill_plan, plan, set_copy, drop_copy, evicted, asked, no_room, spill_room, evict_room, room_by, make_room}
+use Rattle.private_store.specs.rules.Change.{refused, done, checked, needing, sending, in_room, settled, doomed, doom}
 use Rattle.store_facts.proofs.Tests.{refuted}
 
 -- the hands of own objects
@@ -105,8 +105,8 @@ module _ (store : Shape) (has : HasOwn store) where
   evictable_own : (order : List ObjectId) → in_order (own_part store) order (is_evictable (own_part store)) ≡ in_order store order (is_evictable store)
   evictable_own order = ap (λ test. filter test order) (by_granted (λ id copy g. may_evict copy.state copy.kind copy.backed (not (is_held copy) && not g && not (is_working store id))))
 
-  passing_own : (order : List ObjectId) → in_order (own_part store) order (is_passing (own_part store)) ≡ in_order store order (is_passing store)
-  passing_own order = ap (λ test. filter test order) (by_granted (λ id copy g. may_pass (is_working store id) (is_some copy.offset) (is_held copy) g))
+  passing_own : (order : List ObjectId) → in_order (own_part store) order (is_draining (own_part store)) ≡ in_order store order (is_draining store)
+  passing_own order = ap (λ test. filter test order) (by_granted (λ id copy g. may_drain (is_working store id) (is_some copy.offset) (is_held copy) g))
 
   spillable_own : (order : List ObjectId) → in_order (own_part store) order (is_spillable (own_part store)) ≡ in_order store order (is_spillable store)
   spillable_own order = ap (λ test. filter test order) (by_granted (λ id copy g. may_spill copy.state copy.kind copy.backed copy.doomed (not (is_held copy) && not g && not (is_working store id))))

@@ -19,19 +19,19 @@ use Rattle.private_store.specs.declared.inputs.ChunkVerdict.{ChunkVerdict}
 use Rattle.private_store.specs.declared.inputs.ChunkVerdict.TheVariants as chunk
 use Rattle.private_store.specs.declared.inputs.WorkVerdict.{WorkVerdict}
 use Rattle.private_store.specs.declared.inputs.WorkVerdict.TheVariants as work
-use Rattle.private_store.specs.Limits.{is_quota}
-use Rattle.private_store.specs.Tables.{ById, at, ids_of}
-use Rattle.private_store.specs.Shape.{Copy, Shape, Change, Fetch, Phase, locating, sized, pulling, failed, HandGiven, WorkInFlight, not_begun, live, ended, chunks, not_here, remove_source}
-use Rattle.private_store.specs.Copies.{visible, in_scope}
-use Rattle.private_store.specs.Room.{set_copy}
-use Rattle.private_store.specs.Change.{refused, done, checked, needing, sending, in_room, erasing, settled, doom}
-use Rattle.private_store.specs.Commands.{create, created, write, seal, get, get_copy, get_sealed, get_away, get_fetching, begin_fetch, begin_pull, restore, restoring, refusal_of, read, release, unpin, borrow, give_up, delete, end_task, withdraw, leave, scoped, has_borrower, without_borrower, with_holds, holds_of, at_each, then_change, give_up_one, leave_one, of_task, task_ended}
-use Rattle.private_store.specs.Events.{begin, end_job_here, answer, written, without_work, read_back, with_fetch, fetch_of, located, located_copy, chunk_arrived, chunk_taken, fetch_failed, is_missing, not_here_arrived, quiet, pull_answer, pull_arrived}
-use Rattle.private_store.specs.Step.{owned, commanded, step}
+use Rattle.private_store.specs.rules.Limits.{is_quota}
+use Rattle.private_store.specs.rules.Tables.{ById, at, ids_of}
+use Rattle.private_store.specs.rules.Shape.{Copy, Shape, Change, Fetch, Phase, locating, sized, pulling, failed, HandGiven, WorkInFlight, not_begun, live, ended, chunks, not_here, remove_source}
+use Rattle.private_store.specs.rules.Copies.{visible, in_scope}
+use Rattle.private_store.specs.rules.Room.{set_copy}
+use Rattle.private_store.specs.rules.Change.{refused, done, checked, needing, sending, in_room, erasing, settled, doom}
+use Rattle.private_store.specs.rules.Commands.{create, created, write, seal, get, get_copy, get_sealed, get_away, get_fetching, begin_fetch, begin_pull, restore, restoring, refusal_of, read, release, unpin, borrow, give_up, delete, end_task, withdraw, leave, scoped, has_borrower, without_borrower, with_holds, holds_of, at_each, then_change, give_up_one, leave_one, of_task, task_ended}
+use Rattle.private_store.specs.rules.Events.{begin, end_job_here, answer, written, without_work, read_back, with_fetch, fetch_of, located, located_copy, chunk_arrived, chunk_taken, fetch_failed, is_missing, not_here_arrived, quiet, pull_answer, pull_arrived}
+use Rattle.private_store.specs.rules.Step.{owned, commanded, step}
 use Rattle.store_facts.proofs.Tests.{true_false, both, both_left, both_right}
 use Rattle.store_facts.proofs.Ids.{same_id-itself}
 use Rattle.obj_id.specs.declared.commands.Kind.{Kind}
-use Rattle.private_store.specs.Limits.{has_numbers}
+use Rattle.private_store.specs.rules.Limits.{has_numbers}
 use Rattle.grants.proofs.ForCallers.{filter_filter}
 use Rattle.hand_laws.proofs.HandsStay.{same_hands, doom_still, give_up_one_still, leave_one_still, at_each_still}
 use Rattle.hand_laws.proofs.OwnParts.{make_room_own, own_hands, own_part, own_change, IsOwn, HasOwn, any_own, granted_own, settled_own, in_room_own, checked_own, needing_own, sending_own, doom_own}
@@ -367,8 +367,8 @@ is_plain_command job _ = true
 
 abbrev pub is_plain : ℕ → Judged → Bool
 is_plain job (judged.Call session c) = is_plain_command job c
-is_plain job (judged.Received id n giver depth) = false
-is_plain job (judged.Withdrawn id giver depth) = false
+is_plain job (judged.Received id n grantor depth) = false
+is_plain job (judged.Withdrawn id grantor depth) = false
 is_plain job _ = true
 
 commanded_own : (order : List ObjectId) (store : Shape) → HasOwn store → (session : ℕ) (c : Command ℕ) → is_plain_command store.job c ≡ true → commanded order (own_part store) session c ≡ own_change (commanded order store session c)
@@ -399,6 +399,6 @@ step_own order store has (judged.Located id number source) p = checked_own store
 step_own order store has (judged.Chunk id number index from verdict) p = checked_own store _ _ _ (chunk_own store has id number index from verdict)
 step_own order store has (judged.Pull id number matches) p = checked_own store _ _ _ (pull_own store has order id matches)
 step_own order store has (judged.NotHere id number from) p = checked_own store _ _ _ (not_here_own store has id number from)
-step_own order store has (judged.Received id n giver depth) p = true_false p
-step_own order store has (judged.Withdrawn id giver depth) p = true_false p
+step_own order store has (judged.Received id n grantor depth) p = true_false p
+step_own order store has (judged.Withdrawn id grantor depth) p = true_false p
 step_own order store has judged.End p = checked_own store _ _ _ (erasing_own store (end_job_here store) _ (end_job_own store has))

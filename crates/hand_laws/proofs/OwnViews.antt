@@ -21,12 +21,12 @@ use Rattle.private_store.specs.declared.inputs.Judged.{Judged}
 use Rattle.private_store.specs.declared.inputs.Judged.TheVariants as judged
 use Rattle.private_store.specs.declared.inputs.WorkVerdict.TheVariants as work
 use Rattle.private_store.specs.declared.inputs.ChunkVerdict.TheVariants as chunk
-use Rattle.private_store.specs.Tables.{at}
-use Rattle.private_store.specs.Shape.{Copy, Shape, Change, Fetch, Phase, locating, sized, pulling, failed, Sending, add_location, remove_location, remove_source, free, end_job, locate, pull, chunks, not_here, HandGiven, WorkInFlight}
-use Rattle.private_store.specs.Step.{step, reordered}
-use Rattle.private_store.specs.Contents.{View, judge, kept, keeps_digest, no_digest, brought, bytes_brought, digest_brought, bytes_told, whole_reply}
-use Rattle.private_store.specs.Private.{posts_of, pull_posts, pull_of, chunk_posts, outcome, view_step}
-use Rattle.private_store.specs.Kept.{IsViewKept}
+use Rattle.private_store.specs.rules.Tables.{at}
+use Rattle.private_store.specs.rules.Shape.{Copy, Shape, Change, Fetch, Phase, locating, sized, pulling, failed, Sending, add_location, remove_location, remove_source, free, end_job, locate, pull, chunks, not_here, HandGiven, WorkInFlight}
+use Rattle.private_store.specs.rules.Step.{step, reordered}
+use Rattle.private_store.specs.rules.Contents.{View, judge, kept, keeps_digest, no_digest, brought, bytes_brought, digest_brought, bytes_told, whole_reply}
+use Rattle.private_store.specs.rules.Private.{posts_of, pull_posts, pull_of, chunk_posts, outcome, view_step}
+use Rattle.private_store.specs.laws.Invariants.{IsViewKept}
 use Rattle.store_facts.proofs.Filling.{resides, zeros}
 use Rattle.store_facts.proofs.Tests.{and_left, and_right, true_T, true_false}
 use Rattle.hand_laws.proofs.OwnParts.{own_hands, own_part, own_change, HasOwn}
@@ -51,8 +51,8 @@ judge_own node view (input.Arrive (arrival.Located id number entries)) = refl
 judge_own node view (input.Arrive (arrival.FromPeer from (peer.Pull id number n digest indexes))) = refl
 judge_own node view (input.Arrive (arrival.FromPeer from (peer.Chunk id number index bytes))) = refl
 judge_own node view (input.Arrive (arrival.FromPeer from (peer.NotHere id number))) = refl
-judge_own node view (input.Received id bytes giver depth) = refl
-judge_own node view (input.Withdrawn id giver depth) = refl
+judge_own node view (input.Received id bytes grantor depth) = refl
+judge_own node view (input.Withdrawn id grantor depth) = refl
 judge_own node view input.End = refl
 
 bytes_own : (view : View) (x : Input) (y : Judged) (told : Reply ℕ) → bytes_brought (own_view view) x y told ≡ bytes_brought view x y told
@@ -210,8 +210,8 @@ is_aside_of job (input.Call session (command.Grant id target)) = not (id.job.0 =
 is_aside_of job (input.Call session (command.Withdraw id target)) = not (id.job.0 == job)
 is_aside_of job (input.Call session (command.Peek id offset n)) = true
 is_aside_of job (input.Call session command.List) = true
-is_aside_of job (input.Received id bytes giver depth) = true
-is_aside_of job (input.Withdrawn id giver depth) = true
+is_aside_of job (input.Received id bytes grantor depth) = true
+is_aside_of job (input.Withdrawn id grantor depth) = true
 is_aside_of job _ = false
 
 -- nothing of the own part changes, nothing is sent, and no work is asked for
@@ -238,8 +238,8 @@ module _ (node : ℕ) (view : View) (kept_view : IsViewKept view) (settled : IsS
   stays_aside (input.Call session (command.Withdraw id target)) aside = aside_by (input.Call session (command.Withdraw id target)) aside refl refl
   stays_aside (input.Call session (command.Peek id offset n)) aside = aside_by (input.Call session (command.Peek id offset n)) aside refl refl
   stays_aside (input.Call session command.List) aside = aside_by (input.Call session command.List) aside refl refl
-  stays_aside (input.Received id bytes giver depth) aside = aside_by (input.Received id bytes giver depth) aside refl refl
-  stays_aside (input.Withdrawn id giver depth) aside = aside_by (input.Withdrawn id giver depth) aside refl refl
+  stays_aside (input.Received id bytes grantor depth) aside = aside_by (input.Received id bytes grantor depth) aside refl refl
+  stays_aside (input.Withdrawn id grantor depth) aside = aside_by (input.Withdrawn id grantor depth) aside refl refl
   stays_aside (input.Call session c) aside = true_false aside
   stays_aside x aside = true_false aside
 
@@ -262,7 +262,7 @@ module _ (node : ℕ) (view : View) (kept_view : IsViewKept view) (settled : IsS
   granting = input.Call session (command.Grant id target)
 
   abbrev new : HandGiven
-  new = record { id = id; target = target.0; hangs_on = None }
+  new = record { id = id; target = target.0; parent = None }
 
   granted_by : IsGrant view.shape id target.0 (turn node view granting settled) → IsGranted node view granting new
   granted_by (left r s t m u) =
@@ -272,7 +272,7 @@ module _ (node : ℕ) (view : View) (kept_view : IsViewKept view) (settled : IsS
       gives_it (ap (whole_reply view granting) t)
       (left_view node view granting settled (ap (λ z. z.copies) s) m u refl refl
       ∙ (λ i. record (own_view view) { shape = own_part (s i) })
-      ∙ (λ i. record (own_view view) { shape = own_part (record view.shape { given = view.shape.given ++ record { id = id; target = target.0; hangs_on = n own i } ∷ [] }) })
+      ∙ (λ i. record (own_view view) { shape = own_part (record view.shape { given = view.shape.given ++ record { id = id; target = target.0; parent = n own i } ∷ [] }) })
       ∙ (λ i. record (own_view view) { shape = own_given view.shape new own i }))
       (left_posts node view granting settled (ap (λ z. z.copies) s) m u refl refl) (left_works node view granting settled kept_view (ap (λ z. z.works) s))
 
@@ -311,7 +311,7 @@ module _ (node : ℕ) (a b : View) (ka : IsViewKept a) (kb : IsViewKept b) (sa :
         works = sym (plain_works node a x ha plain) ∙ ap (λ v. (view_step node v x).works) same ∙ plain_works node b x hb (plain_too x plain);
       }
 
-  -- and such an input is told the same
+  -- and such an input is answered the same
   pub plain_told : (x : Input) → is_plain a.shape.job (judge node a x) ≡ true → (view_step node a x).reply ≡ (view_step node b x).reply
   plain_told x plain = sym (plain_reply node a x (has_own node a ka sa) plain) ∙ ap (λ v. (view_step node v x).reply) same ∙ plain_reply node b x (has_own node b kb sb) (plain_too x plain)
 
@@ -330,7 +330,7 @@ module _ (node : ℕ) (a b : View) (ka : IsViewKept a) (kb : IsViewKept b) (sa :
       x = input.Call session (command.Grant id target)
 
       hand : HandGiven
-      hand = record { id = id; target = target.0; hangs_on = None }
+      hand = record { id = id; target = target.0; parent = None }
 
       differ : (r : Refusal) → ◌≡◌ {A = Reply (List ℕ)} (reply.Refused r) reply.Ok → ⊥
       differ r e = cc
@@ -361,8 +361,8 @@ module _ (node : ℕ) (a b : View) (ka : IsViewKept a) (kb : IsViewKept b) (sa :
   same_after (input.Call session (command.Peek id offset n)) replies = aside_same (input.Call session (command.Peek id offset n)) refl
   same_after (input.Call session command.List) replies = aside_same (input.Call session command.List) refl
   same_after (input.Call session c) replies = plain_same (input.Call session c) refl
-  same_after (input.Received id bytes giver depth) replies = aside_same (input.Received id bytes giver depth) refl
-  same_after (input.Withdrawn id giver depth) replies = aside_same (input.Withdrawn id giver depth) refl
+  same_after (input.Received id bytes grantor depth) replies = aside_same (input.Received id bytes grantor depth) refl
+  same_after (input.Withdrawn id grantor depth) replies = aside_same (input.Withdrawn id grantor depth) refl
   same_after (input.Arrive (arrival.Located id number entries)) replies = plain_same (input.Arrive (arrival.Located id number entries)) refl
   same_after (input.Arrive (arrival.FromPeer from (peer.Pull id number n digest indexes))) replies = plain_same (input.Arrive (arrival.FromPeer from (peer.Pull id number n digest indexes))) refl
   same_after (input.Arrive (arrival.FromPeer from (peer.Chunk id number index bytes))) replies = plain_same (input.Arrive (arrival.FromPeer from (peer.Chunk id number index bytes))) refl

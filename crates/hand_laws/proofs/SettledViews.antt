@@ -9,11 +9,11 @@ use Rattle.obj_id.specs.declared.ids.ObjectId.{ObjectId}
 use Rattle.obj_id.specs.Ids.{id_cmp, same_id}
 use Rattle.store_facts.proofs.Ids.{same_id-equal, same_id-itself}
 use Rattle.private_store.specs.declared.inputs.Input.{Input}
-use Rattle.private_store.specs.Tables.{ById, at}
-use Rattle.private_store.specs.Step.{step, is_used, reordered}
-use Rattle.private_store.specs.Contents.{View, kept, keeps_digest, no_digest, judge, brought, bytes_brought, digest_brought}
-use Rattle.private_store.specs.Private.{Store, view_of, view_step, view_from, private_step, no_store, store_from}
-use Rattle.private_store.specs.Kept.{IsViewKept}
+use Rattle.private_store.specs.rules.Tables.{ById, at}
+use Rattle.private_store.specs.rules.Step.{step, is_used, reordered}
+use Rattle.private_store.specs.rules.Contents.{View, kept, keeps_digest, no_digest, judge, brought, bytes_brought, digest_brought}
+use Rattle.private_store.specs.rules.Private.{Store, view_of, view_step, view_from, private_step, no_store, store_from}
+use Rattle.private_store.specs.laws.Invariants.{IsViewKept}
 use Rattle.store_facts.proofs.Filling.{below_none, kept_row, at-kept, resides, zeros}
 use Rattle.store_facts.proofs.Sound.{step_sound}
 use Rattle.store_facts.proofs.Stamped.{IsStamped, private_step_IsStamped, no_store_IsStamped, view_of_step, view_of_run}

@@ -4,8 +4,8 @@ use Rattle.std.specs.Prelude.{if◌then◌else◌, unwrap_or, nat_le, is_none}
 use Rattle.std.specs.Option.{option_map_or, option_and_then}
 use Rattle.std.specs.List.{list_any}
 use Rattle.std.proofs.lemmas.Bool.{eqb-true}
-use Rattle.obj_id.specs.declared.messages.Place.{Place}
-use Rattle.obj_id.specs.declared.messages.Place.TheVariants.{Node, Directory}
+use Rattle.obj_id.specs.declared.messages.Endpoint.{Endpoint}
+use Rattle.obj_id.specs.declared.messages.Endpoint.TheVariants.{Node, Directory}
 use Rattle.obj_id.specs.declared.works.Quota.{Quota}
 use Rattle.obj_id.specs.declared.works.Work.{Work}
 use Rattle.obj_id.specs.declared.works.WorkKind.TheVariants as kind
@@ -16,15 +16,15 @@ use Rattle.private_store.specs.declared.schedules.Step.{Step}
 use Rattle.private_store.specs.declared.schedules.Step.TheVariants as steps
 use Rattle.private_store.specs.declared.schedules.StepAnswer.TheVariants as answer
 use Rattle.private_store.specs.declared.schedules.Traced.{Traced}
-use Rattle.private_store.specs.Limits.{is_quota, most_live_jobs}
-use Rattle.private_store.specs.Tables.{at}
-use Rattle.private_store.specs.Extents.{first}
-use Rattle.private_store.specs.Copies.{fits_quota}
-use Rattle.private_store.specs.Contents.{View, bytes_at}
-use Rattle.private_store.specs.Private.{Store, key_of}
-use Rattle.private_store.specs.Cluster.{message_at, damaged}
-use Rattle.private_store.specs.Trace.{cluster_until}
-use Rattle.private_store.specs.Shared.{job_is, ok_unless, admit_answer, store_at, holds_quota, can_widen, requota_answer, waiting, given_of, take_answer, goes_to_live, deliver_answer, shared_answer}
+use Rattle.private_store.specs.rules.Limits.{is_quota, most_live_jobs}
+use Rattle.private_store.specs.rules.Tables.{at}
+use Rattle.private_store.specs.rules.Extents.{first}
+use Rattle.private_store.specs.rules.Copies.{fits_quota}
+use Rattle.private_store.specs.rules.Contents.{View, bytes_at}
+use Rattle.private_store.specs.rules.Private.{Store, key_of}
+use Rattle.private_store.specs.rules.Cluster.{message_at, damaged}
+use Rattle.private_store.specs.rules.Trace.{cluster_until}
+use Rattle.private_store.specs.rules.Shared.{job_is, ok_unless, admit_answer, store_at, holds_quota, can_widen, requota_answer, waiting, given_of, take_answer, goes_to_live, deliver_answer, shared_answer}
 use Rattle.hand_laws.proofs.OwnClusters.{part, at_same}
 use Rattle.hand_laws.proofs.Telling.{SameFor, one_cluster}
 
@@ -108,18 +108,18 @@ module _ (nodes j : ℕ) (a b : List Traced) (same : SameFor nodes j a b) where
 
   -- ---- messages
 
-  message_same : (k : ℕ) (from to : Place) (number : ℕ) → message_at (cluster_until nodes k a) from to number ≡ message_at (cluster_until nodes k b) from to number
+  message_same : (k : ℕ) (from to : Endpoint) (number : ℕ) → message_at (cluster_until nodes k a) from to number ≡ message_at (cluster_until nodes k b) from to number
   message_same k from to number =
       elim (k == j) as (λ t. (k == j) ≡ t → message_at (cluster_until nodes k a) from to number ≡ message_at (cluster_until nodes k b) from to number) [
         | true ↦ λ t. ap (λ C. message_at C from to number) (one_cluster nodes j a b same k (eqb-true k j t))
         | false ↦ λ t. at_same k (cluster_until nodes k a) (cluster_until nodes k b) (same.parts k t) from to number
       ] refl
 
-  goes_same : (memory k : ℕ) (to : Place) → goes_to_live memory a k to ≡ goes_to_live memory b k to
+  goes_same : (memory k : ℕ) (to : Endpoint) → goes_to_live memory a k to ≡ goes_to_live memory b k to
   goes_same memory k (Node n) = ap (list_any (job_is k)) (same.lives memory n)
   goes_same memory k Directory = refl
 
-  deliver_same : (memory k : ℕ) (from to : Place) (number : ℕ) (damage : Bool) → deliver_answer nodes memory a k from to number damage ≡ deliver_answer nodes memory b k from to number damage
+  deliver_same : (memory k : ℕ) (from to : Endpoint) (number : ℕ) (damage : Bool) → deliver_answer nodes memory a k from to number damage ≡ deliver_answer nodes memory b k from to number damage
   deliver_same memory k from to number damage = λ i. elim (message_same k from to number i) [
     | None ↦ answer.NoMessage
     | Some message ↦ if goes_same memory k to i then answer.HandedOver (if damage then damaged message else message) else answer.Told (reply.Refused Stale)

@@ -1,4 +1,4 @@
--- Every taker has the bytes that the object has in the store of its own job, and these stay.
+-- Every grantee has the bytes that the object has in the store of its own job, and these stay.
 use Rattle.std.proofs.Common.{◌≡◌, ℕ, Bool, true, false, not, cond, ◌==◌, List, [], ◌∷◌, ◌++◌, map, filter, reverse, slice_get, option_to_list, Option, Some, None, is_some, refl, sym, ap, subst, ◌∙◌, eq-eqb}
 use Rattle.std.specs.Prelude.{if◌then◌else◌}
 use Rattle.std.specs.Option.{option_map_or}
@@ -20,25 +20,25 @@ use Rattle.private_store.specs.declared.schedules.Step.TheVariants as steps
 use Rattle.private_store.specs.declared.schedules.StepAnswer.{StepAnswer}
 use Rattle.private_store.specs.declared.schedules.StepAnswer.TheVariants as answer
 use Rattle.private_store.specs.declared.schedules.Traced.{Traced}
-use Rattle.private_store.specs.Tables.{at}
-use Rattle.private_store.specs.Shape.{Copy, Shape, Seen, Change}
-use Rattle.private_store.specs.Copies.{is_sealed}
-use Rattle.private_store.specs.Events.{hands_of, withdrawn, is_hand, hand_ended}
-use Rattle.private_store.specs.Kept.{IsViewKept}
+use Rattle.private_store.specs.rules.Tables.{at}
+use Rattle.private_store.specs.rules.Shape.{Copy, Shape, Seen, Change}
+use Rattle.private_store.specs.rules.Copies.{is_sealed}
+use Rattle.private_store.specs.rules.Events.{hands_of, withdrawn, is_hand, hand_ended}
+use Rattle.private_store.specs.laws.Invariants.{IsViewKept}
 use Rattle.store_facts.proofs.BytesStay.{bytes_stay}
 use Rattle.hand_laws.proofs.StoresKept.{HasCome, come_more, come_kept, all_come}
-use Rattle.private_store.specs.Contents.{bytes_at}
-use Rattle.private_store.specs.Private.{Store, private_step, view_of}
-use Rattle.private_store.specs.Cluster.{Cluster, ClusterInput, at_node, deliver, cluster_from, no_cluster}
-use Rattle.private_store.specs.Hands.{Hand, same_hand, ended_from, hands_left}
-use Rattle.private_store.specs.Commands.{grant_own, grant_foreign}
-use Rattle.private_store.specs.Step.{step}
+use Rattle.private_store.specs.rules.Contents.{bytes_at}
+use Rattle.private_store.specs.rules.Private.{Store, private_step, view_of}
+use Rattle.private_store.specs.rules.Cluster.{Cluster, ClusterInput, at_node, deliver, cluster_from, no_cluster}
+use Rattle.private_store.specs.rules.Hands.{Hand, same_hand, ended_from, hands_left}
+use Rattle.private_store.specs.rules.Commands.{grant_own, grant_foreign}
+use Rattle.private_store.specs.rules.Step.{step}
 use Rattle.private_store.specs.declared.inputs.Judged.TheVariants as judged
 use Rattle.store_facts.proofs.Checks.{checked_has, needing_has}
 use Rattle.hand_laws.proofs.Halves.{HasHalves}
 use Rattle.hand_laws.proofs.HeldOnTo.{held, was_given}
 use Rattle.hand_laws.proofs.WhatIsSeen.{none_taken, some_taken}
-use Rattle.private_store.specs.Trace.{Given, ends, granted_bytes, hands_at, hands_step, own_input, notes, for_job, cluster_until, inputs_until}
+use Rattle.private_store.specs.rules.Trace.{Given, ends, granted_bytes, hands_at, hands_step, own_input, notes, for_job, cluster_until, inputs_until}
 use Rattle.store_facts.proofs.Runs.{inputs_now, cluster_until-step, cluster_from-append, EachPrivate}
 use Rattle.store_facts.proofs.Tests.{true_false, none_some, some_value, both, both_left}
 use Rattle.grants.specs.Table.{shows}
@@ -55,8 +55,8 @@ use Rattle.hand_laws.proofs.Histories.{stand_until, stand_of, trace_private}
 -- each store that knows an object has the own job's bytes of it
 abbrev pub Showing : ℕ → List Traced → Type 0
 Showing nodes before =
-    (n j : ℕ) (id : ObjectId) (own taker : Store) → slice_get (cluster_until nodes id.job.0 before).stores n ≡ Some own → slice_get (cluster_until nodes j before).stores n ≡ Some taker
-    → Has id (bytes_at own.contents.bytes id) taker
+    (n j : ℕ) (id : ObjectId) (own grantee : Store) → slice_get (cluster_until nodes id.job.0 before).stores n ≡ Some own → slice_get (cluster_until nodes j before).stores n ≡ Some grantee
+    → Has id (bytes_at own.contents.bytes id) grantee
 
 module _ (nodes : ℕ) (before : List Traced) (s : Step) (a : StepAnswer) where
   abbrev C : ℕ → Cluster
@@ -78,8 +78,8 @@ module _ (nodes : ℕ) (before : List Traced) (s : Step) (a : StepAnswer) where
       (own_each (Leads Q Q) (λ m x o s q. q) (λ from to k damage m a s q. q) before s a)
       (notes_each (Leads Q Q) nodes known before s a (λ m h s q. q) (λ m h s q. q))) n t e (eq-eqb n n refl)
 
-  -- a taker has the bytes that the own job's store had before the step
-  taken_shows : (n j : ℕ) (id : ObjectId) (own : Store) → slice_get (C id.job.0).stores n ≡ Some own → Showing nodes before → (taker : Store) → slice_get (after j).stores n ≡ Some taker → Has id (bytes_at own.contents.bytes id) taker
+  -- a grantee has the bytes that the own job's store had before the step
+  taken_shows : (n j : ℕ) (id : ObjectId) (own : Store) → slice_get (C id.job.0).stores n ≡ Some own → Showing nodes before → (grantee : Store) → slice_get (after j).stores n ≡ Some grantee → Has id (bytes_at own.contents.bytes id) grantee
   taken_shows n j id own is shows t e =
       let G = bytes_at own.contents.bytes id in
       let Q : ℕ → Store → Type 0 = λ m s. (m == n) ≡ true → Has id G s in
@@ -87,8 +87,8 @@ module _ (nodes : ℕ) (before : List Traced) (s : Step) (a : StepAnswer) where
       keep_all Q (C j) j (option_to_list (own_input before s a) ++ notes nodes known before s a) all
       (each_both (Leads Q Q) (option_to_list (own_input before s a)) (notes nodes known before s a)
       (own_each (Leads Q Q) (λ m x o s q k. own_has id G m s x o (q k)) (λ from to number damage m a s q k. own_has id G m s (input.Arrive a) refl (q k)) before s a)
-      (notes_each (Leads Q Q) nodes known before s a (λ m h s q k. withdrawn_has id G m s h.id (record { 0 = h.giver }) h.depth (q k))
-      (λ m h s q k. received_has id G m s h.id _ (record { 0 = h.giver }) h.depth (λ t. granted m h k t) (q k)))) n t e (eq-eqb n n refl)
+      (notes_each (Leads Q Q) nodes known before s a (λ m h s q k. withdrawn_has id G m s h.id (record { 0 = h.grantor }) h.depth (q k))
+      (λ m h s q k. received_has id G m s h.id _ (record { 0 = h.grantor }) h.depth (λ t. granted m h k t) (q k)))) n t e (eq-eqb n n refl)
     where
       -- a grant gives the bytes that the own job's store has
       granted : (m : ℕ) (h : Hand) → (m == n) ≡ true → same_id id h.id ≡ true
@@ -114,11 +114,11 @@ stays_here id m s x kept was still =
     let d = sealed_copy (at (private_step m s x).shape.copies id) still in
     bytes_stay m (view_of s) kept.kept.shape kept.kept.filled id c.0 c.1 c.2 x d.0 d.1 d.2
 
-withdrawn_copies : (store : Shape) (id : ObjectId) (giver depth : ℕ) → (withdrawn store id giver depth).shape.copies ≡ store.copies
-withdrawn_copies store id giver depth =
-    elim (at store.received id) as (λ o. (option_map_or (λ seen. cond (list_any (is_hand giver depth) seen.hands) (hand_ended store id giver depth seen) store) o store).copies ≡ store.copies) [
+withdrawn_copies : (store : Shape) (id : ObjectId) (grantor depth : ℕ) → (withdrawn store id grantor depth).shape.copies ≡ store.copies
+withdrawn_copies store id grantor depth =
+    elim (at store.received id) as (λ o. (option_map_or (λ seen. cond (list_any (is_hand grantor depth) seen.hands) (hand_ended store id grantor depth seen) store) o store).copies ≡ store.copies) [
       | None ↦ refl
-      | Some seen ↦ elim (list_any (is_hand giver depth) seen.hands) as (λ t. (cond t (hand_ended store id giver depth seen) store).copies ≡ store.copies) [ true ↦ refl | false ↦ refl ]
+      | Some seen ↦ elim (list_any (is_hand grantor depth) seen.hands) as (λ t. (cond t (hand_ended store id grantor depth seen) store).copies ≡ store.copies) [ true ↦ refl | false ↦ refl ]
     ]
 
 module _ (nodes : ℕ) (before : List Traced) (s : Step) (a : StepAnswer) (n : ℕ) (id : ObjectId) (own : Store) (is : slice_get (cluster_until nodes id.job.0 before).stores n ≡ Some own) (was : Sealed id own) where
@@ -181,7 +181,7 @@ module _ (nodes : ℕ) (before : List Traced) (s : Step) (a : StepAnswer) (n : �
       let all : AllStores R (cluster_from (first o) (for_job id.job.0 ns)) =
       keep_all R (first o) id.job.0 ns (by_own o)
       (notes_each (Leads R R) nodes (λ other. inputs_until nodes other before) before s a
-      (λ m h s r. note_keeps m s (input.Withdrawn h.id (record { 0 = h.giver }) h.depth) (withdrawn_copies s.shape h.id h.giver h.depth) r) (λ m h s r. note_keeps m s (input.Received h.id (granted_bytes nodes m (λ other. inputs_until nodes other before) h.id) (record { 0 = h.giver }) h.depth) refl r)) in
+      (λ m h s r. note_keeps m s (input.Withdrawn h.id (record { 0 = h.grantor }) h.depth) (withdrawn_copies s.shape h.id h.grantor h.depth) r) (λ m h s r. note_keeps m s (input.Received h.id (granted_bytes nodes m (λ other. inputs_until nodes other before) h.id) (record { 0 = h.grantor }) h.depth) refl r)) in
       (all n t (ap (λ c. slice_get c.stores n) (sym (ap (cluster_from D) (split_job (option_to_list o) ns) ∙ cluster_from-append D (for_job id.job.0 (option_to_list o)) (for_job id.job.0 ns))) ∙ e)).1 (eq-eqb n n refl) sealed
 
 -- ---- hands that the step made
@@ -227,7 +227,7 @@ grant_keeps nodes before (steps.At m (event.Call k session (command.Grant q targ
     keep_all Q D id.job.0 (option_to_list (own_input before s (answer.Told reply.Ok)) ++ notes nodes (λ other. inputs_until nodes other before) before s (answer.Told reply.Ok)) all (
       λ u r k. ap (λ table. at table id) (grant_copies (view_of u).order u.shape session q target) ∙ r k,
       notes_each (Leads Q Q) nodes (λ other. inputs_until nodes other before) before s (answer.Told reply.Ok)
-          (λ m h u q k. ap (λ table. at table id) (withdrawn_copies u.shape h.id h.giver h.depth) ∙ q k) (λ m h u q k. q k),
+          (λ m h u q k. ap (λ table. at table id) (withdrawn_copies u.shape h.id h.grantor h.depth) ∙ q k) (λ m h u q k. q k),
     )
     n t e (eq-eqb n n refl)
 grant_keeps nodes before (steps.At m (event.Call k session c)) (answer.Told reply.Ok) n id own is granting t e = true_false granting
@@ -259,15 +259,15 @@ hand_to j hands store fits id knows =
     by_row (Some seen) is k none = absurd (fits.known id seen is (sym (ap (λ o. option_map_or (λ seen. seen.hands) o []) is) ∙ none))
 
 showing_step : (nodes : ℕ) (entry : Traced) (before : List Traced) → Stand nodes before → Stand nodes (entry ∷ before) → Showing nodes before → Showing nodes (entry ∷ before)
-showing_step nodes entry before old new shows_old n j id own' taker is' at' knows =
+showing_step nodes entry before old new shows_old n j id own' grantee is' at' knows =
     let s = entry.step in
     let a = entry.answer in
     let own_after : slice_get (after nodes before s a id.job.0).stores n ≡ Some own' = ap (λ c. slice_get c.stores n) (sym (cluster_until-step nodes id.job.0 entry before)) ∙ is' in
-    let taker_after : slice_get (after nodes before s a j).stores n ≡ Some taker = ap (λ c. slice_get c.stores n) (sym (cluster_until-step nodes j entry before)) ∙ at' in
-    let h = one_of (shows id j) (hands_at n (entry ∷ before)) (hand_to j (hands_at n (entry ∷ before)) taker.shape (new.fit n j taker at') id knows) in
-    let ids : h.0.id ≡ id = sym (same_id-equal id h.0.id (both_left (same_id id h.0.id) (h.0.taker == j) h.2)) in
+    let grantee_after : slice_get (after nodes before s a j).stores n ≡ Some grantee = ap (λ c. slice_get c.stores n) (sym (cluster_until-step nodes j entry before)) ∙ at' in
+    let h = one_of (shows id j) (hands_at n (entry ∷ before)) (hand_to j (hands_at n (entry ∷ before)) grantee.shape (new.fit n j grantee at') id knows) in
+    let ids : h.0.id ≡ id = sym (same_id-equal id h.0.id (both_left (same_id id h.0.id) (h.0.grantee == j) h.2)) in
     let still : Sealed id own' = sealed_by nodes (entry ∷ before) new n id own' is' h.0 h.1 ids in
-    elim (slice_get (cluster_until nodes id.job.0 before).stores n) as (λ o. slice_get (cluster_until nodes id.job.0 before).stores n ≡ o → bytes_at taker.contents.received id ≡ bytes_at own'.contents.bytes id) [
+    elim (slice_get (cluster_until nodes id.job.0 before).stores n) as (λ o. slice_get (cluster_until nodes id.job.0 before).stores n ≡ o → bytes_at grantee.contents.received id ≡ bytes_at own'.contents.bytes id) [
       | None ↦ λ none. absurd (none_comes nodes before s a n id.job.0 none own' own_after)
       | Some own ↦ λ is.
           let was : Sealed id own =
@@ -275,21 +275,21 @@ showing_step nodes entry before old new shows_old n j id own' taker is' at' know
             | true ↦ λ t. sym (ap (λ o. option_map_or (λ c. is_sealed c.state) o false) (grant_keeps nodes before s a n id own is t own' own_after)) ∙ still
             | false ↦ λ t. sealed_by nodes before old n id own is h.0 (was_there h.0 (hands_at n before) n s a t h.1) ids
           ] refl in
-          taken_shows nodes before s a n j id own is shows_old taker taker_after knows ∙ sym (own_shows nodes before s a n id own is was own' own_after still)
+          taken_shows nodes before s a n j id own is shows_old grantee grantee_after knows ∙ sym (own_shows nodes before s a n id own is was own' own_after still)
     ] refl
 
 pub showing_until : (nodes : ℕ) (history : List Traced) → ((j : ℕ) → EachPrivate nodes j history) → Showing nodes history
-showing_until nodes [] h = λ n j id own taker is to knows. true_false (sym (ap (λ x. is_some (at x.shape.received id)) (no_stores j nodes n taker to)) ∙ knows)
+showing_until nodes [] h = λ n j id own grantee is to knows. true_false (sym (ap (λ x. is_some (at x.shape.received id)) (no_stores j nodes n grantee to)) ∙ knows)
 showing_until nodes (entry ∷ before) h =
     showing_step nodes entry before (stand_until nodes before (λ j. (h j).0)) (stand_until nodes (entry ∷ before) h) (showing_until nodes before (λ j. (h j).0))
 
 -- and each of them
-known_by : (hands : List Hand) (store : Shape) (h : Hand) → stands h hands → HasHalves h.taker hands store → is_some (at store.received h.id) ≡ true
+known_by : (hands : List Hand) (store : Shape) (h : Hand) → stands h hands → HasHalves h.grantee hands store → is_some (at store.received h.id) ≡ true
 known_by hands store h a fits = by_row (at store.received h.id) refl
   where
     by_row : (o : Option Seen) → at store.received h.id ≡ o → is_some o ≡ true
     by_row None is =
-        absurd (some_taken (shows h.id h.taker) hands (any_of (shows h.id h.taker) h hands a (both (same_id h.id h.id) (h.taker == h.taker) (same_id-itself h.id) (eq-eqb h.taker h.taker refl)))
+        absurd (some_taken (shows h.id h.grantee) hands (any_of (shows h.id h.grantee) h hands a (both (same_id h.id h.id) (h.grantee == h.grantee) (same_id-itself h.id) (eq-eqb h.grantee h.grantee refl)))
         (sym (fits.taken h.id) ∙ ap (λ o. option_map_or (λ seen. seen.hands) o []) is))
     by_row (Some seen) is = refl
 
@@ -298,8 +298,8 @@ shows_what_is nodes node trace h =
     let each = trace_private nodes trace h in
     let stand = stand_of nodes trace h in
     record {
-      each = λ hand a own taker is to.
-          showing_until nodes (reverse trace) each node hand.taker hand.id own taker is to (known_by (hands_at node (reverse trace)) taker.shape hand a (stand.fit node hand.taker taker to));
+      each = λ hand a own grantee is to.
+          showing_until nodes (reverse trace) each node hand.grantee hand.id own grantee is to (known_by (hands_at node (reverse trace)) grantee.shape hand a (stand.fit node hand.grantee grantee to));
     }
 
 pub granted_bytes_stay : (nodes node : ℕ) (trace : List Traced) (entry : Traced) → ArePrivate nodes (trace ++ entry ∷ []) → BytesStay nodes node trace entry

@@ -3,16 +3,16 @@ use Rattle.std.proofs.Common.{◌≡◌, ℕ, true, false, ◌==◌, List, [], �
 use Rattle.std.specs.Prelude.{if◌then◌else◌}
 use Rattle.std.specs.Option.{option_map_or}
 use Rattle.std.proofs.lemmas.Bool.{eqb-true}
-use Rattle.obj_id.specs.declared.messages.Place.{Place}
-use Rattle.obj_id.specs.declared.messages.Place.TheVariants.{Node, Directory}
+use Rattle.obj_id.specs.declared.messages.Endpoint.{Endpoint}
+use Rattle.obj_id.specs.declared.messages.Endpoint.TheVariants.{Node, Directory}
 use Rattle.obj_id.specs.declared.messages.Message.{Message}
 use Rattle.obj_id.specs.declared.messages.Message.TheVariants as message
 use Rattle.private_store.specs.declared.inputs.Input.{Input}
 use Rattle.private_store.specs.declared.inputs.Input.TheVariants.{Arrive}
-use Rattle.private_store.specs.Private.{Store, private_step, store_from, view_of, no_store}
-use Rattle.private_store.specs.Contents.{judge}
-use Rattle.private_store.specs.Cluster.{Cluster, ClusterInput, at_node, deliver, cluster_step, cluster_from, input_at, unmoved, handed_over, handed_to_directory, message_at, damaged, arrival_of, no_cluster}
-use Rattle.private_store.specs.Kept.{IsViewKept}
+use Rattle.private_store.specs.rules.Private.{Store, private_step, store_from, view_of, no_store}
+use Rattle.private_store.specs.rules.Contents.{judge}
+use Rattle.private_store.specs.rules.Cluster.{Cluster, ClusterInput, at_node, deliver, cluster_step, cluster_from, input_at, unmoved, handed_over, handed_to_directory, message_at, damaged, arrival_of, no_cluster}
+use Rattle.private_store.specs.laws.Invariants.{IsViewKept}
 use Rattle.store_facts.proofs.OwnJob.{step_keeps_job}
 use Rattle.store_facts.proofs.StepsKept.{run_keeps}
 use Rattle.hand_laws.proofs.ClusterInputs.{input_stores, some_of_map, no_stores}
@@ -42,7 +42,7 @@ directory_comes job C (message.ToDirectory m) all = all
 directory_comes job C (message.Located id number entries) all = all
 directory_comes job C (message.ToPeer m) all = all
 
-handed_comes : (job : ℕ) (C : Cluster) (from to : Place) (m : Message) → AllHaveCome job C → AllHaveCome job (handed_over C from to m).cluster
+handed_comes : (job : ℕ) (C : Cluster) (from to : Endpoint) (m : Message) → AllHaveCome job C → AllHaveCome job (handed_over C from to m).cluster
 handed_comes job C from Directory m all = directory_comes job C m all
 handed_comes job C from (Node node) m all =
     elim (arrival_of from m) as (λ o. AllHaveCome job (option_map_or (λ a. input_at C node (Arrive a)) o (unmoved C)).cluster) [

@@ -13,12 +13,12 @@ use Rattle.store_facts.proofs.Ids.{same_id-equal}
 use Rattle.private_store.specs.declared.inputs.Input.{Input}
 use Rattle.private_store.specs.declared.inputs.Input.TheVariants as input
 use Rattle.private_store.specs.declared.inputs.Judged.TheVariants as judged
-use Rattle.private_store.specs.Tables.{ById, at, with_entry, without_entry}
-use Rattle.private_store.specs.Shape.{Shape, Seen, Change}
-use Rattle.private_store.specs.Events.{hands_of, withdrawn, is_hand, hand_ended, without_hand}
-use Rattle.private_store.specs.Step.{step}
-use Rattle.private_store.specs.Contents.{bytes_at, brief, brought, bytes_received, kept, work_verdict, source_in, pull_matches, chunk_verdict}
-use Rattle.private_store.specs.Private.{Store, private_step, view_of}
+use Rattle.private_store.specs.rules.Tables.{ById, at, with_entry, without_entry}
+use Rattle.private_store.specs.rules.Shape.{Shape, Seen, Change}
+use Rattle.private_store.specs.rules.Events.{hands_of, withdrawn, is_hand, hand_ended, without_hand}
+use Rattle.private_store.specs.rules.Step.{step}
+use Rattle.private_store.specs.rules.Contents.{bytes_at, without_payload, brought, bytes_received, kept, work_verdict, source_in, pull_matches, chunk_verdict}
+use Rattle.private_store.specs.rules.Private.{Store, private_step, view_of}
 use Rattle.store_facts.proofs.Rows.{at-put, at-drop}
 use Rattle.store_facts.proofs.Tests.{true_false}
 use Rattle.hand_laws.proofs.EachInput.{call_still, begin_same, requota_same, answer_same, located_same, chunk_same, pull_same, not_here_same, grant_step, withdraw_step, end_task_step, job_end_step, GrantDone, left, gave, EndDone, ended, JobEndDone, was_dead, is_over, keeps_others, keeps_other_tasks}
@@ -66,7 +66,7 @@ command_stays m s session (command.EndTask task) = by_done (step (view_of s).ord
     by_done : (c : Change) → EndDone (keeps_other_tasks s.shape.job task) s.shape c → c.shape.received ≡ s.shape.received
     by_done c (left same n) = same.received
     by_done c (ended j g f t) = f
-command_stays m s session c = (call_still (view_of s).order s.shape session (brief c) refl).received
+command_stays m s session c = (call_still (view_of s).order s.shape session (without_payload c) refl).received
 
 end_stays : (m : ℕ) (s : Store) → (private_step m s input.End).shape.received ≡ s.shape.received
 end_stays m s = by_done (step (view_of s).order s.shape judged.End) (job_end_step (view_of s).order s.shape)
@@ -84,24 +84,24 @@ own_stays m s (input.Arrive (arrival.Located id number entries)) e = (located_sa
 own_stays m s (input.Arrive (arrival.FromPeer from (peer.Pull id number n digest indexes))) e = (pull_same (view_of s).order s.shape id number (pull_matches (view_of s) id n digest)).received
 own_stays m s (input.Arrive (arrival.FromPeer from (peer.Chunk id number index bytes))) e = (chunk_same (view_of s).order s.shape id number index from (chunk_verdict (view_of s) id number index bytes from)).received
 own_stays m s (input.Arrive (arrival.FromPeer from (peer.NotHere id number))) e = (not_here_same (view_of s).order s.shape id number from).received
-own_stays m s (input.Received id bytes giver depth) e = true_false e
-own_stays m s (input.Withdrawn id giver depth) e = true_false e
+own_stays m s (input.Received id bytes grantor depth) e = true_false e
+own_stays m s (input.Withdrawn id grantor depth) e = true_false e
 own_stays m s input.End e = end_stays m s
 
 own_brings : (x : Input) → is_own x ≡ true → bytes_received x ≡ None
-own_brings (input.Received id bytes giver depth) e = true_false e
+own_brings (input.Received id bytes grantor depth) e = true_false e
 own_brings x e = refl
 
 kept_of : {A : Type 0} (b : Bool) (o : Option A) → is_some (cond b o None) ≡ true → is_some o ≡ true
 kept_of true o e = e
 kept_of false o e = true_false e
 
-withdrawn_knows : (store : Shape) (id : ObjectId) (giver depth : ℕ) (q : ObjectId) → is_some (at (withdrawn store id giver depth).shape.received q) ≡ true → is_some (at store.received q) ≡ true
-withdrawn_knows store id giver depth q k =
-    elim (at store.received id) as (λ o. at store.received id ≡ o → is_some (at (option_map_or (λ seen. cond (list_any (is_hand giver depth) seen.hands) (hand_ended store id giver depth seen) store) o store).received q) ≡ true → is_some (at store.received q) ≡ true) [
+withdrawn_knows : (store : Shape) (id : ObjectId) (grantor depth : ℕ) (q : ObjectId) → is_some (at (withdrawn store id grantor depth).shape.received q) ≡ true → is_some (at store.received q) ≡ true
+withdrawn_knows store id grantor depth q k =
+    elim (at store.received id) as (λ o. at store.received id ≡ o → is_some (at (option_map_or (λ seen. cond (list_any (is_hand grantor depth) seen.hands) (hand_ended store id grantor depth seen) store) o store).received q) ≡ true → is_some (at store.received q) ≡ true) [
       | None ↦ λ e f. f
-      | Some seen ↦ λ e. elim (list_any (is_hand giver depth) seen.hands) as (λ t. is_some (at (cond t (hand_ended store id giver depth seen) store).received q) ≡ true → is_some (at store.received q) ≡ true) [
-        | true ↦ λ f. by_left seen e (without_hand seen giver depth) f
+      | Some seen ↦ λ e. elim (list_any (is_hand grantor depth) seen.hands) as (λ t. is_some (at (cond t (hand_ended store id grantor depth seen) store).received q) ≡ true → is_some (at store.received q) ≡ true) [
+        | true ↦ λ f. by_left seen e (without_hand seen grantor depth) f
         | false ↦ λ f. f
       ]
     ] refl k
@@ -124,20 +124,20 @@ pub own_has : (id : ObjectId) (bytes : List ℕ) (m : ℕ) (s : Store) (x : Inpu
 own_has id bytes m s x e h k =
     seen_bytes m s x id k ∙ ap (λ o. bytes_at (brought s.contents.received o) id) (own_brings x e) ∙ h (ap (λ t. is_some (at t id)) (sym (own_stays m s x e)) ∙ k)
 
-pub withdrawn_has : (id : ObjectId) (bytes : List ℕ) (m : ℕ) (s : Store) (q : ObjectId) (giver : JobNo) (depth : ℕ) → Has id bytes s → Has id bytes (private_step m s (input.Withdrawn q giver depth))
-withdrawn_has id bytes m s q giver depth h k = seen_bytes m s (input.Withdrawn q giver depth) id k ∙ h (withdrawn_knows s.shape q giver.0 depth id k)
+pub withdrawn_has : (id : ObjectId) (bytes : List ℕ) (m : ℕ) (s : Store) (q : ObjectId) (grantor : JobNo) (depth : ℕ) → Has id bytes s → Has id bytes (private_step m s (input.Withdrawn q grantor depth))
+withdrawn_has id bytes m s q grantor depth h k = seen_bytes m s (input.Withdrawn q grantor depth) id k ∙ h (withdrawn_knows s.shape q grantor.0 depth id k)
 
-pub received_has : (id : ObjectId) (bytes : List ℕ) (m : ℕ) (s : Store) (q : ObjectId) (new : List ℕ) (giver : JobNo) (depth : ℕ) → (same_id id q ≡ true → new ≡ bytes) → Has id bytes s → Has id bytes (private_step m s (input.Received q new giver depth))
-received_has id bytes m s q new giver depth same h k =
-    let after = private_step m s (input.Received q new giver depth) in
-    seen_bytes m s (input.Received q new giver depth) id k ∙ ap (λ o. unwrap_or o []) (at-put s.contents.received q new id)
+pub received_has : (id : ObjectId) (bytes : List ℕ) (m : ℕ) (s : Store) (q : ObjectId) (new : List ℕ) (grantor : JobNo) (depth : ℕ) → (same_id id q ≡ true → new ≡ bytes) → Has id bytes s → Has id bytes (private_step m s (input.Received q new grantor depth))
+received_has id bytes m s q new grantor depth same h k =
+    let after = private_step m s (input.Received q new grantor depth) in
+    seen_bytes m s (input.Received q new grantor depth) id k ∙ ap (λ o. unwrap_or o []) (at-put s.contents.received q new id)
     ∙ elim (same_id id q) as (λ t. same_id id q ≡ t → unwrap_or (cond t (Some new) (at s.contents.received id)) [] ≡ bytes) [
       | true ↦ λ t. same t
       | false ↦ λ t. h (known t)
     ] refl
   where
     row : ObjectId → List ℕ → JobNo → ℕ → Seen
-    row q new giver depth = record { length = length new; hands = hands_of s.shape q ++ record { giver = giver.0; depth = depth } ∷ [] }
+    row q new grantor depth = record { length = length new; hands = hands_of s.shape q ++ record { grantor = grantor.0; depth = depth } ∷ [] }
 
     known : same_id id q ≡ false → is_some (at s.shape.received id) ≡ true
-    known t = sym (ap is_some (at-put s.shape.received q (row q new giver depth) id) ∙ ap (λ b. is_some (cond b (Some (row q new giver depth)) (at s.shape.received id))) t) ∙ k
+    known t = sym (ap is_some (at-put s.shape.received q (row q new grantor depth) id) ∙ ap (λ b. is_some (cond b (Some (row q new grantor depth)) (at s.shape.received id))) t) ∙ k

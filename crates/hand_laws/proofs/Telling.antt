@@ -21,18 +21,18 @@ use Rattle.private_store.specs.declared.schedules.Step.TheVariants as steps
 use Rattle.private_store.specs.declared.schedules.StepAnswer.{StepAnswer}
 use Rattle.private_store.specs.declared.schedules.StepAnswer.TheVariants as answer
 use Rattle.private_store.specs.declared.schedules.Traced.{Traced}
-use Rattle.private_store.specs.Contents.{View, bytes_at, judge}
+use Rattle.private_store.specs.rules.Contents.{View, bytes_at, judge}
 use Rattle.hand_laws.proofs.OwnSteps.{is_plain}
-use Rattle.private_store.specs.Private.{Store, private_outcome}
-use Rattle.private_store.specs.Cluster.{cluster_step, at_node, deliver, cluster_from, no_cluster, told_from}
-use Rattle.private_store.specs.Hands.{Hand, new_hand, with_hand, hands_ended, hands_left, is_withdrawn, is_of_task, is_given_by}
-use Rattle.private_store.specs.Trace.{Given, hands_at, hands_step, own_input, notes, for_job, granted_bytes, received_note, withdrawn_note, inputs_until, cluster_until, is_out, out_after, is_no_memory, reply_of, replies_of}
-use Rattle.private_store.specs.Shared.{lives_after, lives_step, is_admission, taken_at, outcome_works, works_asked_by, asked_by, leaves, waiting}
+use Rattle.private_store.specs.rules.Private.{Store, private_outcome}
+use Rattle.private_store.specs.rules.Cluster.{cluster_step, at_node, deliver, cluster_from, no_cluster, told_from}
+use Rattle.private_store.specs.rules.Hands.{Hand, new_hand, with_hand, hands_ended, hands_left, is_withdrawn, is_of_task, is_given_by}
+use Rattle.private_store.specs.rules.Trace.{Given, hands_at, hands_step, own_input, notes, for_job, granted_bytes, received_note, withdrawn_note, inputs_until, cluster_until, is_out, out_after, is_no_memory, reply_of, replies_of}
+use Rattle.private_store.specs.rules.Shared.{lives_after, lives_step, is_admission, taken_at, outcome_works, works_asked_by, asked_by, leaves, waiting}
 use Rattle.store_facts.proofs.Runs.{cluster_until-step, cluster_from-append}
 use Rattle.store_facts.proofs.Tests.{true_false, none_some, some_value, both_left, both_right, not_true, refuted}
 use Rattle.grants.specs.Table.{AreHands}
 use Rattle.grants.proofs.ForCallers.{made_for}
-use Rattle.hand_laws.specs.Standing.{is_told}
+use Rattle.hand_laws.specs.Standing.{is_told_of}
 use Rattle.hand_laws.specs.Telling.{is_of_others, is_aside}
 use Rattle.hand_laws.proofs.WhatEnds.{stands_after}
 use Rattle.hand_laws.proofs.WhatIsSeen.{not_home}
@@ -153,11 +153,11 @@ module _ (nodes : ℕ) where
         ]
 
   -- a new hand isn't to the object's own job
-  new_away : (hands : List Hand) (id : ObjectId) (giver taker : ℕ) → AreHands (with_hand hands id giver taker) → ((new_hand hands id giver taker).taker == id.job.0) ≡ false
-  new_away hands id giver taker table =
-      let h = new_hand hands id giver taker in
-      ap (λ x. h.taker == x.job.0) (sym (made_for (λ _. 0) hands giver id taker).0)
-      ∙ not_home [] (with_hand hands id giver taker) table.stand h (stands_after h hands (h ∷ []) (inl refl))
+  new_away : (hands : List Hand) (id : ObjectId) (grantor grantee : ℕ) → AreHands (with_hand hands id grantor grantee) → ((new_hand hands id grantor grantee).grantee == id.job.0) ≡ false
+  new_away hands id grantor grantee table =
+      let h = new_hand hands id grantor grantee in
+      ap (λ x. h.grantee == x.job.0) (sym (made_for (λ _. 0) hands grantor id grantee).0)
+      ∙ not_home [] (with_hand hands id grantor grantee) table.stand h (stands_after h hands (h ∷ []) (inl refl))
 
   -- at its node the table changes, and no other does
   changed : (j m n : ℕ) (F G : List Hand) (H K : List Hand) → ((m == n) ≡ true → foreign_hands j F ≡ foreign_hands j G) → foreign_hands j H ≡ foreign_hands j K → foreign_hands j (if m == n then F else H) ≡ foreign_hands j (if m == n then G else K)
@@ -178,7 +178,7 @@ module _ (nodes : ℕ) where
         let h = new_hand hands id k.0 target.0 in
         let table : AreHands (with_hand hands id k.0 target.0) = subst (λ b. AreHands (if b then with_hand hands id k.0 target.0 else hands)) (eq-eqb m m refl) (next.table m) in
         hidden_by j before stand m session k (command.Grant id target) (answer.Told reply.Ok) others (of_none id is)
-        (ap (λ b. map (λ g. g.input) (cond b (received_note nodes m (λ other. inputs_until nodes other before) h ∷ []) [])) (ap (λ x. h.taker == x) (sym is) ∙ new_away hands id k.0 target.0 table))
+        (ap (λ b. map (λ g. g.input) (cond b (received_note nodes m (λ other. inputs_until nodes other before) h ∷ []) [])) (ap (λ x. h.grantee == x) (sym is) ∙ new_away hands id k.0 target.0 table))
         (λ n. changed j m n (with_hand (hands_at n before) id k.0 target.0) (hands_at n before) (hands_at n before) (hands_at n before) (λ _. with_own j (hands_at n before) id k.0 target.0 (eq-eqb id.job.0 j is)) refl
         ∙ ap (foreign_hands j) (if_same (m == n) (hands_at n before)))
     hidden_grant id target t others is next = hidden_by j before stand m session k (command.Grant id target) t others (of_none id is) refl (λ n. refl)
@@ -187,7 +187,7 @@ module _ (nodes : ℕ) where
     hidden_withdraw id target (answer.Told reply.Ok) others is =
         let test = is_withdrawn k.0 id target.0 in
         let stay : (h : Hand) → is_foreign j h ≡ true → test h ≡ false = λ h foreign. refuted (test h) (λ t.
-        let same = both_right (h.giver == k.0) (same_id id h.id) (both_left (h.giver == k.0 && same_id id h.id) (h.taker == target.0) t) in
+        let same = both_right (h.grantor == k.0) (same_id id h.id) (both_left (h.grantor == k.0 && same_id id h.id) (h.grantee == target.0) t) in
         sym (ap not (eq-eqb h.id.job.0 j (ap (λ x. x.job.0) (sym (same_id-equal id h.id same)) ∙ is))) ∙ foreign) in
         hidden_by j before stand m session k (command.Withdraw id target) (answer.Told reply.Ok) others (of_none id is)
         (told_notes nodes before stand m j (hands_ended test (hands_at m before)) ∙ ap (λ l. map (at_node m) (map end_told l)) (none_told j test stay (hands_at m before) (stand.table m)))
@@ -277,9 +277,9 @@ module _ (nodes : ℕ) where
         elim (target.0 == j) as (λ t. (target.0 == j) ≡ t → for_job j (na ∷ []) ≡ for_job j (nb ∷ [])) [
           | true ↦ λ to.
               let foreign : (id.job.0 == j) ≡ false = refuted (id.job.0 == j) (λ own.
-              sym (new_away (hands_at m a) id k.0 target.0 table) ∙ eq-eqb ha.taker id.job.0 (ma.2 ∙ eqb-true target.0 j to ∙ sym (eqb-true id.job.0 j own))) in
+              sym (new_away (hands_at m a) id k.0 target.0 table) ∙ eq-eqb ha.grantee id.job.0 (ma.2 ∙ eqb-true target.0 j to ∙ sym (eqb-true id.job.0 j own))) in
               ap (λ h. for_job j (received_note nodes m (λ other. inputs_until nodes other a) h ∷ [])) (new_same j (hands_at m a) (hands_at m b) (same.hands m) id k.0 target.0 foreign)
-              ∙ ap (λ bytes. for_job j (record { job = hb.taker; input = at_node m (input.Received hb.id bytes (record { 0 = hb.giver }) hb.depth) } ∷ [])) (bytes_same m hb.id (ap (λ x. x.job.0 == j) mb.0 ∙ foreign))
+              ∙ ap (λ bytes. for_job j (record { job = hb.grantee; input = at_node m (input.Received hb.id bytes (record { 0 = hb.grantor }) hb.depth) } ∷ [])) (bytes_same m hb.id (ap (λ x. x.job.0 == j) mb.0 ∙ foreign))
           | false ↦ λ away.
               ap (λ t. map (λ g. g.input) (cond t (na ∷ []) [])) (ap (λ x. x == j) ma.2 ∙ away)
               ∙ sym (ap (λ t. map (λ g. g.input) (cond t (nb ∷ []) [])) (ap (λ x. x == j) mb.2 ∙ away))
@@ -367,7 +367,7 @@ module _ (nodes : ℕ) where
     abbrev TakenAlike : Step → StepAnswer → Type 0
     TakenAlike s t = (g : Given) → own_input a s t ≡ Some g → Alike g.job (cluster_until nodes g.job a) (cluster_until nodes g.job b) g.input
 
-    taken_alike : (s : Step) (t : StepAnswer) → is_told s t ≡ true → Answers nodes a s t → Answers nodes b s t → TakenAlike s t
+    taken_alike : (s : Step) (t : StepAnswer) → is_told_of s t ≡ true → Answers nodes a s t → Answers nodes b s t → TakenAlike s t
     taken_alike (steps.At m (event.Call k session c)) (answer.Told r) told pa pb g e = by (is_no_memory (answer.Told r)) refl e
       where
         by : (u : Bool) → is_no_memory (answer.Told r) ≡ u → (if u then None else Some (record { job = k.0; input = at_node m (input.Call session c) })) ≡ Some g → Alike g.job (cluster_until nodes g.job a) (cluster_until nodes g.job b) g.input
@@ -420,7 +420,7 @@ module _ (nodes : ℕ) where
     asked_same n (Some g) alike = given_works n g (alike g refl)
 
     -- so the two histories are as before after a step that both have
-    pub shown : (s : Step) (t : StepAnswer) → Stand nodes (record { step = s; answer = t } ∷ a) → is_told s t ≡ true → Answers nodes a s t → Answers nodes b s t → SameFor nodes j (record { step = s; answer = t } ∷ a) (record { step = s; answer = t } ∷ b)
+    pub shown : (s : Step) (t : StepAnswer) → Stand nodes (record { step = s; answer = t } ∷ a) → is_told_of s t ≡ true → Answers nodes a s t → Answers nodes b s t → SameFor nodes j (record { step = s; answer = t } ∷ a) (record { step = s; answer = t } ∷ b)
     shown s t next told pa pb =
         let entry : Traced = record { step = s; answer = t } in
         record {

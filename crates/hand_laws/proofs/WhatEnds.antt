@@ -8,10 +8,10 @@ use Rattle.std.proofs.lemmas.Bool.Decides.{nat_tests}
 use Rattle.std.proofs.lemmas.List.Folds.{list_any-append}
 use Rattle.obj_id.specs.Ids.{same_id}
 use Rattle.store_facts.proofs.Ids.{same_id-equal}
-use Rattle.private_store.specs.Limits.{greatest_depth}
-use Rattle.private_store.specs.Hands.{Hand, same_hand, hangs_on, ended_from, hands_sorted}
+use Rattle.private_store.specs.rules.Limits.{greatest_depth}
+use Rattle.private_store.specs.rules.Hands.{Hand, same_hand, is_child_of, ended_from, hands_sorted}
 use Rattle.store_facts.proofs.Tests.{true_false, both, both_left, both_right, or_cases, or_left, or_right, or_false, refuted}
-use Rattle.grants.specs.Table.{AreHands, is_no_taker, hangs_right, is_hung, may_stand, all_stand}
+use Rattle.grants.specs.Table.{AreHands, is_no_grantee, hangs_right, is_hung, hand_may_stand, all_stand}
 use Rattle.grants.proofs.ForCallers.{same_alike, same_itself, same_through, numbers_equal, apart, filter_both, append_nothing, any_filter}
 use Rattle.hand_laws.proofs.InOrder.{sorted_rises}
 use Rattle.hand_laws.specs.Ending.{ends_within, ends_with, stands, EndsAlong}
@@ -78,11 +78,11 @@ append_in (x ∷ xs) ys zs = ap (λ r. x ∷ r) (append_in xs ys zs)
 
 -- ---- hands in tables
 
--- two standing hands with the same object, giver and taker are one
+-- two standing hands with the same object, grantor and grantee are one
 only_one : (before hs : List Hand) → all_stand before hs ≡ true → (a b : Hand) → stands a hs → stands b hs → same_hand a b ≡ true → a ≡ b
 only_one before [] s a b x y e = absurd x
 only_one before (h ∷ hs) s a b x y e =
-    let rest = both_right (may_stand before h) (all_stand (before ++ h ∷ []) hs) s in
+    let rest = both_right (hand_may_stand before h) (all_stand (before ++ h ∷ []) hs) s in
     let young : (c d : Hand) → h ≡ c → stands d hs → same_hand c d ≡ true → ⊥ =
     λ c d is at t. apart (before ++ h ∷ []) hs c rest
     (any_of (same_hand c) c (before ++ h ∷ []) (stands_after c before (h ∷ []) (inl is)) (same_itself c)) (any_of (same_hand c) d hs at t) in
@@ -92,25 +92,25 @@ only_one before (h ∷ hs) s a b x y e =
     ]
 
 -- a hand hangs on one hand alone
-same_below : (h a b : Hand) → hangs_on h a ≡ true → hangs_on h b ≡ true → same_hand a b ≡ true
+same_below : (h a b : Hand) → is_child_of h a ≡ true → is_child_of h b ≡ true → same_hand a b ≡ true
 same_below h a b p q =
-    let p1 = both_left (same_id h.id a.id && h.giver == a.taker) (option_map_or (λ g. g == a.giver) h.hangs_on false) p in
-    let q1 = both_left (same_id h.id b.id && h.giver == b.taker) (option_map_or (λ g. g == b.giver) h.hangs_on false) q in
-    let p2 = both_right (same_id h.id a.id && h.giver == a.taker) (option_map_or (λ g. g == a.giver) h.hangs_on false) p in
-    let q2 = both_right (same_id h.id b.id && h.giver == b.taker) (option_map_or (λ g. g == b.giver) h.hangs_on false) q in
+    let p1 = both_left (same_id h.id a.id && h.grantor == a.grantee) (option_map_or (λ g. g == a.grantor) h.parent false) p in
+    let q1 = both_left (same_id h.id b.id && h.grantor == b.grantee) (option_map_or (λ g. g == b.grantor) h.parent false) q in
+    let p2 = both_right (same_id h.id a.id && h.grantor == a.grantee) (option_map_or (λ g. g == a.grantor) h.parent false) p in
+    let q2 = both_right (same_id h.id b.id && h.grantor == b.grantee) (option_map_or (λ g. g == b.grantor) h.parent false) q in
     same_alike a b
-    (sym (same_id-equal h.id a.id (both_left (same_id h.id a.id) (h.giver == a.taker) p1)) ∙ same_id-equal h.id b.id (both_left (same_id h.id b.id) (h.giver == b.taker) q1))
-    (givers h.hangs_on p2 q2)
-    (sym (numbers_equal h.giver a.taker (both_right (same_id h.id a.id) (h.giver == a.taker) p1)) ∙ numbers_equal h.giver b.taker (both_right (same_id h.id b.id) (h.giver == b.taker) q1))
+    (sym (same_id-equal h.id a.id (both_left (same_id h.id a.id) (h.grantor == a.grantee) p1)) ∙ same_id-equal h.id b.id (both_left (same_id h.id b.id) (h.grantor == b.grantee) q1))
+    (grantors h.parent p2 q2)
+    (sym (numbers_equal h.grantor a.grantee (both_right (same_id h.id a.id) (h.grantor == a.grantee) p1)) ∙ numbers_equal h.grantor b.grantee (both_right (same_id h.id b.id) (h.grantor == b.grantee) q1))
   where
-    givers : (o : Option ℕ) → option_map_or (λ g. g == a.giver) o false ≡ true → option_map_or (λ g. g == b.giver) o false ≡ true → a.giver ≡ b.giver
-    givers None e f = true_false e
-    givers (Some g) e f = sym (numbers_equal g a.giver e) ∙ numbers_equal g b.giver f
+    grantors : (o : Option ℕ) → option_map_or (λ g. g == a.grantor) o false ≡ true → option_map_or (λ g. g == b.grantor) o false ≡ true → a.grantor ≡ b.grantor
+    grantors None e f = true_false e
+    grantors (Some g) e f = sym (numbers_equal g a.grantor e) ∙ numbers_equal g b.grantor f
 
 -- a hand hangs on nothing, or on a standing hand that is one less deep
 pub data Hung (all : List Hand) (h : Hand) : Type 0 where
-  on_nothing : h.giver ≡ h.id.job.0 → h.depth ≡ 1 → ((b : Hand) → hangs_on h b ≡ false) → Hung all h
-  on : (b : Hand) → stands b all → hangs_on h b ≡ true → h.depth ≡ suc b.depth → nat_le h.depth greatest_depth ≡ true → Hung all h
+  on_nothing : h.grantor ≡ h.id.job.0 → h.depth ≡ 1 → ((b : Hand) → is_child_of h b ≡ false) → Hung all h
+  on : (b : Hand) → stands b all → is_child_of h b ≡ true → h.depth ≡ suc b.depth → nat_le h.depth greatest_depth ≡ true → Hung all h
 
 pub and_no : (b : Bool) → (b && false) ≡ false
 and_no true = refl
@@ -119,26 +119,26 @@ and_no false = refl
 one_deeper : (d n : ℕ) → d ≡ n + 1 → d ≡ suc n
 one_deeper d n e = omega (arith, e)
 
-hung_by : (all before : List Hand) (h : Hand) → ((b : Hand) → stands b before → stands b all) → (o : Option ℕ) → h.hangs_on ≡ o → hangs_right before h o ≡ true → Hung all h
+hung_by : (all before : List Hand) (h : Hand) → ((b : Hand) → stands b before → stands b all) → (o : Option ℕ) → h.parent ≡ o → hangs_right before h o ≡ true → Hung all h
 hung_by all before h up None is e =
-    on_nothing (numbers_equal h.giver h.id.job.0 (both_left (h.giver == h.id.job.0) (h.depth == 1) e)) (numbers_equal h.depth 1 (both_right (h.giver == h.id.job.0) (h.depth == 1) e))
-    (λ b. ap (λ o. (same_id h.id b.id && h.giver == b.taker) && option_map_or (λ g. g == b.giver) o false) is ∙ and_no (same_id h.id b.id && h.giver == b.taker))
+    on_nothing (numbers_equal h.grantor h.id.job.0 (both_left (h.grantor == h.id.job.0) (h.depth == 1) e)) (numbers_equal h.depth 1 (both_right (h.grantor == h.id.job.0) (h.depth == 1) e))
+    (λ b. ap (λ o. (same_id h.id b.id && h.grantor == b.grantee) && option_map_or (λ g. g == b.grantor) o false) is ∙ and_no (same_id h.id b.id && h.grantor == b.grantee))
 hung_by all before h up (Some g) is e =
-    let over : Hand → Bool = λ b. hangs_on h b && h.depth == b.depth + 1 in
-    let front : Bool = not (h.giver == h.id.job.0) && nat_le h.depth greatest_depth in
+    let over : Hand → Bool = λ b. is_child_of h b && h.depth == b.depth + 1 in
+    let front : Bool = not (h.grantor == h.id.job.0) && nat_le h.depth greatest_depth in
     let b = one_of over before (both_right front (list_any over before) e) in
-    on b.0 (up b.0 b.1) (both_left (hangs_on h b.0) (h.depth == b.0.depth + 1) b.2)
-    (one_deeper h.depth b.0.depth (numbers_equal h.depth (b.0.depth + 1) (both_right (hangs_on h b.0) (h.depth == b.0.depth + 1) b.2)))
-    (both_right (not (h.giver == h.id.job.0)) (nat_le h.depth greatest_depth) (both_left front (list_any over before) e))
+    on b.0 (up b.0 b.1) (both_left (is_child_of h b.0) (h.depth == b.0.depth + 1) b.2)
+    (one_deeper h.depth b.0.depth (numbers_equal h.depth (b.0.depth + 1) (both_right (is_child_of h b.0) (h.depth == b.0.depth + 1) b.2)))
+    (both_right (not (h.grantor == h.id.job.0)) (nat_le h.depth greatest_depth) (both_left front (list_any over before) e))
 
 hung_from : (all before hs : List Hand) → before ++ hs ≡ all → all_stand before hs ≡ true → (h : Hand) → stands h hs → Hung all h
 hung_from all before [] is s h a = absurd a
 hung_from all before (x ∷ hs) is s h a =
     elim a [
       | inl e ↦ subst (Hung all) e
-          (hung_by all before x (λ b at. subst (stands b) is (stands_before b before (x ∷ hs) at)) x.hangs_on refl
-          (both_right (not (is_no_taker x.id x.giver x.taker) && not (list_any (same_hand x) before)) (is_hung before x) (both_left (may_stand before x) (all_stand (before ++ x ∷ []) hs) s)))
-      | inr r ↦ hung_from all (before ++ x ∷ []) hs (append_in before (x ∷ []) hs ∙ is) (both_right (may_stand before x) (all_stand (before ++ x ∷ []) hs) s) h r
+          (hung_by all before x (λ b at. subst (stands b) is (stands_before b before (x ∷ hs) at)) x.parent refl
+          (both_right (not (is_no_grantee x.id x.grantor x.grantee) && not (list_any (same_hand x) before)) (is_hung before x) (both_left (hand_may_stand before x) (all_stand (before ++ x ∷ []) hs) s)))
+      | inr r ↦ hung_from all (before ++ x ∷ []) hs (append_in before (x ∷ []) hs ∙ is) (both_right (hand_may_stand before x) (all_stand (before ++ x ∷ []) hs) s) h r
     ]
 
 depth_less : (d b n : ℕ) → d ≡ suc b → d ≤ suc (suc n) → b ≤ suc n
@@ -170,7 +170,7 @@ module _ (hands : List Hand) (table : AreHands hands) where
   deep h a = elim (hung h a) [ on_nothing f d n ↦ (0, depth_at_least h.depth d 0 refl) | on b at o d s ↦ (b.depth, d) ]
 
   -- depths go up by one
-  pub deeper : (h b : Hand) → stands h hands → stands b hands → hangs_on h b ≡ true → h.depth ≡ suc b.depth
+  pub deeper : (h b : Hand) → stands h hands → stands b hands → is_child_of h b ≡ true → h.depth ≡ suc b.depth
   deeper h b x y o =
       elim (hung h x) [
         | on_nothing f d n ↦ true_false (sym (n b) ∙ o)
@@ -179,27 +179,27 @@ module _ (hands : List Hand) (table : AreHands hands) where
 
   module _ (test : Hand → Bool) where
     abbrev hangs : ℕ → Hand → Hand → Bool
-    hangs n h b = hangs_on h b && ends_within n test hands b
+    hangs n h b = is_child_of h b && ends_within n test hands b
 
     -- as many steps as the hand is deep find all that it hangs on
     enough : (n : ℕ) (h : Hand) → stands h hands → h.depth ≤ suc n → ends_within n test hands h ≡ ends_within (suc n) test hands h
     enough zero h a d =
         let none : list_any (hangs 0 h) hands ≡ false = any_none (hangs 0 h) hands (λ b at.
         refuted (hangs 0 h b) (λ t.
-        let o = both_left (hangs_on h b) (test b) t in
+        let o = both_left (is_child_of h b) (test b) t in
         let k = deep b at in
         absurd (not_first h.depth k.0 (deeper h b a at o ∙ ap (λ x. suc x) k.1) d))) in
         sym (or_false (test h)) ∙ ap (λ x. test h || x) (sym none)
     enough (suc n) h a d =
         ap (λ x. test h || x) (any_same (hangs n h) (hangs (suc n) h) hands (λ b at.
-        elim (hangs_on h b) as (λ t. hangs_on h b ≡ t → (t && ends_within n test hands b) ≡ (t && ends_within (suc n) test hands b)) [
+        elim (is_child_of h b) as (λ t. is_child_of h b ≡ t → (t && ends_within n test hands b) ≡ (t && ends_within (suc n) test hands b)) [
           | true ↦ λ o. enough n b at (depth_less h.depth b.depth n (deeper h b a at o) d)
           | false ↦ λ o. refl
         ] refl))
 
     -- a hand ends if it passes the test or hangs on one that ends
-    pub ends_by : (h : Hand) → stands h hands → ends_with test hands h ≡ test h || list_any (λ b. hangs_on h b && ends_with test hands b) hands
-    ends_by h a = ap (λ x. test h || x) (any_same (hangs 2 h) (hangs 3 h) hands (λ b at. ap (λ x. hangs_on h b && x) (enough 2 b at (at_most_three b at))))
+    pub ends_by : (h : Hand) → stands h hands → ends_with test hands h ≡ test h || list_any (λ b. is_child_of h b && ends_with test hands b) hands
+    ends_by h a = ap (λ x. test h || x) (any_same (hangs 2 h) (hangs 3 h) hands (λ b at. ap (λ x. is_child_of h b && x) (enough 2 b at (at_most_three b at))))
 
     abbrev goes : Hand → Bool
     goes h = ends_with test hands h
@@ -211,27 +211,27 @@ module _ (hands : List Hand) (table : AreHands hands) where
     swapped false false = refl
 
     -- a hand doesn't hang on itself or a younger one
-    none_younger : (before hs : List Hand) (h : Hand) → before ++ h ∷ hs ≡ hands → all_stand before (h ∷ hs) ≡ true → (b : Hand) → stands b (h ∷ hs) → hangs_on h b ≡ false
+    none_younger : (before hs : List Hand) (h : Hand) → before ++ h ∷ hs ≡ hands → all_stand before (h ∷ hs) ≡ true → (b : Hand) → stands b (h ∷ hs) → is_child_of h b ≡ false
     none_younger before hs h is s b at =
-        refuted (hangs_on h b) (λ o. absurd (by_place h.hangs_on refl (both_right (not (is_no_taker h.id h.giver h.taker) && not (list_any (same_hand h) before)) (is_hung before h) (both_left (may_stand before h) (all_stand (before ++ h ∷ []) hs) s)) o))
+        refuted (is_child_of h b) (λ o. absurd (by_place h.parent refl (both_right (not (is_no_grantee h.id h.grantor h.grantee) && not (list_any (same_hand h) before)) (is_hung before h) (both_left (hand_may_stand before h) (all_stand (before ++ h ∷ []) hs) s)) o))
       where
-        by_place : (o : Option ℕ) → h.hangs_on ≡ o → hangs_right before h o ≡ true → hangs_on h b ≡ true → ⊥
-        by_place None e r t = true_false (sym (ap (λ x. (same_id h.id b.id && h.giver == b.taker) && option_map_or (λ g. g == b.giver) x false) e ∙ and_no (same_id h.id b.id && h.giver == b.taker)) ∙ t)
+        by_place : (o : Option ℕ) → h.parent ≡ o → hangs_right before h o ≡ true → is_child_of h b ≡ true → ⊥
+        by_place None e r t = true_false (sym (ap (λ x. (same_id h.id b.id && h.grantor == b.grantee) && option_map_or (λ g. g == b.grantor) x false) e ∙ and_no (same_id h.id b.id && h.grantor == b.grantee)) ∙ t)
         by_place (Some g) e r t =
-            let over : Hand → Bool = λ c. hangs_on h c && h.depth == c.depth + 1 in
-            let front : Bool = not (h.giver == h.id.job.0) && nat_le h.depth greatest_depth in
+            let over : Hand → Bool = λ c. is_child_of h c && h.depth == c.depth + 1 in
+            let front : Bool = not (h.grantor == h.id.job.0) && nat_le h.depth greatest_depth in
             let c = one_of over before (both_right front (list_any over before) r) in
-            let alike = same_below h b c.0 t (both_left (hangs_on h c.0) (h.depth == c.0.depth + 1) c.2) in
+            let alike = same_below h b c.0 t (both_left (is_child_of h c.0) (h.depth == c.0.depth + 1) c.2) in
             apart before (h ∷ hs) b s (any_of (same_hand b) c.0 before c.1 alike) (any_of (same_hand b) b (h ∷ hs) at (same_itself b))
 
     ends_now : (before hs : List Hand) (h : Hand) → before ++ h ∷ hs ≡ hands → all_stand before (h ∷ hs) ≡ true
-        → test h || list_any (hangs_on h) (filter goes before) ≡ goes h
+        → test h || list_any (is_child_of h) (filter goes before) ≡ goes h
     ends_now before hs h is s =
-        let p : Hand → Bool = λ b. hangs_on h b && goes b in
-        let q : Hand → Bool = λ b. goes b && hangs_on h b in
+        let p : Hand → Bool = λ b. is_child_of h b && goes b in
+        let q : Hand → Bool = λ b. goes b && is_child_of h b in
         let here : stands h hands = subst (stands h) is (stands_after h before (h ∷ hs) (inl refl)) in
-        let old : list_any (hangs_on h) (filter goes before) ≡ list_any p before =
-        any_filter (hangs_on h) goes before ∙ any_same q p before (λ b _. swapped (goes b) (hangs_on h b)) in
+        let old : list_any (is_child_of h) (filter goes before) ≡ list_any p before =
+        any_filter (is_child_of h) goes before ∙ any_same q p before (λ b _. swapped (goes b) (is_child_of h b)) in
         let young : list_any p (h ∷ hs) ≡ false = any_none p (h ∷ hs) (λ b at. ap (λ t. t && goes b) (none_younger before hs h is s b at)) in
         let all : list_any p hands ≡ list_any p before =
         ap (list_any p) (sym is) ∙ list_any-append p before (h ∷ hs) ∙ ap (λ t. list_any p before || t) young ∙ or_false (list_any p before) in
@@ -241,12 +241,12 @@ module _ (hands : List Hand) (table : AreHands hands) where
     from before [] is s = ap (filter goes) (sym (append_nothing before) ∙ is)
     from before (h ∷ hs) is s =
         let gone = filter goes before in
-        let next : (if test h || list_any (hangs_on h) gone then gone ++ h ∷ [] else gone) ≡ filter goes (before ++ h ∷ []) =
+        let next : (if test h || list_any (is_child_of h) gone then gone ++ h ∷ [] else gone) ≡ filter goes (before ++ h ∷ []) =
         ap (λ t. if t then gone ++ h ∷ [] else gone) (ends_now before hs h is s)
         ∙ by_test (goes h) gone
         ∙ sym (filter_both goes before (h ∷ [])) in
         ap (λ l. ended_from test l hs) next
-        ∙ from (before ++ h ∷ []) hs (append_in before (h ∷ []) hs ∙ is) (both_right (may_stand before h) (all_stand (before ++ h ∷ []) hs) s)
+        ∙ from (before ++ h ∷ []) hs (append_in before (h ∷ []) hs ∙ is) (both_right (hand_may_stand before h) (all_stand (before ++ h ∷ []) hs) s)
       where
         by_test : (t : Bool) (gone : List Hand) → (if t then gone ++ h ∷ [] else gone) ≡ gone ++ cond t (h ∷ []) []
         by_test true gone = refl
@@ -270,5 +270,5 @@ module _ (hands : List Hand) (table : AreHands hands) where
       in_order = sorted_rises (ended_from test [] hands);
       test_ends = λ h t. or_left (test h) (list_any (hangs 2 h) hands) t;
       along = λ h b x y o t.
-          ends_by h x ∙ or_right (test h) (list_any (λ c. hangs_on h c && goes c) hands) (any_of (λ c. hangs_on h c && goes c) b hands y (both (hangs_on h b) (goes b) o t));
+          ends_by h x ∙ or_right (test h) (list_any (λ c. is_child_of h c && goes c) hands) (any_of (λ c. is_child_of h c && goes c) b hands y (both (is_child_of h b) (goes b) o t));
     }

@@ -15,20 +15,20 @@ use Rattle.private_store.specs.declared.inputs.Judged.TheVariants as judged
 use Rattle.private_store.specs.declared.schedules.Event.{Event}
 use Rattle.private_store.specs.declared.schedules.Event.TheVariants as event
 use Rattle.private_store.specs.declared.schedules.Traced.{Traced}
-use Rattle.private_store.specs.Cluster.{ClusterInput}
-use Rattle.private_store.specs.Limits.{most_bytes}
-use Rattle.private_store.specs.Tables.{at}
-use Rattle.private_store.specs.Shape.{Shape, Seen}
-use Rattle.private_store.specs.Change.{replied, checked, erasing}
-use Rattle.private_store.specs.Commands.{peek}
-use Rattle.private_store.specs.Events.{hands_of, is_live}
-use Rattle.private_store.specs.Step.{step}
-use Rattle.private_store.specs.Contents.{View, whole_reply}
-use Rattle.private_store.specs.Private.{Store, view_of}
-use Rattle.private_store.specs.Hands.{Hand, same_hand, hands_left, hands_ended}
-use Rattle.private_store.specs.Trace.{ends, hands_at, hands_by, notes_by, withdrawn_note}
+use Rattle.private_store.specs.rules.Cluster.{ClusterInput}
+use Rattle.private_store.specs.rules.Limits.{most_bytes}
+use Rattle.private_store.specs.rules.Tables.{at}
+use Rattle.private_store.specs.rules.Shape.{Shape, Seen}
+use Rattle.private_store.specs.rules.Change.{replied, checked, erasing}
+use Rattle.private_store.specs.rules.Commands.{peek}
+use Rattle.private_store.specs.rules.Events.{hands_of, is_live}
+use Rattle.private_store.specs.rules.Step.{step}
+use Rattle.private_store.specs.rules.Contents.{View, whole_reply}
+use Rattle.private_store.specs.rules.Private.{Store, view_of}
+use Rattle.private_store.specs.rules.Hands.{Hand, same_hand, hands_left, hands_ended}
+use Rattle.private_store.specs.rules.Trace.{ends, hands_at, hands_by, notes_by, withdrawn_note}
 use Rattle.store_facts.proofs.Tests.{true_false, none_some, both_left, both_right, or_false_left, or_false_right, not_true, refuted}
-use Rattle.grants.specs.Table.{AreHands, shows, is_no_taker, may_stand, all_stand, is_hung}
+use Rattle.grants.specs.Table.{AreHands, shows, is_no_grantee, hand_may_stand, all_stand, is_hung}
 use Rattle.store_facts.proofs.Checks.{checked-nil, checked-true, checked-false, needing-none, needing-some}
 use Rattle.store_facts.proofs.Ids.{same_id-equal}
 use Rattle.obj_id.specs.declared.commands.Reply.{Reply}
@@ -67,15 +67,15 @@ ends_there nodes node trace e test h is =
 -- ---- who sees what
 
 -- nobody gives an object to its own job
-pub not_home : (before hs : List Hand) → all_stand before hs ≡ true → (h : Hand) → stands h hs → (h.taker == h.id.job.0) ≡ false
+pub not_home : (before hs : List Hand) → all_stand before hs ≡ true → (h : Hand) → stands h hs → (h.grantee == h.id.job.0) ≡ false
 not_home before [] s h a = absurd a
 not_home before (x ∷ hs) s h a =
-    let taker = not (is_no_taker x.id x.giver x.taker) in
+    let grantee = not (is_no_grantee x.id x.grantor x.grantee) in
     let new = not (list_any (same_hand x) before) in
-    let k : taker ≡ true = both_left taker new (both_left (taker && new) (is_hung before x) (both_left (may_stand before x) (all_stand (before ++ x ∷ []) hs) s)) in
+    let k : grantee ≡ true = both_left grantee new (both_left (grantee && new) (is_hung before x) (both_left (hand_may_stand before x) (all_stand (before ++ x ∷ []) hs) s)) in
     elim a [
-      | inl is ↦ subst (λ y. (y.taker == y.id.job.0) ≡ false) is (or_false_right (x.taker == 0 || x.taker == x.giver) (x.taker == x.id.job.0) (not_true (is_no_taker x.id x.giver x.taker) k))
-      | inr r ↦ not_home (before ++ x ∷ []) hs (both_right (may_stand before x) (all_stand (before ++ x ∷ []) hs) s) h r
+      | inl is ↦ subst (λ y. (y.grantee == y.id.job.0) ≡ false) is (or_false_right (x.grantee == 0 || x.grantee == x.grantor) (x.grantee == x.id.job.0) (not_true (is_no_grantee x.id x.grantor x.grantee) k))
+      | inr r ↦ not_home (before ++ x ∷ []) hs (both_right (hand_may_stand before x) (all_stand (before ++ x ∷ []) hs) s) h r
     ]
 
 module _ (order : List ObjectId) (store : Shape) (live : is_live store ≡ true) (session : ℕ) (id : ObjectId) (offset n : ℕ) where
@@ -132,11 +132,11 @@ module _ (job : ℕ) (hands : List Hand) (table : AreHands hands) (store : Store
       elim (list_any (shows id job) hands) as (λ t. list_any (shows id job) hands ≡ t → t ≡ false) [
         | true ↦ λ t.
             let h = one_of (shows id job) hands t in
-            let ids : id ≡ h.0.id = same_id-equal id h.0.id (both_left (same_id id h.0.id) (h.0.taker == job) h.2) in
+            let ids : id ≡ h.0.id = same_id-equal id h.0.id (both_left (same_id id h.0.id) (h.0.grantee == job) h.2) in
             let away : (id.job.0 == store.shape.job) ≡ false =
             refuted (id.job.0 == store.shape.job) (λ u.
-            sym (not_home [] hands table.stand h.0 h.1) ∙ eq-eqb h.0.taker h.0.id.job.0
-            (eqb-true h.0.taker job (both_right (same_id id h.0.id) (h.0.taker == job) h.2) ∙ sym fits.job ∙ sym (eqb-true id.job.0 store.shape.job u) ∙ ap (λ i. i.job.0) ids)) in
+            sym (not_home [] hands table.stand h.0 h.1) ∙ eq-eqb h.0.grantee h.0.id.job.0
+            (eqb-true h.0.grantee job (both_right (same_id id h.0.id) (h.0.grantee == job) h.2) ∙ sym fits.job ∙ sym (eqb-true id.job.0 store.shape.job u) ∙ ap (λ i. i.job.0) ids)) in
             let asked = whole_refused (view_of store) (input.Call session (command.Peek id offset n)) _ NotGranted e in
             absurd (by_row (at store.shape.received id) refl t away (sym (peeked (view_of store).order store.shape live session id offset n) ∙ asked))
         | false ↦ λ t. refl

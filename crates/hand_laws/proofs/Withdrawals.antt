@@ -13,14 +13,14 @@ use Rattle.obj_id.specs.Ids.{same_id}
 use Rattle.store_facts.proofs.Ids.{same_id-equal}
 use Rattle.private_store.specs.declared.inputs.Input.TheVariants as input
 use Rattle.private_store.specs.declared.schedules.Traced.{Traced}
-use Rattle.private_store.specs.Shape.{HandGiven}
-use Rattle.private_store.specs.Change.{done, settled, checked, erasing}
-use Rattle.private_store.specs.Commands.{has_given, withdraw}
-use Rattle.private_store.specs.Events.{is_live}
-use Rattle.private_store.specs.Contents.{whole_reply}
-use Rattle.private_store.specs.Private.{Store, view_of, private_outcome}
-use Rattle.private_store.specs.Hands.{Hand, is_given_by}
-use Rattle.private_store.specs.Trace.{hands_at, cluster_until}
+use Rattle.private_store.specs.rules.Shape.{HandGiven}
+use Rattle.private_store.specs.rules.Change.{done, settled, checked, erasing}
+use Rattle.private_store.specs.rules.Commands.{has_given, withdraw}
+use Rattle.private_store.specs.rules.Events.{is_live}
+use Rattle.private_store.specs.rules.Contents.{whole_reply}
+use Rattle.private_store.specs.rules.Private.{Store, view_of, private_outcome}
+use Rattle.private_store.specs.rules.Hands.{Hand, is_given_by}
+use Rattle.private_store.specs.rules.Trace.{hands_at, cluster_until}
 use Rattle.grants.specs.Table.{given_by}
 use Rattle.grants.specs.Private.{as_given}
 use Rattle.grants.proofs.ForCallers.{any_filter}
@@ -50,14 +50,14 @@ any_given test other same (h ∷ hands) = λ i. same h i || any_given test other
 
 module _ (j : ℕ) (k : ℕ) (id : ObjectId) (target : ℕ) (foreign : (id.job.0 == j) ≡ false) where
   abbrev is_that : Hand → Bool
-  is_that h = is_given_by k h && (same_id id h.id && h.taker == target)
+  is_that h = is_given_by k h && (same_id id h.id && h.grantee == target)
 
   -- only the foreign hands tell
   any_that : (hands : List Hand) → list_any is_that hands ≡ list_any is_that (foreign_hands j hands)
   any_that hands =
       any_same is_that (λ h. is_foreign j h && is_that h) hands (λ h _.
-      elim (same_id id h.id) as (λ t. same_id id h.id ≡ t → (is_given_by k h && (t && h.taker == target)) ≡ (is_foreign j h && (is_given_by k h && (t && h.taker == target)))) [
-        | true ↦ λ t. sym (ap (λ b. not b && (is_given_by k h && h.taker == target)) (ap (λ x. x.job.0 == j) (sym (same_id-equal id h.id t)) ∙ foreign))
+      elim (same_id id h.id) as (λ t. same_id id h.id ≡ t → (is_given_by k h && (t && h.grantee == target)) ≡ (is_foreign j h && (is_given_by k h && (t && h.grantee == target)))) [
+        | true ↦ λ t. sym (ap (λ b. not b && (is_given_by k h && h.grantee == target)) (ap (λ x. x.job.0 == j) (sym (same_id-equal id h.id t)) ∙ foreign))
         | false ↦ λ _. and_no (is_given_by k h) ∙ sym (ap (λ b. is_foreign j h && b) (and_no (is_given_by k h)) ∙ and_no (is_foreign j h))
       ] refl)
       ∙ sym (any_filter is_that (is_foreign j) hands)
@@ -65,8 +65,8 @@ module _ (j : ℕ) (k : ℕ) (id : ObjectId) (target : ℕ) (foreign : (id.job.0
   gave_by : (nodes m : ℕ) (before : List Traced) (s : Store) → Stand nodes before → slice_get (cluster_until nodes k before).stores m ≡ Some s → has_given s.shape id target ≡ list_any is_that (foreign_hands j (hands_at m before))
   gave_by nodes m before s stand at =
       ap (list_any (λ hand. same_id id hand.id && hand.target == target)) (stand.fit m k s at).given
-      ∙ any_given (λ h. same_id id h.id && h.taker == target) (λ hand. same_id id hand.id && hand.target == target) (λ h. refl) (given_by k (hands_at m before))
-      ∙ any_filter (λ h. same_id id h.id && h.taker == target) (is_given_by k) (hands_at m before)
+      ∙ any_given (λ h. same_id id h.id && h.grantee == target) (λ hand. same_id id hand.id && hand.target == target) (λ h. refl) (given_by k (hands_at m before))
+      ∙ any_filter (λ h. same_id id h.id && h.grantee == target) (is_given_by k) (hands_at m before)
       ∙ any_that (hands_at m before)
 
 -- two stores with the same own part, by tables with the same foreign hands

@@ -1,15 +1,15 @@
 -- What lies under a standing hand: the object's copy in the store of its own job, and its bytes.
 use Rattle.std.specs.Prelude.{◌≡◌, ℕ, true, List, ◌∷◌, reverse, Some, is_some}
 use Rattle.private_store.specs.declared.schedules.Traced.{Traced}
-use Rattle.private_store.specs.Tables.{at}
-use Rattle.private_store.specs.Shape.{Copy, Shape}
+use Rattle.private_store.specs.rules.Tables.{at}
+use Rattle.private_store.specs.rules.Shape.{Copy, Shape}
 use Rattle.obj_id.specs.Kinds.{is_primary}
-use Rattle.private_store.specs.Copies.{is_sealed}
-use Rattle.private_store.specs.Contents.{bytes_at}
-use Rattle.private_store.specs.Private.{Store}
-use Rattle.private_store.specs.Hands.{Hand}
-use Rattle.private_store.specs.Trace.{hands_at}
-use Rattle.private_store.specs.Shared.{store_at}
+use Rattle.private_store.specs.rules.Copies.{is_sealed}
+use Rattle.private_store.specs.rules.Contents.{bytes_at}
+use Rattle.private_store.specs.rules.Private.{Store}
+use Rattle.private_store.specs.rules.Hands.{Hand}
+use Rattle.private_store.specs.rules.Trace.{hands_at}
+use Rattle.private_store.specs.rules.Shared.{store_at}
 use Rattle.hand_laws.specs.Ending.{stands}
 
 -- the own job's store has a copy of the object: a sealed primary, which lies in the window
@@ -24,10 +24,10 @@ pub record IsHeldOnTo (own : Shape) (hand : Hand) : Type 0 where
 pub record HoldsOn (nodes node : ℕ) (trace : List Traced) : Type 0 where
   pub each : (hand : Hand) → stands hand (hands_at node (reverse trace)) → (own : Store) → store_at nodes node (reverse trace) hand.id.job.0 ≡ Some own → IsHeldOnTo own.shape hand
 
--- and the taker's store has the very bytes that the own job's store has
+-- and the grantee's store has the very bytes that the own job's store has
 pub record ShowsWhatIs (nodes node : ℕ) (trace : List Traced) : Type 0 where
-  pub each : (hand : Hand) → stands hand (hands_at node (reverse trace)) → (own taker : Store) → store_at nodes node (reverse trace) hand.id.job.0 ≡ Some own → store_at nodes node (reverse trace) hand.taker ≡ Some taker
-      → bytes_at taker.contents.received hand.id ≡ bytes_at own.contents.bytes hand.id
+  pub each : (hand : Hand) → stands hand (hands_at node (reverse trace)) → (own grantee : Store) → store_at nodes node (reverse trace) hand.id.job.0 ≡ Some own → store_at nodes node (reverse trace) hand.grantee ≡ Some grantee
+      → bytes_at grantee.contents.received hand.id ≡ bytes_at own.contents.bytes hand.id
 
 -- one step more leaves those bytes as they are, if the hand still stands after it
 pub record BytesStay (nodes node : ℕ) (trace : List Traced) (entry : Traced) : Type 0 where

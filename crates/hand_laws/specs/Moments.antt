@@ -2,8 +2,8 @@
 use Rattle.std.specs.Prelude.{◌≡◌, ℕ, Bool, List, ◌∷◌, ◌++◌, reverse, Some}
 use Rattle.private_store.specs.declared.schedules.Event.{Event}
 use Rattle.private_store.specs.declared.schedules.Traced.{Traced}
-use Rattle.private_store.specs.Hands.{Hand}
-use Rattle.private_store.specs.Trace.{ends}
+use Rattle.private_store.specs.rules.Hands.{Hand}
+use Rattle.private_store.specs.rules.Trace.{ends}
 use Rattle.hand_laws.specs.Standing.{HaveHands, SeesWhatIsLed}
 use Rattle.hand_laws.specs.Ending.{EndsThere}
 use Rattle.hand_laws.specs.Held.{HoldsOn, ShowsWhatIs, BytesStay}

@@ -12,10 +12,10 @@ use Rattle.private_store.specs.declared.schedules.Step.TheVariants as steps
 use Rattle.private_store.specs.declared.schedules.StepAnswer.{StepAnswer}
 use Rattle.private_store.specs.declared.schedules.StepAnswer.TheVariants as answer
 use Rattle.private_store.specs.declared.schedules.Traced.{Traced}
-use Rattle.private_store.specs.Events.{is_live}
-use Rattle.private_store.specs.Private.{Store, private_outcome}
-use Rattle.private_store.specs.Trace.{IsPrivate, hands_at, granted_bytes, inputs_until}
-use Rattle.private_store.specs.Shared.{store_at}
+use Rattle.private_store.specs.rules.Events.{is_live}
+use Rattle.private_store.specs.rules.Private.{Store, private_outcome}
+use Rattle.private_store.specs.rules.Trace.{IsPrivate, hands_at, granted_bytes, inputs_until}
+use Rattle.private_store.specs.rules.Shared.{store_at}
 use Rattle.grants.specs.Table.{AreHands, shows}
 use Rattle.grants.specs.Private.{HasHands}
 use Rattle.grants.specs.Chains.{sees, is_led_to}
@@ -25,14 +25,14 @@ abbrev pub own_lengths : ℕ → ℕ → List Traced → ObjectId → ℕ
 own_lengths nodes node history id = length (granted_bytes nodes node (λ job. inputs_until nodes job history) id)
 
 -- a command gets a reply, whatever that is
-abbrev pub is_told : Step → StepAnswer → Bool
-is_told (steps.At node (event.Call job session c)) (answer.Told r) = true
-is_told (steps.At node (event.Call job session c)) _ = false
-is_told _ _ = true
+abbrev pub is_told_of : Step → StepAnswer → Bool
+is_told_of (steps.At node (event.Call job session c)) (answer.Told r) = true
+is_told_of (steps.At node (event.Call job session c)) _ = false
+is_told_of _ _ = true
 
 -- every command gets a reply, and every job number, admitted or not, has the replies of its private cluster
 pub record ArePrivate (nodes : ℕ) (trace : List Traced) : Type 0 where
-  pub told : list_all (λ entry. is_told entry.step entry.answer) trace ≡ true
+  pub told : list_all (λ entry. is_told_of entry.step entry.answer) trace ≡ true
   pub replies : (job : ℕ) → IsPrivate nodes job trace
 
 -- after the trace the node's standing hands are a table, and each job's store there has of it what the job gave and, by

@@ -9,8 +9,8 @@ use Rattle.private_store.specs.declared.schedules.Step.{Step}
 use Rattle.private_store.specs.declared.schedules.Step.TheVariants as steps
 use Rattle.private_store.specs.declared.schedules.StepAnswer.{StepAnswer}
 use Rattle.private_store.specs.declared.schedules.Traced.{Traced}
-use Rattle.private_store.specs.Trace.{Agree, is_no_memory, replies_of}
-use Rattle.private_store.specs.Shared.{AreSharedAnswers}
+use Rattle.private_store.specs.rules.Trace.{Agree, is_no_memory, replies_of}
+use Rattle.private_store.specs.rules.Shared.{AreSharedAnswers}
 use Rattle.hand_laws.specs.Standing.{ArePrivate}
 
 -- another job's command, about one of the job's own objects
@@ -53,14 +53,14 @@ pub record Counted : Type 0 where
   pub step : Step
   pub answer : Heard
 
-abbrev pub counted : (Step → StepAnswer → Heard) → Traced → Counted
-counted hear entry = record { step = entry.step; answer = hear entry.step entry.answer }
+abbrev pub counted_answers : (Step → StepAnswer → Heard) → Traced → Counted
+counted_answers hear entry = record { step = entry.step; answer = hear entry.step entry.answer }
 
 -- what counts of a trace: all steps but those that are aside
 abbrev pub counting : (Step → StepAnswer → Heard) → ℕ → List Traced → List Counted
-counting hear job trace = map (counted hear) (filter (λ entry. not (is_aside job entry.step)) trace)
+counting hear job trace = map (counted_answers hear) (filter (λ entry. not (is_aside job entry.step)) trace)
 
--- the job has the same inputs in both, and is told the same
+-- the job has the same inputs in both, and is answered the same
 abbrev pub ShowsAlike : ℕ → ℕ → List Traced → List Traced → Type 0
 ShowsAlike nodes job first second = Agree nodes job first second × (replies_of job first ≡ replies_of job second)
 

@@ -5,8 +5,8 @@
 ghost use Rattle.std.specs.Prelude.{◌≡◌, ℕ, Bool, List, [], ◌∷◌, ◌++◌, reverse, Some};
 ghost use Rattle.private_store.specs.declared.schedules.Event.{Event};
 ghost use Rattle.private_store.specs.declared.schedules.Traced.{Traced};
-ghost use Rattle.private_store.specs.Hands.{Hand};
-ghost use Rattle.private_store.specs.Trace.{ends};
+ghost use Rattle.private_store.specs.rules.Hands.{Hand};
+ghost use Rattle.private_store.specs.rules.Trace.{ends};
 ghost use Rattle.hand_laws.specs.Held.{HoldsOn, ShowsWhatIs, BytesStay};
 ghost use Rattle.hand_laws.specs.Ending.{EndsThere};
 ghost use Rattle.hand_laws.specs.Moments.{AtEachMoment};
@@ -18,9 +18,9 @@ pub fn beginnings_are_private()
     ensures { (nodes : ℕ) (first rest : List Traced) → ArePrivate nodes (first ++ rest) → ArePrivate nodes first }
 {}
 
-/// The hands that stand at a node are a table, as the crate of grants has it: no two with the same object, giver and taker;
+/// The hands that stand at a node are a table, as the crate of grants has it: no two with the same object, grantor and grantee;
 /// each from the object's own job at depth 1, or one deeper than an older one on which it hangs, at depth 3 at most; none
-/// to the object's own job; 64 of one giver at most. The store of each job at the node has the hands that the job gave and
+/// to the object's own job; 64 of one grantor at most. The store of each job at the node has the hands that the job gave and
 /// those that it was given, oldest first, each object with the length that it has in the store of its own job; and it knows
 /// no other object of others.
 pub fn hands_of_a_trace_are_a_table()
@@ -34,15 +34,15 @@ pub fn what_is_seen_in_a_trace_is_led_to()
 {}
 
 /// An accepted withdrawal, end of a task or end of a job takes out of the node's table, in that one step, the hands that
-/// its giver ends and each hand that hangs on one that goes, and no others. The takers of these are told of them, in order
-/// of depth, object, giver and taker, and nobody is told of anything else. Other nodes keep their hands.
+/// its grantor ends and each hand that hangs on one that goes, and no others. The grantees of these are told of them, in order
+/// of depth, object, grantor and grantee, and nobody is told of anything else. Other nodes keep their hands.
 pub fn a_withdrawal_ends_what_hangs_on_it()
     ensures { (nodes node : ℕ) (trace : List Traced) (e : Event) (test : Hand → Bool)
         → ArePrivate nodes trace → ends e ≡ Some test → EndsThere nodes node (reverse trace) e test }
 {}
 
 /// While a hand stands, at whatever depth, its object is a sealed primary in the window of its own job at that node, the
-/// taker's store has that copy's bytes, and each step that leaves the hand leaves the bytes.
+/// grantee's store has that copy's bytes, and each step that leaves the hand leaves the bytes.
 pub fn a_hand_holds_on_to_its_object()
     ensures held { (nodes node : ℕ) (trace : List Traced) → ArePrivate nodes trace → HoldsOn nodes node trace }
     ensures shown { (nodes node : ℕ) (trace : List Traced) → ArePrivate nodes trace → ShowsWhatIs nodes node trace }
@@ -56,7 +56,7 @@ pub fn laws_hold_at_every_moment()
 
 /// What other jobs do with the hands of a job's objects doesn't show to it. If two traces are equal but for other jobs'
 /// Grants, Withdraws and Peeks of its objects, and for what commands are answered, the job has the same inputs in both and is
-/// told the same. Of the answers to commands these count: those to other jobs' other Grants, since a giver has only so many
+/// told the same. Of the answers to commands these count: those to other jobs' other Grants, since a grantor has only so many
 /// hands, and whether there was memory. If the shared answers are due, they follow from the rest, and only whether there
 /// was memory counts of them.
 pub fn others_hands_dont_show()

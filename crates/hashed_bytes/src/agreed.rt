@@ -1,6 +1,6 @@
 //! Bytes with their digest, and how far other bytes are known to be the same.
 ghost use Rattle.std.specs.Prelude.{◌≡◌, ◌≤◌, ℕ, List, length, take, true};
-ghost use Rattle.private_store.specs.Contents.{digest_of};
+ghost use Rattle.private_store.specs.rules.Contents.{digest_of};
 ghost use Rattle.hashed_bytes.specs.Agreeing.{Agrees};
 
 use crate::{Hashed, are_same};

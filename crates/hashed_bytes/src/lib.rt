@@ -2,7 +2,7 @@
 #![tactic(auto)]
 
 ghost use Rattle.std.specs.Prelude.{◌≡◌, true};
-ghost use Rattle.private_store.specs.Contents.{digest_of};
+ghost use Rattle.private_store.specs.rules.Contents.{digest_of};
 
 mod agreed;
 
@@ -25,7 +25,7 @@ pub struct Hashed {
 
 impl Model for Hashed {
     ghost use Rattle.std.specs.Prelude.{ℕ, List, ◌≡◌};
-    ghost use Rattle.private_store.specs.Contents.{digest_of};
+    ghost use Rattle.private_store.specs.rules.Contents.{digest_of};
 
     ghost Value = { List ℕ };
 

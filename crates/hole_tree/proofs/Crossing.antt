@@ -6,7 +6,7 @@ use Rattle.augmented_tree.proofs.Crossing.{tree_send, room_send as tree_room_sen
 use Rattle.hole_tree.specs.contracts.Hole as Hole
 use Rattle.hole_tree.specs.contracts.Holes as Holes
 use Rattle.hole_tree.specs.contracts.Holes.TheInside as Inside
-use Rattle.hole_tree.specs.contracts.Room as Room
+use Rattle.hole_tree.specs.contracts.SpareNode as SpareNode
 
 hole_send : IsSend Hole.the_row
 hole_send = search sendable
@@ -17,5 +17,5 @@ inside_send = declared_send Inside.the_type (search (tree_send, hole_send, senda
 pub holes_send : IsSend Holes.the_row
 holes_send = search (inside_send, sendable)
 
-pub room_send : IsSend Room.the_row
-room_send = declared_send Room.the_type (search (tree_room_send, hole_send, sendable, crosses) depth 40, tt)
+pub room_send : IsSend SpareNode.the_row
+room_send = declared_send SpareNode.the_type (search (tree_room_send, hole_send, sendable, crosses) depth 40, tt)

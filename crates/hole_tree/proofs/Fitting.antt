@@ -9,7 +9,7 @@ use Rattle.augmented_tree.specs.declared.Node.{Node}
 use Rattle.augmented_tree.specs.Shape.{items}
 use Rattle.augmented_tree.proofs.ForCallers.{ToldAt}
 use Rattle.hole_tree.specs.declared.Hole.{Hole}
-use Rattle.hole_tree.specs.Holes.{offset_of, IsAny, IsGreatest, IsRising, greatest, hole_at, first_fitting}
+use Rattle.hole_tree.specs.Holes.{hole_offset, IsAnyHole, IsGreatest, AreHolesRising, greatest, hole_at, first_fitting}
 
 pub greatest_both : (xs ys : List Hole) → greatest (xs ++ ys) ≡ max (greatest xs) (greatest ys)
 greatest_both [] ys = omega arith
@@ -44,7 +44,7 @@ pub joined : (m n : ℕ) (xs ys : List Hole) → IsGreatest m xs → IsGreatest 
 joined m n xs ys a b = let both = greatest_both xs ys in omega (arith, both, a, b)
 
 -- where the descent goes
-module _ (need : ℕ) (n : Node Hole ℕ) (h : ToldAt offset_of IsAny IsGreatest n) where
+module _ (need : ℕ) (n : Node Hole ℕ) (h : ToldAt hole_offset IsAnyHole IsGreatest n) where
   abbrev here : List Hole
   here = n.here ∷ (items n.left ++ items n.right)
 
@@ -75,7 +75,7 @@ fits_above n o h (x ∷ xs) above found = ⊎_elim
     (cases_lt x.length n)
 
 -- the first hole of some length is the one at its offset
-pub fitting_at : (n : ℕ) (h : Hole) (xs : List Hole) → IsRising xs → first_fitting n xs ≡ Some h → hole_at h.offset xs ≡ Some h
+pub fitting_at : (n : ℕ) (h : Hole) (xs : List Hole) → AreHolesRising xs → first_fitting n xs ≡ Some h → hole_at h.offset xs ≡ Some h
 fitting_at n h [] rising found = absurd (none-some h found)
 fitting_at n h (x ∷ xs) rising found = ⊎_elim
     (λ (lt : x.length < n).

@@ -3,32 +3,32 @@ use Rattle.std.specs.Prelude.{◌≡◌, ℕ, Bool, max, nat_le, if◌then◌els
 use Rattle.augmented_tree.specs.Lists.{IsRisingBy, put_item, take_item, has_item, find_item}
 use Rattle.hole_tree.specs.declared.Hole.{Hole}
 
-abbrev pub offset_of : Hole → ℕ
-offset_of h = h.offset
+abbrev pub hole_offset : Hole → ℕ
+hole_offset h = h.offset
 
 -- nothing is asked of a hole
-abbrev pub IsAny : Hole → Type 0
-IsAny h = Unit {0}
+abbrev pub IsAnyHole : Hole → Type 0
+IsAnyHole h = Unit {0}
 
 -- each offset is below all later ones
-abbrev pub IsRising : List Hole → Type 0
-IsRising = IsRisingBy offset_of
+abbrev pub AreHolesRising : List Hole → Type 0
+AreHolesRising = IsRisingBy hole_offset
 
 -- with a hole in its place, in place of the one at its offset
 abbrev pub put_hole : Hole → List Hole → List Hole
-put_hole = put_item offset_of
+put_hole = put_item hole_offset
 
 -- without the hole at an offset
 abbrev pub take_hole : ℕ → List Hole → List Hole
-take_hole = take_item offset_of
+take_hole = take_item hole_offset
 
 -- whether there is a hole at an offset
 abbrev pub has_hole : ℕ → List Hole → Bool
-has_hole = has_item offset_of
+has_hole = has_item hole_offset
 
 -- the hole at an offset, if there is one
 abbrev pub hole_at : ℕ → List Hole → Option Hole
-hole_at = find_item offset_of
+hole_at = find_item hole_offset
 
 -- the length of the greatest hole
 abbrev pub greatest : List Hole → ℕ

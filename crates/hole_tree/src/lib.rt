@@ -6,8 +6,8 @@
 mod tests;
 
 ghost use Rattle.std.specs.Prelude.{◌≡◌, ◌^◌, ◌<◌, ◌≤◌, [], is_some};
-ghost use Rattle.augmented_tree.specs.Shape.{items, depth, IsTold};
-ghost use Rattle.hole_tree.specs.Holes.{offset_of, IsAny, IsGreatest, IsRising, put_hole, take_hole, has_hole, hole_at, first_fitting};
+ghost use Rattle.augmented_tree.specs.Shape.{items, depth, HasSummaries};
+ghost use Rattle.hole_tree.specs.Holes.{hole_offset, IsAnyHole, IsGreatest, AreHolesRising, put_hole, take_hole, has_hole, hole_at, first_fitting};
 
 use augmented_tree::{Keyed, Tree, summary};
 use std::alloc::{AllocError, Global};
@@ -23,9 +23,9 @@ pub struct Hole {
 }
 
 impl Keyed<u64> for Hole {
-    ghost key = { offset_of };
+    ghost key = { hole_offset };
 
-    ghost fits = { IsAny };
+    ghost fits = { IsAnyHole };
 
     ghost tells = { IsGreatest };
 
@@ -47,32 +47,32 @@ impl Keyed<u64> for Hole {
 }
 
 /// Room for one hole, so that putting it in its place takes no memory.
-pub struct Room {
-    node: augmented_tree::Room<Hole, u64>,
+pub struct SpareNode {
+    node: augmented_tree::SpareNode<Hole, u64>,
 }
 
 // By hand, so that it is proved here and not in each crate above.
-impl Drop for Room {
+impl Drop for SpareNode {
     fn drop(self) {
-        let Room { node: _node } = self;
+        let SpareNode { node: _node } = self;
     }
 }
 
-impl Room {
+impl SpareNode {
     /// Takes the memory of one hole.
-    pub fn new(alloc: Global) -> Result<Room, AllocError> {
+    pub fn new(alloc: Global) -> Result<SpareNode, AllocError> {
         let hole = Hole {
             offset: 0,
             length: 0,
         };
-        Ok(Room {
-            node: augmented_tree::Room::new(alloc, hole)?,
+        Ok(SpareNode {
+            node: augmented_tree::SpareNode::new(alloc, hole)?,
         })
     }
 
     /// The memory.
-    fn into_node(self) -> augmented_tree::Room<Hole, u64> {
-        let Room { node } = self;
+    fn into_node(self) -> augmented_tree::SpareNode<Hole, u64> {
+        let SpareNode { node } = self;
         node
     }
 }
@@ -92,14 +92,14 @@ impl Drop for Holes {
 impl Model for Holes {
     ghost use Rattle.std.specs.Prelude.{List};
     ghost use Rattle.augmented_tree.specs.Shape.{items, IsTree};
-    ghost use Rattle.hole_tree.specs.Holes.{offset_of, IsAny, IsGreatest};
+    ghost use Rattle.hole_tree.specs.Holes.{hole_offset, IsAnyHole, IsGreatest};
     ghost use Rattle.hole_tree.specs.declared.Hole.{Hole};
 
     ghost Value = { List Hole };
 
     ghost view = { λ a. items a.tree };
 
-    ghost invariant = { λ a. IsTree offset_of IsAny IsGreatest 0 536870912 a.tree };
+    ghost invariant = { λ a. IsTree hole_offset IsAnyHole IsGreatest 0 536870912 a.tree };
 }
 
 impl Holes {
@@ -110,23 +110,23 @@ impl Holes {
         Holes { tree: Tree::Leaf }
     }
 
-    /// Puts a hole in its place, in place of the one at its offset, if there is one. It uses the room, and
+    /// Puts a hole in its place, in place of the one at its offset, if there is one. It uses the spare node, and
     /// takes no memory.
-    pub fn put(&mut self, room: Room, hole: Hole)
+    pub fn put(&mut self, room: SpareNode, hole: Hole)
         requires { hole.offset < 2 ^ 29 }
         ensures { self.new ≡ put_hole hole self.old }
     {
         augmented_tree::put(&mut self.tree, room.into_node(), hole, 0, END);
     }
 
-    /// Takes out the hole at an offset, if there is one, and gives the room that it leaves. Takes no memory.
-    pub fn take(&mut self, offset: u64) -> Option<Room>
+    /// Takes out the hole at an offset, if there is one, and gives the spare node that it leaves. Takes no memory.
+    pub fn take(&mut self, offset: u64) -> Option<SpareNode>
         ensures holes { self.new ≡ take_hole offset self.old }
         ensures there { is_some result ≡ has_hole offset self.old }
     {
         match augmented_tree::take(&mut self.tree, offset, 0, END) {
             None => None,
-            Some(node) => Some(Room { node }),
+            Some(node) => Some(SpareNode { node }),
         }
     }
 
@@ -142,7 +142,7 @@ impl Holes {
     /// The hole at an offset, if there is one.
     pub fn at(&self, offset: u64) -> Option<Hole>
         ensures hole { result ≡ hole_at offset self.now }
-        ensures rising { IsRising self.now }
+        ensures rising { AreHolesRising self.now }
     {
         augmented_tree::find(&self.tree, offset, 0, END)
     }
@@ -160,7 +160,7 @@ const END: u64 = 536_870_912;
 
 /// The first hole of at least `need` bytes, and how many nodes were visited.
 fn first_fit(tree: &Tree<Hole, u64>, need: u64) -> (Option<Hole>, u32)
-    requires marked { IsTold IsAny IsGreatest tree.now }
+    requires marked { HasSummaries IsAnyHole IsGreatest tree.now }
     requires shallow { depth tree.now < 2 ^ 31 }
     ensures first { result.0 ≡ first_fitting need (items tree.now) }
     ensures visits { result.1 ≤ depth tree.now }

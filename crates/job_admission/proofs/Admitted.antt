@@ -8,17 +8,17 @@ use Rattle.std.proofs.lemmas.Bool.{leb-true}
 use Rattle.obj_id.specs.declared.ids.JobNo.{JobNo}
 use Rattle.obj_id.specs.declared.works.JobKey.{JobKey}
 use Rattle.obj_id.specs.declared.works.Quota.{Quota}
-use Rattle.private_store.specs.Limits.{is_quota}
-use Rattle.private_store.specs.Extents.{rounded, is_apart}
+use Rattle.private_store.specs.rules.Limits.{is_quota}
+use Rattle.private_store.specs.rules.Extents.{rounded, is_apart}
 use Rattle.store_facts.proofs.FirstFit.{first-free, first-units}
 use Rattle.store_facts.proofs.Tests.{both_left, both_right}
 use Rattle.job_admission.specs.declared.Live.{Live}
-use Rattle.private_store.specs.Jobs.{same_job}
-use Rattle.job_admission.specs.Admissions.{Admissions, live_at, window_of, windows, place_for, admit_check, admitted, is_live_kept, AreKept}
+use Rattle.private_store.specs.rules.Jobs.{same_job}
+use Rattle.job_admission.specs.Admissions.{Admissions, live_at, window_of, windows, window_place_for, admit_check, with_admitted, is_live_kept, AreAdmissionsKept}
 use Rattle.job_admission.proofs.Search.{at, free_is}
 use Rattle.job_admission.proofs.AllKept.{window_is, all_raised, all_more, absent_above, admit_passed, kept_new, apart_put, each_found}
 
-module _ (a : Admissions) (job : JobNo) (quota : Quota) (key : JobKey) (offset : ℕ) (kept : AreKept a) (passed : admit_check a job quota ≡ None) (found : place_for a quota.window ≡ Some offset) where
+module _ (a : Admissions) (job : JobNo) (quota : Quota) (key : JobKey) (offset : ℕ) (kept : AreAdmissionsKept a) (passed : admit_check a job quota ≡ None) (found : window_place_for a quota.window ≡ Some offset) where
   abbrev x : Live
   x = record { quota = quota; key = key; offset = offset; entered = 0 }
 
@@ -36,12 +36,12 @@ module _ (a : Admissions) (job : JobNo) (quota : Quota) (key : JobKey) (offset :
   free = sym (free_is (windows a.live) a.memory quota.window size offset) ∙ first-free (windows a.live) a.memory quota.window offset found
 
   module _ (new : List (JobNo × Live)) (entries : new ≡ a.live ++ (job, x) ∷ []) where
-    pub admitted_is : ◌≡◌ {A = Admissions} (record { memory = a.memory; greatest = job.0; live = new }) (admitted a job quota key)
+    pub admitted_is : ◌≡◌ {A = Admissions} (record { memory = a.memory; greatest = job.0; live = new }) (with_admitted a job quota key)
     admitted_is =
         ap (λ es. record { memory = a.memory; greatest = job.0; live = es }) entries
         ∙ sym (ap (λ o. option_map_or (λ offset. record a { greatest = job.0; live = a.live ++ (job, record { quota = quota; key = key; offset = offset; entered = 0 }) ∷ [] }) o a) found)
 
-    pub admitted_kept : IsDistinct same_job (keys_of new) → ((q : JobNo) → lookup (same_job q) new ≡ cond (same_job job q) (Some x) (lookup (same_job q) a.live)) → AreKept (record { memory = a.memory; greatest = job.0; live = new })
+    pub admitted_kept : IsDistinct same_job (keys_of new) → ((q : JobNo) → lookup (same_job q) new ≡ cond (same_job job q) (Some x) (lookup (same_job q) a.live)) → AreAdmissionsKept (record { memory = a.memory; greatest = job.0; live = new })
     admitted_kept distinct updated =
         let within : offset + quota.window ≤ a.memory = leb-true (offset + quota.window) a.memory (both_left _ _ free) in
         let own = kept_new a.memory job x facts.0 facts.1 (first-units (windows a.live) a.memory quota.window offset found) within in

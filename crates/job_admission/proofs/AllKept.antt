@@ -8,15 +8,15 @@ use Rattle.std.proofs.lemmas.List.Folds.{list_all-append}
 use Rattle.obj_id.specs.declared.ids.JobNo.{JobNo}
 use Rattle.obj_id.specs.declared.works.Extent.{Extent}
 use Rattle.obj_id.specs.declared.works.Quota.{Quota}
-use Rattle.private_store.specs.Limits.{is_quota, is_window, widest_window, most_live_jobs}
-use Rattle.private_store.specs.Extents.{rounded, end_of, is_apart}
-use Rattle.private_store.specs.Kept.{is_placed}
-use Rattle.private_store.specs.Shared.{windows_without}
+use Rattle.private_store.specs.rules.Limits.{is_quota, is_window, widest_window, most_live_jobs}
+use Rattle.private_store.specs.rules.Extents.{rounded, end_of, is_apart}
+use Rattle.private_store.specs.laws.Invariants.{is_placed}
+use Rattle.private_store.specs.rules.Shared.{windows_without}
 use Rattle.store_facts.proofs.Tests.{both, both_left, both_right, none_some, or_swaps, some_value, true_false}
 use Rattle.job_admission.specs.declared.Live.{Live}
 use Rattle.obj_id.specs.declared.refusals.Refusal.TheVariants.{BadId, BadSize, Exists, NoRoom}
-use Rattle.private_store.specs.Jobs.{same_job}
-use Rattle.job_admission.specs.Admissions.{Admissions, largest_memory, admit_check, place_for, window_of, lives_of, windows, is_live_kept}
+use Rattle.private_store.specs.rules.Jobs.{same_job}
+use Rattle.job_admission.specs.Admissions.{Admissions, largest_memory, admit_check, window_place_for, window_of, lives_of, windows, is_live_kept}
 use Rattle.job_admission.proofs.Lookups.{length-lives_of, without_more}
 
 -- ---- of one
@@ -177,7 +177,7 @@ pub admit_passed : (a : Admissions) (job : JobNo) (quota : Quota) → admit_chec
 admit_passed a job quota h = by (job.0 == 0) (is_quota quota) (nat_le job.0 a.greatest) (nat_le most_live_jobs (length (lives_of a.live))) refl refl refl refl h
   where
     by : (zero good old full : Bool) → (job.0 == 0) ≡ zero → is_quota quota ≡ good → nat_le job.0 a.greatest ≡ old → nat_le most_live_jobs (length (lives_of a.live)) ≡ full
-        → cond zero (Some BadId) (cond (not good) (Some BadSize) (cond old (Some Exists) (cond (full || is_none (place_for a quota.window)) (Some NoRoom) None))) ≡ None
+        → cond zero (Some BadId) (cond (not good) (Some BadSize) (cond old (Some Exists) (cond (full || is_none (window_place_for a quota.window)) (Some NoRoom) None))) ≡ None
         → (0 < job.0) × (is_quota quota ≡ true) × (a.greatest < job.0) × (length a.live < most_live_jobs)
     by true good old full z g o f h = none_some BadId (sym h)
     by false false old full z g o f h = none_some BadSize (sym h)

@@ -8,10 +8,10 @@ use Rattle.std.proofs.lemmas.Bool.{leb-false}
 use Rattle.obj_id.specs.declared.ids.JobNo.{JobNo}
 use Rattle.obj_id.specs.declared.works.JobKey.{JobKey}
 use Rattle.obj_id.specs.declared.refusals.Refusal.TheVariants.{NotAdmitted, TooMany}
-use Rattle.private_store.specs.Jobs.{same_job}
+use Rattle.private_store.specs.rules.Jobs.{same_job}
 use Rattle.store_facts.proofs.Tests.{none_some}
 use Rattle.job_admission.specs.declared.Live.{Live}
-use Rattle.job_admission.specs.Admissions.{Admissions, live_at, is_live_kept, AreKept, most_sessions, has_key, sessions_entered, enter_check}
+use Rattle.job_admission.specs.Admissions.{Admissions, live_at, is_live_kept, AreAdmissionsKept, most_sessions, has_key, sessions_entered, enter_check}
 use Rattle.job_admission.proofs.AllKept.{all_set, apart_put}
 
 module _ (a : Admissions) (job : JobNo) (x : Live) (found : live_at a job ≡ Some x) where
@@ -27,9 +27,9 @@ module _ (a : Admissions) (job : JobNo) (x : Live) (found : live_at a job ≡ So
       by true true e h = none_some TooMany (sym h)
       by true false e h = subst (λ o. option_map_or (λ (live : Live). live.entered) o 0 < most_sessions) found (leb-false most_sessions (sessions_entered a job) e)
 
-  pub entered_kept : AreKept a → (new : List (JobNo × Live)) → new ≡ set_value (same_job job) a.live one_more
+  pub entered_kept : AreAdmissionsKept a → (new : List (JobNo × Live)) → new ≡ set_value (same_job job) a.live one_more
       → ((q : JobNo) → lookup (same_job q) new ≡ cond (same_job job q) (Some one_more) (lookup (same_job q) a.live))
-      → IsDistinct same_job (keys_of new) → length new ≡ length a.live → AreKept (record a { live = new })
+      → IsDistinct same_job (keys_of new) → length new ≡ length a.live → AreAdmissionsKept (record a { live = new })
   entered_kept kept new entries updated distinct count = record {
     memory = kept.memory;
     each = rw entries (all_set (is_live_kept a.memory a.greatest) (same_job job) x one_more (λ k h. h) a.live found kept.each);

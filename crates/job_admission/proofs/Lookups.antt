@@ -10,12 +10,12 @@ use Rattle.obj_id.specs.declared.works.Extent.{Extent}
 use Rattle.obj_id.specs.declared.works.Quota.{Quota}
 use Rattle.obj_id.specs.declared.refusals.Refusal.{Refusal}
 use Rattle.obj_id.specs.declared.refusals.Refusal.TheVariants.{NotAdmitted, BadSize, NoRoom}
-use Rattle.private_store.specs.Limits.{is_quota}
-use Rattle.private_store.specs.Extents.{end_of, is_apart}
-use Rattle.private_store.specs.Shared.{LiveJob, job_is, windows_without}
+use Rattle.private_store.specs.rules.Limits.{is_quota}
+use Rattle.private_store.specs.rules.Extents.{end_of, is_apart}
+use Rattle.private_store.specs.rules.Shared.{LiveJob, job_is, windows_without}
 use Rattle.store_facts.proofs.Tests.{none_some}
 use Rattle.job_admission.specs.declared.Live.{Live}
-use Rattle.private_store.specs.Jobs.{same_job}
+use Rattle.private_store.specs.rules.Jobs.{same_job}
 use Rattle.job_admission.specs.Admissions.{Admissions, live_at, window_of, lives_of, resize_check}
 
 -- a number compared either way

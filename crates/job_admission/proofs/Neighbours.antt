@@ -11,12 +11,12 @@ use Rattle.std.specs.Cmp.{IsEquivalence}
 use Rattle.obj_id.specs.declared.ids.JobNo.{JobNo}
 use Rattle.obj_id.specs.declared.works.JobKey.{JobKey}
 use Rattle.obj_id.specs.declared.works.Quota.{Quota}
-use Rattle.private_store.specs.Shared.{LiveJob, job_is, widened}
-use Rattle.private_store.specs.Shared as shared
+use Rattle.private_store.specs.rules.Shared.{LiveJob, job_is, widened}
+use Rattle.private_store.specs.rules.Shared as shared
 use Rattle.store_facts.proofs.Tests.{some_value}
 use Rattle.job_admission.specs.declared.Live.{Live}
-use Rattle.private_store.specs.Jobs.{same_job}
-use Rattle.job_admission.specs.Admissions.{Admissions, window_of, lives_of, place_for, admitted}
+use Rattle.private_store.specs.rules.Jobs.{same_job}
+use Rattle.job_admission.specs.Admissions.{Admissions, window_of, lives_of, window_place_for, with_admitted}
 use Rattle.job_admission.proofs.Lookups.{turned}
 
 laws : IsEquivalence same_job
@@ -77,8 +77,8 @@ lives_of-append [] fs = refl
 lives_of-append (e ∷ es) fs = ap (λ lives. shown e ∷ lives) (lives_of-append es fs)
 
 -- an admission
-pub lives_of-admitted : (a : Admissions) (job : JobNo) (quota : Quota) (key : JobKey) → lives_of (admitted a job quota key).live ≡ shared.admitted a.memory job.0 quota.window (lives_of a.live)
-lives_of-admitted a job quota key = by (place_for a quota.window)
+pub lives_of-admitted : (a : Admissions) (job : JobNo) (quota : Quota) (key : JobKey) → lives_of (with_admitted a job quota key).live ≡ shared.admitted a.memory job.0 quota.window (lives_of a.live)
+lives_of-admitted a job quota key = by (window_place_for a quota.window)
   where
     by : (o : Option ℕ) → lives_of (option_map_or (λ offset. record a { greatest = job.0; live = a.live ++ (job, record { quota = quota; key = key; offset = offset; entered = 0 }) ∷ [] }) o a).live
         ≡ option_map_or (λ offset. lives_of a.live ++ record { job = job.0; window = record { offset = offset; length = quota.window } } ∷ []) o (lives_of a.live)

@@ -5,7 +5,7 @@ use Rattle.std.specs.List.{list_all}
 use Rattle.std.proofs.lemmas.Bool.{cases_lt, leb-true}
 use Rattle.std.proofs.lemmas.Bool.Decides.{nat_tests}
 use Rattle.obj_id.specs.declared.works.Extent.{Extent}
-use Rattle.private_store.specs.Extents.{rounded, end_of, is_apart, is_free, first}
+use Rattle.private_store.specs.rules.Extents.{rounded, end_of, is_apart, is_free, first}
 use Rattle.store_facts.proofs.FirstFit.{first-free, first-least}
 use Rattle.store_facts.proofs.Tests.{both, both_left, both_right, none_some, some_value, true_false}
 

@@ -10,11 +10,11 @@ use Rattle.obj_id.specs.declared.refusals.Refusal.TheVariants.{NotAdmitted, BadI
 use Rattle.obj_id.specs.declared.works.Extent.{Extent}
 use Rattle.obj_id.specs.declared.works.JobKey.{JobKey}
 use Rattle.obj_id.specs.declared.works.Quota.{Quota}
-use Rattle.private_store.specs.Jobs.{same_job}
-use Rattle.private_store.specs.Limits.{is_quota, most_live_jobs}
-use Rattle.private_store.specs.Extents.{is_apart, first}
-use Rattle.private_store.specs.Kept.{is_placed}
-use Rattle.private_store.specs.Shared.{LiveJob, job_is, can_widen, first_refusal}
+use Rattle.private_store.specs.rules.Jobs.{same_job}
+use Rattle.private_store.specs.rules.Limits.{is_quota, most_live_jobs}
+use Rattle.private_store.specs.rules.Extents.{is_apart, first}
+use Rattle.private_store.specs.laws.Invariants.{is_placed}
+use Rattle.private_store.specs.rules.Shared.{LiveJob, job_is, can_widen, first_refusal}
 use Rattle.job_admission.specs.declared.Live.{Live}
 
 -- what a contract sees: the node's memory in bytes, the greatest number ever admitted, and the live
@@ -46,8 +46,8 @@ windows live = map (λ job. job.window) (lives_of live)
 -- ---- admission
 
 -- where a window of so many bytes goes: the least multiple of 16 at which it meets no live job's
-abbrev pub place_for : Admissions → ℕ → Option ℕ
-place_for a window = first (windows a.live) a.memory window
+abbrev pub window_place_for : Admissions → ℕ → Option ℕ
+window_place_for a window = first (windows a.live) a.memory window
 
 -- why a job isn't admitted
 abbrev pub admit_check : Admissions → JobNo → Quota → Option Refusal
@@ -56,14 +56,14 @@ admit_check a job quota =
     (job.0 == 0, BadId)
     ∷ (not (is_quota quota), BadSize)
     ∷ (nat_le job.0 a.greatest, Exists)
-    ∷ (nat_le most_live_jobs (length (lives_of a.live)) || is_none (place_for a quota.window), NoRoom)
+    ∷ (nat_le most_live_jobs (length (lives_of a.live)) || is_none (window_place_for a quota.window), NoRoom)
     ∷ [])
 
 -- the job is live, where its window goes
-abbrev pub admitted : Admissions → JobNo → Quota → JobKey → Admissions
-admitted a job quota key =
+abbrev pub with_admitted : Admissions → JobNo → Quota → JobKey → Admissions
+with_admitted a job quota key =
     option_map_or (λ offset. record a { greatest = job.0; live = a.live ++ (job, record { quota = quota; key = key; offset = offset; entered = 0 }) ∷ [] })
-    (place_for a quota.window) a
+    (window_place_for a quota.window) a
 
 -- ---- a change of quota
 
@@ -125,7 +125,7 @@ abbrev pub is_live_kept : ℕ → ℕ → (JobNo × Live) → Bool
 is_live_kept memory greatest e =
     nat_lt 0 e.0.0 && nat_le e.0.0 greatest && is_quota e.1.quota && is_placed memory (window_of e.1)
 
-pub record AreKept (a : Admissions) : Type 0 where
+pub record AreAdmissionsKept (a : Admissions) : Type 0 where
   pub memory : a.memory ≤ largest_memory
   pub each : list_all (is_live_kept a.memory a.greatest) a.live ≡ true
   pub apart : (i j : JobNo) (x y : Live) → live_at a i ≡ Some x → live_at a j ≡ Some y → same_job i j ≡ false → is_apart (window_of x) (window_of y) ≡ true

@@ -7,11 +7,11 @@ ghost use Rattle.std.specs.List.{list_all};
 ghost use Rattle.obj_id.specs.declared.ids.JobNo.{JobNo};
 ghost use Rattle.obj_id.specs.declared.refusals.Refusal.{Refusal};
 ghost use Rattle.obj_id.specs.declared.refusals.Refusal.TheVariants.{NotAdmitted, NoMemory};
-ghost use Rattle.private_store.specs.Jobs.{same_job};
-ghost use Rattle.private_store.specs.Limits.{is_window, is_quota as is_quota_lem};
-ghost use Rattle.private_store.specs.Extents.{is_apart as is_apart_lem, end_of};
-ghost use Rattle.private_store.specs.Shared.{job_is, widened, admitted as admitted_lem, windows_without};
-ghost use Rattle.job_admission.specs.Admissions.{largest_memory, live_at, window_of, lives_of, windows, place_for, admit_check as admit_check_lem, admitted, resize_check as resize_check_lem, resized, enter_check as enter_check_lem, sessions_entered as sessions_entered_lem, entered, finished, AreKept};
+ghost use Rattle.private_store.specs.rules.Jobs.{same_job};
+ghost use Rattle.private_store.specs.rules.Limits.{is_window, is_quota as is_quota_lem};
+ghost use Rattle.private_store.specs.rules.Extents.{is_apart as is_apart_lem, end_of};
+ghost use Rattle.private_store.specs.rules.Shared.{job_is, widened, admitted as admitted_lem, windows_without};
+ghost use Rattle.job_admission.specs.Admissions.{largest_memory, live_at, window_of, lives_of, windows, window_place_for, admit_check as admit_check_lem, with_admitted, resize_check as resize_check_lem, resized, enter_check as enter_check_lem, sessions_entered as sessions_entered_lem, entered, finished, AreAdmissionsKept};
 
 use indexmap::IndexMap;
 use obj_id::limits::{GREATEST_DEVICE_QUOTA, MOST_LIVE_JOBS, UNIT, WIDEST_WINDOW};
@@ -63,13 +63,13 @@ impl Drop for Admission {
 }
 
 impl Model for Admission {
-    ghost use Rattle.job_admission.specs.Admissions.{Admissions, AreKept};
+    ghost use Rattle.job_admission.specs.Admissions.{Admissions, AreAdmissionsKept};
 
     ghost Value = { Admissions };
 
     ghost view = { λ a. record { memory = a.memory; greatest = a.greatest; live = a.live.entries } };
 
-    ghost invariant = { λ a. AreKept (record { memory = a.memory; greatest = a.greatest; live = a.live.entries }) };
+    ghost invariant = { λ a. AreAdmissionsKept (record { memory = a.memory; greatest = a.greatest; live = a.live.entries }) };
 }
 
 impl Admission {
@@ -100,7 +100,7 @@ impl Admission {
     /// above all that were admitted here, `NoRoom` if 64 jobs are live or no place is free, `NoMemory`
     /// last. A refusal changes nothing.
     pub fn admit(&mut self, job: JobNo, quota: Quota, key: JobKey) -> Result<(), Refusal>
-        ensures ok { OnOk result (self.new ≡ admitted self.old job quota key) }
+        ensures ok { OnOk result (self.new ≡ with_admitted self.old job quota key) }
         ensures lives { OnOk result (lives_of self.new.live ≡ admitted_lem self.old.memory job.0 quota.window (lives_of self.old.live)) }
         ensures passed { IsOk result → admit_check_lem self.old job quota ≡ None }
         ensures refused { (r : Refusal) → r ≢ NoMemory → IsErrOf result r → admit_check_lem self.old job quota ≡ Some r }
@@ -183,7 +183,7 @@ impl Admission {
 
     /// The number of the job's next session, from 1. Takes no memory.
     ///
-    /// `NotAdmitted` if the job isn't live or the key isn't its own, which are told alike, `TooMany`
+    /// `NotAdmitted` if the job isn't live or the key isn't its own, which are answered alike, `TooMany`
     /// if 4,294,967,295 numbers were given. A refusal changes nothing and uses no number.
     pub fn enter(&mut self, job: JobNo, key: &JobKey) -> Result<u32, Refusal>
         ensures number { IfOk result (λ number. number ≡ sessions_entered_lem self.old job + 1) }
@@ -238,7 +238,7 @@ impl Admission {
     /// How many jobs are live, at most 64.
     pub fn live_jobs(&self) -> usize
         ensures count { result ≡ length self.now.live }
-        ensures kept { AreKept self.now }
+        ensures kept { AreAdmissionsKept self.now }
     {
         self.live.len()
     }
@@ -268,7 +268,7 @@ impl Admission {
 
     /// Where the job's window goes, or why the job isn't admitted.
     fn placed(&self, job: JobNo, quota: Quota) -> Result<u64, Refusal>
-        ensures ok { IfOk result (λ offset. place_for self.now quota.window ≡ Some offset) }
+        ensures ok { IfOk result (λ offset. window_place_for self.now quota.window ≡ Some offset) }
         ensures passed { IsOk result → admit_check_lem self.now job quota ≡ None }
         ensures err { IfErr result (λ refusal. admit_check_lem self.now job quota ≡ Some refusal) }
     {
@@ -291,7 +291,7 @@ impl Admission {
     /// way the search goes on: at each offset before its end it would be in the way again.
     fn free_place(&self, length: u64) -> Option<u64>
         requires { is_window length ≡ true }
-        ensures { result ≡ place_for self.now length }
+        ensures { result ≡ window_place_for self.now length }
     {
         let mut offset = 0;
         while offset + length <= self.memory {

@@ -1,7 +1,7 @@
 //! The bytes of an extent: its own while they are written, and shared once nobody writes them any more.
 ghost use Rattle.std.specs.Prelude.{◌≡◌, ◌+◌, ◌≤◌, ◌++◌, [], length, take, replicate, IfOk, IfSome, vec_len, vec_capacity};
-ghost use Rattle.private_store.specs.Contents.{digest_of, overwritten};
-ghost use Rattle.job_region.specs.Layout.{IsKept};
+ghost use Rattle.private_store.specs.rules.Contents.{digest_of, overwritten};
+ghost use Rattle.job_region.specs.Layout.{IsWindowKept};
 
 use crate::zeros::Zeros;
 use bytes::Bytes;
@@ -45,13 +45,13 @@ pub(crate) struct Buffer {
 impl Model for Buffer {
     ghost use Rattle.std.specs.Prelude.{ℕ, List, ◌++◌, vec_len, vec_capacity};
     ghost use Rattle.hashed_bytes.specs.Agreeing.{Agrees};
-    ghost use Rattle.job_region.specs.Layout.{IsKept};
+    ghost use Rattle.job_region.specs.Layout.{IsWindowKept};
 
     ghost Value = { List ℕ };
 
     ghost view = { λ b. b.own.items ++ b.shared };
 
-    ghost invariant = { λ b. IsKept (vec_len b.own) (vec_capacity b.own) b.shared × Agrees b.agreed (b.own.items ++ b.shared) };
+    ghost invariant = { λ b. IsWindowKept (vec_len b.own) (vec_capacity b.own) b.shared × Agrees b.agreed (b.own.items ++ b.shared) };
 }
 
 impl Buffer {
@@ -171,7 +171,7 @@ impl Buffer {
 
 /// Makes shared bytes a buffer's own, by a copy into the room for it. Takes no memory.
 fn unshare(own: &mut Vec<u8>, shared: &mut Bytes)
-    requires { IsKept (vec_len own.old) (vec_capacity own.old) shared.old }
+    requires { IsWindowKept (vec_len own.old) (vec_capacity own.old) shared.old }
     ensures own { own.new.items ≡ own.old.items ++ shared.old }
     ensures none { shared.new ≡ [] }
 {

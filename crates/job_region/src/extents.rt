@@ -3,9 +3,9 @@ ghost use Rattle.std.specs.Prelude.{◌≡◌, ◌≢◌, ◌+◌, ◌^◌, ◌<
 ghost use Rattle.std.specs.List.Sorted.{IsNonDecreasingBy};
 ghost use Rattle.obj_id.specs.declared.works.Extent.{Extent};
 ghost use Rattle.std.specs.Map.{lookup, remove_entry, set_value};
-ghost use Rattle.private_store.specs.Contents.{overwritten};
+ghost use Rattle.private_store.specs.rules.Contents.{overwritten};
 ghost use Rattle.job_region.specs.Region.{put_in};
-ghost use Rattle.job_region.specs.Layout.{LaidFrom, AreFilled, zipped, Before, After, gap, gap_among, kept, put_extent, without_extent, last_end, first_start};
+ghost use Rattle.job_region.specs.Layout.{LaidFrom, AreFilled, zipped, LiesBefore, After, gap, gap_among, staying, put_extent, without_extent, last_end, first_start};
 
 use crate::buffer::Buffer;
 use crate::spent::Spent;
@@ -18,7 +18,7 @@ use std::alloc::{AllocError, Global};
 pub(crate) fn place_of(extents: &[Extent], offset: u64) -> usize
     requires { IsNonDecreasingBy (λ (e : Extent). e.offset) extents.now }
     ensures within { result ≤ length extents.now }
-    ensures before { Before offset extents.now result }
+    ensures before { LiesBefore offset extents.now result }
     ensures after { After offset extents.now result }
 {
     extents.partition_point(|e| e.offset < offset)
@@ -208,7 +208,7 @@ pub(crate) fn least_without(
     requires small { quota < 2 ^ 29 }
     requires rising { IsNonDecreasingBy (λ (e : Extent). e.offset) gone.now }
     requires found { found ≡ gap quota need 0 extents.now }
-    ensures { result ≡ gap quota need 0 (kept gone.now extents.now) }
+    ensures { result ≡ gap quota need 0 (staying gone.now extents.now) }
 {
     let mut least = found;
     // Where the free bytes begin that end at the next extent that stays.

@@ -3,19 +3,19 @@ ghost use Rattle.std.specs.Prelude.{◌≡◌, ◌+◌, ◌^◌, ◌<◌, ◌≤
 ghost use Rattle.std.specs.Map.{remove_entry};
 ghost use Rattle.job_region.specs.Region.{without};
 ghost use Rattle.hole_tree.specs.Holes.{has_hole, take_hole};
-ghost use Rattle.job_region.specs.Layout.{LaidFrom, AreFilled, zipped, kept, without_extent};
+ghost use Rattle.job_region.specs.Layout.{LaidFrom, AreFilled, zipped, staying, without_extent};
 ghost use Rattle.job_region.specs.Gaps.{gaps, put_then, cut_hole, mend_holes, stretch as stretch_lem};
 
 use crate::buffer::Buffer;
 use crate::extents::{end_of_last, place_of, start_of_first, take_out};
 use crate::spent::Spent;
-use hole_tree::{Hole, Holes, Room};
+use hole_tree::{Hole, Holes, SpareNode};
 use obj_id::Extent;
 use std::alloc::{AllocError, Global};
 
 /// Makes room for one hole more than there are extents.
 pub(crate) fn reserve(
-    rooms: &mut Vec<Room>,
+    rooms: &mut Vec<SpareNode>,
     alloc: Global,
     extents: usize,
 ) -> Result<(), AllocError>
@@ -26,13 +26,13 @@ pub(crate) fn reserve(
     if extents < rooms.len() {
         return Ok(());
     }
-    rooms.push(Room::new(alloc)?)?;
+    rooms.push(SpareNode::new(alloc)?)?;
     Ok(())
 }
 
 /// The same if a quota is to grow.
 pub(crate) fn reserve_to_grow(
-    rooms: &mut Vec<Room>,
+    rooms: &mut Vec<SpareNode>,
     alloc: Global,
     extents: usize,
     from: u64,
@@ -87,7 +87,7 @@ pub(crate) fn free_at(
     extents: &mut Vec<Extent>,
     buffers: &mut Vec<Buffer>,
     holes: &mut Holes,
-    rooms: &mut Vec<Room>,
+    rooms: &mut Vec<SpareNode>,
     spent: &mut Spent,
     offset: u64,
     quota: u64,
@@ -120,7 +120,7 @@ pub(crate) fn free_all(
     extents: &mut Vec<Extent>,
     buffers: &mut Vec<Buffer>,
     holes: &mut Holes,
-    rooms: &mut Vec<Room>,
+    rooms: &mut Vec<SpareNode>,
     spent: &mut Spent,
     gone: &[Extent],
     quota: u64,
@@ -130,7 +130,7 @@ pub(crate) fn free_all(
     requires free { holes.old ≡ gaps quota 0 extents.old.items }
     requires spare { length extents.old.items ≤ vec_len rooms.old }
     requires filled { AreFilled extents.old.items buffers.old.items }
-    ensures left { extents.new.items ≡ kept gone.now extents.old.items }
+    ensures left { extents.new.items ≡ staying gone.now extents.old.items }
     ensures filled { AreFilled extents.new.items buffers.new.items }
     ensures placed { zipped extents.new.items buffers.new.items ≡ without gone.now (zipped extents.old.items buffers.old.items) }
     ensures room { vec_capacity buffers.new ≡ vec_capacity buffers.old }
@@ -145,7 +145,7 @@ pub(crate) fn free_all(
 
 /// Makes one hole of the bytes from `start` to `end`: those before `stop` were no hole, or begin one, and
 /// those from `stop` on too.
-fn mend(holes: &mut Holes, room: Room, start: u64, stop: u64, end: u64)
+fn mend(holes: &mut Holes, room: SpareNode, start: u64, stop: u64, end: u64)
     requires { (start ≤ end) × (start < 2 ^ 29) }
     ensures { holes.new ≡ mend_holes start stop end holes.old }
 {
@@ -161,7 +161,13 @@ fn mend(holes: &mut Holes, room: Room, start: u64, stop: u64, end: u64)
 }
 
 /// Makes the last hole, which begins at `end`, reach to the quota. Takes no memory.
-pub(crate) fn end_at(holes: &mut Holes, rooms: &mut Vec<Room>, extents: usize, end: u64, quota: u64)
+pub(crate) fn end_at(
+    holes: &mut Holes,
+    rooms: &mut Vec<SpareNode>,
+    extents: usize,
+    end: u64,
+    quota: u64,
+)
     requires rooms { extents ≤ vec_len rooms.old }
     requires spare { end < quota → has_hole end holes.old ≡ false → extents < vec_len rooms.old }
     requires small { quota < 2 ^ 29 }

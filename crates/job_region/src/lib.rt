@@ -8,10 +8,10 @@ ghost use Rattle.obj_id.specs.declared.works.Extent.{Extent};
 ghost use Rattle.std.specs.Map.{lookup, remove_entry, set_value};
 ghost use Rattle.obj_id.specs.declared.refusals.Refusal.{Refusal};
 ghost use Rattle.obj_id.specs.declared.refusals.Refusal.TheVariants.{BadSize, OutOfBounds, NoMemory};
-ghost use Rattle.private_store.specs.Limits.{is_window as is_window_lem};
-ghost use Rattle.private_store.specs.Extents.{rounded as rounded_lem, is_size, first};
-ghost use Rattle.private_store.specs.Contents.{digest_of, overwritten};
-ghost use Rattle.job_region.specs.Region.{extents_of, place_for, place_check, put_in, without, IsAt, bytes_at, resize_check as resize_check_lem};
+ghost use Rattle.private_store.specs.rules.Limits.{is_window as is_window_lem};
+ghost use Rattle.private_store.specs.rules.Extents.{rounded as rounded_lem, is_size, first};
+ghost use Rattle.private_store.specs.rules.Contents.{digest_of, overwritten};
+ghost use Rattle.job_region.specs.Region.{extents_of, place_for, place_check, put_in, without, IsAt, region_bytes_at, region_resize_check as resize_check_lem};
 ghost use Rattle.job_region.specs.Layout.{LaidFrom, zipped};
 
 mod buffer;
@@ -27,7 +27,7 @@ use extents::{
     reserve_places, write_at,
 };
 use hashed_bytes::Hashed;
-use hole_tree::{Hole, Holes, Room};
+use hole_tree::{Hole, Holes, SpareNode};
 use holes::{cut, end_at, free_all, free_at, reserve, reserve_to_grow};
 use obj_id::limits::{LONGEST_OBJECT, UNIT, WIDEST_WINDOW};
 use obj_id::{Digest, Extent, Refusal};
@@ -48,7 +48,7 @@ pub struct Window {
     // What the extents leave free.
     holes: Holes,
     // Room for the hole that giving an extent back may make: one for each extent, so that it takes no memory.
-    rooms: Vec<Room>,
+    rooms: Vec<SpareNode>,
     // For the next extent that is placed, if it has as many bytes.
     made: Option<Zeros>,
     // What extents had that went.
@@ -98,7 +98,7 @@ impl Window {
         }
         let mut holes = Holes::new();
         holes.put(
-            Room::new(alloc)?,
+            SpareNode::new(alloc)?,
             Hole {
                 offset: 0,
                 length: quota,
@@ -342,7 +342,7 @@ impl Window {
     pub fn digest_of(&self, extent: &Extent, len: u32) -> Digest
         requires there { IsAt extent.now self.now.placed }
         requires len { len ≤ extent.now.length }
-        ensures { result ≡ digest_of (take len (bytes_at extent.now self.now.placed)) }
+        ensures { result ≡ digest_of (take len (region_bytes_at extent.now self.now.placed)) }
     {
         buffer_at(&self.extents, &self.buffers, extent.offset).digest_of(len as usize)
     }
@@ -367,7 +367,7 @@ impl Window {
     /// `OutOfBounds` if they pass its end, and then nothing is written.
     pub fn write(&mut self, extent: &Extent, off: u32, bytes: &[u8]) -> Result<(), Refusal>
         requires { IsAt extent.now self.old.placed }
-        ensures ok { OnOk result (self.new ≡ record self.old { placed = set_value (nat_eq extent.now.offset) self.old.placed (overwritten (bytes_at extent.now self.old.placed) off bytes.now) }) }
+        ensures ok { OnOk result (self.new ≡ record self.old { placed = set_value (nat_eq extent.now.offset) self.old.placed (overwritten (region_bytes_at extent.now self.old.placed) off bytes.now) }) }
         ensures succeeds { off + length bytes.now ≤ extent.now.length → IsOk result }
         ensures bounds { IsErrOf result OutOfBounds ↔ (extent.now.length < off + length bytes.now) }
         ensures err { OnErr result (self.new ≡ self.old) }

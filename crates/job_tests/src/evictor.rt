@@ -1,7 +1,7 @@
 //! The order of use, and plans that take memory. Which copies go, and when none does, is a matter of contracts, and of
 //! worked schedules.
 use assertions::holds;
-use extent_tree::{Resident, Room};
+use extent_tree::{Resident, SpareNode};
 use indexmap::IndexMap;
 use job_region::Window;
 use lru_evictor::{CopyFacts, CopyLookup, DeviceRoom, Plan, UseOrder};
@@ -14,7 +14,7 @@ const STAYS: CopyFacts = CopyFacts {
     extent: None,
     bytes: 0,
     evictable: false,
-    passing: false,
+    draining: false,
     spillable: false,
 };
 
@@ -22,7 +22,7 @@ const EVICTABLE: CopyFacts = CopyFacts {
     extent: None,
     bytes: 0,
     evictable: true,
-    passing: false,
+    draining: false,
     spillable: false,
 };
 
@@ -30,7 +30,7 @@ const SPILLABLE: CopyFacts = CopyFacts {
     extent: None,
     bytes: 0,
     evictable: false,
-    passing: false,
+    draining: false,
     spillable: true,
 };
 
@@ -86,17 +86,18 @@ impl Store {
         facts: CopyFacts,
     ) -> Result<(), Refusal> {
         let id = object(index)?;
-        let room = Room::new(alloc)?;
+        let room = SpareNode::new(alloc)?;
         let extent = self.window.place(len)?;
         let facts = CopyFacts {
             extent: Some(extent),
             bytes: extent.length,
             ..facts
         };
-        let choices = facts.standing().choices;
+        let classes = facts.eviction_info().classes;
         self.copies.by_id.insert(id, facts)?;
         self.order.enter(id)?;
-        self.order.settle(room, &id, Resident { extent, choices });
+        self.order
+            .insert_resident(room, &id, Resident { extent, classes });
         Ok(())
     }
 

@@ -7,8 +7,8 @@ use Rattle.obj_id.specs.declared.ids.JobNo.{JobNo}
 use Rattle.obj_id.specs.declared.messages.Arrival.{Arrival}
 use Rattle.obj_id.specs.declared.messages.Arrival.TheVariants as arrival
 use Rattle.obj_id.specs.declared.messages.PeerMessage.TheVariants as peer
-use Rattle.obj_id.specs.declared.messages.Place.{Place}
-use Rattle.obj_id.specs.declared.messages.Place.TheVariants.{Node}
+use Rattle.obj_id.specs.declared.messages.Endpoint.{Endpoint}
+use Rattle.obj_id.specs.declared.messages.Endpoint.TheVariants.{Node}
 use Rattle.obj_id.specs.declared.refusals.Refusal.TheVariants.{Stale}
 use Rattle.private_store.specs.declared.inputs.Input.{Input}
 use Rattle.private_store.specs.declared.inputs.Input.TheVariants as input
@@ -17,11 +17,11 @@ use Rattle.private_store.specs.declared.inputs.Judged.TheVariants as judged
 use Rattle.private_store.specs.declared.schedules.NodeEvent.TheVariants.{Arrive}
 use Rattle.private_store.specs.declared.schedules.Step.TheVariants.{Deliver}
 use Rattle.private_store.specs.declared.schedules.StepAnswer.TheVariants.{HandedOver}
-use Rattle.private_store.specs.Answers.{brief_reply, wants_memory}
-use Rattle.private_store.specs.Contents.{View, judge, source_in}
-use Rattle.private_store.specs.NodeInputs.{Before, inputs_to, only_of}
-use Rattle.private_store.specs.Private.{view_from}
-use Rattle.private_store.specs.Replay.{brief_of, brief_step}
+use Rattle.private_store.specs.laws.Answers.{brief_reply, wants_memory}
+use Rattle.private_store.specs.rules.Contents.{View, judge, source_in}
+use Rattle.private_store.specs.laws.NodeInputs.{Before, inputs_to, only_of}
+use Rattle.private_store.specs.rules.Private.{view_from}
+use Rattle.private_store.specs.rules.Replay.{brief_of, brief_step}
 use Rattle.store_facts.proofs.AnswersAre.{answers_whole}
 use Rattle.store_facts.proofs.Tests.{true_false}
 use Rattle.schedule_text.specs.declared.lines.JobAt.{JobAt}
@@ -29,18 +29,18 @@ use Rattle.journal_text.specs.declared.entry.Address.{Address}
 use Rattle.journal_text.specs.declared.entry.Entry.{Entry}
 use Rattle.journal_text.specs.declared.entry.Version.TheVariants.{Three}
 use Rattle.journal_text.specs.declared.saved.Answered.{Answered}
-use Rattle.journal_text.specs.declared.saved.Mark.{Mark}
+use Rattle.journal_text.specs.declared.saved.JournalItem.{JournalItem}
 use Rattle.journal_text.specs.Reading.{is_fitting}
-use Rattle.journal_text.specs.Saved.{entry_at, lines_of as lines_counted}
+use Rattle.journal_text.specs.Saved.{entry_at, saved_lines_of as lines_counted}
 use Rattle.journal_text.specs.Typed.{IsProperInput}
 use Rattle.journal_replay.specs.Inputs.{judged_of}
 use Rattle.journal_replay.specs.Saved.{AreSound, entries_saved}
 use Rattle.job_admission.specs.Admissions.{live_at}
 use Rattle.node_core.specs.Hosted.{Hosted, ShowsAll}
 use Rattle.node_core.specs.Judged.{IsArrivalJudged, arrived}
-use Rattle.node_core.specs.Steps.{Given, Steps, StepsFrom, answered, before_of, stale_unless}
-use Rattle.world_core.specs.Moves.{handed, message_of}
-use Rattle.store_program.specs.Kept.{Kept, entries_told, entry_mark, input_said, with_step}
+use Rattle.node_core.specs.Steps.{NodeGiven, NodeStep, NodeStepFrom, answer_of_check, before_of, stale_unless}
+use Rattle.world_core.specs.WorldSteps.{handed, message_of}
+use Rattle.store_program.specs.SavedRuns.{SavedStep, entries_told, entry_mark, input_said, with_step}
 use Rattle.journal_laws.proofs.StoreAnswers.{early_stale, is_of_live}
 use Rattle.journal_laws.proofs.Entered.{AllTold, IsTold, due_here, entered, if_own, place_at, unbegun_here}
 use Rattle.journal_laws.proofs.EventTold.{is_refused, mark_elsewhere, one_or, own_inputs}
@@ -60,11 +60,11 @@ arrival_said (arrival.FromPeer from (peer.Chunk id fetch index bytes)) = record 
 arrival_said (arrival.FromPeer from (peer.NotHere id fetch)) = record { said = λ address number view is. refl; proper = λ number view. tt; fitting = λ number view. refl; of_live = λ number view. refl }
 
 -- what is so of the node and its journal afterwards
-abbrev pub Tells : ℕ → Hosted → List Mark → Type 0
+abbrev pub Tells : ℕ → Hosted → List JournalItem → Type 0
 Tells place node marks = (v : ℕ → View) × (ShowsAll node v × (AllTold place v (entries_saved marks) × AreSound (entries_saved marks)))
 
-module _ (place : ℕ) (job : JobNo) (from : Place) (m : ℕ) (damage : Bool) (a : Arrival) (before after : Hosted) (given : Given) (steps : Steps before (Arrive job a) given after) (was : Option Judged)
-    (is_judged : IsArrivalJudged before job a given.reply was) (stale : given.reply ≡ reply.Refused Stale → after ≡ before) (v : ℕ → View) (shows : ShowsAll before v) (marks : List Mark)
+module _ (place : ℕ) (job : JobNo) (from : Endpoint) (m : ℕ) (damage : Bool) (a : Arrival) (before after : Hosted) (given : NodeGiven) (steps : NodeStep before (Arrive job a) given after) (was : Option Judged)
+    (is_judged : IsArrivalJudged before job a given.reply was) (stale : given.reply ≡ reply.Refused Stale → after ≡ before) (v : ℕ → View) (shows : ShowsAll before v) (marks : List JournalItem)
     (told : AllTold place v (entries_saved marks)) (sound : AreSound (entries_saved marks)) (within : place < 8) (numbered : before.number ≡ place) where
   abbrev number : ℕ
   number = before.number
@@ -78,14 +78,14 @@ module _ (place : ℕ) (job : JobNo) (from : Place) (m : ℕ) (damage : Bool) (a
   abbrev at : JobAt
   at = record { node = place; job = job }
 
-  abbrev kept : Kept
+  abbrev kept : SavedStep
   kept = record { judged = was; notes = [] }
 
   -- what the journal has of it, if it was answered so
-  abbrev marks_with : Reply (List ℕ) → Option Judged → List Mark
+  abbrev marks_with : Reply (List ℕ) → Option Judged → List JournalItem
   marks_with r w = with_step (Deliver job from (Node place) m damage) (handed (message_of a) r) (record { judged = w; notes = [] }) marks
 
-  came_from : StepsFrom before v (Arrive job a) given after
+  came_from : NodeStepFrom before v (Arrive job a) given after
   came_from = steps.each v shows
 
   was_is : (r : Reply (List ℕ)) → given.reply ≡ r → was ≡ option_map (judge number (v job.0)) (arrived a r)
@@ -138,7 +138,7 @@ module _ (place : ℕ) (job : JobNo) (from : Place) (m : ℕ) (damage : Bool) (a
   pub arrival_told : Tells place after (marks_with given.reply was)
   arrival_told = by (is_some (live_at before.admissions job)) came_from.operator
     where
-      by : (live : Bool) → given.reply ≡ answered (stale_unless live) → Tells place after (marks_with given.reply was)
+      by : (live : Bool) → given.reply ≡ answer_of_check (stale_unless live) → Tells place after (marks_with given.reply was)
       by true ok = subst (λ t. Tells place after (marks_with t was)) (sym ok) (subst (λ w. Tells place after (marks_with reply.Ok w)) (sym (was_is reply.Ok ok)) (taken ok))
       by false late =
           subst (λ t. Tells place after (marks_with t was)) (sym late)
@@ -148,7 +148,7 @@ module _ (place : ℕ) (job : JobNo) (from : Place) (m : ℕ) (damage : Bool) (a
   pub arrival_elsewhere : (p : ℕ) (u : ℕ → View) → (place == p) ≡ false → AllTold p u (entries_saved marks) → AllTold p u (entries_saved (marks_with given.reply was))
   arrival_elsewhere p u apart h = by (is_some (live_at before.admissions job)) came_from.operator
     where
-      by : (live : Bool) → given.reply ≡ answered (stale_unless live) → AllTold p u (entries_saved (marks_with given.reply was))
+      by : (live : Bool) → given.reply ≡ answer_of_check (stale_unless live) → AllTold p u (entries_saved (marks_with given.reply was))
       by true ok =
           subst (λ t. AllTold p u (entries_saved (marks_with t was))) (sym ok)
           (mark_elsewhere at (suc (lines_counted at marks)) (entry_mark at (HandedOver (message_of a)) was).line (entries_saved marks) p u apart h)

@@ -3,19 +3,19 @@ use Rattle.std.proofs.Common.{◌≡◌, ℕ, ◌≤◌, Bool, true, false, cond
 use Rattle.std.proofs.lemmas.Bool.Decides.{nat_tests}
 use Rattle.obj_id.specs.declared.ids.JobNo.{JobNo}
 use Rattle.private_store.specs.declared.inputs.Input.{Input}
-use Rattle.private_store.specs.Contents.{View, judge}
-use Rattle.private_store.specs.Kept.{IsViewKept}
-use Rattle.private_store.specs.Private.{view_step, view_from}
-use Rattle.private_store.specs.Replay.{Brief, Line, brief_after, brief_of, brief_step, replayed, unbegun_brief}
+use Rattle.private_store.specs.rules.Contents.{View, judge}
+use Rattle.private_store.specs.laws.Invariants.{IsViewKept}
+use Rattle.private_store.specs.rules.Private.{view_step, view_from}
+use Rattle.private_store.specs.rules.Replay.{Brief, Line, brief_after, brief_of, brief_step, replayed, unbegun_brief}
 use Rattle.store_facts.proofs.StepsKept.{view_keeps}
 use Rattle.schedule_text.specs.declared.lines.JobAt.{JobAt}
 use Rattle.journal_text.specs.declared.entry.Entry.{Entry}
 use Rattle.journal_text.specs.declared.entry.Version.TheVariants.{Three}
 use Rattle.journal_text.specs.declared.saved.Answered.{Answered}
-use Rattle.journal_text.specs.Saved.{entry_at, place_of, same_place}
+use Rattle.journal_text.specs.Saved.{entry_at, journal_place_of, same_job_place}
 use Rattle.journal_text.proofs.ForCallers.{same_place-itself}
-use Rattle.journal_replay.specs.Inputs.{judged_of, line_of}
-use Rattle.journal_replay.specs.Replays.{due_after, lines_of, store_of}
+use Rattle.journal_replay.specs.Inputs.{judged_of, read_line_of}
+use Rattle.journal_replay.specs.Replays.{due_after, replayed_lines_of, replayed_store_of}
 use Rattle.journal_replay.specs.Saved.{AreSound}
 
 abbrev pub place_at : ℕ → ℕ → JobAt
@@ -24,7 +24,7 @@ place_at place job = record { node = place; job = record { 0 = job } }
 -- the entries of the job at its node lead to its view, without its contents
 pub record IsTold (place : JobAt) (view : View) (entries : List Entry) : Type 0 where
   pub kept : IsViewKept view
-  pub replays : store_of Three place entries ≡ brief_of view
+  pub replays : replayed_store_of Three place entries ≡ brief_of view
 
 -- of all jobs at a place
 abbrev pub AllTold : ℕ → (ℕ → View) → List Entry → Type 0
@@ -38,18 +38,18 @@ replayed_last b (x ∷ xs) l = replayed_last (brief_after b x.input) xs l
 
 module _ (x : Entry) (entries : List Entry) where
   abbrev here : JobAt
-  here = place_of x.address
+  here = journal_place_of x.address
 
   abbrev store_with : Bool → JobAt → Brief
-  store_with b place = replayed (unbegun_brief place.job.0) (cond b (lines_of Three place entries ++ line_of Three x ∷ []) (lines_of Three place entries))
+  store_with b place = replayed (unbegun_brief place.job.0) (cond b (replayed_lines_of Three place entries ++ read_line_of Three x ∷ []) (replayed_lines_of Three place entries))
 
-  store_more : store_of Three here (x ∷ entries) ≡ brief_after (store_of Three here entries) (judged_of Three x.address x.input)
-  store_more = ap (λ b. store_with b here) (same_place-itself here) ∙ replayed_last (unbegun_brief here.job.0) (lines_of Three here entries) (line_of Three x)
+  store_more : replayed_store_of Three here (x ∷ entries) ≡ brief_after (replayed_store_of Three here entries) (judged_of Three x.address x.input)
+  store_more = ap (λ b. store_with b here) (same_place-itself here) ∙ replayed_last (unbegun_brief here.job.0) (replayed_lines_of Three here entries) (read_line_of Three x)
 
-  store_other : (place : JobAt) → same_place here place ≡ false → store_of Three place (x ∷ entries) ≡ store_of Three place entries
+  store_other : (place : JobAt) → same_job_place here place ≡ false → replayed_store_of Three place (x ∷ entries) ≡ replayed_store_of Three place entries
   store_other place e = ap (λ b. store_with b place) e
 
-  told_other : (place : JobAt) (view : View) → same_place here place ≡ false → IsTold place view entries → IsTold place view (x ∷ entries)
+  told_other : (place : JobAt) (view : View) → same_job_place here place ≡ false → IsTold place view entries → IsTold place view (x ∷ entries)
   told_other place view e h = record { kept = h.kept; replays = store_other place e ∙ h.replays }
 
   module _ (number : ℕ) (view : View) (input : Input) (is : judged_of Three x.address x.input ≡ judge number view input) (h : IsTold here view entries) where
@@ -57,12 +57,12 @@ module _ (x : Entry) (entries : List Entry) where
     told_more =
         record {
           kept = view_keeps number view input h.kept;
-          replays = store_more ∙ ap (brief_after (store_of Three here entries)) is ∙ ap (λ b. brief_after b (judge number view input)) h.replays;
+          replays = store_more ∙ ap (brief_after (replayed_store_of Three here entries)) is ∙ ap (λ b. brief_after b (judge number view input)) h.replays;
         }
 
     -- the answer that the view gives is due
     pub due_here : x.reply ≡ (brief_step (brief_of view) (judge number view input)).reply → x.reply ≡ due_after Three entries x
-    due_here e = e ∙ sym (ap (λ b. (brief_step b (judge number view input)).reply) h.replays) ∙ sym (ap (λ y. (brief_step (store_of Three here entries) y).reply) is)
+    due_here e = e ∙ sym (ap (λ b. (brief_step b (judge number view input)).reply) h.replays) ∙ sym (ap (λ y. (brief_step (replayed_store_of Three here entries) y).reply) is)
 
 -- the input, if the job is this one
 abbrev pub if_own : Bool → Option Input → List Input
@@ -111,11 +111,11 @@ below_one : (n : ℕ) → 1 ≤ n → (n == 0) ≡ false
 below_one n h = grind (arith, nat_tests, h)
 
 -- no entry is of number 0
-pub no_lines : (entries : List Entry) → AreSound entries → (node : ℕ) → lines_of Three (place_at node 0) entries ≡ []
+pub no_lines : (entries : List Entry) → AreSound entries → (node : ℕ) → replayed_lines_of Three (place_at node 0) entries ≡ []
 no_lines [] sound node = refl
 no_lines (x ∷ entries) sound node =
-    let other : same_place (place_of x.address) (place_at node 0) ≡ false = by (x.address.node == node) (x.address.job.0 == 0) (below_one x.address.job.0 sound.0.job) in
-    ap (λ b. cond b (lines_of Three (place_at node 0) entries ++ line_of Three x ∷ []) (lines_of Three (place_at node 0) entries)) other ∙ no_lines entries sound.2 node
+    let other : same_job_place (journal_place_of x.address) (place_at node 0) ≡ false = by (x.address.node == node) (x.address.job.0 == 0) (below_one x.address.job.0 sound.0.job) in
+    ap (λ b. cond b (replayed_lines_of Three (place_at node 0) entries ++ read_line_of Three x ∷ []) (replayed_lines_of Three (place_at node 0) entries)) other ∙ no_lines entries sound.2 node
   where
     by : (a b : Bool) → b ≡ false → (a && b) ≡ false
     by true b e = e

@@ -16,14 +16,14 @@ use Rattle.private_store.specs.declared.schedules.Event.TheVariants as event
 use Rattle.private_store.specs.declared.schedules.NodeEvent.TheVariants.{Own}
 use Rattle.private_store.specs.declared.schedules.Step.TheVariants.{At}
 use Rattle.private_store.specs.declared.schedules.StepAnswer.TheVariants as answers
-use Rattle.private_store.specs.Answers.{brief_reply, wants_memory}
-use Rattle.private_store.specs.Commands.{granted_items}
-use Rattle.private_store.specs.Contents.{View, judge}
-use Rattle.private_store.specs.Limits.{is_quota, most_live_jobs}
-use Rattle.private_store.specs.NodeInputs.{Before, JobInput, inputs_to, notes_here, only_of, own_here}
-use Rattle.private_store.specs.Private.{view_step, view_from}
-use Rattle.private_store.specs.Replay.{brief_of, brief_step}
-use Rattle.private_store.specs.Shared.{first_refusal}
+use Rattle.private_store.specs.laws.Answers.{brief_reply, wants_memory}
+use Rattle.private_store.specs.rules.Commands.{granted_items}
+use Rattle.private_store.specs.rules.Contents.{View, judge}
+use Rattle.private_store.specs.rules.Limits.{is_quota, most_live_jobs}
+use Rattle.private_store.specs.laws.NodeInputs.{Before, JobInput, inputs_to, notes_here, only_of, own_here}
+use Rattle.private_store.specs.rules.Private.{view_step, view_from}
+use Rattle.private_store.specs.rules.Replay.{brief_of, brief_step}
+use Rattle.private_store.specs.rules.Shared.{first_refusal}
 use Rattle.store_facts.proofs.AnswersAre.{answers_whole}
 use Rattle.store_facts.proofs.Tests.{none_some, some_value, true_false}
 use Rattle.schedule_text.specs.declared.lines.JobAt.{JobAt}
@@ -31,23 +31,23 @@ use Rattle.journal_text.specs.declared.entry.Address.{Address}
 use Rattle.journal_text.specs.declared.entry.Entry.{Entry}
 use Rattle.journal_text.specs.declared.entry.Version.TheVariants.{Three}
 use Rattle.journal_text.specs.declared.saved.Answered.{Answered}
-use Rattle.journal_text.specs.declared.saved.Mark.{Mark}
+use Rattle.journal_text.specs.declared.saved.JournalItem.{JournalItem}
 use Rattle.journal_text.specs.Reading.{is_fitting}
-use Rattle.journal_text.specs.Saved.{entry_at, lines_of as lines_counted}
+use Rattle.journal_text.specs.Saved.{entry_at, saved_lines_of as lines_counted}
 use Rattle.journal_text.specs.Typed.{IsProperInput, IsProperReply}
 use Rattle.journal_replay.specs.Inputs.{judged_of}
 use Rattle.journal_replay.specs.Saved.{AreSound, entries_saved, with_line}
-use Rattle.job_admission.specs.Admissions.{Admissions, admit_check, lives_of, place_for}
+use Rattle.job_admission.specs.Admissions.{Admissions, admit_check, lives_of, window_place_for}
 use Rattle.grants.specs.Private.{taken_by}
 use Rattle.node_core.specs.declared.outcome.Note.{Note}
 use Rattle.node_core.specs.Hosted.{Hosted, IsViewBy, Shows, ShowsAll, beside_at, bytes_here, row_at}
 use Rattle.node_core.specs.Judged.{IsJudged}
-use Rattle.node_core.specs.OneJob.{input_of}
+use Rattle.node_core.specs.OneJob.{event_input_of}
 use Rattle.node_core.specs.Outcomes.{inputs_noted}
-use Rattle.node_core.specs.Steps.{Given, IsEventAnswer, IsGiven, IsStepOf, Steps, StepsFrom, answered, before_of, job_of_event}
+use Rattle.node_core.specs.Steps.{NodeGiven, IsEventAnswer, IsGiven, IsStepOf, NodeStep, NodeStepFrom, answer_of_check, before_of, job_of_event}
 use Rattle.node_core.proofs.ForCallers.{IsFinishAnswer, finish_answer, own_due_is, own_here_is, told_never}
 use Rattle.node_table.specs.Row.{Row}
-use Rattle.store_program.specs.Kept.{Kept, entry_mark, input_said, kept_under, with_entry, with_notes, with_step}
+use Rattle.store_program.specs.SavedRuns.{SavedStep, entry_mark, input_said, kept_under, with_entry_item, with_notes, with_step}
 use Rattle.journal_laws.proofs.GoodHands.{AreGood, IsDeep, seen_deep}
 use Rattle.journal_laws.proofs.StoreAnswers.{answer_proper, early_stale, is_of_live}
 use Rattle.journal_laws.proofs.Entered.{AllTold, IsTold, due_here, entered, entered_elsewhere, if_none, if_own, place_at, unbegun_here}
@@ -75,7 +75,7 @@ record IsOwnInput (told : Reply (List ℕ)) (x : Input) : Type 0 where
   pub proper : (number : ℕ) (view : View) → IsProperInput (input_said [] (judge number view x))
   pub fitting : (number : ℕ) (view : View) → is_fitting (input_said [] (judge number view x)) (brief_reply told) ≡ true
 
-own_input : (e : Event) (told : Reply (List ℕ)) (x : Input) → input_of e told ≡ Some x → IsOwnInput told x
+own_input : (e : Event) (told : Reply (List ℕ)) (x : Input) → event_input_of e told ≡ Some x → IsOwnInput told x
 own_input (event.Admit job quota key) reply.Ok x is = subst (IsOwnInput reply.Ok) (some_value _ x is) (record { said = λ a n w. refl; proper = λ n w. tt; fitting = λ n w. refl })
 own_input (event.Admit job quota key) _ x is = none_some x is
 own_input (event.Requota job quota) reply.Ok x is = subst (IsOwnInput reply.Ok) (some_value _ x is) (record { said = λ a n w. refl; proper = λ n w. tt; fitting = λ n w. refl })
@@ -88,7 +88,7 @@ own_input (event.Finish job number a) _ x is = none_some x is
 own_input (event.Call job session c) told x is = subst (IsOwnInput told) (some_value _ x is) (record { said = λ a n w. refl; proper = λ n w. tt; fitting = λ n w. refl })
 
 -- the entry stands under the job of the event
-own_place : (e : Event) (told : Reply (List ℕ)) (x : Input) → input_of e told ≡ Some x → kept_under e told ≡ record { 0 = job_of_event e }
+own_place : (e : Event) (told : Reply (List ℕ)) (x : Input) → event_input_of e told ≡ Some x → kept_under e told ≡ record { 0 = job_of_event e }
 own_place (event.Admit job quota key) told x is = refl
 own_place (event.Requota job quota) told x is = refl
 own_place (event.JobEnd job) told x is = refl
@@ -106,7 +106,7 @@ pub one_or : (n : ℕ) → (n ≡ 0 → ⊥) → 1 ≤ n
 one_or zero f = absurd (f refl)
 one_or (suc n) f = omega arith
 
-refused_first : (b : Bool) (r : Refusal) (checks : List (Bool × Refusal)) → b ≡ true → answered (first_refusal ((b, r) ∷ checks)) ≡ reply.Refused r
+refused_first : (b : Bool) (r : Refusal) (checks : List (Bool × Refusal)) → b ≡ true → answer_of_check (first_refusal ((b, r) ∷ checks)) ≡ reply.Refused r
 refused_first true r checks e = refl
 refused_first false r checks e = true_false e
 
@@ -115,14 +115,14 @@ abbrev later_checks : Admissions → JobNo → Quota → List (Bool × Refusal)
 later_checks a job quota =
     (not (is_quota quota), BadSize)
     ∷ (nat_le job.0 a.greatest, Exists)
-    ∷ (nat_le most_live_jobs (length (lives_of a.live)) || is_none (place_for a quota.window), NoRoom)
+    ∷ (nat_le most_live_jobs (length (lives_of a.live)) || is_none (window_place_for a quota.window), NoRoom)
     ∷ []
 
-admitted_one : (a : Admissions) (job : JobNo) (quota : Quota) → reply.Ok ≡ answered (admit_check a job quota) → 1 ≤ job.0
+admitted_one : (a : Admissions) (job : JobNo) (quota : Quota) → reply.Ok ≡ answer_of_check (admit_check a job quota) → 1 ≤ job.0
 admitted_one a job quota is = one_or job.0 (λ none. true_false (ap is_refused (is ∙ refused_first (job.0 == 0) BadId (later_checks a job quota) (ap (λ n. n == 0) none))))
 
 -- it has a number, since a store of none never begins
-is_one : (node : Hosted) (v : ℕ → View) (number : ℕ) (e : Event) (told : Reply (List ℕ)) (x : Input) → input_of e told ≡ Some x → IsEventAnswer node v e told → IsSpoken e
+is_one : (node : Hosted) (v : ℕ → View) (number : ℕ) (e : Event) (told : Reply (List ℕ)) (x : Input) → event_input_of e told ≡ Some x → IsEventAnswer node v e told → IsSpoken e
     → (job_of_event e ≡ 0 → is_of_live (judge number (v (job_of_event e)) x) ≡ true → brief_reply told ≡ reply.Refused Stale) → 1 ≤ job_of_event e
 is_one node v number (event.Admit job quota key) reply.Ok x is op spoken late = admitted_one node.admissions job quota op
 is_one node v number (event.Admit job quota key) _ x is op spoken late = none_some x is
@@ -163,8 +163,8 @@ mark_elsewhere at k (Some line) entries p u apart told = entered_elsewhere at.no
 
 -- ---- the event
 
-module _ (place : ℕ) (e : Event) (before after : Hosted) (given : Given) (steps : Steps before (Own e) given after) (was : Option Judged) (is_judged : IsJudged before e given.reply was)
-    (notes : List Note) (noted : given.notes ≡ inputs_noted notes) (v : ℕ → View) (shows : ShowsAll before v) (marks : List Mark) (told : AllTold place v (entries_saved marks)) (sound : AreSound (entries_saved marks))
+module _ (place : ℕ) (e : Event) (before after : Hosted) (given : NodeGiven) (steps : NodeStep before (Own e) given after) (was : Option Judged) (is_judged : IsJudged before e given.reply was)
+    (notes : List Note) (noted : given.notes ≡ inputs_noted notes) (v : ℕ → View) (shows : ShowsAll before v) (marks : List JournalItem) (told : AllTold place v (entries_saved marks)) (sound : AreSound (entries_saved marks))
     (within : place < 8) (good : AreGood before.hands) (good_after : AreGood after.hands) (spoken : IsSpoken e) where
   abbrev r : Reply (List ℕ)
   r = given.reply
@@ -178,7 +178,7 @@ module _ (place : ℕ) (e : Event) (before after : Hosted) (given : Given) (step
   abbrev own : ℕ
   own = job_of_event e
 
-  from : StepsFrom before v (Own e) given after
+  from : NodeStepFrom before v (Own e) given after
   from = steps.each v shows
 
   answer : IsFinishAnswer b e r
@@ -187,21 +187,21 @@ module _ (place : ℕ) (e : Event) (before after : Hosted) (given : Given) (step
   wants_none : wants_memory r ≡ false
   wants_none = told_never before v number b e given from.operator from.told
 
-  told_is : (x : Input) → input_of e r ≡ Some x → IsStepOf number (v own) x given
+  told_is : (x : Input) → event_input_of e r ≡ Some x → IsStepOf number (v own) x given
   told_is x is =
       subst (λ o. IsGiven number v (of_job own o) given) is
       (subst (λ o. IsGiven number v o given) (own_due_is b e r answer) from.told)
 
-  inputs_are : (j : ℕ) → inputs_to b (Own e) r j ≡ if_own (own == j) (input_of e r) ++ only_of j (notes_here b (Own e) r)
+  inputs_are : (j : ℕ) → inputs_to b (Own e) r j ≡ if_own (own == j) (event_input_of e r) ++ only_of j (notes_here b (Own e) r)
   inputs_are j =
       only-append j (option_to_list (own_here b (Own e) r)) (notes_here b (Own e) r)
       ∙ ap (λ o. only_of j (option_to_list o) ++ only_of j (notes_here b (Own e) r)) (own_here_is b e r answer wants_none)
-      ∙ ap (λ xs. xs ++ only_of j (notes_here b (Own e) r)) (own_inputs own j (input_of e r))
+      ∙ ap (λ xs. xs ++ only_of j (notes_here b (Own e) r)) (own_inputs own j (event_input_of e r))
 
-  was_is : (o : Option Input) → input_of e r ≡ o → was ≡ option_map (judge number (v own)) o
+  was_is : (o : Option Input) → event_input_of e r ≡ o → was ≡ option_map (judge number (v own)) o
   was_is o is = sym (is_judged.by_view (v own) (shows own)) ∙ ap (option_map (judge number (v own))) is
 
-  module _ (x : Input) (is : input_of e r ≡ Some x) where
+  module _ (x : Input) (is : event_input_of e r ≡ Some x) where
     abbrev y : Judged
     y = judge number (v own) x
 
@@ -253,7 +253,7 @@ module _ (place : ℕ) (e : Event) (before after : Hosted) (given : Given) (step
   Enters o w p =
       AllTold place (λ j. view_from number (v j) (if_own (own == j) o)) (entries_saved (entry_mark p (answers.Told r) w ∷ marks)) × AreSound (entries_saved (entry_mark p (answers.Told r) w ∷ marks))
 
-  enters : (o : Option Input) → input_of e r ≡ o → Enters o was at
+  enters : (o : Option Input) → event_input_of e r ≡ o → Enters o was at
   enters None is =
       subst (λ w. Enters None w at) (sym (was_is None is))
       (λ j. subst (λ xs. IsTold (place_at place j) (view_from number (v j) xs) (entries_saved marks)) (sym (if_none (own == j))) (told j), sound)
@@ -261,12 +261,12 @@ module _ (place : ℕ) (e : Event) (before after : Hosted) (given : Given) (step
       subst (λ w. Enters (Some x) w at) (sym (was_is (Some x) is))
       (subst (λ p. Enters (Some x) (Some (judge number (v own) x)) p) (ap at_job (sym (own_place e r x is))) (own_told x is, own_sound x is))
 
-  abbrev kept : Kept
+  abbrev kept : SavedStep
   kept = record { judged = was; notes = notes }
 
   -- what the journal has of it
   marks_are : with_step (At place e) (answers.Told r) kept marks ≡ with_notes place notes (entry_mark at (answers.Told r) was ∷ marks)
-  marks_are = ap (λ t. with_entry (cond t None (Some at)) (answers.Told r) kept marks) wants_none
+  marks_are = ap (λ t. with_entry_item (cond t None (Some at)) (answers.Told r) kept marks) wants_none
 
   abbrev pub views_after : ℕ → View
   views_after j = view_from number (v j) (inputs_to b (Own e) r j)
@@ -276,13 +276,13 @@ module _ (place : ℕ) (e : Event) (before after : Hosted) (given : Given) (step
 
   pub event_told : AllTold place views_after (entries_saved (with_step (At place e) (answers.Told r) kept marks)) × AreSound (entries_saved (with_step (At place e) (answers.Told r) kept marks))
   event_told =
-      let one = enters (input_of e r) refl in
+      let one = enters (event_input_of e r) refl in
       let all = notes_told place number within v notes (notes_here b (Own e) r) (sym noted ∙ from.notes) (notes_good b e r good (subst AreGood steps.hands good_after))
-      (entry_mark at (answers.Told r) was ∷ marks) (λ j. view_from number (v j) (if_own (own == j) (input_of e r))) one.0 one.1 in
+      (entry_mark at (answers.Told r) was ∷ marks) (λ j. view_from number (v j) (if_own (own == j) (event_input_of e r))) one.0 one.1 in
       let more = with_notes place notes (entry_mark at (answers.Told r) was ∷ marks) in
       subst (λ ms. AllTold place views_after (entries_saved ms) × AreSound (entries_saved ms)) (sym marks_are) (
         λ j. subst (λ u. IsTold (place_at place j) u (entries_saved more))
-            (sym (ap (view_from number (v j)) (inputs_are j) ∙ from-append number (v j) (if_own (own == j) (input_of e r)) (only_of j (notes_here b (Own e) r)))) (all.0 j),
+            (sym (ap (view_from number (v j)) (inputs_are j) ∙ from-append number (v j) (if_own (own == j) (event_input_of e r)) (only_of j (notes_here b (Own e) r)))) (all.0 j),
         all.1,
       )
 

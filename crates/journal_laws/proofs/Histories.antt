@@ -16,12 +16,12 @@ use Rattle.private_store.specs.declared.schedules.StepAnswer.{StepAnswer}
 use Rattle.private_store.specs.declared.schedules.StepAnswer.TheVariants as answers
 use Rattle.private_store.specs.declared.schedules.Traced.{Traced}
 use Rattle.private_store.specs.declared.inputs.Judged.{Judged}
-use Rattle.private_store.specs.Trace.{hands_at, is_answered, replies_of}
+use Rattle.private_store.specs.rules.Trace.{hands_at, is_answered, replies_of}
 use Rattle.store_facts.proofs.Tests.{both, both_left, both_right}
 use Rattle.schedule_text.specs.declared.line.Line.TheVariants as line
 use Rattle.schedule_text.specs.Reading.{is_skipped}
 use Rattle.schedule_text.proofs.ForCallers.{is_spoken, spelled_spoken}
-use Rattle.hand_laws.specs.Standing.{ArePrivate, is_told}
+use Rattle.hand_laws.specs.Standing.{ArePrivate, is_told_of}
 use Rattle.hand_laws.proofs.ForCallers.{each_moment}
 use Rattle.grants.specs.Table.{AreHands}
 use Rattle.node_core.specs.declared.outcome.Note.{Note}
@@ -62,7 +62,7 @@ spoken nodes history text step h = said_spoken nodes history text step h.speaks 
 
 -- ---- each command gets a reply
 
-told_reply : (place : ℕ) (e : Event) (r : Reply (List ℕ)) → is_told (At place e) (answers.Told r) ≡ true
+told_reply : (place : ℕ) (e : Event) (r : Reply (List ℕ)) → is_told_of (At place e) (answers.Told r) ≡ true
 told_reply place (event.Call job session c) r = refl
 told_reply place (event.Admit job quota key) r = refl
 told_reply place (event.Requota job quota) r = refl
@@ -70,11 +70,11 @@ told_reply place (event.JobEnd job) r = refl
 told_reply place event.Take r = refl
 told_reply place (event.Finish job number a) r = refl
 
-told_any : (step : Step) (r : Reply (List ℕ)) → is_told step (answers.Told r) ≡ true
+told_any : (step : Step) (r : Reply (List ℕ)) → is_told_of step (answers.Told r) ≡ true
 told_any (At place e) r = told_reply place e r
 told_any (Deliver job from to m damage) r = refl
 
-pub noted_told : (old new : Hosting) (was : Option Judged) (notes : List Note) (step : Step) (answer : StepAnswer) → IsNoted old new was notes step answer → is_told step answer ≡ true
+pub noted_told : (old new : Hosting) (was : Option Judged) (notes : List Note) (step : Step) (answer : StepAnswer) → IsNoted old new was notes step answer → is_told_of step answer ≡ true
 noted_told old new was notes step answer (keeps_event place e told n) = told_reply place e told
 noted_told old new was notes step answer (keeps_arrival job from place m damage a told is n) = refl
 noted_told old new was notes step answer (passes_node job from place m damage msg told is n) = refl
@@ -85,7 +85,7 @@ noted_told old new was notes step answer (wants_memory _ n) = told_any step (rep
 -- ---- standing hands are a table
 
 abbrev pub AreTold : List Traced → Type 0
-AreTold history = list_all (λ entry. is_told entry.step entry.answer) history ≡ true
+AreTold history = list_all (λ entry. is_told_of entry.step entry.answer) history ≡ true
 
 all_reversed : {X : Type 0} (p : X → Bool) (xs : List X) → list_all p xs ≡ true → list_all p (reverse xs) ≡ true
 all_reversed p [] h = refl
@@ -99,7 +99,7 @@ module _ (nodes memory : ℕ) (world : Hosting) (history : List Traced) (after :
   are_private =
       let again : IsAfter nodes memory world (reverse (reverse history)) = subst (IsAfter nodes memory world) (sym (reverse-reverse history)) after in
       record {
-        told = all_reversed (λ entry. is_told entry.step entry.answer) history told;
+        told = all_reversed (λ entry. is_told_of entry.step entry.answer) history told;
         replies = λ job. ap (λ t. filter is_answered (replies_of job t)) (sym (reverse-reverse (reverse history))) ∙ (again.each_job job).replies;
       }
 

@@ -1,4 +1,4 @@
--- The notes of a step: the takers of hands are told of them, in order.
+-- The notes of a step: the grantees of hands are told of them, in order.
 use Rattle.std.proofs.Common.{◌≡◌, ℕ, ◌<◌, ◌≤◌, Bool, true, false, cond, ◌==◌, ◌||◌, List, [], ◌∷◌, map, filter, Option, Some, None, ◌&&◌, suc, refl, sym, ap, subst, ◌∙◌, arith}
 use Rattle.std.specs.Prelude.{nat_le, ⊤}
 use Rattle.std.specs.List.{list_all}
@@ -13,37 +13,37 @@ use Rattle.private_store.specs.declared.inputs.Input.TheVariants as input
 use Rattle.private_store.specs.declared.schedules.Event.{Event}
 use Rattle.private_store.specs.declared.schedules.Event.TheVariants as event
 use Rattle.private_store.specs.declared.schedules.NodeEvent.TheVariants.{Own}
-use Rattle.private_store.specs.Contents.{View, judge}
-use Rattle.private_store.specs.Hands.{Hand, hands_ended, new_hand}
-use Rattle.private_store.specs.NodeInputs.{Before, JobInput, hands_after, notes_here, only_of, withdrawn_here}
-use Rattle.private_store.specs.Private.{view_from}
-use Rattle.private_store.specs.Replay.{brief_of, brief_step}
-use Rattle.private_store.specs.Trace.{ends}
+use Rattle.private_store.specs.rules.Contents.{View, judge}
+use Rattle.private_store.specs.rules.Hands.{Hand, hands_ended, new_hand}
+use Rattle.private_store.specs.laws.NodeInputs.{Before, JobInput, hands_after, notes_here, only_of, withdrawn_here}
+use Rattle.private_store.specs.rules.Private.{view_from}
+use Rattle.private_store.specs.rules.Replay.{brief_of, brief_step}
+use Rattle.private_store.specs.rules.Trace.{ends}
 use Rattle.store_facts.proofs.Tests.{both_left, both_right, true_false}
 use Rattle.schedule_text.specs.declared.lines.JobAt.{JobAt}
 use Rattle.journal_text.specs.declared.entry.Address.{Address}
 use Rattle.journal_text.specs.declared.entry.Entry.{Entry}
 use Rattle.journal_text.specs.declared.entry.Version.TheVariants.{Three}
 use Rattle.journal_text.specs.declared.saved.Answered.{Answered}
-use Rattle.journal_text.specs.declared.saved.Mark.{Mark}
+use Rattle.journal_text.specs.declared.saved.JournalItem.{JournalItem}
 use Rattle.journal_text.specs.Reading.{is_fitting}
-use Rattle.journal_text.specs.Saved.{entry_at, lines_of as lines_counted}
+use Rattle.journal_text.specs.Saved.{entry_at, saved_lines_of as lines_counted}
 use Rattle.journal_text.specs.Typed.{IsProperInput}
 use Rattle.journal_replay.specs.Inputs.{judged_of}
 use Rattle.journal_replay.specs.Saved.{AreSound, entries_saved}
 use Rattle.node_core.specs.declared.outcome.Note.{Note}
 use Rattle.node_core.specs.Outcomes.{inputs_noted, input_noted}
 use Rattle.node_core.specs.Steps.{JobJudged, judged_notes}
-use Rattle.store_program.specs.Kept.{input_said, note_mark, with_notes}
+use Rattle.store_program.specs.SavedRuns.{input_said, note_mark, with_notes}
 use Rattle.journal_laws.proofs.GoodHands.{AreGood, ends_good, gives_well, is_good, last_good}
 use Rattle.journal_laws.proofs.Entered.{AllTold, IsTold, due_here, entered, entered_elsewhere, if_own, place_at}
 
 -- ---- what a note says
 
--- a hand whose depth is at least 1; and whose giver is, if the object's job is
+-- a hand whose depth is at least 1; and whose grantor is, if the object's job is
 abbrev pub IsGoodNote : Input → Type 0
-IsGoodNote (input.Received id bytes giver depth) = (1 ≤ id.job.0 → 1 ≤ giver.0) × (1 ≤ depth)
-IsGoodNote (input.Withdrawn id giver depth) = (1 ≤ id.job.0 → 1 ≤ giver.0) × (1 ≤ depth)
+IsGoodNote (input.Received id bytes grantor depth) = (1 ≤ id.job.0 → 1 ≤ grantor.0) × (1 ≤ depth)
+IsGoodNote (input.Withdrawn id grantor depth) = (1 ≤ id.job.0 → 1 ≤ grantor.0) × (1 ≤ depth)
 IsGoodNote _ = ⊥
 
 abbrev pub AreGoodNotes : List JobInput → Type 0
@@ -53,27 +53,27 @@ AreGoodNotes (x ∷ xs) = (1 ≤ x.job) × IsGoodNote x.input × AreGoodNotes xs
 at_least : (n : ℕ) → nat_le 1 n ≡ true → 1 ≤ n
 at_least n e = grind (arith, nat_tests, e)
 
-given_by_job : (job giver : ℕ) → gives_well job giver ≡ true → 1 ≤ job → 1 ≤ giver
-given_by_job job giver e h = by (job == 0) refl e
+given_by_job : (job grantor : ℕ) → gives_well job grantor ≡ true → 1 ≤ job → 1 ≤ grantor
+given_by_job job grantor e h = by (job == 0) refl e
   where
-    by : (b : Bool) → (job == 0) ≡ b → (b || nat_le 1 giver) ≡ true → 1 ≤ giver
+    by : (b : Bool) → (job == 0) ≡ b → (b || nat_le 1 grantor) ≡ true → 1 ≤ grantor
     by true none e = let is : job ≡ 0 = eqb-true job 0 none in absurd (omega (arith, is, h))
-    by false some e = at_least giver e
+    by false some e = at_least grantor e
 
 module _ (hand : Hand) (good : is_good hand ≡ true) where
-  taker_is : 1 ≤ hand.taker
-  taker_is = at_least hand.taker (both_left (nat_le 1 hand.taker) (nat_le 1 hand.depth && gives_well hand.id.job.0 hand.giver) good)
+  grantee_is : 1 ≤ hand.grantee
+  grantee_is = at_least hand.grantee (both_left (nat_le 1 hand.grantee) (nat_le 1 hand.depth && gives_well hand.id.job.0 hand.grantor) good)
 
-  hand_is : (1 ≤ hand.id.job.0 → 1 ≤ hand.giver) × (1 ≤ hand.depth)
+  hand_is : (1 ≤ hand.id.job.0 → 1 ≤ hand.grantor) × (1 ≤ hand.depth)
   hand_is =
-      let rest = both_right (nat_le 1 hand.taker) (nat_le 1 hand.depth && gives_well hand.id.job.0 hand.giver) good in
-      (given_by_job hand.id.job.0 hand.giver (both_right (nat_le 1 hand.depth) (gives_well hand.id.job.0 hand.giver) rest), at_least hand.depth (both_left (nat_le 1 hand.depth) (gives_well hand.id.job.0 hand.giver) rest))
+      let rest = both_right (nat_le 1 hand.grantee) (nat_le 1 hand.depth && gives_well hand.id.job.0 hand.grantor) good in
+      (given_by_job hand.id.job.0 hand.grantor (both_right (nat_le 1 hand.depth) (gives_well hand.id.job.0 hand.grantor) rest), at_least hand.depth (both_left (nat_le 1 hand.depth) (gives_well hand.id.job.0 hand.grantor) rest))
 
 withdrawn_good : (hands : List Hand) → AreGood hands → AreGoodNotes (map withdrawn_here hands)
 withdrawn_good [] good = tt
 withdrawn_good (hand ∷ hands) good =
     let is = both_left (is_good hand) (list_all is_good hands) good in
-    (taker_is hand is, hand_is hand is, withdrawn_good hands (both_right (is_good hand) (list_all is_good hands) good))
+    (grantee_is hand is, hand_is hand is, withdrawn_good hands (both_right (is_good hand) (list_all is_good hands) good))
 
 ended_good : (hands : List Hand) (o : Option (Hand → Bool)) → AreGood hands → AreGoodNotes (option_map_or (λ test. map withdrawn_here (hands_ended test hands)) o [])
 ended_good hands None good = tt
@@ -83,7 +83,7 @@ accepted_good : (b : Before) (e : Event) → AreGood b.hands → AreGood (hands_
 accepted_good b (event.Call job session (command.Grant id target)) good after =
     let hand = new_hand b.hands id job.0 target.0 in
     let is = last_good b.hands hand after in
-    (taker_is hand is, hand_is hand is, tt)
+    (grantee_is hand is, hand_is hand is, tt)
 accepted_good b e good after = ended_good b.hands (ends e) good
 
 -- the notes of an event are good ones, if the hands were and are
@@ -95,8 +95,8 @@ notes_good b e _ good after = tt
 
 module _ (number : ℕ) (address : Address) where
   said : (x : Input) → IsGoodNote x → (v w : View) → judged_of Three address (input_said [] (judge number v x)) ≡ judge number w x
-  said (input.Received id bytes giver depth) good v w = refl
-  said (input.Withdrawn id giver depth) good v w = refl
+  said (input.Received id bytes grantor depth) good v w = refl
+  said (input.Withdrawn id grantor depth) good v w = refl
   said (input.Begin quota) good v w = absurd good
   said (input.Requota quota) good v w = absurd good
   said (input.Call session c) good v w = absurd good
@@ -105,8 +105,8 @@ module _ (number : ℕ) (address : Address) where
   said input.End good v w = absurd good
 
 proper : (number : ℕ) (x : Input) → IsGoodNote x → (v : View) → IsProperInput (input_said [] (judge number v x)) × (is_fitting (input_said [] (judge number v x)) reply.Ok ≡ true)
-proper number (input.Received id bytes giver depth) good v = (good, refl)
-proper number (input.Withdrawn id giver depth) good v = (good, refl)
+proper number (input.Received id bytes grantor depth) good v = (good, refl)
+proper number (input.Withdrawn id grantor depth) good v = (good, refl)
 proper number (input.Begin quota) good v = absurd good
 proper number (input.Requota quota) good v = absurd good
 proper number (input.Call session c) good v = absurd good
@@ -115,8 +115,8 @@ proper number (input.Arrive a) good v = absurd good
 proper number input.End good v = absurd good
 
 due : (number : ℕ) (x : Input) → IsGoodNote x → (v : View) → reply.Ok ≡ (brief_step (brief_of v) (judge number v x)).reply
-due number (input.Received id bytes giver depth) good v = refl
-due number (input.Withdrawn id giver depth) good v = refl
+due number (input.Received id bytes grantor depth) good v = refl
+due number (input.Withdrawn id grantor depth) good v = refl
 due number (input.Begin quota) good v = absurd good
 due number (input.Requota quota) good v = absurd good
 due number (input.Call session c) good v = absurd good
@@ -148,7 +148,7 @@ only_more number j u x xs = by (x.job == j)
 module _ (place number : ℕ) (within : place < 8) (v : ℕ → View) where
   -- one note more
   module _ (note : Note) (x : JobInput) (is : input_noted note ≡ record { job = x.job; input = judge number (v x.job) x.input }) (some : 1 ≤ x.job) (good : IsGoodNote x.input)
-      (marks : List Mark) (w : ℕ → View) (told : AllTold place w (entries_saved marks)) (sound : AreSound (entries_saved marks)) where
+      (marks : List JournalItem) (w : ℕ → View) (told : AllTold place w (entries_saved marks)) (sound : AreSound (entries_saved marks)) where
     abbrev line : Answered
     line = record { input = input_said [] note.input; reply = reply.Ok }
 
@@ -181,7 +181,7 @@ module _ (place number : ℕ) (within : place < 8) (v : ℕ → View) where
           sound,
         )
 
-  pub notes_told : (notes : List Note) (xs : List JobInput) → inputs_noted notes ≡ judged_notes number v xs → AreGoodNotes xs → (marks : List Mark) (w : ℕ → View) → AllTold place w (entries_saved marks)
+  pub notes_told : (notes : List Note) (xs : List JobInput) → inputs_noted notes ≡ judged_notes number v xs → AreGoodNotes xs → (marks : List JournalItem) (w : ℕ → View) → AllTold place w (entries_saved marks)
       → AreSound (entries_saved marks) → AllTold place (λ j. view_from number (w j) (only_of j xs)) (entries_saved (with_notes place notes marks)) × AreSound (entries_saved (with_notes place notes marks))
   notes_told [] [] e good marks w told sound = (told, sound)
   notes_told [] (x ∷ xs) e good marks w told sound = true_false (sym (ap is_empty e))
@@ -193,7 +193,7 @@ module _ (place number : ℕ) (within : place < 8) (v : ℕ → View) where
       (λ j. subst (λ u. IsTold (place_at place j) u (entries_saved (with_notes place notes (note_mark place note ∷ marks)))) (only_more number j (w j) x xs) (rest.0 j), rest.1)
 
 -- other places hear nothing of them
-pub notes_elsewhere : (place : ℕ) (notes : List Note) (marks : List Mark) (p : ℕ) (u : ℕ → View) → (place == p) ≡ false → AllTold p u (entries_saved marks) → AllTold p u (entries_saved (with_notes place notes marks))
+pub notes_elsewhere : (place : ℕ) (notes : List Note) (marks : List JournalItem) (p : ℕ) (u : ℕ → View) → (place == p) ≡ false → AllTold p u (entries_saved marks) → AllTold p u (entries_saved (with_notes place notes marks))
 notes_elsewhere place [] marks p u apart told = told
 notes_elsewhere place (note ∷ notes) marks p u apart told =
     let at : JobAt = record { node = place; job = note.job } in

@@ -6,12 +6,12 @@ use Rattle.obj_id.specs.declared.commands.Reply.TheVariants as reply
 use Rattle.obj_id.specs.declared.refusals.Refusal.TheVariants.{Stale}
 use Rattle.private_store.specs.declared.inputs.Judged.{Judged}
 use Rattle.private_store.specs.declared.inputs.Judged.TheVariants as judged
-use Rattle.private_store.specs.Commands.{granted_items}
-use Rattle.private_store.specs.Events.{work_of}
-use Rattle.private_store.specs.Made.{Told, told_ok, told_placed, told_got, told_bytes, told_list, told_usage, told_refused}
-use Rattle.private_store.specs.Replay.{brief_step, unbegun_brief}
-use Rattle.private_store.specs.Shape.{Change, Shape, unbegun}
-use Rattle.private_store.specs.Step.{step}
+use Rattle.private_store.specs.rules.Commands.{granted_items}
+use Rattle.private_store.specs.rules.Events.{work_of}
+use Rattle.private_store.specs.laws.Made.{Told, told_ok, told_placed, told_got, told_bytes, told_list, told_usage, told_refused}
+use Rattle.private_store.specs.rules.Replay.{brief_step, unbegun_brief}
+use Rattle.private_store.specs.rules.Shape.{Change, Shape, unbegun}
+use Rattle.private_store.specs.rules.Step.{step}
 use Rattle.store_facts.proofs.Checks.{checked-true, needing-none}
 use Rattle.store_facts.proofs.EachStep.{step_made}
 use Rattle.journal_text.specs.Typed.{IsProperReply}
@@ -35,8 +35,8 @@ answer_proper order store x deep = told_proper x store (step order store x).repl
 abbrev pub is_of_live : Judged → Bool
 is_of_live (judged.Begin quota) = false
 is_of_live (judged.Call session c) = false
-is_of_live (judged.Received id n giver depth) = false
-is_of_live (judged.Withdrawn id giver depth) = false
+is_of_live (judged.Received id n grantor depth) = false
+is_of_live (judged.Withdrawn id grantor depth) = false
 is_of_live _ = true
 
 pub early_stale : (job : ℕ) (y : Judged) → is_of_live y ≡ true → (brief_step (unbegun_brief job) y).reply ≡ reply.Refused Stale
@@ -49,5 +49,5 @@ early_stale job (judged.NotHere id number from) e = ap (λ (c : Change). c.reply
 early_stale job judged.End e = ap (λ (c : Change). c.reply) (checked-true (unbegun job) true Stale [] _ refl)
 early_stale job (judged.Begin quota) e = absurd cc
 early_stale job (judged.Call session c) e = absurd cc
-early_stale job (judged.Received id n giver depth) e = absurd cc
-early_stale job (judged.Withdrawn id giver depth) e = absurd cc
+early_stale job (judged.Received id n grantor depth) e = absurd cc
+early_stale job (judged.Withdrawn id grantor depth) e = absurd cc

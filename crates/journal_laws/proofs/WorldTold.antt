@@ -5,8 +5,8 @@ use Rattle.obj_id.specs.declared.commands.Reply.{Reply}
 use Rattle.obj_id.specs.declared.commands.Reply.TheVariants as reply
 use Rattle.obj_id.specs.declared.ids.JobNo.{JobNo}
 use Rattle.obj_id.specs.declared.messages.Arrival.{Arrival}
-use Rattle.obj_id.specs.declared.messages.Place.{Place}
-use Rattle.obj_id.specs.declared.messages.Place.TheVariants.{Node}
+use Rattle.obj_id.specs.declared.messages.Endpoint.{Endpoint}
+use Rattle.obj_id.specs.declared.messages.Endpoint.TheVariants.{Node}
 use Rattle.obj_id.specs.declared.refusals.Refusal.TheVariants.{Stale}
 use Rattle.private_store.specs.declared.inputs.Judged.{Judged}
 use Rattle.private_store.specs.declared.schedules.Event.{Event}
@@ -15,26 +15,26 @@ use Rattle.private_store.specs.declared.schedules.Step.TheVariants.{At, Deliver}
 use Rattle.private_store.specs.declared.schedules.StepAnswer.{StepAnswer}
 use Rattle.private_store.specs.declared.schedules.StepAnswer.TheVariants as answers
 use Rattle.private_store.specs.declared.schedules.Traced.{Traced}
-use Rattle.private_store.specs.Cluster.{stores_of}
-use Rattle.private_store.specs.Contents.{View}
-use Rattle.private_store.specs.Private.{no_store, view_of}
+use Rattle.private_store.specs.rules.Cluster.{stores_of}
+use Rattle.private_store.specs.rules.Contents.{View}
+use Rattle.private_store.specs.rules.Private.{no_store, view_of}
 use Rattle.store_facts.proofs.StepsKept.{no_store_kept}
 use Rattle.store_facts.proofs.Tests.{both, none_some, some_value}
 use Rattle.schedule_text.specs.declared.lines.JobAt.{JobAt}
 use Rattle.journal_text.specs.declared.entry.Entry.{Entry}
-use Rattle.journal_text.specs.declared.saved.Mark.{Mark}
+use Rattle.journal_text.specs.declared.saved.JournalItem.{JournalItem}
 use Rattle.journal_replay.specs.Saved.{AreSound, entries_saved}
-use Rattle.hand_laws.specs.Standing.{is_told}
+use Rattle.hand_laws.specs.Standing.{is_told_of}
 use Rattle.std.specs.List.{list_all}
 use Rattle.node_core.specs.declared.outcome.Note.{Note}
 use Rattle.node_core.specs.Hosted.{Hosted, ShowsAll}
 use Rattle.node_core.specs.Judged.{IsJudged, IsArrivalJudged}
-use Rattle.world_core.specs.Moves.{handed, message_of}
+use Rattle.world_core.specs.WorldSteps.{handed, message_of}
 use Rattle.world_core.specs.Noting.{IsArrivalNoted, IsEventNoted, IsNoted, NotesNothing, keeps_event, keeps_arrival, passes_node, tells_directory, finds_nothing, wants_memory}
 use Rattle.world_core.specs.Worlds.{Hosting, IsAfter}
 use Rattle.world_core.proofs.ForCallers.{slice_get-slice_set, slice_get-slice_set_other}
-use Rattle.store_program.specs.Kept.{entry_place, with_entry, with_step}
-use Rattle.store_program.specs.Lines.{AreHeard, Heard, IsAnswered, history_of, marks_of, with_answered, with_heard}
+use Rattle.store_program.specs.SavedRuns.{entry_place, with_entry_item, with_step}
+use Rattle.store_program.specs.Lines.{AreHeard, LineRead, IsAnswered, history_of, items_of_lines, with_answered, with_heard}
 use Rattle.store_program.specs.Runs.{KeepsHeard, LeadTo}
 use Rattle.journal_laws.proofs.Entered.{AllTold}
 use Rattle.journal_laws.proofs.EventTold.{IsSpoken, event_elsewhere, event_told, shown_after, views_after}
@@ -92,11 +92,11 @@ module _ (old new : Hosting) (place : ℕ) (before after : Hosted) (found : slic
 
 -- ---- a step that is nothing to anybody
 
-no_entry : (o : Option JobAt) (answer : StepAnswer) (marks : List Mark) → entries_saved (with_entry o answer (record { judged = None; notes = [] }) marks) ≡ entries_saved marks
+no_entry : (o : Option JobAt) (answer : StepAnswer) (marks : List JournalItem) → entries_saved (with_entry_item o answer (record { judged = None; notes = [] }) marks) ≡ entries_saved marks
 no_entry None answer marks = refl
 no_entry (Some at) answer marks = refl
 
-module _ (old new : Hosting) (marks : List Mark) (tell : Tell old (entries_saved marks)) (was : Option Judged) (notes : List Note) where
+module _ (old new : Hosting) (marks : List JournalItem) (tell : Tell old (entries_saved marks)) (was : Option Judged) (notes : List Note) where
   idle : (step : Step) (answer : StepAnswer) → NotesNothing old new was notes → Tell new (entries_saved (with_step step answer (record { judged = was; notes = notes }) marks))
   idle step answer n =
       let same : entries_saved (with_step step answer (record { judged = was; notes = notes }) marks) ≡ entries_saved marks =
@@ -128,7 +128,7 @@ module _ (old new : Hosting) (marks : List Mark) (tell : Tell old (entries_saved
         (entries_saved marks) (entries_saved (with_step (At place e) (answers.Told n.given.reply) (record { judged = was; notes = notes }) marks)) its.0 its.1
         (event_elsewhere place e n.before n.after n.given n.steps was judged notes n.notes v shows marks (tell.told place) tell.sound (within place n.before n.found) good good_after voiced) tell)
 
-    arrival_step : (job : JobNo) (from : Place) (place m : ℕ) (damage : Bool) (a : Arrival) (r : Reply (List ℕ)) → IsArrivalNoted old new place job a r was notes
+    arrival_step : (job : JobNo) (from : Endpoint) (place m : ℕ) (damage : Bool) (a : Arrival) (r : Reply (List ℕ)) → IsArrivalNoted old new place job a r was notes
         → Tell new (entries_saved (with_step (Deliver job from (Node place) m damage) (handed (message_of a) r) (record { judged = was; notes = notes }) marks))
     arrival_step job from place m damage a r n =
         let judged : IsArrivalJudged n.before job a n.given.reply was = subst (λ t. IsArrivalJudged n.before job a t was) (sym n.reply) n.judged in
@@ -172,11 +172,11 @@ module _ (nodes memory : ℕ) where
   -- ---- all lines
 
   module _ (few : nodes ≤ 8) where
-    line_after : (world : Hosting) (lines : List Heard) → LeadTo nodes memory lines world → IsAfter nodes memory world (history_of lines)
+    line_after : (world : Hosting) (lines : List LineRead) → LeadTo nodes memory lines world → IsAfter nodes memory world (history_of lines)
     line_after world [] h = h
     line_after world (heard ∷ lines) h = h.0
 
-    pub all_told : (lines : List Heard) (world : Hosting) → AreHeard nodes lines → LeadTo nodes memory lines world → Tell world (entries_saved (marks_of lines)) × AreTold (history_of lines)
+    pub all_told : (lines : List LineRead) (world : Hosting) → AreHeard nodes lines → LeadTo nodes memory lines world → Tell world (entries_saved (items_of_lines lines)) × AreTold (history_of lines)
     all_told [] world heard h = (at_first world h, refl)
     all_told (line ∷ lines) world heard h =
         let old : Hosting = h.1.0 in
@@ -186,15 +186,15 @@ module _ (nodes memory : ℕ) where
         history : List Traced
         history = history_of lines
 
-        marks : List Mark
-        marks = marks_of lines
+        marks : List JournalItem
+        marks = items_of_lines lines
 
         by : (o : Option Traced) → IsAnswered nodes history line.text o → IsAfter nodes memory world (with_answered o history) → (old : Hosting) → IsAfter nodes memory old history → KeepsHeard old world o line.kept
             → Tell old (entries_saved marks) → AreTold history → Tell world (entries_saved (with_heard o line.kept marks)) × AreTold (with_answered o history)
         by None skipped after old after_old same tell told = (subst (λ w. Tell w (entries_saved marks)) (sym same) tell, told)
         by (Some entry) spells after old after_old noted tell told =
             let now : AreTold (entry ∷ history) =
-            both (is_told entry.step entry.answer) (list_all (λ (e : Traced). is_told e.step e.answer) history) (noted_told old world line.kept.judged line.kept.notes entry.step entry.answer noted) told in (
+            both (is_told_of entry.step entry.answer) (list_all (λ (e : Traced). is_told_of e.step e.answer) history) (noted_told old world line.kept.judged line.kept.notes entry.step entry.answer noted) told in (
               each_step old world marks tell line.kept.judged line.kept.notes nodes memory few history (entry ∷ history) after_old after told now entry.step entry.answer (spoken nodes history line.text entry.step spells) noted,
               now,
             )

@@ -8,7 +8,7 @@ ghost use Rattle.journal_replay.specs.declared.fault.ReplayFault.{ReplayFault};
 ghost use Rattle.journal_replay.specs.declared.program.Verdict.{Verdict};
 ghost use Rattle.journal_replay.specs.Saved.{lines_after_first, SavedReplays};
 ghost use Rattle.journal_replay.specs.Texts.{Replays};
-ghost use Rattle.world_core.specs.declared.Shape.{Shape};
+ghost use Rattle.world_core.specs.declared.ClusterSize.{ClusterSize};
 ghost use Rattle.world_core.specs.Worlds.{is_shape};
 ghost use Rattle.store_program.specs.Runs.{Ran};
 ghost use Rattle.journal_laws.specs.SavedRuns.{IsTextOf};
@@ -17,7 +17,7 @@ ghost use Rattle.journal_laws.specs.SavedRuns.{IsTextOf};
 /// `replay_text` writes `replayed` with the number of its lines after the first, unless reading, the memory or the output fails. Of no
 /// line it says that it is no entry, and of none that its answer isn't the one that is due.
 pub fn a_saved_journal_replays()
-    ensures { (shape : Shape) (journal : Option Saved) (read_old read_new printed_old printed_new : Option (List ℕ)) (text : List ℕ)
+    ensures { (shape : ClusterSize) (journal : Option Saved) (read_old read_new printed_old printed_new : Option (List ℕ)) (text : List ℕ)
         → is_shape shape ≡ true
         → Ran shape.nodes shape.memory true journal read_old read_new printed_old printed_new (Ok tt)
         → IsTextOf journal text

@@ -15,11 +15,11 @@ use Rattle.journal_text.specs.declared.entry.Version.TheVariants.{One, Two, Thre
 use Rattle.journal_text.specs.Reading.{IsEntryLine, head_text}
 use Rattle.journal_replay.specs.declared.fault.ReplayFault.{ReplayFault}
 use Rattle.journal_replay.specs.declared.fault.ReplayFault.TheVariants.{NotAnEntry, Input, Output, NoMemory}
-use Rattle.journal_replay.specs.declared.replay.Outcome.{Outcome}
+use Rattle.journal_replay.specs.declared.replay.ReplayResult.{ReplayResult}
 use Rattle.journal_replay.specs.declared.replay.Replay.{Replay}
 use Rattle.journal_replay.specs.Journals.{AreRead, IsNextLine, IsNoEntry, IsNoHead, JournalEnds, bytes_of, journal_bytes, with_feed}
-use Rattle.journal_replay.specs.Progress.{Adds, AddsLine, EndsLines, IsReplay, LinesEnd, Progress, StopsLines, TakesLine}
-use Rattle.journal_replay.specs.Replays.{IsFound, Read, entries_of, next_number}
+use Rattle.journal_replay.specs.Progress.{Adds, AddsLine, EndsLines, IsReplay, LinesEnd, ReplayProgress, StopsLines, TakesLine}
+use Rattle.journal_replay.specs.Replays.{IsFound, JournalRead, entries_of, next_number}
 
 -- ---- one line
 
@@ -74,11 +74,11 @@ next_after (Some all) (Some left) first before bytes read whole =
 
 -- ---- the lines so far
 
-pub begun : (version : Version) (a : Option (List ℕ)) → Progress version 2 (record { version = version; jobs = []; difference = None }) a a
+pub begun : (version : Version) (a : Option (List ℕ)) → ReplayProgress version 2 (record { version = version; jobs = []; difference = None }) a a
 begun version a =
     record { lines = []; counted = refl; read = tt; form = refl; after = record { states = λ place. refl; found = λ place. refl }; consumed = Consumes-none a }
 
-module _ (version : Version) (number : ℕ) (replay : Replay) (a r : Option (List ℕ)) (so_far : Progress version number replay a r) where
+module _ (version : Version) (number : ℕ) (replay : Replay) (a r : Option (List ℕ)) (so_far : ReplayProgress version number replay a r) where
   pub ended : IsAtEnd r → EndsLines version a (record { version = replay.version; lines = number - 2; difference = replay.difference })
   ended end =
       let counted : suc (suc (length so_far.lines)) ≡ number = so_far.counted in
@@ -92,7 +92,7 @@ module _ (version : Version) (number : ℕ) (replay : Replay) (a r : Option (Lis
       }
 
   module _ (r1 : Option (List ℕ)) (bytes : List ℕ) (read : Consumes r r1 bytes) where
-    pub stopped : IfSome r (λ left. bytes ≡ take_through 10 left) → bytes ≢ [] → ((before : List Read) → IsReplay before replay → IsNoEntry replay.version (entries_of before) bytes) → StopsLines version a r1 number
+    pub stopped : IfSome r (λ left. bytes ≡ take_through 10 left) → bytes ≢ [] → ((before : List JournalRead) → IsReplay before replay → IsNoEntry replay.version (entries_of before) bytes) → StopsLines version a r1 number
     stopped whole more none =
         record {
           lines = so_far.lines;
@@ -105,7 +105,7 @@ module _ (version : Version) (number : ℕ) (replay : Replay) (a r : Option (Lis
           numbered = sym so_far.counted;
         }
 
-    pub line_more : (new : Replay) → StopsAt bytes 10 → AddsLine replay new bytes → Progress version (number + 1) new a r1
+    pub line_more : (new : Replay) → StopsAt bytes 10 → AddsLine replay new bytes → ReplayProgress version (number + 1) new a r1
     line_more new one adds =
         let counted : suc (suc (length so_far.lines)) ≡ number = so_far.counted in
         let before = entries_of so_far.lines in
@@ -133,7 +133,7 @@ Consumes-whole None b bs cs p q = tt
 Consumes-whole (Some x) None bs cs p q = absurd p
 Consumes-whole (Some x) (Some y) bs cs p q = p ∙ ap (λ l. bs ++ l) q
 
-pub whole_journal : (version : Version) (a b c : Option (List ℕ)) (bytes : List ℕ) → bytes ≡ with_feed (head_text version) → Consumes a b bytes → (result : Result Outcome ReplayFault) → LinesEnd version b c result → JournalEnds a c result
+pub whole_journal : (version : Version) (a b c : Option (List ℕ)) (bytes : List ℕ) → bytes ≡ with_feed (head_text version) → Consumes a b bytes → (result : Result ReplayResult ReplayFault) → LinesEnd version b c result → JournalEnds a c result
 whole_journal version a b c bytes is head (Ok outcome) ends =
     record {
       lines = ends.lines;

@@ -4,15 +4,15 @@ use Rattle.std.specs.Prelude.{if◌then◌else◌, MatchOption}
 use Rattle.std.proofs.lemmas.List.{length-append}
 use Rattle.obj_id.specs.declared.commands.Reply.{Reply}
 use Rattle.private_store.specs.declared.inputs.Judged.{Judged}
-use Rattle.private_store.specs.Replay.{Brief, Line, IsReplayed, answers_due, brief_after, brief_step, replayed, unbegun_brief}
+use Rattle.private_store.specs.rules.Replay.{Brief, Line, IsReplayed, answers_due, brief_after, brief_step, replayed, unbegun_brief}
 use Rattle.journal_text.specs.declared.entry.Entry.{Entry}
 use Rattle.journal_text.specs.declared.entry.Version.{Version}
 use Rattle.schedule_text.specs.declared.lines.JobAt.{JobAt}
 use Rattle.journal_replay.specs.declared.replay.Difference.{Difference}
-use Rattle.journal_replay.specs.Inputs.{judged_of, line_of}
+use Rattle.journal_replay.specs.Inputs.{judged_of, read_line_of}
 use Rattle.journal_replay.specs.Progress.{AddsEntry}
-use Rattle.journal_text.specs.Saved.{place_of, same_place}
-use Rattle.journal_replay.specs.Replays.{AreReplayed, IsFirstDifference, IsFound, IsUnlike, Read, due_after, entries_of, lines_of, next_number}
+use Rattle.journal_text.specs.Saved.{journal_place_of, same_job_place}
+use Rattle.journal_replay.specs.Replays.{AreReplayed, IsFirstDifference, IsFound, IsUnlike, JournalRead, due_after, entries_of, replayed_lines_of, next_number}
 use Rattle.journal_replay.specs.States.{AreAfter, JobState, state_of}
 use Rattle.journal_text.proofs.ForCallers.{same_place-equal, same_place-itself}
 
@@ -44,18 +44,18 @@ IsReplayed-snoc b lines l h e =
 
 module _ (version : Version) (before : List Entry) (x : Entry) where
   abbrev here : JobAt
-  here = place_of x.address
+  here = journal_place_of x.address
 
   abbrev lines : List Line
-  lines = lines_of version here before
+  lines = replayed_lines_of version here before
 
   abbrev lines_with : Bool → JobAt → List Line
-  lines_with b place = cond b (lines_of version place before ++ line_of version x ∷ []) (lines_of version place before)
+  lines_with b place = cond b (replayed_lines_of version place before ++ read_line_of version x ∷ []) (replayed_lines_of version place before)
 
   -- what is so at the line's place and stays so elsewhere is so at each place
-  at_each : (P : JobAt → List Line → Type 0) → P here (lines ++ line_of version x ∷ []) → ((place : JobAt) → same_place here place ≡ false → P place (lines_of version place before)) → (place : JobAt) → P place (lines_of version place (x ∷ before))
+  at_each : (P : JobAt → List Line → Type 0) → P here (lines ++ read_line_of version x ∷ []) → ((place : JobAt) → same_job_place here place ≡ false → P place (replayed_lines_of version place before)) → (place : JobAt) → P place (replayed_lines_of version place (x ∷ before))
   at_each P there elsewhere place =
-      elim (same_place here place) as (λ b. same_place here place ≡ b → P place (lines_with b place)) [
+      elim (same_job_place here place) as (λ b. same_job_place here place ≡ b → P place (lines_with b place)) [
         | true ↦ λ t. subst (λ p. P p (lines_with true p)) (same_place-equal here place t) there
         | false ↦ λ t. elsewhere place t
       ] refl
@@ -70,30 +70,30 @@ module _ (version : Version) (before : List Entry) (x : Entry) where
     last-next = ap (λ (s : JobState). suc s.last) (states here)
 
     pub AreAfter-line : (new : List (JobAt × JobState)) → x.address.number ≡ next_number version before x.address
-        → ((other : JobAt) → state_of new other ≡ (if same_place here other then record { last = x.address.number; store = brief_after (state_of jobs here).store (judged_of version x.address x.input) } else state_of jobs other))
+        → ((other : JobAt) → state_of new other ≡ (if same_job_place here other then record { last = x.address.number; store = brief_after (state_of jobs here).store (judged_of version x.address x.input) } else state_of jobs other))
         → AreAfter version (x ∷ before) new
     AreAfter-line new numbered moved = at_each (λ place ls. state_of new place ≡ record { last = length ls; store = replayed (unbegun_brief place.job.0) ls }) there (λ place t. elsewhere place t)
       where
         stepped : JobState
         stepped = record { last = x.address.number; store = brief_after (state_of jobs here).store (judged_of version x.address x.input) }
 
-        there : state_of new here ≡ record { last = length (lines ++ line_of version x ∷ []); store = replayed (unbegun_brief here.job.0) (lines ++ line_of version x ∷ []) }
+        there : state_of new here ≡ record { last = length (lines ++ read_line_of version x ∷ []); store = replayed (unbegun_brief here.job.0) (lines ++ read_line_of version x ∷ []) }
         there =
-            let longer : length (lines ++ line_of version x ∷ []) ≡ suc (length lines) = length-append lines (line_of version x ∷ []) ∙ omega arith in
+            let longer : length (lines ++ read_line_of version x ∷ []) ≡ suc (length lines) = length-append lines (read_line_of version x ∷ []) ∙ omega arith in
             let last = numbered ∙ sym longer in
-            let store = ap (λ (s : JobState). brief_after s.store (judged_of version x.address x.input)) (states here) ∙ sym (replayed-snoc (unbegun_brief here.job.0) lines (line_of version x)) in
+            let store = ap (λ (s : JobState). brief_after s.store (judged_of version x.address x.input)) (states here) ∙ sym (replayed-snoc (unbegun_brief here.job.0) lines (read_line_of version x)) in
             moved here ∙ ap (λ b. cond b stepped (state_of jobs here)) (same_place-itself here) ∙ (λ i. record { last = last i; store = store i })
 
-        elsewhere : (place : JobAt) → same_place here place ≡ false → state_of new place ≡ record { last = length (lines_of version place before); store = replayed (unbegun_brief place.job.0) (lines_of version place before) }
+        elsewhere : (place : JobAt) → same_job_place here place ≡ false → state_of new place ≡ record { last = length (replayed_lines_of version place before); store = replayed (unbegun_brief place.job.0) (replayed_lines_of version place before) }
         elsewhere place t = moved place ∙ ap (λ b. cond b stepped (state_of jobs place)) t ∙ states place
 
   pub AreReplayed-line : AreReplayed version before → x.reply ≡ due_after version before x → AreReplayed version (x ∷ before)
   AreReplayed-line agree due =
-      at_each (λ place ls. IsReplayed (unbegun_brief place.job.0) ls) (IsReplayed-snoc (unbegun_brief here.job.0) lines (line_of version x) (agree here) due) (λ place t. agree place)
+      at_each (λ place ls. IsReplayed (unbegun_brief place.job.0) ls) (IsReplayed-snoc (unbegun_brief here.job.0) lines (read_line_of version x) (agree here) due) (λ place t. agree place)
 
 -- ---- what is found with a line more
 
-module _ (version : Version) (before : List Read) (line : Read) where
+module _ (version : Version) (before : List JournalRead) (line : JournalRead) where
   -- an older difference stays the first
   later-difference : (d : Difference) → IsFirstDifference version before d → IsFirstDifference version (line ∷ before) d
   later-difference d first =
@@ -135,18 +135,18 @@ module _ (version : Version) (before : List Read) (line : Read) where
     found-first None o1 none compared found = found-line o1 found compared
     found-first (Some d) o1 none compared found = absurd cc
 
-module _ (version : Version) (jobs new : List (JobAt × JobState)) (line : Read) (due : Reply ℕ) (o o1 : Option Difference) where
+module _ (version : Version) (jobs new : List (JobAt × JobState)) (line : JournalRead) (due : Reply ℕ) (o o1 : Option Difference) where
   abbrev x : Entry
   x = line.entry
 
   abbrev Steps : JobAt → Judged → Type 0
   Steps place input =
       x.address.number ≡ suc (state_of jobs place).last
-      → ((other : JobAt) → state_of new other ≡ (if same_place place other then record { last = x.address.number; store = brief_after (state_of jobs place).store input } else state_of jobs other))
+      → ((other : JobAt) → state_of new other ≡ (if same_job_place place other then record { last = x.address.number; store = brief_after (state_of jobs place).store input } else state_of jobs other))
       → due ≡ (brief_step (state_of jobs place).store input).reply
       → AddsEntry (record { version = version; jobs = jobs; difference = o }) (record { version = version; jobs = new; difference = o1 }) line
 
-  steps_here : ((before : List Read) → due ≡ due_after version (entries_of before) x → IsFound version before o → IsFound version (line ∷ before) o1) → Steps (place_of x.address) (judged_of version x.address x.input)
+  steps_here : ((before : List JournalRead) → due ≡ due_after version (entries_of before) x → IsFound version before o → IsFound version (line ∷ before) o1) → Steps (journal_place_of x.address) (judged_of version x.address x.input)
   steps_here found numbered moved is =
       record {
         version = refl;
@@ -157,10 +157,10 @@ module _ (version : Version) (jobs new : List (JobAt × JobState)) (line : Read)
         };
       }
 
-  pub adds : (place : JobAt) (input : Judged) → place ≡ place_of x.address → input ≡ judged_of version x.address x.input
-      → ((before : List Read) → due ≡ due_after version (entries_of before) x → IsFound version before o → IsFound version (line ∷ before) o1)
+  pub adds : (place : JobAt) (input : Judged) → place ≡ journal_place_of x.address → input ≡ judged_of version x.address x.input
+      → ((before : List JournalRead) → due ≡ due_after version (entries_of before) x → IsFound version before o → IsFound version (line ∷ before) o1)
       → x.address.number ≡ suc (state_of jobs place).last
-      → ((other : JobAt) → state_of new other ≡ (if same_place place other then record { last = x.address.number; store = brief_after (state_of jobs place).store input } else state_of jobs other))
+      → ((other : JobAt) → state_of new other ≡ (if same_job_place place other then record { last = x.address.number; store = brief_after (state_of jobs place).store input } else state_of jobs other))
       → due ≡ (brief_step (state_of jobs place).store input).reply
       → AddsEntry (record { version = version; jobs = jobs; difference = o }) (record { version = version; jobs = new; difference = o1 }) line
-  adds place input at told found = subst (λ p. Steps p input) (sym at) (subst (λ i. Steps (place_of x.address) i) (sym told) (steps_here found))
+  adds place input at told found = subst (λ p. Steps p input) (sym at) (subst (λ i. Steps (journal_place_of x.address) i) (sym told) (steps_here found))

@@ -4,8 +4,8 @@ use Rattle.obj_id.specs.declared.commands.Command.{Command}
 use Rattle.obj_id.specs.declared.commands.Command.TheVariants as command
 use Rattle.private_store.specs.declared.inputs.Judged.{Judged}
 use Rattle.private_store.specs.declared.inputs.Judged.TheVariants as judged
-use Rattle.private_store.specs.Contents.{source_in}
-use Rattle.private_store.specs.Replay.{Line}
+use Rattle.private_store.specs.rules.Contents.{source_in}
+use Rattle.private_store.specs.rules.Replay.{Line}
 use Rattle.journal_text.specs.declared.entry.Address.{Address}
 use Rattle.journal_text.specs.declared.entry.Entry.{Entry}
 use Rattle.journal_text.specs.declared.entry.LineInput.{LineInput}
@@ -35,9 +35,9 @@ judged_of version address (input.Located id number entries) = judged.Located id 
 judged_of version address (input.Chunk id number index from verdict) = judged.Chunk id number index from verdict
 judged_of version address (input.Pull id number matched) = judged.Pull id number matched
 judged_of version address (input.NotHere id number from) = judged.NotHere id number from
-judged_of version address (input.Received id length giver depth) = judged.Received id length giver depth
-judged_of version address (input.Withdrawn id giver depth) = judged.Withdrawn id giver depth
+judged_of version address (input.Received id length grantor depth) = judged.Received id length grantor depth
+judged_of version address (input.Withdrawn id grantor depth) = judged.Withdrawn id grantor depth
 
 -- the line, as the replay of its job takes it
-abbrev pub line_of : Version → Entry → Line
-line_of version x = record { input = judged_of version x.address x.input; reply = x.reply }
+abbrev pub read_line_of : Version → Entry → Line
+read_line_of version x = record { input = judged_of version x.address x.input; reply = x.reply }

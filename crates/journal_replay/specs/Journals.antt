@@ -8,19 +8,19 @@ use Rattle.journal_text.specs.declared.entry.Version.{Version}
 use Rattle.journal_text.specs.Reading.{IsEntryLine, head_text}
 use Rattle.journal_replay.specs.declared.fault.ReplayFault.{ReplayFault}
 use Rattle.journal_replay.specs.declared.fault.ReplayFault.TheVariants.{NotAnEntry, Input, Output, NoMemory}
-use Rattle.journal_replay.specs.declared.replay.Outcome.{Outcome}
-use Rattle.journal_replay.specs.Replays.{IsFound, Read, entries_of, next_number}
+use Rattle.journal_replay.specs.declared.replay.ReplayResult.{ReplayResult}
+use Rattle.journal_replay.specs.Replays.{IsFound, JournalRead, entries_of, next_number}
 
 -- ---- lines
 
 -- it spells one entry alone, whose number is the next one of its job at its node, from 1
-pub record IsRead (version : Version) (before : List Entry) (line : Read) : Type 0 where
+pub record IsRead (version : Version) (before : List Entry) (line : JournalRead) : Type 0 where
   pub whole : All (λ byte. byte ≢ 10) line.text
   pub spelled : IsEntryLine version line.text line.entry
   pub alone : (x : Entry) → IsEntryLine version line.text x → x ≡ line.entry
   pub numbered : line.entry.address.number ≡ next_number version before line.entry.address
 
-abbrev pub AreRead : Version → List Read → Type 0
+abbrev pub AreRead : Version → List JournalRead → Type 0
 AreRead version [] = ⊤
 AreRead version (line ∷ before) = IsRead version (entries_of before) line × AreRead version before
 
@@ -28,12 +28,12 @@ abbrev pub with_feed : List ℕ → List ℕ
 with_feed text = text ++ 10 ∷ []
 
 -- the bytes of the lines
-abbrev pub bytes_of : List Read → List ℕ
+abbrev pub bytes_of : List JournalRead → List ℕ
 bytes_of [] = []
 bytes_of (line ∷ before) = bytes_of before ++ with_feed line.text
 
 -- the bytes of a journal
-abbrev pub journal_bytes : Version → List Read → List ℕ
+abbrev pub journal_bytes : Version → List JournalRead → List ℕ
 journal_bytes version lines = with_feed (head_text version) ++ bytes_of lines
 
 -- bytes that are no journal's first line: its line feed is missing, or its text is another
@@ -48,8 +48,8 @@ pub record IsNoEntry (version : Version) (before : List Entry) (bytes : List ℕ
 -- ---- a whole journal
 
 -- the whole input is a journal, whose lines were replayed
-pub record IsJournal (read_old : Option (List ℕ)) (outcome : Outcome) : Type 0 where
-  pub lines : List Read
+pub record IsJournal (read_old : Option (List ℕ)) (outcome : ReplayResult) : Type 0 where
+  pub lines : List JournalRead
   pub read : AreRead outcome.version lines
   pub whole : IfSome read_old (λ all. all ≡ journal_bytes outcome.version lines)
   pub counted : outcome.lines ≡ length lines
@@ -70,7 +70,7 @@ pub record StopsAtHead (read_old read_new : Option (List ℕ)) (number : ℕ) : 
 -- the line of this number, the first line being 1, isn't an entry
 pub record StopsAtLine (read_old read_new : Option (List ℕ)) (number : ℕ) : Type 0 where
   pub version : Version
-  pub lines : List Read
+  pub lines : List JournalRead
   pub rest : List ℕ
   pub read : AreRead version lines
   pub consumed : Consumes read_old read_new (journal_bytes version lines ++ rest)
@@ -79,7 +79,7 @@ pub record StopsAtLine (read_old read_new : Option (List ℕ)) (number : ℕ) : 
   pub none : IsNoEntry version (entries_of lines) rest
   pub numbered : number ≡ suc (suc (length lines))
 
-abbrev pub JournalEnds : Option (List ℕ) → Option (List ℕ) → Result Outcome ReplayFault → Type 0
+abbrev pub JournalEnds : Option (List ℕ) → Option (List ℕ) → Result ReplayResult ReplayFault → Type 0
 JournalEnds read_old read_new (Ok outcome) = IsJournal read_old outcome
 JournalEnds read_old read_new (Err (NotAnEntry number)) = StopsAtHead read_old read_new number ⊎ StopsAtLine read_old read_new number
 JournalEnds read_old read_new (Err Input) = ⊤

@@ -4,8 +4,8 @@ use Rattle.std.specs.Io.KnownBytes.{Appends, Keeps}
 use Rattle.journal_text.specs.declared.entry.Entry.{Entry}
 use Rattle.journal_text.specs.declared.entry.Version.TheVariants.{Three}
 use Rattle.journal_text.specs.declared.saved.Answered.{Answered}
-use Rattle.journal_text.specs.declared.saved.Mark.{Mark}
-use Rattle.journal_text.specs.Saved.{entry_at, lines_of}
+use Rattle.journal_text.specs.declared.saved.JournalItem.{JournalItem}
+use Rattle.journal_text.specs.Saved.{entry_at, saved_lines_of}
 use Rattle.journal_text.specs.Typed.{IsProper}
 use Rattle.schedule_text.specs.declared.lines.JobAt.{JobAt}
 use Rattle.journal_replay.specs.declared.fault.ReplayFault.{ReplayFault}
@@ -19,9 +19,9 @@ with_line place number None entries = entries
 with_line place number (Some line) entries = entry_at place number line ∷ entries
 
 -- the entries of the marks that have a line, each with the next number of its job at its node
-abbrev pub entries_saved : List Mark → List Entry
+abbrev pub entries_saved : List JournalItem → List Entry
 entries_saved [] = []
-entries_saved (mark ∷ before) = with_line mark.place (suc (lines_of mark.place before)) mark.line (entries_saved before)
+entries_saved (mark ∷ before) = with_line mark.place (suc (saved_lines_of mark.place before)) mark.line (entries_saved before)
 
 -- each entry is a proper one, and has the answer that is due after those before it
 abbrev pub AreSound : List Entry → Type 0

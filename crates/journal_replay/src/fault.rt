@@ -20,9 +20,9 @@ pub enum ReplayFault {
 /// The line that the process writes to standard error, without its line feed.
 impl Display for ReplayFault {
     ghost use Rattle.std.specs.Prelude.{Some};
-    ghost use Rattle.journal_replay.specs.Texts.{fault_text};
+    ghost use Rattle.journal_replay.specs.Texts.{replay_fault_text};
 
-    ghost output = { λ fault. Some (fault_text fault) };
+    ghost output = { λ fault. Some (replay_fault_text fault) };
 
     fn fmt<W: fmt::Write>(&self, f: &mut Formatter<W>) -> fmt::Result {
         match self {

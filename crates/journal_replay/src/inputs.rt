@@ -1,6 +1,6 @@
 //! What the input of a line is to its job's store.
 ghost use Rattle.std.specs.Prelude.{◌≡◌};
-ghost use Rattle.private_store.specs.Contents.{source_in as source_in_lem};
+ghost use Rattle.private_store.specs.rules.Contents.{source_in as source_in_lem};
 ghost use Rattle.journal_replay.specs.Inputs.{command_meant as command_meant_lem, first_form as first_form_lem, judged_of as judged_of_lem};
 
 use journal_text::{Address, LineInput, Version};
@@ -58,15 +58,15 @@ pub(crate) fn judged_of(version: Version, address: Address, input: LineInput) ->
         LineInput::Received {
             id,
             length,
-            giver,
+            grantor,
             depth,
         } => Judged::Received {
             id,
             length,
-            giver,
+            grantor,
             depth,
         },
-        LineInput::Withdrawn { id, giver, depth } => Judged::Withdrawn { id, giver, depth },
+        LineInput::Withdrawn { id, grantor, depth } => Judged::Withdrawn { id, grantor, depth },
     }
 }
 

@@ -1,8 +1,8 @@
 //! The stores of a replay, by job and node.
 ghost use Rattle.std.specs.Prelude.{◌≡◌, [], None, if◌then◌else◌, IfOk, OnOk};
 ghost use Rattle.std.specs.Map.{lookup};
-ghost use Rattle.private_store.specs.Replay.{brief_after, brief_step, unbegun_brief};
-ghost use Rattle.journal_text.specs.Saved.{same_place};
+ghost use Rattle.private_store.specs.rules.Replay.{brief_after, brief_step, unbegun_brief};
+ghost use Rattle.journal_text.specs.Saved.{same_job_place};
 ghost use Rattle.journal_replay.specs.States.{state_of};
 
 use indexmap::IndexMap;
@@ -21,7 +21,7 @@ struct JobReplay {
 }
 
 impl Model for JobReplay {
-    ghost use Rattle.private_store.specs.Listed.{IsBriefKept};
+    ghost use Rattle.private_store.specs.laws.Listed.{IsBriefKept};
     ghost use Rattle.journal_replay.specs.States.{JobState};
 
     ghost Value = { JobState };
@@ -108,7 +108,7 @@ impl Jobs {
         number: u32,
         input: &Judged,
     ) -> Result<Reply<u64>, AllocError>
-        ensures states { OnOk result ((other : JobAt) → state_of self.new other ≡ (if same_place place other then record { last = number; store = brief_after (state_of self.old place).store input.now } else state_of self.old other)) }
+        ensures states { OnOk result ((other : JobAt) → state_of self.new other ≡ (if same_job_place place other then record { last = number; store = brief_after (state_of self.old place).store input.now } else state_of self.old other)) }
         ensures due { IfOk result (λ due. due ≡ (brief_step (state_of self.old place).store input.now).reply) }
     {
         let replay = self.take_out(place);
@@ -120,7 +120,7 @@ impl Jobs {
     /// Takes out the replay of the job at the node, so that none is there.
     fn take_out(&mut self, place: JobAt) -> JobReplay
         ensures taken { result ≡ state_of self.old place }
-        ensures left { (other : JobAt) → lookup (same_place other) self.new ≡ (if same_place place other then None else lookup (same_place other) self.old) }
+        ensures left { (other : JobAt) → lookup (same_job_place other) self.new ≡ (if same_job_place place other then None else lookup (same_job_place other) self.old) }
     {
         match self.jobs.swap_remove(&place) {
             Some(replay) => replay,

@@ -5,17 +5,20 @@ ghost use Rattle.std.specs.Io.BufRead.{take_through};
 ghost use Rattle.std.specs.Io.KnownBytes.{Consumes, IsAtEnd};
 ghost use Rattle.journal_text.specs.Reading.{head_text};
 ghost use Rattle.journal_replay.specs.Journals.{IsNoHead, JournalEnds, with_feed};
-ghost use Rattle.journal_replay.specs.Progress.{IsReadingFault, LinesEnd, TakesLine};
+ghost use Rattle.journal_replay.specs.Progress.{IsJournalFault, LinesEnd, TakesLine};
 
 use crate::fault::ReplayFault;
-use crate::replay::{Outcome, Replay};
+use crate::replay::{Replay, ReplayResult};
 use journal_text::{Version, read_head, read_line};
 use std::alloc::{AllocError, Global};
 use std::io::{BufRead, ErrorKind};
 use std::str;
 
 /// Replays the journal that the reader gives, to its end.
-pub fn replay_journal<R: BufRead>(alloc: Global, reader: &mut R) -> Result<Outcome, ReplayFault>
+pub fn replay_journal<R: BufRead>(
+    alloc: Global,
+    reader: &mut R,
+) -> Result<ReplayResult, ReplayFault>
     ensures { JournalEnds (R.remaining reader.old) (R.remaining reader.new) result }
 {
     let mut line = Vec::new(alloc);
@@ -34,7 +37,7 @@ fn replay_lines<R: BufRead>(
     alloc: Global,
     version: Version,
     reader: &mut R,
-) -> Result<Outcome, ReplayFault>
+) -> Result<ReplayResult, ReplayFault>
     ensures { LinesEnd version (R.remaining reader.old) (R.remaining reader.new) result }
 {
     let mut replay = Replay::new(alloc, version);
@@ -62,7 +65,7 @@ fn next_line<R: BufRead>(reader: &mut R, line: &mut Vec<u8>) -> Result<bool, Rep
     ensures whole { IfOk result (λ _. IfSome (R.remaining reader.old) (λ left. line.new.items ≡ take_through 10 left)) }
     ensures end { IfOk result (λ is_line. is_line ≡ false → IsAtEnd (R.remaining reader.old)) }
     ensures more { IfOk result (λ is_line. is_line ≡ true → line.new.items ≢ []) }
-    ensures fault { IfErr result IsReadingFault }
+    ensures fault { IfErr result IsJournalFault }
 {
     line.clear();
     match reader.read_until(b'\n', line) {

@@ -1,6 +1,6 @@
 //! A law of journals that are saved. The function does nothing; its contract is a theorem.
 ghost use Rattle.std.specs.Prelude.{ℕ, List, Option, Some, Result};
-ghost use Rattle.journal_text.specs.declared.saved.Mark.{Mark};
+ghost use Rattle.journal_text.specs.declared.saved.JournalItem.{JournalItem};
 ghost use Rattle.journal_text.specs.Saved.{saved_text, AreTyped};
 ghost use Rattle.journal_replay.specs.declared.fault.ReplayFault.{ReplayFault};
 ghost use Rattle.journal_replay.specs.declared.program.Verdict.{Verdict};
@@ -11,7 +11,7 @@ ghost use Rattle.journal_replay.specs.Texts.{Replays};
 /// with the number of its lines after the first, unless reading, the memory or the output fails. Of no line it says that it
 /// is no entry.
 pub fn a_sound_journal_replays()
-    ensures { (marks : List Mark) (left written_old written_new : Option (List ℕ)) (result : Result Verdict ReplayFault)
+    ensures { (marks : List JournalItem) (left written_old written_new : Option (List ℕ)) (result : Result Verdict ReplayFault)
         → AreTyped marks → AreSound (entries_saved marks) → Replays (Some (saved_text marks)) left written_old written_new result
         → SavedReplays (lines_after_first (saved_text marks)) written_old written_new result }
 {}

@@ -16,4 +16,4 @@ pub use fault::ReplayFault;
 pub use journal::replay_journal;
 pub use laws::a_sound_journal_replays;
 pub use program::{Verdict, replay_text, status_of};
-pub use replay::{Difference, Outcome};
+pub use replay::{Difference, ReplayResult};

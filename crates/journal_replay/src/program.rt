@@ -2,11 +2,11 @@
 ghost use Rattle.std.specs.Prelude.{◌≡◌, IfErr, IfOk, OnOk};
 ghost use Rattle.std.specs.Io.KnownBytes.{Appends};
 ghost use Rattle.std.specs.String.{string_bytes};
-ghost use Rattle.journal_replay.specs.Texts.{Replays, difference_text as difference_text_lem, outcome_text as outcome_text_lem, place_text as place_text_lem, status_of as status_of_lem, verdict_of as verdict_of_lem};
+ghost use Rattle.journal_replay.specs.Texts.{Replays, difference_text as difference_text_lem, replay_text as outcome_text_lem, place_text as place_text_lem, replay_status_of as status_of_lem, replay_verdict_of as verdict_of_lem};
 
 use crate::fault::ReplayFault;
 use crate::journal::replay_journal;
-use crate::replay::{Difference, Outcome};
+use crate::replay::{Difference, ReplayResult};
 use journal_text::{Address, Version, write_answer};
 use std::alloc::{AllocError, Global};
 use std::io::{BufRead, Write};
@@ -71,7 +71,7 @@ fn verdict_of(difference: &Option<Difference>) -> Verdict
 }
 
 /// The line that is written of a replay, with its line feed.
-fn outcome_text(alloc: Global, outcome: &Outcome) -> Result<String, AllocError>
+fn outcome_text(alloc: Global, outcome: &ReplayResult) -> Result<String, AllocError>
     ensures { IfOk result (λ text. string_bytes text ≡ outcome_text_lem outcome.now) }
 {
     match &outcome.difference {

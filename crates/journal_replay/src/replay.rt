@@ -22,7 +22,7 @@ pub struct Difference {
 
 /// What came of the replay of a whole journal.
 #[derive(Debug, Drop)]
-pub struct Outcome {
+pub struct ReplayResult {
     pub version: Version,
     /// How many lines there are after the first.
     pub lines: u64,
@@ -87,10 +87,10 @@ impl Replay {
     }
 
     /// What came of it, after so many lines.
-    pub(crate) fn end(self, lines: u64) -> Outcome
+    pub(crate) fn end(self, lines: u64) -> ReplayResult
         ensures { result ≡ record { version = self.version; lines = lines; difference = self.difference } }
     {
-        Outcome {
+        ReplayResult {
             version: self.version,
             lines,
             difference: self.difference,

@@ -39,8 +39,8 @@ told (input.Located id number entries) h p = (h.0, h.1, locations entries h.2)
 told (input.Chunk id number index from verdict) h p = h
 told (input.Pull id number matched) h p = h
 told (input.NotHere id number from) h p = h
-told (input.Received id n giver depth) h p = (h.0, h.1, (p.0 h.0.job_positive, h.2), (p.1, h.3))
-told (input.Withdrawn id giver depth) h p = (h.0, (p.0 h.0.job_positive, h.1), (p.1, h.2))
+told (input.Received id n grantor depth) h p = (h.0, h.1, (p.0 h.0.job_positive, h.2), (p.1, h.3))
+told (input.Withdrawn id grantor depth) h p = (h.0, (p.0 h.0.job_positive, h.1), (p.1, h.2))
 
 answered : (r : Reply ℕ) → IsTypedReply r → IsProperReply r → FitsReply r
 answered reply.Ok h p = h

@@ -2,9 +2,9 @@
 use Rattle.std.proofs.Common.{◌≡◌, ℕ, Bool, true, false, ◌==◌, ◌&&◌, refl, arith}
 use Rattle.std.proofs.lemmas.Bool.Decides.{nat_tests}
 use Rattle.schedule_text.specs.declared.lines.JobAt.{JobAt}
-use Rattle.journal_text.specs.Saved.{same_place}
+use Rattle.journal_text.specs.Saved.{same_job_place}
 
-pub same_place-itself : (a : JobAt) → same_place a a ≡ true
+pub same_place-itself : (a : JobAt) → same_job_place a a ≡ true
 same_place-itself a = grind (arith, nat_tests)
 
 same_number : (a b : ℕ) → (a == b) ≡ true → a ≡ b
@@ -15,7 +15,7 @@ both true true h = (refl, refl)
 both true false h = absurd cc
 both false b h = absurd cc
 
-pub same_place-equal : (a b : JobAt) → same_place a b ≡ true → a ≡ b
+pub same_place-equal : (a b : JobAt) → same_job_place a b ≡ true → a ≡ b
 same_place-equal a b t =
     let parts = both (a.node == b.node) (a.job.0 == b.job.0) t in
     let node = same_number a.node b.node parts.0 in

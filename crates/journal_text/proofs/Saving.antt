@@ -6,9 +6,9 @@ use Rattle.std.proofs.lemmas.Bool.Decides.{nat_tests}
 use Rattle.store_facts.proofs.Tests.{false_true}
 use Rattle.schedule_text.specs.declared.lines.JobAt.{JobAt}
 use Rattle.journal_text.specs.declared.saved.Counts.{Counts}
-use Rattle.journal_text.specs.declared.saved.Mark.{Mark}
+use Rattle.journal_text.specs.declared.saved.JournalItem.{JournalItem}
 use Rattle.journal_text.proofs.SamePlaces.{same_place-equal}
-use Rattle.journal_text.specs.Saved.{counted, counts_at, has_no_room, is_folded, line_text, lines_of, marks_of, most_marks, same_place, Saved, IsSaved, IsTypedLine}
+use Rattle.journal_text.specs.Saved.{lines_counted, counts_at, has_no_room, is_folded, saved_line_text, saved_lines_of, items_of_journal, most_marks, same_job_place, Saved, IsSaved, IsTypedLine}
 
 abbrev TableOf : Type 0
 TableOf = List (JobAt × Counts)
@@ -17,26 +17,26 @@ one_more : (n : ℕ) → n + 1 ≡ suc n
 one_more n = omega (arith)
 
 -- no more lines than entries and notes
-fewer : (place : JobAt) (marks : List Mark) → lines_of place marks ≤ marks_of place marks
+fewer : (place : JobAt) (marks : List JournalItem) → saved_lines_of place marks ≤ items_of_journal place marks
 fewer place [] = omega (arith)
-fewer place (mark ∷ before) = by (same_place mark.place place) (is_some mark.line) (fewer place before)
+fewer place (mark ∷ before) = by (same_job_place mark.place place) (is_some mark.line) (fewer place before)
   where
-    by : (here lined : Bool) → lines_of place before ≤ marks_of place before
-        → cond (here && lined) (suc (lines_of place before)) (lines_of place before) ≤ cond here (suc (marks_of place before)) (marks_of place before)
+    by : (here lined : Bool) → saved_lines_of place before ≤ items_of_journal place before
+        → cond (here && lined) (suc (saved_lines_of place before)) (saved_lines_of place before) ≤ cond here (suc (items_of_journal place before)) (items_of_journal place before)
     by true true h = omega (arith, h)
     by true false h = omega (arith, h)
     by false lined h = h
 
-module _ (saved : Saved) (marks : List Mark) (mark : Mark) (counts : Counts) (h : IsSaved saved marks) (found : counts ≡ counts_at saved.counts mark.place) where
-  now : is_folded marks ≡ false → counts ≡ record { marks = marks_of mark.place marks; lines = lines_of mark.place marks }
+module _ (saved : Saved) (marks : List JournalItem) (mark : JournalItem) (counts : Counts) (h : IsSaved saved marks) (found : counts ≡ counts_at saved.counts mark.place) where
+  now : is_folded marks ≡ false → counts ≡ record { marks = items_of_journal mark.place marks; lines = saved_lines_of mark.place marks }
   now whole = found ∙ h.counts whole mark.place
 
-  is_full : (b : Bool) → is_folded marks ≡ b → has_no_room saved counts ≡ true → (b || nat_le most_marks (marks_of mark.place marks)) ≡ true
+  is_full : (b : Bool) → is_folded marks ≡ b → has_no_room saved counts ≡ true → (b || nat_le most_marks (items_of_journal mark.place marks)) ≡ true
   is_full true folded full = refl
   is_full false folded full =
-      let m : counts.marks ≡ marks_of mark.place marks = ap (λ c. c.marks) (now folded) in
-      let l : counts.lines ≡ lines_of mark.place marks = ap (λ c. c.lines) (now folded) in
-      let less : lines_of mark.place marks ≤ marks_of mark.place marks = fewer mark.place marks in
+      let m : counts.marks ≡ items_of_journal mark.place marks = ap (λ c. c.marks) (now folded) in
+      let l : counts.lines ≡ saved_lines_of mark.place marks = ap (λ c. c.lines) (now folded) in
+      let less : saved_lines_of mark.place marks ≤ items_of_journal mark.place marks = fewer mark.place marks in
       let so : (nat_le most_marks counts.marks || nat_le most_marks counts.lines) ≡ true =
       subst (λ b. (b || (nat_le most_marks counts.marks || nat_le most_marks counts.lines)) ≡ true) (h.folded ∙ folded) full in
       grind (arith, nat_tests, m, l, less, so)
@@ -68,26 +68,26 @@ module _ (saved : Saved) (marks : List Mark) (mark : Mark) (counts : Counts) (h 
       second a false e = refl
 
   module _ (room : has_no_room saved counts ≡ false) (new : TableOf) (text : List ℕ)
-      (updated : (q : JobAt) → lookup (same_place q) new ≡ cond (same_place mark.place q) (Some (counted counts mark.line)) (lookup (same_place q) saved.counts))
-      (written : text ≡ saved.text ++ line_text mark.place (counts.lines + 1) mark.line) (is_typed : IsTypedLine mark.place (counts.lines + 1) mark.line) where
+      (updated : (q : JobAt) → lookup (same_job_place q) new ≡ cond (same_job_place mark.place q) (Some (lines_counted counts mark.line)) (lookup (same_job_place q) saved.counts))
+      (written : text ≡ saved.text ++ saved_line_text mark.place (counts.lines + 1) mark.line) (is_typed : IsTypedLine mark.place (counts.lines + 1) mark.line) where
     whole : is_folded marks ≡ false
     whole = (whole_so room).0
 
-    is : counts ≡ record { marks = marks_of mark.place marks; lines = lines_of mark.place marks }
+    is : counts ≡ record { marks = items_of_journal mark.place marks; lines = saved_lines_of mark.place marks }
     is = now whole
 
-    unfolded : (is_folded marks || nat_le most_marks (marks_of mark.place marks)) ≡ false
-    unfolded = ap (λ b. b || nat_le most_marks (marks_of mark.place marks)) whole ∙ ap (λ c. nat_le most_marks c.marks) (sym is) ∙ (whole_so room).1
+    unfolded : (is_folded marks || nat_le most_marks (items_of_journal mark.place marks)) ≡ false
+    unfolded = ap (λ b. b || nat_le most_marks (items_of_journal mark.place marks)) whole ∙ ap (λ c. nat_le most_marks c.marks) (sym is) ∙ (whole_so room).1
 
-    at_each : (q : JobAt) → counts_at new q ≡ record { marks = marks_of q (mark ∷ marks); lines = lines_of q (mark ∷ marks) }
-    at_each q = ap in_it (updated q) ∙ by (same_place mark.place q) refl
+    at_each : (q : JobAt) → counts_at new q ≡ record { marks = items_of_journal q (mark ∷ marks); lines = saved_lines_of q (mark ∷ marks) }
+    at_each q = ap in_it (updated q) ∙ by (same_job_place mark.place q) refl
       where
         in_it : Option Counts → Counts
         in_it o = unwrap_or o (record { marks = 0; lines = 0 })
 
-        by : (b : Bool) → same_place mark.place q ≡ b → in_it (cond b (Some (counted counts mark.line)) (lookup (same_place q) saved.counts))
-            ≡ record { marks = cond b (suc (marks_of q marks)) (marks_of q marks); lines = cond (b && is_some mark.line) (suc (lines_of q marks)) (lines_of q marks) }
-        by true same = ap (λ c. counted c mark.line) (is ∙ ap (λ p. record { marks = marks_of p marks; lines = lines_of p marks }) (same_place-equal mark.place q same))
+        by : (b : Bool) → same_job_place mark.place q ≡ b → in_it (cond b (Some (lines_counted counts mark.line)) (lookup (same_job_place q) saved.counts))
+            ≡ record { marks = cond b (suc (items_of_journal q marks)) (items_of_journal q marks); lines = cond (b && is_some mark.line) (suc (saved_lines_of q marks)) (saved_lines_of q marks) }
+        by true same = ap (λ c. lines_counted c mark.line) (is ∙ ap (λ p. record { marks = items_of_journal p marks; lines = saved_lines_of p marks }) (same_place-equal mark.place q same))
         by false other = h.counts whole q
 
     -- it has one more
@@ -95,6 +95,6 @@ module _ (saved : Saved) (marks : List Mark) (mark : Mark) (counts : Counts) (h 
     adds = record {
       folded = h.folded ∙ whole ∙ sym unfolded;
       counts = λ w. at_each;
-      text = λ w. written ∙ ap (λ n. saved.text ++ line_text mark.place n mark.line) (one_more counts.lines) ∙ ap (λ c. saved.text ++ line_text mark.place (suc c.lines) mark.line) is ∙ ap (λ t. t ++ line_text mark.place (suc (lines_of mark.place marks)) mark.line) (h.text whole);
+      text = λ w. written ∙ ap (λ n. saved.text ++ saved_line_text mark.place n mark.line) (one_more counts.lines) ∙ ap (λ c. saved.text ++ saved_line_text mark.place (suc c.lines) mark.line) is ∙ ap (λ t. t ++ saved_line_text mark.place (suc (saved_lines_of mark.place marks)) mark.line) (h.text whole);
       typed = λ w. (subst (λ n. IsTypedLine mark.place n mark.line) (one_more counts.lines ∙ ap (λ c. suc c.lines) is) is_typed, h.typed whole);
     }

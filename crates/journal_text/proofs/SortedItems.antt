@@ -8,18 +8,18 @@ use Rattle.journal_text.specs.declared.entry.Version.{Version}
 use Rattle.journal_text.specs.declared.items.Item.{Item}
 use Rattle.journal_text.specs.declared.items.Item.TheVariants.{Own, Granted}
 use Rattle.journal_text.specs.Each.{IsEach}
-use Rattle.journal_text.specs.Items.{IsItem, IsListed, IsSorted, all_granted, granted_of, in_order, own_of}
+use Rattle.journal_text.specs.Items.{IsItem, IsListed, IsSorted, all_granted, granted_of, items_in_order, own_of}
 
 -- the order that the rest has to keep after those granted items
 abbrev pub order_after : List GrantedItem → List Item → Bool
-order_after [] rest = in_order rest
+order_after [] rest = items_in_order rest
 order_after (x ∷ xs) rest = all_granted rest
 
 -- these are the halves of what stands before the rest
 pub record IsSortedUpTo (items rest : List Item) (own : List OwnItem) (granted : List GrantedItem) : Type 0 where
   pub own_is : own ++ own_of rest ≡ own_of items
   pub granted_is : granted ++ granted_of rest ≡ granted_of items
-  pub order_is : in_order items ≡ order_after granted rest
+  pub order_is : items_in_order items ≡ order_after granted rest
 
 order-granted : (granted : List GrantedItem) (x : GrantedItem) (rest : List Item) → order_after granted (Granted x ∷ rest) ≡ order_after (granted ++ x ∷ []) rest
 order-granted [] x rest = refl

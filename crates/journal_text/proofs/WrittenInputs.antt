@@ -132,8 +132,8 @@ module _ (job : ℕ) where
   IsInput-written (input.Chunk id n index from verdict) h = record { word = input_word.Chunk; named = refl; spelled = record { part = ((id, n), ((index, from), verdict)); spelled = ((object job id h.0, long n h.1), record { indexed = number index h.2; sent = number from h.3; judged = refl }); made = refl } }
   IsInput-written (input.Pull id n matched) h = record { word = input_word.Pull; named = refl; spelled = record { part = ((id, n), matched); spelled = ((object job id h.0, long n h.1), refl); made = refl } }
   IsInput-written (input.NotHere id n from) h = record { word = input_word.NotHere; named = refl; spelled = record { part = ((id, n), from); spelled = ((object job id h.0, long n h.1), number from h.2); made = refl } }
-  IsInput-written (input.Received id n giver depth) h = record { word = input_word.Received; named = refl; spelled = record { part = ((id, n), (giver, depth)); spelled = ((object job id h.0, number n h.1), (positive giver.0 h.2, positive depth h.3)); made = refl } }
-  IsInput-written (input.Withdrawn id giver depth) h = record { word = input_word.Withdrawn; named = refl; spelled = record { part = (id, (giver, depth)); spelled = (object job id h.0, (positive giver.0 h.1, positive depth h.2)); made = refl } }
+  IsInput-written (input.Received id n grantor depth) h = record { word = input_word.Received; named = refl; spelled = record { part = ((id, n), (grantor, depth)); spelled = ((object job id h.0, number n h.1), (positive grantor.0 h.2, positive depth h.3)); made = refl } }
+  IsInput-written (input.Withdrawn id grantor depth) h = record { word = input_word.Withdrawn; named = refl; spelled = record { part = (id, (grantor, depth)); spelled = (object job id h.0, (positive grantor.0 h.1, positive depth h.2)); made = refl } }
 
   pub AllFields-input : (x : LineInput) → FitsInput x → AllFields (input_fields job x)
   AllFields-input (input.Begin quota) h = AllFields-plain (input_fields job (input.Begin quota)) (refl, (Plain-decimal quota.window h.0, (Plain-decimal quota.device h.1, tt)))
@@ -146,5 +146,5 @@ module _ (job : ℕ) where
   AllFields-input (input.Chunk id n index from verdict) h = AllFields-plain (input_fields job (input.Chunk id n index from verdict)) (refl, (Plain-id_text job id h.0, (Plain-decimal n h.1, (plain32 index h.2, (plain32 from h.3, (plain_chunk verdict, tt))))))
   AllFields-input (input.Pull id n matched) h = AllFields-plain (input_fields job (input.Pull id n matched)) (refl, (Plain-id_text job id h.0, (Plain-decimal n h.1, (plain_match matched, tt))))
   AllFields-input (input.NotHere id n from) h = AllFields-plain (input_fields job (input.NotHere id n from)) (refl, (Plain-id_text job id h.0, (Plain-decimal n h.1, (plain32 from h.2, tt))))
-  AllFields-input (input.Received id n giver depth) h = AllFields-plain (input_fields job (input.Received id n giver depth)) (refl, (Plain-id_text job id h.0, (plain32 n h.1, (plain32 giver.0 h.2.1, (plain32 depth h.3.1, tt)))))
-  AllFields-input (input.Withdrawn id giver depth) h = AllFields-plain (input_fields job (input.Withdrawn id giver depth)) (refl, (Plain-id_text job id h.0, (plain32 giver.0 h.1.1, (plain32 depth h.2.1, tt))))
+  AllFields-input (input.Received id n grantor depth) h = AllFields-plain (input_fields job (input.Received id n grantor depth)) (refl, (Plain-id_text job id h.0, (plain32 n h.1, (plain32 grantor.0 h.2.1, (plain32 depth h.3.1, tt)))))
+  AllFields-input (input.Withdrawn id grantor depth) h = AllFields-plain (input_fields job (input.Withdrawn id grantor depth)) (refl, (Plain-id_text job id h.0, (plain32 grantor.0 h.1.1, (plain32 depth h.2.1, tt))))

@@ -22,7 +22,7 @@ use Rattle.journal_text.specs.declared.items.Item.{Item}
 use Rattle.journal_text.specs.declared.items.Item.TheVariants.{Own, Granted}
 use Rattle.journal_text.specs.declared.words.ReplyWord.TheVariants as word
 use Rattle.journal_text.specs.Each.{IsEach}
-use Rattle.journal_text.specs.Items.{IsItem, IsItemParts, IsItemUnless, IsSorted, all_granted, granted_of, in_order, own_of}
+use Rattle.journal_text.specs.Items.{IsItem, IsItemParts, IsItemUnless, IsSorted, all_granted, granted_of, items_in_order, own_of}
 use Rattle.journal_text.specs.Locations.{parts_of}
 use Rattle.journal_text.specs.Printing.{brief_reply_text, count_field, spaced_text}
 use Rattle.journal_text.specs.Replies.{IsReply}
@@ -192,7 +192,7 @@ module _ (job : ℕ) where
   all_granted-map [] = refl
   all_granted-map (x ∷ xs) = all_granted-map xs
 
-  in_order-granted : (xs : List GrantedItem) → in_order (map (λ x. Granted x) xs) ≡ true
+  in_order-granted : (xs : List GrantedItem) → items_in_order (map (λ x. Granted x) xs) ≡ true
   in_order-granted [] = refl
   in_order-granted (x ∷ xs) = all_granted-map xs
 

@@ -5,10 +5,10 @@ use Rattle.obj_id.specs.declared.commands.Command.{Command}
 use Rattle.obj_id.specs.declared.commands.Command.TheVariants as command
 use Rattle.schedule_text.specs.declared.words.Word.{Word}
 use Rattle.schedule_text.specs.declared.words.Word.TheVariants as word
-use Rattle.schedule_text.specs.Fields.{IsMade, IsTarget}
+use Rattle.schedule_text.specs.Fields.{IsFieldMade, IsTarget}
 use Rattle.schedule_text.specs.Words.{word_text}
 use Rattle.schedule_text.specs.Reading.{IsPlainCommand}
-use Rattle.journal_text.specs.Fields.{IsCount, IsMarked}
+use Rattle.journal_text.specs.Fields.{IsCount, HasMark}
 
 -- `ID OFF #N`
 abbrev pub IsIdCount : ℕ → List (List ℕ) → (ObjectId × ℕ) × ℕ → Type 0
@@ -17,7 +17,7 @@ IsIdCount job _ x = ⊥
 
 -- the command that a word and the fields after it spell, for the job that speaks
 abbrev pub IsBriefCommandOf : ℕ → Word → List (List ℕ) → Command ℕ → Type 0
-IsBriefCommandOf job word.Write fields c = IsMade (IsIdCount job fields) (λ x. command.Write x.0.0 x.0.1 x.1) c
+IsBriefCommandOf job word.Write fields c = IsFieldMade (IsIdCount job fields) (λ x. command.Write x.0.0 x.0.1 x.1) c
 IsBriefCommandOf job word fields c = IsPlainCommand job word fields c
 
 -- the same, with the word's field
@@ -31,5 +31,5 @@ IsBriefCommand job [] c = ⊥
 IsBriefCommand job (field ∷ fields) c = IsBriefCommandText job field fields c
 
 -- `sSESSION` and a command
-abbrev pub IsCall : ℕ → List ℕ → List (List ℕ) → ℕ × Command ℕ → Type 0
-IsCall job field fields x = IsMarked (codes "s") field x.0 × IsBriefCommand job fields x.1
+abbrev pub IsCallText : ℕ → List ℕ → List (List ℕ) → ℕ × Command ℕ → Type 0
+IsCallText job field fields x = HasMark (codes "s") field x.0 × IsBriefCommand job fields x.1

@@ -6,7 +6,7 @@ use Rattle.schedule_text.specs.Fields.{IsNumber, IsLongNumber, IsObject}
 use Rattle.journal_text.specs.declared.entry.Address.{Address}
 
 -- a number of 32 bits after a mark
-pub record IsMarked (mark field : List ℕ) (number : ℕ) : Type 0 where
+pub record HasMark (mark field : List ℕ) (number : ℕ) : Type 0 where
   pub fits : number < 2 ^ 32
   pub spelled : mark ++ decimal number ≡ field
 
@@ -18,12 +18,12 @@ pub record IsCount (field : List ℕ) (count : ℕ) : Type 0 where
 -- `nNODE`
 pub record IsNodeField (field : List ℕ) (node : ℕ) : Type 0 where
   pub exists : node < 8
-  pub spelled : IsMarked (codes "n") field node
+  pub spelled : HasMark (codes "n") field node
 
 -- `jJOB`
 pub record IsJobField (field : List ℕ) (job : JobNo) : Type 0 where
   pub positive : 1 ≤ job.0
-  pub spelled : IsMarked (codes "j") field job.0
+  pub spelled : HasMark (codes "j") field job.0
 
 -- `nNODE jJOB K`, each in its field
 pub record IsAddress (node job number : List ℕ) (x : Address) : Type 0 where
@@ -36,9 +36,9 @@ pub record IsPositive (field : List ℕ) (number : ℕ) : Type 0 where
   pub positive : 1 ≤ number
   pub spelled : IsNumber field number
 
--- `GIVER DEPTH`, each in its field
+-- `GRANTOR DEPTH`, each in its field
 abbrev pub IsHand : List ℕ → List ℕ → JobNo × ℕ → Type 0
-IsHand giver depth x = IsPositive giver x.0.0 × IsPositive depth x.1
+IsHand grantor depth x = IsPositive grantor x.0.0 × IsPositive depth x.1
 
 -- `ID NUMBER`, an object and the number of its fetch, each in its field
 abbrev pub IsFetch : ℕ → List ℕ → List ℕ → ObjectId × ℕ → Type 0

@@ -5,7 +5,7 @@ use Rattle.obj_id.specs.declared.ids.JobNo.{JobNo}
 use Rattle.obj_id.specs.declared.works.Quota.{Quota}
 use Rattle.private_store.specs.declared.inputs.WorkVerdict.{WorkVerdict}
 use Rattle.private_store.specs.declared.inputs.ChunkVerdict.{ChunkVerdict}
-use Rattle.schedule_text.specs.Fields.{IsAlone, IsId1, IsIdNumber, IsLongNumber, IsMade, IsNumber, IsObject, IsTarget}
+use Rattle.schedule_text.specs.Fields.{IsAlone, IsId1, IsIdNumber, IsLongNumber, IsFieldMade, IsNumber, IsObject, IsTarget}
 use Rattle.schedule_text.specs.Reading.{IsQuota}
 use Rattle.journal_text.specs.declared.entry.LineInput.{LineInput}
 use Rattle.journal_text.specs.declared.entry.LineInput.TheVariants as input
@@ -13,7 +13,7 @@ use Rattle.journal_text.specs.declared.entry.Version.{Version}
 use Rattle.journal_text.specs.declared.entry.Version.TheVariants.{One, Two, Three}
 use Rattle.journal_text.specs.declared.words.InputWord.{InputWord}
 use Rattle.journal_text.specs.declared.words.InputWord.TheVariants as word
-use Rattle.journal_text.specs.Calls.{IsCall}
+use Rattle.journal_text.specs.Calls.{IsCallText}
 use Rattle.journal_text.specs.Fields.{IsFetch, IsHand}
 use Rattle.journal_text.specs.Locations.{IsLocated}
 use Rattle.journal_text.specs.Words.{chunk_verdict_text, input_word_text, match_text, work_verdict_text}
@@ -30,9 +30,9 @@ IsRequota Two fields x = ⊥
 IsRequota Three fields x = IsQuotaAlone fields x
 
 -- `NUMBER WORD`, of a device's answer
-abbrev pub IsAnswer : List (List ℕ) → ℕ × WorkVerdict → Type 0
-IsAnswer (number ∷ word ∷ []) x = IsLongNumber number x.0 × (work_verdict_text x.1 ≡ word)
-IsAnswer _ x = ⊥
+abbrev pub IsAnswerInput : List (List ℕ) → ℕ × WorkVerdict → Type 0
+IsAnswerInput (number ∷ word ∷ []) x = IsLongNumber number x.0 × (work_verdict_text x.1 ≡ word)
+IsAnswerInput _ x = ⊥
 
 -- `INDEX FROM WORD`, each in its field
 pub record IsPiece (index from word : List ℕ) (x : (ℕ × ℕ) × ChunkVerdict) : Type 0 where
@@ -62,34 +62,34 @@ IsNotHere job _ x = ⊥
 
 -- ---- hands
 
--- `ID LEN GIVER DEPTH`, each in its field
+-- `ID LEN GRANTOR DEPTH`, each in its field
 abbrev pub IsHandToOf : ℕ → List ℕ → List ℕ → List ℕ → List ℕ → (ObjectId × ℕ) × (JobNo × ℕ) → Type 0
-IsHandToOf job id length giver depth x = IsTarget job id length x.0 × IsHand giver depth x.1
+IsHandToOf job id length grantor depth x = IsTarget job id length x.0 × IsHand grantor depth x.1
 
 -- and together
 abbrev pub IsHandTo : ℕ → List (List ℕ) → (ObjectId × ℕ) × (JobNo × ℕ) → Type 0
-IsHandTo job (id ∷ length ∷ giver ∷ depth ∷ []) x = IsHandToOf job id length giver depth x
+IsHandTo job (id ∷ length ∷ grantor ∷ depth ∷ []) x = IsHandToOf job id length grantor depth x
 IsHandTo job _ x = ⊥
 
--- `ID GIVER DEPTH`
+-- `ID GRANTOR DEPTH`
 abbrev pub IsHandEnd : ℕ → List (List ℕ) → ObjectId × (JobNo × ℕ) → Type 0
-IsHandEnd job (id ∷ giver ∷ depth ∷ []) x = IsObject job id x.0 × IsHand giver depth x.1
+IsHandEnd job (id ∷ grantor ∷ depth ∷ []) x = IsObject job id x.0 × IsHand grantor depth x.1
 IsHandEnd job _ x = ⊥
 
 abbrev pub IsHandedTo : ℕ → List (List ℕ) → LineInput → Type 0
-IsHandedTo job fields x = IsMade (IsHandTo job fields) (λ y. input.Received y.0.0 y.0.1 y.1.0 y.1.1) x
+IsHandedTo job fields x = IsFieldMade (IsHandTo job fields) (λ y. input.Received y.0.0 y.0.1 y.1.0 y.1.1) x
 
 abbrev pub IsHandEnded : ℕ → List (List ℕ) → LineInput → Type 0
-IsHandEnded job fields x = IsMade (IsHandEnd job fields) (λ y. input.Withdrawn y.0 y.1.0 y.1.1) x
+IsHandEnded job fields x = IsFieldMade (IsHandEnd job fields) (λ y. input.Withdrawn y.0 y.1.0 y.1.1) x
 
--- version 1 doesn't tell giver and depth: the object's job granted it itself
+-- version 1 doesn't tell grantor and depth: the object's job granted it itself
 abbrev pub IsReceived : Version → ℕ → List (List ℕ) → LineInput → Type 0
-IsReceived One job fields x = IsMade (IsIdNumber job fields) (λ y. input.Received y.0 y.1 y.0.job 1) x
+IsReceived One job fields x = IsFieldMade (IsIdNumber job fields) (λ y. input.Received y.0 y.1 y.0.job 1) x
 IsReceived Two job fields x = IsHandedTo job fields x
 IsReceived Three job fields x = IsHandedTo job fields x
 
 abbrev pub IsWithdrawn : Version → ℕ → List (List ℕ) → LineInput → Type 0
-IsWithdrawn One job fields x = IsMade (IsId1 job fields) (λ y. input.Withdrawn y y.job 1) x
+IsWithdrawn One job fields x = IsFieldMade (IsId1 job fields) (λ y. input.Withdrawn y y.job 1) x
 IsWithdrawn Two job fields x = IsHandEnded job fields x
 IsWithdrawn Three job fields x = IsHandEnded job fields x
 
@@ -97,14 +97,14 @@ IsWithdrawn Three job fields x = IsHandEnded job fields x
 
 -- what a word and the fields after it spell, for the line's job
 abbrev pub IsInputOf : Version → ℕ → InputWord → List (List ℕ) → LineInput → Type 0
-IsInputOf version job word.Begin fields x = IsMade (IsQuotaAlone fields) (λ y. input.Begin y) x
-IsInputOf version job word.Quota fields x = IsMade (IsRequota version fields) (λ y. input.Requota y) x
+IsInputOf version job word.Begin fields x = IsFieldMade (IsQuotaAlone fields) (λ y. input.Begin y) x
+IsInputOf version job word.Quota fields x = IsFieldMade (IsRequota version fields) (λ y. input.Requota y) x
 IsInputOf version job word.End fields x = IsAlone fields input.End x
-IsInputOf version job word.Answer fields x = IsMade (IsAnswer fields) (λ y. input.Answer y.0 y.1) x
-IsInputOf version job word.Located fields x = IsMade (IsLocated job fields) (λ y. input.Located y.0.0 y.0.1 y.1) x
-IsInputOf version job word.Chunk fields x = IsMade (IsChunk job fields) (λ y. input.Chunk y.0.0 y.0.1 y.1.0.0 y.1.0.1 y.1.1) x
-IsInputOf version job word.Pull fields x = IsMade (IsPull job fields) (λ y. input.Pull y.0.0 y.0.1 y.1) x
-IsInputOf version job word.NotHere fields x = IsMade (IsNotHere job fields) (λ y. input.NotHere y.0.0 y.0.1 y.1) x
+IsInputOf version job word.Answer fields x = IsFieldMade (IsAnswerInput fields) (λ y. input.Answer y.0 y.1) x
+IsInputOf version job word.Located fields x = IsFieldMade (IsLocated job fields) (λ y. input.Located y.0.0 y.0.1 y.1) x
+IsInputOf version job word.Chunk fields x = IsFieldMade (IsChunk job fields) (λ y. input.Chunk y.0.0 y.0.1 y.1.0.0 y.1.0.1 y.1.1) x
+IsInputOf version job word.Pull fields x = IsFieldMade (IsPull job fields) (λ y. input.Pull y.0.0 y.0.1 y.1) x
+IsInputOf version job word.NotHere fields x = IsFieldMade (IsNotHere job fields) (λ y. input.NotHere y.0.0 y.0.1 y.1) x
 IsInputOf version job word.Received fields x = IsReceived version job fields x
 IsInputOf version job word.Withdrawn fields x = IsWithdrawn version job fields x
 
@@ -115,17 +115,17 @@ pub record IsInputText (version : Version) (job : ℕ) (field : List ℕ) (field
   pub spelled : IsInputOf version job word fields x
 
 -- an input that begins with `s` is a session's: no word of another does
-abbrev pub is_call : List ℕ → Bool
-is_call [] = false
-is_call (first ∷ rest) = first == 115
+abbrev pub is_call_line : List ℕ → Bool
+is_call_line [] = false
+is_call_line (first ∷ rest) = first == 115
 
 abbrev pub IsInputUnless : Bool → Version → ℕ → List ℕ → List (List ℕ) → LineInput → Type 0
-IsInputUnless true version job field fields x = IsMade (IsCall job field fields) (λ y. input.Call y.0 y.1) x
+IsInputUnless true version job field fields x = IsFieldMade (IsCallText job field fields) (λ y. input.Call y.0 y.1) x
 IsInputUnless false version job field fields x = IsInputText version job field fields x
 
 -- what a field and those after it spell
 abbrev pub IsInputFrom : Version → ℕ → List ℕ → List (List ℕ) → LineInput → Type 0
-IsInputFrom version job field fields x = IsInputUnless (is_call field) version job field fields x
+IsInputFrom version job field fields x = IsInputUnless (is_call_line field) version job field fields x
 
 abbrev pub IsInput : Version → ℕ → List (List ℕ) → LineInput → Type 0
 IsInput version job [] x = ⊥

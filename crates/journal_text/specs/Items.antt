@@ -3,7 +3,7 @@ use Rattle.std.specs.Prelude.{◌≡◌, ℕ, List, [], ◌∷◌, codes, Bool, 
 use Rattle.std.specs.Str.{bytes_eq}
 use Rattle.obj_id.specs.declared.commands.OwnItem.{OwnItem}
 use Rattle.obj_id.specs.declared.commands.GrantedItem.{GrantedItem}
-use Rattle.schedule_text.specs.Fields.{IsMade, IsNumber, IsObject}
+use Rattle.schedule_text.specs.Fields.{IsFieldMade, IsNumber, IsObject}
 use Rattle.schedule_text.specs.Printing.{kind_word, state_word}
 use Rattle.journal_text.specs.declared.entry.Version.{Version}
 use Rattle.journal_text.specs.declared.entry.Version.TheVariants.{One, Two, Three}
@@ -56,8 +56,8 @@ IsGranted Two job id parts x = IsHandItem job id parts x
 IsGranted Three job id parts x = IsHandItem job id parts x
 
 abbrev pub IsItemUnless : Bool → Version → ℕ → List ℕ → List ℕ → List (List ℕ) → Item → Type 0
-IsItemUnless true version job id word parts x = IsMade (IsGranted version job id parts) (λ y. Granted y) x
-IsItemUnless false version job id word parts x = IsMade (IsOwn job id word parts) (λ y. Own y) x
+IsItemUnless true version job id word parts x = IsFieldMade (IsGranted version job id parts) (λ y. Granted y) x
+IsItemUnless false version job id word parts x = IsFieldMade (IsOwn job id word parts) (λ y. Own y) x
 
 -- an id, a word and the parts after them: `granted` is no state
 abbrev pub IsItemOf : Version → ℕ → List ℕ → List ℕ → List (List ℕ) → Item → Type 0
@@ -90,14 +90,14 @@ all_granted (Own x ∷ items) = false
 all_granted (Granted x ∷ items) = all_granted items
 
 -- no own item stands after a granted one
-abbrev pub in_order : List Item → Bool
-in_order [] = true
-in_order (Own x ∷ items) = in_order items
-in_order (Granted x ∷ items) = all_granted items
+abbrev pub items_in_order : List Item → Bool
+items_in_order [] = true
+items_in_order (Own x ∷ items) = items_in_order items
+items_in_order (Granted x ∷ items) = all_granted items
 
 -- the two halves of a list
 pub record IsSorted (items : List Item) (x : List OwnItem × List GrantedItem) : Type 0 where
-  pub ordered : in_order items ≡ true
+  pub ordered : items_in_order items ≡ true
   pub own : own_of items ≡ x.0
   pub granted : granted_of items ≡ x.1
 

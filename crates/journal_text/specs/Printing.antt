@@ -68,8 +68,8 @@ input_fields job (input.Located id number entries) = codes "located" ∷ id_text
 input_fields job (input.Chunk id number index from verdict) = codes "chunk" ∷ id_text job id ∷ decimal number ∷ decimal index ∷ decimal from ∷ chunk_verdict_text verdict ∷ []
 input_fields job (input.Pull id number matched) = codes "pull" ∷ id_text job id ∷ decimal number ∷ match_text matched ∷ []
 input_fields job (input.NotHere id number from) = codes "nothere" ∷ id_text job id ∷ decimal number ∷ decimal from ∷ []
-input_fields job (input.Received id length giver depth) = codes "received" ∷ id_text job id ∷ decimal length ∷ decimal giver.0 ∷ decimal depth ∷ []
-input_fields job (input.Withdrawn id giver depth) = codes "withdrawn" ∷ id_text job id ∷ decimal giver.0 ∷ decimal depth ∷ []
+input_fields job (input.Received id length grantor depth) = codes "received" ∷ id_text job id ∷ decimal length ∷ decimal grantor.0 ∷ decimal depth ∷ []
+input_fields job (input.Withdrawn id grantor depth) = codes "withdrawn" ∷ id_text job id ∷ decimal grantor.0 ∷ decimal depth ∷ []
 
 -- an answer as in a schedule, but bytes as their number; of the answers to a Take, which has no line, the word alone
 abbrev pub brief_reply_text : ℕ → Reply ℕ → List ℕ
@@ -98,10 +98,10 @@ first_answer_text job (reply.List own granted) = codes "list" ++ own_items_text 
 first_answer_text job r = brief_reply_text job r
 
 -- an answer in a journal of this form
-abbrev pub answer_text : Version → ℕ → Reply ℕ → List ℕ
-answer_text One job r = first_answer_text job r
-answer_text Two job r = brief_reply_text job r
-answer_text Three job r = brief_reply_text job r
+abbrev pub journal_answer_text : Version → ℕ → Reply ℕ → List ℕ
+journal_answer_text One job r = first_answer_text job r
+journal_answer_text Two job r = brief_reply_text job r
+journal_answer_text Three job r = brief_reply_text job r
 
 -- `nNODE jJOB K`
 abbrev pub address_text : Address → List ℕ

@@ -31,8 +31,8 @@ abbrev pub is_fitting : LineInput → Reply ℕ → Bool
 is_fitting (input.Call session command) reply = true
 is_fitting _ reply = is_outcome reply
 
--- what the job was told and what it was answered
-pub record IsSaid (version : Version) (job : ℕ) (fields answer : List (List ℕ)) (x : LineInput × Reply ℕ) : Type 0 where
+-- what the job's input was and what it was answered
+pub record IsInputRead (version : Version) (job : ℕ) (fields answer : List (List ℕ)) (x : LineInput × Reply ℕ) : Type 0 where
   pub told : IsInput version job fields x.0
   pub answered : IsReply version job answer x.1
   pub fitting : is_fitting x.0 x.1 ≡ true
@@ -40,7 +40,7 @@ pub record IsSaid (version : Version) (job : ℕ) (fields answer : List (List �
 -- the entry of an address
 pub record IsEntryAt (version : Version) (address : Address) (fields answer : List (List ℕ)) (x : Entry) : Type 0 where
   pub at : address ≡ x.address
-  pub said : IsSaid version address.job.0 fields answer (x.input, x.reply)
+  pub said : IsInputRead version address.job.0 fields answer (x.input, x.reply)
 
 -- `nNODE jJOB K`, the input and the answer
 pub record IsEntryOf (version : Version) (node job number : List ℕ) (fields answer : List (List ℕ)) (x : Entry) : Type 0 where

@@ -5,7 +5,7 @@ use Rattle.obj_id.specs.declared.commands.Usage.{Usage}
 use Rattle.obj_id.specs.declared.commands.Reply.{Reply}
 use Rattle.obj_id.specs.declared.commands.Reply.TheVariants as reply
 use Rattle.obj_id.specs.Refusals.{name_of, number_of}
-use Rattle.schedule_text.specs.Fields.{IsAlone, IsLongNumber, IsMade, IsNumber}
+use Rattle.schedule_text.specs.Fields.{IsAlone, IsLongNumber, IsFieldMade, IsNumber}
 use Rattle.journal_text.specs.declared.entry.Version.{Version}
 use Rattle.journal_text.specs.declared.words.ReplyWord.{ReplyWord}
 use Rattle.journal_text.specs.declared.words.ReplyWord.TheVariants as word
@@ -53,7 +53,7 @@ pub record IsUsage (fields : List (List ℕ)) (x : Usage) : Type 0 where
 
 -- the items of a list, as an answer
 abbrev pub IsListReply : Version → ℕ → List (List ℕ) → Reply ℕ → Type 0
-IsListReply version job fields x = IsMade (IsListed version job fields) (λ y. reply.List y.0 y.1) x
+IsListReply version job fields x = IsFieldMade (IsListed version job fields) (λ y. reply.List y.0 y.1) x
 
 -- the number and the name are of one refusal
 abbrev pub IsRefusal : List ℕ → List ℕ → Refusal → Type 0
@@ -67,12 +67,12 @@ IsRefused _ x = ⊥
 -- what a word and the fields after it spell, for the line's job
 abbrev pub IsReplyOf : Version → ℕ → ReplyWord → List (List ℕ) → Reply ℕ → Type 0
 IsReplyOf version job word.Ok fields x = IsAlone fields reply.Ok x
-IsReplyOf version job word.Placed fields x = IsMade (IsPlaced fields) (λ y. reply.Placed y.0 y.1) x
-IsReplyOf version job word.Got fields x = IsMade (IsNumberAlone fields) (λ y. reply.Got y) x
-IsReplyOf version job word.Bytes fields x = IsMade (IsCountAlone fields) (λ y. reply.Bytes y) x
+IsReplyOf version job word.Placed fields x = IsFieldMade (IsPlaced fields) (λ y. reply.Placed y.0 y.1) x
+IsReplyOf version job word.Got fields x = IsFieldMade (IsNumberAlone fields) (λ y. reply.Got y) x
+IsReplyOf version job word.Bytes fields x = IsFieldMade (IsCountAlone fields) (λ y. reply.Bytes y) x
 IsReplyOf version job word.List fields x = IsListReply version job fields x
-IsReplyOf version job word.Usage fields x = IsMade (IsUsage fields) (λ y. reply.Usage y) x
-IsReplyOf version job word.Refused fields x = IsMade (IsRefused fields) (λ y. reply.Refused y) x
+IsReplyOf version job word.Usage fields x = IsFieldMade (IsUsage fields) (λ y. reply.Usage y) x
+IsReplyOf version job word.Refused fields x = IsFieldMade (IsRefused fields) (λ y. reply.Refused y) x
 
 -- the same, with the word's field
 pub record IsReplyText (version : Version) (job : ℕ) (field : List ℕ) (fields : List (List ℕ)) (x : Reply ℕ) : Type 0 where

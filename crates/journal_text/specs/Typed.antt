@@ -18,11 +18,11 @@ FitsOwn x = IsId x.id × Fits32 x.length
 abbrev pub FitsGranted : GrantedItem → Type 0
 FitsGranted x = IsId x.id × Fits32 x.length × Fits32 x.depth
 
--- a giver and a depth may be 0 by their types
+-- a grantor and a depth may be 0 by their types
 abbrev pub IsTypedInput : LineInput → Type 0
 IsTypedInput (input.Located id number entries) = IsId id × Fits64 number × All FitsLocation entries
-IsTypedInput (input.Received id n giver depth) = IsId id × Fits32 n × Fits32 giver.0 × Fits32 depth
-IsTypedInput (input.Withdrawn id giver depth) = IsId id × Fits32 giver.0 × Fits32 depth
+IsTypedInput (input.Received id n grantor depth) = IsId id × Fits32 n × Fits32 grantor.0 × Fits32 depth
+IsTypedInput (input.Withdrawn id grantor depth) = IsId id × Fits32 grantor.0 × Fits32 depth
 IsTypedInput x = FitsInput x
 
 -- and an answer one to a Take
@@ -40,10 +40,10 @@ pub record IsTyped (x : Entry) : Type 0 where
 
 -- ---- what types don't say
 
--- a depth is at least 1; and so is a giver, if the object's job is
+-- a depth is at least 1; and so is a grantor, if the object's job is
 abbrev pub IsProperInput : LineInput → Type 0
-IsProperInput (input.Received id n giver depth) = (1 ≤ id.job.0 → 1 ≤ giver.0) × (1 ≤ depth)
-IsProperInput (input.Withdrawn id giver depth) = (1 ≤ id.job.0 → 1 ≤ giver.0) × (1 ≤ depth)
+IsProperInput (input.Received id n grantor depth) = (1 ≤ id.job.0 → 1 ≤ grantor.0) × (1 ≤ depth)
+IsProperInput (input.Withdrawn id grantor depth) = (1 ≤ id.job.0 → 1 ≤ grantor.0) × (1 ≤ depth)
 IsProperInput _ = ⊤
 
 -- an answer isn't one to a Take

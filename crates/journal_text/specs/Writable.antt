@@ -70,8 +70,8 @@ FitsInput (input.Located id number entries) = IsId id × Fits64 number × FitLoc
 FitsInput (input.Chunk id number index from verdict) = IsId id × Fits64 number × Fits32 index × Fits32 from
 FitsInput (input.Pull id number matched) = IsId id × Fits64 number
 FitsInput (input.NotHere id number from) = IsId id × Fits64 number × Fits32 from
-FitsInput (input.Received id n giver depth) = IsId id × Fits32 n × FitsPositive giver.0 × FitsPositive depth
-FitsInput (input.Withdrawn id giver depth) = IsId id × FitsPositive giver.0 × FitsPositive depth
+FitsInput (input.Received id n grantor depth) = IsId id × Fits32 n × FitsPositive grantor.0 × FitsPositive depth
+FitsInput (input.Withdrawn id grantor depth) = IsId id × FitsPositive grantor.0 × FitsPositive depth
 
 abbrev pub FitOwn : List OwnItem → Type 0
 FitOwn [] = ⊤

@@ -1,17 +1,17 @@
 //! The commands of sessions, with the number of written bytes in place of the bytes.
 ghost use Rattle.std.specs.Prelude.{map};
 ghost use Rattle.schedule_text.specs.Fields.{Reads};
-ghost use Rattle.journal_text.specs.Calls.{IsBriefCommand, IsBriefCommandOf, IsCall, IsIdCount};
+ghost use Rattle.journal_text.specs.Calls.{IsBriefCommand, IsBriefCommandOf, IsCallText, IsIdCount};
 
 use crate::fields::{count, session};
 use obj_id::{Command, JobNo, ObjectId};
-use schedule_text::commands::plain_command;
+use schedule_text::commands::command_without_payload;
 use schedule_text::fields::target;
 use schedule_text::words::Word;
 
 /// `sSESSION` and a command.
 pub(crate) fn call(first: &str, fields: &[&str], job: JobNo) -> Option<(u32, Command<u64>)>
-    ensures { Reads result (IsCall job.0 first.now (map (λ field. field.now) fields.now)) }
+    ensures { Reads result (IsCallText job.0 first.now (map (λ field. field.now) fields.now)) }
 {
     let session = session(first)?;
     let command = brief_command(fields, job)?;
@@ -42,7 +42,7 @@ fn command_of(word: Word, fields: &[&str], job: JobNo) -> Option<Command<u64>>
                 bytes: count,
             })
         }
-        _ => plain_command(word, fields, job),
+        _ => command_without_payload(word, fields, job),
     }
 }
 

@@ -1,6 +1,6 @@
 //! What a line of a saved journal says.
 ghost use Rattle.std.specs.Prelude.{◌≡◌};
-ghost use Rattle.journal_text.specs.Saved.{place_of};
+ghost use Rattle.journal_text.specs.Saved.{journal_place_of};
 
 use obj_id::{Command, Items, JobNo, Location, ObjectId, Quota, Reply};
 use private_store::{ChunkVerdict, WorkVerdict};
@@ -9,7 +9,7 @@ use schedule_text::JobAt;
 /// The form of a saved journal: the number in its first line.
 #[derive(Clone, Copy, Debug, PartialEq, Eq)]
 pub enum Version {
-    /// Without changes of quotas; hands without giver and depth, which are the object's job and 1.
+    /// Without changes of quotas; hands without grantor and depth, which are the object's job and 1.
     One,
     /// Without changes of quotas.
     Two,
@@ -31,7 +31,7 @@ pub struct Address {
 impl Address {
     /// The job at the node that the line is of.
     pub fn place(self) -> JobAt
-        ensures { result ≡ place_of self }
+        ensures { result ≡ journal_place_of self }
     {
         JobAt {
             node: self.node,
@@ -76,17 +76,17 @@ pub enum LineInput {
         number: u64,
         from: u32,
     },
-    /// Another job granted an object: its length, the giver, and the depth of the hand.
+    /// Another job granted an object: its length, the grantor, and the depth of the hand.
     Received {
         id: ObjectId,
         length: u32,
-        giver: JobNo,
+        grantor: JobNo,
         depth: u32,
     },
     /// A hand to this job ended.
     Withdrawn {
         id: ObjectId,
-        giver: JobNo,
+        grantor: JobNo,
         depth: u32,
     },
 }

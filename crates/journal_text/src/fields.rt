@@ -1,7 +1,7 @@
 //! Fields of a saved journal: marked numbers, where a line stands, and what several inputs share.
 ghost use Rattle.std.specs.Prelude.{[], ◌∷◌, ◌<◌, codes};
 ghost use Rattle.schedule_text.specs.Fields.{Reads};
-ghost use Rattle.journal_text.specs.Fields.{IsAddress, IsCount, IsFetch, IsHand, IsJobField, IsMarked, IsNodeField, IsPositive};
+ghost use Rattle.journal_text.specs.Fields.{IsAddress, IsCount, IsFetch, IsHand, IsJobField, HasMark, IsNodeField, IsPositive};
 
 use crate::entry::Address;
 use obj_id::{JobNo, ObjectId};
@@ -13,14 +13,14 @@ const NODES: u32 = 8;
 /// A number of 32 bits after a mark.
 fn marked(field: &str, mark: char) -> Option<u32>
     requires { mark < 128 }
-    ensures { Reads result (IsMarked (mark ∷ []) field.now) }
+    ensures { Reads result (HasMark (mark ∷ []) field.now) }
 {
     number(field.strip_prefix(mark)?)
 }
 
 /// `sSESSION`.
 pub(crate) fn session(field: &str) -> Option<u32>
-    ensures { Reads result (IsMarked (codes "s") field.now) }
+    ensures { Reads result (HasMark (codes "s") field.now) }
 {
     marked(field, 's')
 }
@@ -66,13 +66,13 @@ pub(crate) fn positive(field: &str) -> Option<u32>
     if number == 0 { None } else { Some(number) }
 }
 
-/// `GIVER DEPTH`, each in its field.
-pub(crate) fn hand(giver: &str, depth: &str) -> Option<(JobNo, u32)>
-    ensures { Reads result (IsHand giver.now depth.now) }
+/// `GRANTOR DEPTH`, each in its field.
+pub(crate) fn hand(grantor: &str, depth: &str) -> Option<(JobNo, u32)>
+    ensures { Reads result (IsHand grantor.now depth.now) }
 {
-    let giver = positive(giver)?;
+    let grantor = positive(grantor)?;
     let depth = positive(depth)?;
-    Some((JobNo(giver), depth))
+    Some((JobNo(grantor), depth))
 }
 
 /// `ID NUMBER`, an object and the number of its fetch, each in its field.

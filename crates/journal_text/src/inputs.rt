@@ -1,7 +1,7 @@
 //! What the fields of an input say.
 ghost use Rattle.std.specs.Prelude.{◌≡◌, IfOk, map};
 ghost use Rattle.schedule_text.specs.Fields.{Reads};
-ghost use Rattle.journal_text.specs.Inputs.{IsAnswer, IsChunk, IsHandEnd, IsHandTo, IsHandToOf, IsInput, IsInputFrom, IsInputOf, IsInputText, IsNotHere, IsPiece, IsPieceFields, IsPull, IsQuotaAlone, IsReceived, IsRequota, IsWithdrawn, is_call as is_call_lem};
+ghost use Rattle.journal_text.specs.Inputs.{IsAnswerInput, IsChunk, IsHandEnd, IsHandTo, IsHandToOf, IsInput, IsInputFrom, IsInputOf, IsInputText, IsNotHere, IsPiece, IsPieceFields, IsPull, IsQuotaAlone, IsReceived, IsRequota, IsWithdrawn, is_call_line as is_call_lem};
 
 use crate::calls::call;
 use crate::entry::{LineInput, Version};
@@ -142,7 +142,7 @@ fn requota(fields: &[&str], version: Version) -> Option<Quota>
 
 /// `NUMBER WORD`, of a device's answer.
 fn answer(fields: &[&str]) -> Option<(u64, WorkVerdict)>
-    ensures { Reads result (IsAnswer (map (λ field. field.now) fields.now)) }
+    ensures { Reads result (IsAnswerInput (map (λ field. field.now) fields.now)) }
 {
     let [number, word] = fields else { return None };
     Some((long_number(number)?, work_verdict(word)?))
@@ -206,41 +206,41 @@ fn received(fields: &[&str], job: JobNo, version: Version) -> Option<LineInput>
         Version::One => id_number(fields, job).map(|(id, length)| LineInput::Received {
             id,
             length,
-            giver: id.job(),
+            grantor: id.job(),
             depth: 1,
         }),
         Version::Two | Version::Three => hand_to(fields, job).map(|((id, length), hand)| {
             LineInput::Received {
                 id,
                 length,
-                giver: hand.0,
+                grantor: hand.0,
                 depth: hand.1,
             }
         }),
     }
 }
 
-/// `ID LEN GIVER DEPTH`.
+/// `ID LEN GRANTOR DEPTH`.
 fn hand_to(fields: &[&str], job: JobNo) -> Option<((ObjectId, u32), (JobNo, u32))>
     ensures { Reads result (IsHandTo job.0 (map (λ field. field.now) fields.now)) }
 {
-    let [id, length, giver, depth] = fields else {
+    let [id, length, grantor, depth] = fields else {
         return None
     };
-    hand_to_of(id, length, giver, depth, job)
+    hand_to_of(id, length, grantor, depth, job)
 }
 
-/// `ID LEN GIVER DEPTH`, each in its field.
+/// `ID LEN GRANTOR DEPTH`, each in its field.
 fn hand_to_of(
     id: &str,
     length: &str,
-    giver: &str,
+    grantor: &str,
     depth: &str,
     job: JobNo,
 ) -> Option<((ObjectId, u32), (JobNo, u32))>
-    ensures { Reads result (IsHandToOf job.0 id.now length.now giver.now depth.now) }
+    ensures { Reads result (IsHandToOf job.0 id.now length.now grantor.now depth.now) }
 {
-    Some((target(id, length, job)?, hand(giver, depth)?))
+    Some((target(id, length, job)?, hand(grantor, depth)?))
 }
 
 /// The end of a hand to this job. In version 1 it is the object's job's own.
@@ -250,25 +250,25 @@ fn withdrawn(fields: &[&str], job: JobNo, version: Version) -> Option<LineInput>
     match version {
         Version::One => id(fields, job).map(|id| LineInput::Withdrawn {
             id,
-            giver: id.job(),
+            grantor: id.job(),
             depth: 1,
         }),
         Version::Two | Version::Three => {
             hand_end(fields, job).map(|(id, hand)| LineInput::Withdrawn {
                 id,
-                giver: hand.0,
+                grantor: hand.0,
                 depth: hand.1,
             })
         }
     }
 }
 
-/// `ID GIVER DEPTH`.
+/// `ID GRANTOR DEPTH`.
 fn hand_end(fields: &[&str], job: JobNo) -> Option<(ObjectId, (JobNo, u32))>
     ensures { Reads result (IsHandEnd job.0 (map (λ field. field.now) fields.now)) }
 {
-    let [id, giver, depth] = fields else {
+    let [id, grantor, depth] = fields else {
         return None
     };
-    Some((object(id, job)?, hand(giver, depth)?))
+    Some((object(id, job)?, hand(grantor, depth)?))
 }

@@ -24,4 +24,4 @@ pub use entry::{Address, Entry, LineInput, Version};
 pub use laws::a_written_line_is_read_back;
 pub use lines::{answer_of, read_head, read_line};
 pub use printing::{write_answer, write_line};
-pub use saved::{Answered, Mark, SavedJournal};
+pub use saved::{Answered, JournalItem, SavedJournal};

@@ -2,7 +2,7 @@
 ghost use Rattle.std.specs.Prelude.{◌≡◌, ◌≢◌, ℕ, List, ◌++◌, codes, IfOk, MatchOption, map};
 ghost use Rattle.schedule_text.specs.Fields.{Reads};
 ghost use Rattle.std.specs.String.{string_bytes};
-ghost use Rattle.journal_text.specs.Reading.{answer_in as answer_in_lem, answer_part, IsEntry, IsEntryAt, IsEntryLine, IsHalves, IsSaid, IsSpaced, cut_at_equals as cut_at_equals_lem, head_text, is_fitting as is_fitting_lem, is_outcome as is_outcome_lem};
+ghost use Rattle.journal_text.specs.Reading.{answer_in as answer_in_lem, answer_part, IsEntry, IsEntryAt, IsEntryLine, IsHalves, IsInputRead, IsSpaced, cut_at_equals as cut_at_equals_lem, head_text, is_fitting as is_fitting_lem, is_outcome as is_outcome_lem};
 
 use crate::entry::{Address, Entry, LineInput, Version};
 use crate::fields::address;
@@ -161,7 +161,7 @@ fn said(
     job: JobNo,
     version: Version,
 ) -> Result<Option<(LineInput, Reply<u64>)>, AllocError>
-    ensures { IfOk result (λ said. Reads said (IsSaid version job.0
+    ensures { IfOk result (λ said. Reads said (IsInputRead version job.0
         (map (λ field. field.now) fields.now) (map (λ field. field.now) answer.now))) }
 {
     let Some(input) = input(alloc, fields, job, version)? else {

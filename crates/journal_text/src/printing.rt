@@ -2,7 +2,7 @@
 ghost use Rattle.std.specs.Prelude.{◌≡◌, ◌++◌, codes, decimal, IfOk};
 ghost use Rattle.std.specs.String.{string_bytes};
 ghost use Rattle.schedule_text.specs.Printing.{own_items_text};
-ghost use Rattle.journal_text.specs.Printing.{address_text as address_text_lem, answer_text, brief_reply_text, entry_text, first_answer_text, first_hand_text, first_hands_text};
+ghost use Rattle.journal_text.specs.Printing.{address_text as address_text_lem, journal_answer_text, brief_reply_text, entry_text, first_answer_text, first_hand_text, first_hands_text};
 
 use crate::entry::{Address, Entry, Version};
 use crate::put_inputs::put_input;
@@ -57,7 +57,7 @@ pub fn write_answer(
     reply: &Reply<u64>,
     version: Version,
 ) -> Result<String, AllocError>
-    ensures { IfOk result (λ text. string_bytes text ≡ answer_text version job.0 reply.now) }
+    ensures { IfOk result (λ text. string_bytes text ≡ journal_answer_text version job.0 reply.now) }
 {
     match version {
         Version::One => first_answer(alloc, job, reply),

@@ -60,15 +60,15 @@ pub(crate) fn put_input(
         LineInput::Received {
             id,
             length,
-            giver,
+            grantor,
             depth,
         } => {
             put_object_number(alloc, line, "received", id, job, u64::from(*length))?;
-            put_hand(line, *giver, *depth)
+            put_hand(line, *grantor, *depth)
         }
-        LineInput::Withdrawn { id, giver, depth } => {
+        LineInput::Withdrawn { id, grantor, depth } => {
             put_object(alloc, line, "withdrawn", id, job)?;
-            put_hand(line, *giver, *depth)
+            put_hand(line, *grantor, *depth)
         }
     }
 }
@@ -91,12 +91,12 @@ fn put_sent(line: &mut String, from: u32, verdict: ChunkVerdict) -> Result<(), A
     put(line, chunk_word(verdict))
 }
 
-/// `GIVER DEPTH`.
-fn put_hand(line: &mut String, giver: JobNo, depth: u32) -> Result<(), AllocError>
+/// `GRANTOR DEPTH`.
+fn put_hand(line: &mut String, grantor: JobNo, depth: u32) -> Result<(), AllocError>
     ensures { OnOk result (string_bytes line.new ≡ string_bytes line.old
-        ++ spaced_text (decimal giver.0 ∷ decimal depth ∷ [])) }
+        ++ spaced_text (decimal grantor.0 ∷ decimal depth ∷ [])) }
 {
-    put_number(line, u64::from(giver.0))?;
+    put_number(line, u64::from(grantor.0))?;
     put_number(line, u64::from(depth))
 }
 

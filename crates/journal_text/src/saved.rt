@@ -1,7 +1,7 @@
 //! A whole journal, written an entry at a time.
 ghost use Rattle.std.specs.Prelude.{◌≡◌, ◌<◌, ◌∷◌, List, [], true, false, IfOk, IfSome, IfNone, OnOk, OnErr};
 ghost use Rattle.std.specs.String.{string_bytes};
-ghost use Rattle.journal_text.specs.Saved.{counted, counts_at, has_no_room, is_folded, line_text as line_text_lem, most_marks, saved_text, IsSaved, IsTypedLine};
+ghost use Rattle.journal_text.specs.Saved.{lines_counted, counts_at, has_no_room, is_folded, saved_line_text as line_text_lem, most_marks, saved_text, IsSaved, IsTypedLine};
 
 use crate::entry::{Address, Entry, LineInput};
 use crate::printing::write_line;
@@ -25,7 +25,7 @@ pub struct Answered {
 
 /// An entry or a note of a job at a node, with what its line says, if it has one.
 #[derive(Debug, Drop)]
-pub struct Mark {
+pub struct JournalItem {
     pub place: JobAt,
     pub line: Option<Answered>,
 }
@@ -69,11 +69,11 @@ impl SavedJournal {
 
     /// Adds an entry or a note. If it finds the list of its job full, that list is folded, and the journal can't be saved
     /// any more. The error is out of memory, and then no entry is added.
-    pub fn add(&mut self, mark: Mark) -> Result<(), AllocError>
-        ensures after { OnOk result ((marks : List Mark) → IsSaved self.old marks → IsSaved self.new (mark ∷ marks)) }
-        ensures same { OnErr result ((marks : List Mark) → IsSaved self.old marks → IsSaved self.new marks) }
+    pub fn add(&mut self, mark: JournalItem) -> Result<(), AllocError>
+        ensures after { OnOk result ((marks : List JournalItem) → IsSaved self.old marks → IsSaved self.new (mark ∷ marks)) }
+        ensures same { OnErr result ((marks : List JournalItem) → IsSaved self.old marks → IsSaved self.new marks) }
     {
-        let Mark { place, line } = mark;
+        let JournalItem { place, line } = mark;
         let counts = self.counts_at(place);
         if self.has_no_room(counts) {
             self.folded = true;
@@ -109,8 +109,8 @@ impl SavedJournal {
 
     /// The text of the journal, if no list was folded.
     pub fn into_text(self) -> Option<Vec<u8>>
-        ensures whole { IfSome result (λ text. (marks : List Mark) → IsSaved self marks → (is_folded marks ≡ false) × (text.items ≡ saved_text marks)) }
-        ensures folded { IfNone result ((marks : List Mark) → IsSaved self marks → is_folded marks ≡ true) }
+        ensures whole { IfSome result (λ text. (marks : List JournalItem) → IsSaved self marks → (is_folded marks ≡ false) × (text.items ≡ saved_text marks)) }
+        ensures folded { IfNone result ((marks : List JournalItem) → IsSaved self marks → is_folded marks ≡ true) }
     {
         if self.folded { None } else { Some(self.text) }
     }
@@ -119,7 +119,7 @@ impl SavedJournal {
 /// How many there are with one more, which has this line.
 fn counted(counts: Counts, line: &Option<Answered>) -> Counts
     requires { (counts.marks < most_marks) × (counts.lines < most_marks) }
-    ensures { result ≡ counted counts line.now }
+    ensures { result ≡ lines_counted counts line.now }
 {
     Counts {
         marks: counts.marks + 1,

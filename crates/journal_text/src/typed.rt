@@ -70,17 +70,17 @@ fn typed_input(input: &LineInput)
         LineInput::Received {
             id,
             length,
-            giver,
+            grantor,
             depth,
         } => {
             typed_id(id);
             fits(*length);
-            fits(giver.0);
+            fits(grantor.0);
             fits(*depth);
         }
-        LineInput::Withdrawn { id, giver, depth } => {
+        LineInput::Withdrawn { id, grantor, depth } => {
             typed_id(id);
-            fits(giver.0);
+            fits(grantor.0);
             fits(*depth);
         }
     }

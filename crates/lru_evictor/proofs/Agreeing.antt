@@ -11,27 +11,27 @@ use Rattle.obj_id.specs.declared.ids.ObjectId.{ObjectId}
 use Rattle.obj_id.specs.declared.works.Extent.{Extent}
 use Rattle.obj_id.specs.Ids.{same_id}
 use Rattle.store_facts.proofs.Ids.{same_id-equal}
-use Rattle.private_store.specs.Tables.{ById, at, is_among}
-use Rattle.private_store.specs.Extents.{rounded, is_apart}
-use Rattle.private_store.specs.Shape.{Copy, Shape}
-use Rattle.private_store.specs.Copies.{extent_of}
+use Rattle.private_store.specs.rules.Tables.{ById, at, is_among}
+use Rattle.private_store.specs.rules.Extents.{rounded, is_apart}
+use Rattle.private_store.specs.rules.Shape.{Copy, Shape}
+use Rattle.private_store.specs.rules.Copies.{extent_of}
 use Rattle.store_facts.proofs.KeptFold.{among-filter}
 use Rattle.store_facts.proofs.KeptLists.{all-filter}
 use Rattle.job_region.specs.Region.{Region, extents_of, without}
 use Rattle.job_region.specs.Layout.{LaidFrom}
 use Rattle.job_region.proofs.ForCallers.{laid_within}
-use Rattle.use_tree.specs.declared.choices.Choice.{Choice}
-use Rattle.use_tree.specs.declared.choices.Choice.TheVariants.{Evictable, Passing, Spillable}
-use Rattle.use_tree.specs.Choices.{has}
+use Rattle.use_tree.specs.declared.classes.VictimClass.{VictimClass}
+use Rattle.use_tree.specs.declared.classes.VictimClass.TheVariants.{Evictable, Draining, Spillable}
+use Rattle.use_tree.specs.Classes.{has}
 use Rattle.extent_tree.specs.declared.residents.Resident.{Resident}
-use Rattle.extent_tree.specs.Residents.{IsRising, put_resident, has_resident, goes as goes_if, staying, remaining, span_of, has_gap}
+use Rattle.extent_tree.specs.Residents.{AreResidentsRising, put_resident, has_resident, goes as goes_if, staying, remaining, span_of, has_gap}
 use Rattle.lru_evictor.specs.declared.facts.CopyFacts.{CopyFacts}
 use Rattle.lru_evictor.specs.declared.facts.DeviceRoom.{DeviceRoom}
-use Rattle.lru_evictor.specs.declared.facts.Standing.{Standing}
-use Rattle.lru_evictor.specs.declared.index.Place.{Place}
-use Rattle.lru_evictor.specs.Facts.{Looked, passes, passes_at, standing_at, nowhere, standing_of, chosen, extent_at, gone_of, fits_without}
-use Rattle.lru_evictor.specs.Orders.{ids_of, AllPass, same_bool, same_choices, same_extent, same_standing}
-use Rattle.lru_evictor.specs.Indexed.{spread, AreApart, shown}
+use Rattle.lru_evictor.specs.declared.facts.EvictionInfo.{EvictionInfo}
+use Rattle.lru_evictor.specs.declared.index.OrderSlot.{OrderSlot}
+use Rattle.lru_evictor.specs.Facts.{Looked, passes, passes_at, info_at, nowhere, info_of, chosen, extent_at, gone_of, fits_without}
+use Rattle.lru_evictor.specs.Orders.{order_ids, AllPass, same_bool, same_classes, same_extent, same_info}
+use Rattle.lru_evictor.specs.Indexed.{spread, AreSlotsApart, shown_order}
 use Rattle.lru_evictor.specs.Plans.{IsDescribed, facts_of, extents_in}
 use Rattle.lru_evictor.proofs.Truths.{each}
 use Rattle.lru_evictor.proofs.CacheOrders.{reverse-cons}
@@ -41,7 +41,7 @@ use Rattle.lru_evictor.proofs.Gaps.{first-gap}
 use Rattle.lru_evictor.proofs.Lists.{Ways, below, above, level, ways}
 use Rattle.lru_evictor.proofs.Spread.{spread-rising, clear-none}
 
--- ---- standings that are the same
+-- ---- infos that are the same
 
 same_bool-equal : (a b : Bool) → same_bool a b ≡ true → a ≡ b
 same_bool-equal true b h = sym h
@@ -58,29 +58,29 @@ same_extent-equal (Some e) (Some f) h =
     let long : e.length ≡ f.length = grind (arith, nat_tests, both.1) in
     λ i. Some (record { offset = at i; length = long i })
 
-pub same_standing-equal : (s t : Standing) → same_standing s t ≡ true → s ≡ t
+pub same_standing-equal : (s t : EvictionInfo) → same_info s t ≡ true → s ≡ t
 same_standing-equal s t h =
-    let both = each (same_extent s.extent t.extent) (same_choices s.choices t.choices) h in
-    let more = each (same_bool s.choices.evictable t.choices.evictable) (same_bool s.choices.passing t.choices.passing && same_bool s.choices.spillable t.choices.spillable) both.1 in
-    let rest = each (same_bool s.choices.passing t.choices.passing) (same_bool s.choices.spillable t.choices.spillable) more.1 in
+    let both = each (same_extent s.extent t.extent) (same_classes s.classes t.classes) h in
+    let more = each (same_bool s.classes.evictable t.classes.evictable) (same_bool s.classes.draining t.classes.draining && same_bool s.classes.spillable t.classes.spillable) both.1 in
+    let rest = each (same_bool s.classes.draining t.classes.draining) (same_bool s.classes.spillable t.classes.spillable) more.1 in
     λ i. record {
       extent = same_extent-equal s.extent t.extent both.0 i;
-      choices = record {
-        evictable = same_bool-equal s.choices.evictable t.choices.evictable more.0 i;
-        passing = same_bool-equal s.choices.passing t.choices.passing rest.0 i;
-        spillable = same_bool-equal s.choices.spillable t.choices.spillable rest.1 i;
+      classes = record {
+        evictable = same_bool-equal s.classes.evictable t.classes.evictable more.0 i;
+        draining = same_bool-equal s.classes.draining t.classes.draining rest.0 i;
+        spillable = same_bool-equal s.classes.spillable t.classes.spillable rest.1 i;
       };
     }
 
 -- what a walk chooses is chosen by the choices of the facts
-pub passes-standing : (facts : Looked) (k : Choice) (id : ObjectId) → has k (standing_at facts id).choices ≡ passes_at facts k id
-passes-standing facts k id = by k (facts id)
+pub passes-eviction_info : (facts : Looked) (k : VictimClass) (id : ObjectId) → has k (info_at facts id).classes ≡ passes_at facts k id
+passes-eviction_info facts k id = by k (facts id)
   where
-    by : (k : Choice) (o : Option CopyFacts) → has k (option_map_or standing_of o nowhere).choices ≡ option_map_or (passes k) o false
+    by : (k : VictimClass) (o : Option CopyFacts) → has k (option_map_or info_of o nowhere).classes ≡ option_map_or (passes k) o false
     by Evictable None = refl
     by Evictable (Some copy) = refl
-    by Passing None = refl
-    by Passing (Some copy) = refl
+    by Draining None = refl
+    by Draining (Some copy) = refl
     by Spillable None = refl
     by Spillable (Some copy) = refl
 
@@ -113,34 +113,34 @@ all_put test x (y ∷ ys) h = by (all_put test x ys) (ways x.extent.offset y.ext
     by rest (level l e f m same) = let no : true ≡ false = ap (λ b. b || has_resident x.extent.offset ys) (sym e) ∙ h in cc
 
 -- of the copies of an order that are resident
-all_spread : (test : Resident → Bool) (es : List (ObjectId × Place)) → AreApart es
-    → list_all test (spread es) ≡ list_all (λ e. option_map_or (λ x. test (record { extent = x; choices = e.1.standing.choices })) e.1.standing.extent true) es
+all_spread : (test : Resident → Bool) (es : List (ObjectId × OrderSlot)) → AreSlotsApart es
+    → list_all test (spread es) ≡ list_all (λ e. option_map_or (λ x. test (record { extent = x; classes = e.1.eviction_info.classes })) e.1.eviction_info.extent true) es
 all_spread test [] a = refl
-all_spread test (e ∷ es) a = by (all_spread test es a.1) e.1.standing.extent refl
+all_spread test (e ∷ es) a = by (all_spread test es a.1) e.1.eviction_info.extent refl
   where
-    by : list_all test (spread es) ≡ list_all (λ f. option_map_or (λ x. test (record { extent = x; choices = f.1.standing.choices })) f.1.standing.extent true) es → (o : Option Extent) → e.1.standing.extent ≡ o
-        → list_all test (option_map_or (λ x. put_resident (record { extent = x; choices = e.1.standing.choices }) (spread es)) o (spread es))
-        ≡ option_map_or (λ x. test (record { extent = x; choices = e.1.standing.choices })) o true && list_all (λ f. option_map_or (λ x. test (record { extent = x; choices = f.1.standing.choices })) f.1.standing.extent true) es
+    by : list_all test (spread es) ≡ list_all (λ f. option_map_or (λ x. test (record { extent = x; classes = f.1.eviction_info.classes })) f.1.eviction_info.extent true) es → (o : Option Extent) → e.1.eviction_info.extent ≡ o
+        → list_all test (option_map_or (λ x. put_resident (record { extent = x; classes = e.1.eviction_info.classes }) (spread es)) o (spread es))
+        ≡ option_map_or (λ x. test (record { extent = x; classes = e.1.eviction_info.classes })) o true && list_all (λ f. option_map_or (λ x. test (record { extent = x; classes = f.1.eviction_info.classes })) f.1.eviction_info.extent true) es
     by rest None is = rest
     by rest (Some x) is =
-        all_put test (record { extent = x; choices = e.1.standing.choices }) (spread es) (clear-none e.1.standing x (spread es) is a.0)
-        ∙ ap (λ b. test (record { extent = x; choices = e.1.standing.choices }) && b) rest
+        all_put test (record { extent = x; classes = e.1.eviction_info.classes }) (spread es) (clear-none e.1.eviction_info x (spread es) is a.0)
+        ∙ ap (λ b. test (record { extent = x; classes = e.1.eviction_info.classes }) && b) rest
 
 -- of those that stay
-all_staying : (test : Extent → Bool) (k : Choice) (gone : List Extent) (xs : List Resident)
-    → list_all test (staying k (remaining gone xs)) ≡ list_all (λ r. goes_if k r.choices || (goes gone r.extent.offset || test r.extent)) xs
+all_staying : (test : Extent → Bool) (k : VictimClass) (gone : List Extent) (xs : List Resident)
+    → list_all test (staying k (remaining gone xs)) ≡ list_all (λ r. goes_if k r.classes || (goes gone r.extent.offset || test r.extent)) xs
 all_staying test k gone [] = refl
 all_staying test k gone (x ∷ xs) =
     let rest = all_staying test k gone xs in
-    elim (goes gone x.extent.offset) as (λ b. list_all test (staying k (cond (not b) (x ∷ remaining gone xs) (remaining gone xs))) ≡ (goes_if k x.choices || (b || test x.extent)) && list_all (λ r. goes_if k r.choices || (goes gone r.extent.offset || test r.extent)) xs) [
-      | true ↦ rest ∙ any (goes_if k x.choices)
-      | false ↦ elim (goes_if k x.choices) as (λ b. list_all test (map (λ r. r.extent) (cond (not b) (x ∷ filter (λ r. not (goes_if k r.choices)) (remaining gone xs)) (filter (λ r. not (goes_if k r.choices)) (remaining gone xs)))) ≡ (b || test x.extent) && list_all (λ r. goes_if k r.choices || (goes gone r.extent.offset || test r.extent)) xs) [
+    elim (goes gone x.extent.offset) as (λ b. list_all test (staying k (cond (not b) (x ∷ remaining gone xs) (remaining gone xs))) ≡ (goes_if k x.classes || (b || test x.extent)) && list_all (λ r. goes_if k r.classes || (goes gone r.extent.offset || test r.extent)) xs) [
+      | true ↦ rest ∙ any (goes_if k x.classes)
+      | false ↦ elim (goes_if k x.classes) as (λ b. list_all test (map (λ r. r.extent) (cond (not b) (x ∷ filter (λ r. not (goes_if k r.classes)) (remaining gone xs)) (filter (λ r. not (goes_if k r.classes)) (remaining gone xs)))) ≡ (b || test x.extent) && list_all (λ r. goes_if k r.classes || (goes gone r.extent.offset || test r.extent)) xs) [
         | true ↦ rest
         | false ↦ ap (λ b. test x.extent && b) rest
       ]
     ]
   where
-    any : (a : Bool) → list_all (λ r. goes_if k r.choices || (goes gone r.extent.offset || test r.extent)) xs ≡ (a || true) && list_all (λ r. goes_if k r.choices || (goes gone r.extent.offset || test r.extent)) xs
+    any : (a : Bool) → list_all (λ r. goes_if k r.classes || (goes gone r.extent.offset || test r.extent)) xs ≡ (a || true) && list_all (λ r. goes_if k r.classes || (goes gone r.extent.offset || test r.extent)) xs
     any true = refl
     any false = refl
 
@@ -268,14 +268,14 @@ filter_above o p (x ∷ xs) h = elim (p x) as (λ b. AllOf (λ y. o < y.extent.o
   | false ↦ filter_above o p xs h.1
 ]
 
-filter_rising : (p : Resident → Bool) (xs : List Resident) → IsRising xs → IsRising (filter p xs)
+filter_rising : (p : Resident → Bool) (xs : List Resident) → AreResidentsRising xs → AreResidentsRising (filter p xs)
 filter_rising p [] h = tt
-filter_rising p (x ∷ xs) h = elim (p x) as (λ b. IsRising (cond b (x ∷ filter p xs) (filter p xs))) [
+filter_rising p (x ∷ xs) h = elim (p x) as (λ b. AreResidentsRising (cond b (x ∷ filter p xs) (filter p xs))) [
   | true ↦ (filter_above x.extent.offset p xs h.0, filter_rising p xs h.1)
   | false ↦ filter_rising p xs h.1
 ]
 
-extents_rising : (xs : List Resident) → IsRising xs → AreRising (map (λ (r : Resident). r.extent) xs)
+extents_rising : (xs : List Resident) → AreResidentsRising xs → AreRising (map (λ (r : Resident). r.extent) xs)
 extents_rising [] h = tt
 extents_rising (x ∷ xs) h = (above x.extent.offset xs h.0, extents_rising xs h.1)
   where
@@ -288,42 +288,42 @@ all_extents test [] = refl
 all_extents test (x ∷ xs) = ap (λ b. test x.extent && b) (all_extents test xs)
 
 -- what all extents pass, those pass that stay
-all_left : (test : Extent → Bool) (k : Choice) (gone : List Extent) (xs : List Resident) → list_all test (map (λ (r : Resident). r.extent) xs) ≡ true → list_all test (staying k (remaining gone xs)) ≡ true
+all_left : (test : Extent → Bool) (k : VictimClass) (gone : List Extent) (xs : List Resident) → list_all test (map (λ (r : Resident). r.extent) xs) ≡ true → list_all test (staying k (remaining gone xs)) ≡ true
 all_left test k gone xs h =
-    all_extents test (filter (λ r. not (goes_if k r.choices)) (remaining gone xs))
-    ∙ all-filter (λ (r : Resident). test r.extent) (λ r. not (goes_if k r.choices)) (remaining gone xs)
+    all_extents test (filter (λ r. not (goes_if k r.classes)) (remaining gone xs))
+    ∙ all-filter (λ (r : Resident). test r.extent) (λ r. not (goes_if k r.classes)) (remaining gone xs)
     (all-filter (λ (r : Resident). test r.extent) (λ r. not (list_any (λ g. nat_eq g.offset r.extent.offset) gone)) xs (sym (all_extents test xs) ∙ h))
 
 from_zero : (xs : List Extent) → AllByRecursion (λ (y : Extent). 0 ≤ y.offset) xs
 from_zero [] = tt
 from_zero (x ∷ xs) = (omega arith, from_zero xs)
 
-module _ (store : Shape) (window : Region) (device : DeviceRoom) (facts : Looked) (described : IsDescribed store window device facts) (es : List (ObjectId × Place)) (apart : AreApart es)
-    (told : AllPass (λ id s. same_standing s (standing_at facts id)) (shown es)) (listed : (id : ObjectId) → is_some (facts id) ≡ true → is_among (ids_of (shown es)) id ≡ true) where
+module _ (store : Shape) (window : Region) (device : DeviceRoom) (facts : Looked) (described : IsDescribed store window device facts) (es : List (ObjectId × OrderSlot)) (apart : AreSlotsApart es)
+    (told : AllPass (λ id s. same_info s (info_at facts id)) (shown_order es)) (listed : (id : ObjectId) → is_some (facts id) ≡ true → is_among (order_ids (shown_order es)) id ≡ true) where
   abbrev order : List ObjectId
-  order = ids_of (shown es)
+  order = order_ids (shown_order es)
 
-  -- all that a walk and those before it choose
-  abbrev pub base : Choice → List ObjectId
+  -- all of a class and of those before it
+  abbrev pub base : VictimClass → List ObjectId
   base Evictable = chosen facts Evictable order
-  base Passing = chosen facts Evictable order ++ chosen facts Passing order
-  base Spillable = (chosen facts Evictable order ++ chosen facts Passing order) ++ chosen facts Spillable order
+  base Draining = chosen facts Evictable order ++ chosen facts Draining order
+  base Spillable = (chosen facts Evictable order ++ chosen facts Draining order) ++ chosen facts Spillable order
 
-  among_chosen : (k : Choice) (id : ObjectId) → is_among order id ≡ true → is_among (chosen facts k order) id ≡ has k (standing_at facts id).choices
-  among_chosen k id there = among-filter (passes_at facts k) order id ∙ ap (λ b. b && passes_at facts k id) there ∙ sym (passes-standing facts k id)
+  among_chosen : (k : VictimClass) (id : ObjectId) → is_among order id ≡ true → is_among (chosen facts k order) id ≡ has k (info_at facts id).classes
+  among_chosen k id there = among-filter (passes_at facts k) order id ∙ ap (λ b. b && passes_at facts k id) there ∙ sym (passes-eviction_info facts k id)
 
-  among_passing : (id : ObjectId) → is_among order id ≡ true → is_among (chosen facts Evictable order ++ chosen facts Passing order) id ≡ (standing_at facts id).choices.evictable || (standing_at facts id).choices.passing
+  among_passing : (id : ObjectId) → is_among order id ≡ true → is_among (chosen facts Evictable order ++ chosen facts Draining order) id ≡ (info_at facts id).classes.evictable || (info_at facts id).classes.draining
   among_passing id there =
-      list_any-append (same_id id) (chosen facts Evictable order) (chosen facts Passing order)
-      ∙ (λ i. among_chosen Evictable id there i || among_chosen Passing id there i)
+      list_any-append (same_id id) (chosen facts Evictable order) (chosen facts Draining order)
+      ∙ (λ i. among_chosen Evictable id there i || among_chosen Draining id there i)
 
-  among_base : (k : Choice) (id : ObjectId) → is_among order id ≡ true → is_among (base k) id ≡ goes_if k (standing_at facts id).choices
+  among_base : (k : VictimClass) (id : ObjectId) → is_among order id ≡ true → is_among (base k) id ≡ goes_if k (info_at facts id).classes
   among_base Evictable id there = among_chosen Evictable id there
-  among_base Passing id there = among_passing id there
+  among_base Draining id there = among_passing id there
   among_base Spillable id there =
-      list_any-append (same_id id) (chosen facts Evictable order ++ chosen facts Passing order) (chosen facts Spillable order)
+      list_any-append (same_id id) (chosen facts Evictable order ++ chosen facts Draining order) (chosen facts Spillable order)
       ∙ (λ i. among_passing id there i || among_chosen Spillable id there i)
-      ∙ assoc (standing_at facts id).choices.evictable (standing_at facts id).choices.passing (standing_at facts id).choices.spillable
+      ∙ assoc (info_at facts id).classes.evictable (info_at facts id).classes.draining (info_at facts id).classes.spillable
     where
       assoc : (a b c : Bool) → (a || b) || c ≡ a || (b || c)
       assoc true b c = refl
@@ -340,9 +340,9 @@ module _ (store : Shape) (window : Region) (device : DeviceRoom) (facts : Looked
     absent_well : (id : ObjectId) → facts id ≡ None → stays_well id ≡ true
     absent_well id is = ap (λ o. is_among out id || option_map_or test (option_and_then (λ (c : CopyFacts). c.extent) o) true) is ∙ or_true (is_among out id)
 
-    each_known : (es2 : List (ObjectId × Place)) → list_all (λ (c : ObjectId × Copy). stays_well c.0) store.copies ≡ true → list_all (λ (e : ObjectId × Place). stays_well e.0) es2 ≡ true
+    each_known : (es2 : List (ObjectId × OrderSlot)) → list_all (λ (c : ObjectId × Copy). stays_well c.0) store.copies ≡ true → list_all (λ (e : ObjectId × OrderSlot). stays_well e.0) es2 ≡ true
     each_known [] all = refl
-    each_known (e ∷ es2) all = ap (λ b. b && list_all (λ (f : ObjectId × Place). stays_well f.0) es2) (by (at store.copies e.0) refl) ∙ each_known es2 all
+    each_known (e ∷ es2) all = ap (λ b. b && list_all (λ (f : ObjectId × OrderSlot). stays_well f.0) es2) (by (at store.copies e.0) refl) ∙ each_known es2 all
       where
         by : (o : Option Copy) → at store.copies e.0 ≡ o → stays_well e.0 ≡ true
         by None is = absent_well e.0 (described.looked e.0 ∙ ap (option_map (facts_of store e.0)) is)
@@ -354,16 +354,16 @@ module _ (store : Shape) (window : Region) (device : DeviceRoom) (facts : Looked
         let some : is_some (facts c.0) ≡ true = ap is_some (described.looked c.0 ∙ ap (option_map (facts_of store c.0)) found.0) in
         ap (λ b. b && list_all (λ (d : ObjectId × Copy). stays_well d.0) cs) (among-passes stays_well order c.0 (listed c.0 some) all) ∙ each_listed cs found.1 all
 
-    all_keys : (es2 : List (ObjectId × Place)) → list_all stays_well (keys_of (shown es2)) ≡ list_all (λ (e : ObjectId × Place). stays_well e.0) es2
+    all_keys : (es2 : List (ObjectId × OrderSlot)) → list_all stays_well (keys_of (shown_order es2)) ≡ list_all (λ (e : ObjectId × OrderSlot). stays_well e.0) es2
     all_keys [] = refl
     all_keys (e ∷ es2) = ap (λ b. stays_well e.0 && b) (all_keys es2)
 
-    in_order : list_all stays_well order ≡ list_all (λ (e : ObjectId × Place). stays_well e.0) es
-    in_order = list_all-reverse stays_well (keys_of (shown es)) ∙ all_keys es
+    in_order : list_all stays_well order ≡ list_all (λ (e : ObjectId × OrderSlot). stays_well e.0) es
+    in_order = list_all-reverse stays_well (keys_of (shown_order es)) ∙ all_keys es
 
     -- the copies of the store, or those of the order
-    copies_known : list_all (λ (c : ObjectId × Copy). stays_well c.0) store.copies ≡ list_all (λ (e : ObjectId × Place). stays_well e.0) es
-    copies_known = both_ways (list_all (λ (c : ObjectId × Copy). stays_well c.0) store.copies) (list_all (λ (e : ObjectId × Place). stays_well e.0) es)
+    copies_known : list_all (λ (c : ObjectId × Copy). stays_well c.0) store.copies ≡ list_all (λ (e : ObjectId × OrderSlot). stays_well e.0) es
+    copies_known = both_ways (list_all (λ (c : ObjectId × Copy). stays_well c.0) store.copies) (list_all (λ (e : ObjectId × OrderSlot). stays_well e.0) es)
         (each_known es)
         (λ all. each_listed store.copies (each_found store.copies described.by_id) (in_order ∙ all))
 
@@ -371,7 +371,7 @@ module _ (store : Shape) (window : Region) (device : DeviceRoom) (facts : Looked
     found_well : (e : ObjectId × Copy) → at store.copies e.0 ≡ Some e.1 → is_among out e.0 || option_map_or test (extent_of e.1) true ≡ stays_well e.0
     found_well e found = ap (λ o. is_among out e.0 || option_map_or test (option_and_then (λ (c : CopyFacts). c.extent) o) true) (sym (described.looked e.0 ∙ ap (option_map (facts_of store e.0)) found))
 
-    pub copies-well : list_all (λ e. is_among out e.0 || option_map_or test (extent_of e.1) true) store.copies ≡ list_all (λ (e : ObjectId × Place). stays_well e.0) es
+    pub copies-well : list_all (λ e. is_among out e.0 || option_map_or test (extent_of e.1) true) store.copies ≡ list_all (λ (e : ObjectId × OrderSlot). stays_well e.0) es
     copies-well =
         all_agree (λ e. is_among out e.0 || option_map_or test (extent_of e.1) true) (λ e. stays_well e.0) store.copies
         (each_agrees found_well store.copies (each_found store.copies described.by_id))
@@ -379,28 +379,28 @@ module _ (store : Shape) (window : Region) (device : DeviceRoom) (facts : Looked
 
   -- ---- where the copies of the order lie
 
-  -- what an entry's standing tells of its copy
-  module _ (test : Extent → Bool) (k : Choice) (ids : List ObjectId) where
+  -- what an entry's info tells of its copy
+  module _ (test : Extent → Bool) (k : VictimClass) (ids : List ObjectId) where
     abbrev resident_well : Resident → Bool
-    resident_well r = goes_if k r.choices || (goes (gone_of facts ids) r.extent.offset || test r.extent)
+    resident_well r = goes_if k r.classes || (goes (gone_of facts ids) r.extent.offset || test r.extent)
 
-    abbrev standing_well : Standing → Bool
-    standing_well s = option_map_or (λ x. resident_well (record { extent = x; choices = s.choices })) s.extent true
+    abbrev standing_well : EvictionInfo → Bool
+    standing_well s = option_map_or (λ x. resident_well (record { extent = x; classes = s.classes })) s.extent true
 
-    one_well : (id : ObjectId) → standing_well (standing_at facts id) ≡ stays_well test (base k ++ ids) id
+    one_well : (id : ObjectId) → standing_well (info_at facts id) ≡ stays_well test (base k ++ ids) id
     one_well id = by (at store.copies id) refl
       where
         known : (o : Option Copy) → at store.copies id ≡ o → facts id ≡ option_map (facts_of store id) o
         known o is = described.looked id ∙ ap (option_map (facts_of store id)) is
 
         resident_at : (copy : Copy) → at store.copies id ≡ Some copy → (o : Option Extent) → extent_of copy ≡ o
-            → option_map_or (λ x. resident_well (record { extent = x; choices = (standing_of (facts_of store id copy)).choices })) o true
+            → option_map_or (λ x. resident_well (record { extent = x; classes = (info_of (facts_of store id copy)).classes })) o true
             ≡ is_among (base k ++ ids) id || option_map_or test o true
         resident_at copy is None lies = sym (or_true (is_among (base k ++ ids) id))
         resident_at copy is (Some x) lies =
             let there : is_among order id ≡ true = listed id (ap is_some (known (Some copy) is)) in
-            let chosen : is_among (base k) id ≡ goes_if k (standing_of (facts_of store id copy)).choices = among_base k id there ∙ ap (λ o. goes_if k (option_map_or standing_of o nowhere).choices) (known (Some copy) is) in
-            assoc (goes_if k (standing_of (facts_of store id copy)).choices) (goes (gone_of facts ids) x.offset) (test x)
+            let chosen : is_among (base k) id ≡ goes_if k (info_of (facts_of store id copy)).classes = among_base k id there ∙ ap (λ o. goes_if k (option_map_or info_of o nowhere).classes) (known (Some copy) is) in
+            assoc (goes_if k (info_of (facts_of store id copy)).classes) (goes (gone_of facts ids) x.offset) (test x)
             ∙ (λ i. (sym chosen i || goes-among store window device facts described id copy x is lies ids i) || test x)
             ∙ ap (λ b. b || test x) (sym (list_any-append (same_id id) (base k) ids))
           where
@@ -408,19 +408,19 @@ module _ (store : Shape) (window : Region) (device : DeviceRoom) (facts : Looked
             assoc true b c = refl
             assoc false b c = refl
 
-        by : (o : Option Copy) → at store.copies id ≡ o → standing_well (standing_at facts id) ≡ stays_well test (base k ++ ids) id
+        by : (o : Option Copy) → at store.copies id ≡ o → standing_well (info_at facts id) ≡ stays_well test (base k ++ ids) id
         by None is =
-            ap (λ o. standing_well (option_map_or standing_of o nowhere)) (known None is)
+            ap (λ o. standing_well (option_map_or info_of o nowhere)) (known None is)
             ∙ sym (absent_well test (base k ++ ids) id (known None is))
         by (Some copy) is =
-            ap (λ o. standing_well (option_map_or standing_of o nowhere)) (known (Some copy) is)
+            ap (λ o. standing_well (option_map_or info_of o nowhere)) (known (Some copy) is)
             ∙ resident_at copy is (extent_of copy) refl
             ∙ ap (λ o. is_among (base k ++ ids) id || option_map_or test (option_and_then (λ (c : CopyFacts). c.extent) o) true) (sym (known (Some copy) is))
 
-    entries_well : (es2 : List (ObjectId × Place)) → AllPass (λ id s. same_standing s (standing_at facts id)) (shown es2) → list_all (λ (e : ObjectId × Place). standing_well e.1.standing) es2 ≡ list_all (λ (e : ObjectId × Place). stays_well test (base k ++ ids) e.0) es2
+    entries_well : (es2 : List (ObjectId × OrderSlot)) → AllPass (λ id s. same_info s (info_at facts id)) (shown_order es2) → list_all (λ (e : ObjectId × OrderSlot). standing_well e.1.eviction_info) es2 ≡ list_all (λ (e : ObjectId × OrderSlot). stays_well test (base k ++ ids) e.0) es2
     entries_well [] t = refl
     entries_well (e ∷ es2) t =
-        let here : standing_well e.1.standing ≡ stays_well test (base k ++ ids) e.0 = ap standing_well (same_standing-equal e.1.standing (standing_at facts e.0) t.0) ∙ one_well e.0 in
+        let here : standing_well e.1.eviction_info ≡ stays_well test (base k ++ ids) e.0 = ap standing_well (same_standing-equal e.1.eviction_info (info_at facts e.0) t.0) ∙ one_well e.0 in
         (λ i. here i && entries_well es2 t.1 i)
 
     -- the extents that stay in the window pass a test if those do that stay in the index
@@ -443,17 +443,17 @@ module _ (store : Shape) (window : Region) (device : DeviceRoom) (facts : Looked
       ∙ sym (all_spread (λ r. test r.extent) es apart)
       ∙ sym (all_extents test (spread es))
     where
-      one : (id : ObjectId) → option_map_or test (standing_at facts id).extent true ≡ stays_well test [] id
+      one : (id : ObjectId) → option_map_or test (info_at facts id).extent true ≡ stays_well test [] id
       one id = by (facts id)
         where
-          by : (o : Option CopyFacts) → option_map_or test (option_map_or standing_of o nowhere).extent true ≡ option_map_or test (option_and_then (λ (c : CopyFacts). c.extent) o) true
+          by : (o : Option CopyFacts) → option_map_or test (option_map_or info_of o nowhere).extent true ≡ option_map_or test (option_and_then (λ (c : CopyFacts). c.extent) o) true
           by None = refl
           by (Some copy) = refl
 
-      plain_well : (es2 : List (ObjectId × Place)) → AllPass (λ id s. same_standing s (standing_at facts id)) (shown es2) → list_all (λ (e : ObjectId × Place). option_map_or test e.1.standing.extent true) es2 ≡ list_all (λ (e : ObjectId × Place). stays_well test [] e.0) es2
+      plain_well : (es2 : List (ObjectId × OrderSlot)) → AllPass (λ id s. same_info s (info_at facts id)) (shown_order es2) → list_all (λ (e : ObjectId × OrderSlot). option_map_or test e.1.eviction_info.extent true) es2 ≡ list_all (λ (e : ObjectId × OrderSlot). stays_well test [] e.0) es2
       plain_well [] t = refl
       plain_well (e ∷ es2) t =
-          let here : option_map_or test e.1.standing.extent true ≡ stays_well test [] e.0 = ap (λ (s : Standing). option_map_or test s.extent true) (same_standing-equal e.1.standing (standing_at facts e.0) t.0) ∙ one e.0 in
+          let here : option_map_or test e.1.eviction_info.extent true ≡ stays_well test [] e.0 = ap (λ (s : EvictionInfo). option_map_or test s.extent true) (same_standing-equal e.1.eviction_info (info_at facts e.0) t.0) ∙ one e.0 in
           (λ i. here i && plain_well es2 t.1 i)
 
   module _ (laid : LaidFrom window.quota 0 (extents_of window.placed)) where
@@ -471,19 +471,19 @@ module _ (store : Shape) (window : Region) (device : DeviceRoom) (facts : Looked
         ∙ (λ i. list_all (λ x. sym (all_agree_here (is_clear_of x)) i) (extents_of window.placed))
         ∙ laid_clear window.quota 0 (extents_of window.placed) laid
 
-    laid_staying : (k : Choice) (gone : List Extent) → LaidFrom window.quota 0 (staying k (remaining gone (spread es)))
+    laid_staying : (k : VictimClass) (gone : List Extent) → LaidFrom window.quota 0 (staying k (remaining gone (spread es)))
     unfolding extents_here
     laid_staying k gone =
         let left = staying k (remaining gone (spread es)) in
         laid_from window.quota 0 left
-        (extents_rising (filter (λ r. not (goes_if k r.choices)) (remaining gone (spread es))) (filter_rising (λ r. not (goes_if k r.choices)) (remaining gone (spread es)) (filter_rising (λ r. not (list_any (λ g. nat_eq g.offset r.extent.offset) gone)) (spread es) (spread-rising es))))
+        (extents_rising (filter (λ r. not (goes_if k r.classes)) (remaining gone (spread es))) (filter_rising (λ r. not (goes_if k r.classes)) (remaining gone (spread es)) (filter_rising (λ r. not (list_any (λ g. nat_eq g.offset r.extent.offset) gone)) (spread es) (spread-rising es))))
         (all_left (is_unit window.quota) k gone (spread es) units_here)
         (all_left (λ x. list_all (is_clear_of x) left) k gone (spread es)
         (all_more (λ x. list_all (is_clear_of x) (map (λ (r : Resident). r.extent) (spread es))) (λ x. list_all (is_clear_of x) left) (λ x t. all_left (is_clear_of x) k gone (spread es) t) (map (λ (r : Resident). r.extent) (spread es)) clear_here))
         (from_zero left) (omega arith)
 
-    -- n bytes fit without these copies and all that the walks choose if the index says so
-    pub fits-agree : (n : ℕ) → 0 < n → (k : Choice) (ids : List ObjectId) → fits_without window facts n (base k ++ ids) ≡ has_gap window.quota (rounded n) (span_of (staying k (remaining (gone_of facts ids) (spread es))))
+    -- n bytes fit without these copies and all of the classes if the index says so
+    pub fits-agree : (n : ℕ) → 0 < n → (k : VictimClass) (ids : List ObjectId) → fits_without window facts n (base k ++ ids) ≡ has_gap window.quota (rounded n) (span_of (staying k (remaining (gone_of facts ids) (spread es))))
     fits-agree n some k ids =
         let left = staying k (remaining (gone_of facts ids) (spread es)) in
         ap is_some (first-same (extents_of (without (gone_of facts (base k ++ ids)) window.placed)) left window.quota n

@@ -11,7 +11,7 @@ use Rattle.lru.specs.LruCache.{LruCache, promoted, put_entries}
 use Rattle.obj_id.specs.Ids.{id_eq}
 use Rattle.obj_id.specs.declared.ids.ObjectId.{ObjectId}
 use Rattle.store_facts.proofs.Ids.{same_id-id_eq, id_eq-equal}
-use Rattle.private_store.specs.Tables.{is_among}
+use Rattle.private_store.specs.rules.Tables.{is_among}
 use Rattle.lru_evictor.specs.Orders.{without_id, last_used, touched}
 
 pub reverse-cons : {X : Type 0} (x : X) (xs : List X) → reverse (x ∷ xs) ≡ reverse xs ++ x ∷ []

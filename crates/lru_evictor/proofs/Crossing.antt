@@ -5,7 +5,7 @@ use Rattle.lru.proofs.cache.LruCache.TheSendSync.{the_send as cache_send}
 use Rattle.obj_id.proofs.ids.ObjectId.TheSendSync.{the_send as id_send}
 use Rattle.use_tree.proofs.Crossing.{uses_send}
 use Rattle.extent_tree.proofs.Crossing.{residents_send}
-use Rattle.lru_evictor.proofs.index.Place.TheSendSync.{the_send as place_send}
+use Rattle.lru_evictor.proofs.index.OrderSlot.TheSendSync.{the_send as place_send}
 use Rattle.lru_evictor.specs.contracts.index.Index as Index
 use Rattle.lru_evictor.specs.contracts.job_order.JobOrder as JobOrder
 use Rattle.lru_evictor.specs.contracts.use_order.UseOrder as UseOrder

@@ -17,16 +17,16 @@ use Rattle.obj_id.specs.declared.ids.ObjectId.{ObjectId}
 use Rattle.obj_id.specs.declared.works.Extent.{Extent}
 use Rattle.obj_id.specs.Ids.{id_cmp, same_id}
 use Rattle.store_facts.proofs.Ids.{id_cmp-IsTotalOrder, same_id-equal}
-use Rattle.private_store.specs.Tables.{ById, at, is_among}
-use Rattle.private_store.specs.Extents.{rounded, is_apart, first}
-use Rattle.private_store.specs.Shape.{Copy, Shape}
-use Rattle.private_store.specs.Copies.{extent_of, is_evictable, is_passing, is_spillable}
-use Rattle.private_store.specs.Room.{in_order, offset_without, bytes_of_copies}
+use Rattle.private_store.specs.rules.Tables.{ById, at, is_among}
+use Rattle.private_store.specs.rules.Extents.{rounded, is_apart, first}
+use Rattle.private_store.specs.rules.Shape.{Copy, Shape}
+use Rattle.private_store.specs.rules.Copies.{extent_of, is_evictable, is_draining, is_spillable}
+use Rattle.private_store.specs.rules.Room.{in_order, offset_without, bytes_of_copies}
 use Rattle.job_region.specs.Region.{Region, extents_of, without}
 use Rattle.lru_evictor.specs.declared.facts.DeviceRoom.{DeviceRoom}
-use Rattle.use_tree.specs.declared.choices.Choice.{Choice}
-use Rattle.use_tree.specs.declared.choices.Choice.TheVariants.{Evictable, Passing, Spillable}
-use Rattle.lru_evictor.specs.Facts.{Looked, passes, passes_at, chosen, gone_of, fits_without, bytes_at, device_bytes}
+use Rattle.use_tree.specs.declared.classes.VictimClass.{VictimClass}
+use Rattle.use_tree.specs.declared.classes.VictimClass.TheVariants.{Evictable, Draining, Spillable}
+use Rattle.lru_evictor.specs.Facts.{Looked, passes, passes_at, chosen, gone_of, fits_without, device_bytes_at, spilled_bytes}
 use Rattle.lru_evictor.specs.Plans.{IsDescribed, facts_of, extents_in}
 use Rattle.lru_evictor.proofs.Truths.{each}
 use Rattle.lru_evictor.proofs.Free.{goes, all-left, first-same}
@@ -194,32 +194,32 @@ module _ (store : Shape) (window : Region) (device : DeviceRoom) (facts : Looked
 
   -- ---- what is chosen, and its bytes
 
-  chosen_by : (choice : Choice) (test : ObjectId → Copy → Bool) → ((id : ObjectId) (copy : Copy) → passes choice (facts_of store id copy) ≡ test id copy)
-      → (order : List ObjectId) → chosen facts choice order ≡ in_order store order test
-  chosen_by choice test h order = λ i. filter (λ id. passes-at id i) order
+  chosen_by : (class : VictimClass) (test : ObjectId → Copy → Bool) → ((id : ObjectId) (copy : Copy) → passes class (facts_of store id copy) ≡ test id copy)
+      → (order : List ObjectId) → chosen facts class order ≡ in_order store order test
+  chosen_by class test h order = λ i. filter (λ id. passes-at id i) order
     where
-      over : (id : ObjectId) (r : Option Copy) → option_map_or (passes choice) (option_map (facts_of store id) r) false ≡ option_map_or (test id) r false
+      over : (id : ObjectId) (r : Option Copy) → option_map_or (passes class) (option_map (facts_of store id) r) false ≡ option_map_or (test id) r false
       over id None = refl
       over id (Some copy) = h id copy
 
-      passes-at : (id : ObjectId) → passes_at facts choice id ≡ option_map_or (test id) (at store.copies id) false
-      passes-at id = ap (λ r. option_map_or (passes choice) r false) (described.looked id) ∙ over id (at store.copies id)
+      passes-at : (id : ObjectId) → passes_at facts class id ≡ option_map_or (test id) (at store.copies id) false
+      passes-at id = ap (λ r. option_map_or (passes class) r false) (described.looked id) ∙ over id (at store.copies id)
 
   pub chosen-evictable : (order : List ObjectId) → chosen facts Evictable order ≡ in_order store order (is_evictable store)
   chosen-evictable = chosen_by Evictable (is_evictable store) (λ id copy. refl)
 
-  pub chosen-passing : (order : List ObjectId) → chosen facts Passing order ≡ in_order store order (is_passing store)
-  chosen-passing = chosen_by Passing (is_passing store) (λ id copy. refl)
+  pub chosen-draining : (order : List ObjectId) → chosen facts Draining order ≡ in_order store order (is_draining store)
+  chosen-draining = chosen_by Draining (is_draining store) (λ id copy. refl)
 
   pub chosen-spillable : (order : List ObjectId) → chosen facts Spillable order ≡ in_order store order (is_spillable store)
   chosen-spillable = chosen_by Spillable (is_spillable store) (λ id copy. refl)
 
-  pub device_bytes-described : (ids : List ObjectId) → device_bytes facts ids ≡ bytes_of_copies store ids
+  pub device_bytes-described : (ids : List ObjectId) → spilled_bytes facts ids ≡ bytes_of_copies store ids
   device_bytes-described ids = λ i. sum (map (λ id. bytes-at id i) ids)
     where
       over : (id : ObjectId) (r : Option Copy) → option_map_or (λ c. c.bytes) (option_map (facts_of store id) r) 0 ≡ option_map_or (λ copy. rounded copy.length) r 0
       over id None = refl
       over id (Some copy) = refl
 
-      bytes-at : (id : ObjectId) → bytes_at facts id ≡ option_map_or (λ copy. rounded copy.length) (at store.copies id) 0
+      bytes-at : (id : ObjectId) → device_bytes_at facts id ≡ option_map_or (λ copy. rounded copy.length) (at store.copies id) 0
       bytes-at id = ap (λ r. option_map_or (λ c. c.bytes) r 0) (described.looked id) ∙ over id (at store.copies id)

@@ -1,6 +1,6 @@
 -- What the proofs of other crates cite of this one.
 
--- standings that compare as the same are equal
+-- infos that compare as the same are equal
 pub use Rattle.lru_evictor.proofs.Agreeing.{same_standing-equal}
 -- room and offsets in a window are those of the store that it describes
 pub use Rattle.lru_evictor.proofs.Described.{offset-described}

@@ -9,7 +9,7 @@ use Rattle.std.proofs.lemmas.List.Elements.{filter_map-append}
 use Rattle.obj_id.specs.declared.ids.ObjectId.{ObjectId}
 use Rattle.obj_id.specs.declared.works.Extent.{Extent}
 use Rattle.std.specs.Option.{option_and_then}
-use Rattle.private_store.specs.Extents.{rounded, end_of, is_apart, is_free, first, first_from}
+use Rattle.private_store.specs.rules.Extents.{rounded, end_of, is_apart, is_free, first, first_from}
 use Rattle.job_region.specs.Region.{Region, extents_of, without}
 use Rattle.lru_evictor.specs.Facts.{Looked, gone_of, fits_without}
 use Rattle.lru_evictor.proofs.Truths.{each}

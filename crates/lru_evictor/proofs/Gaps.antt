@@ -4,7 +4,7 @@ use Rattle.std.specs.Prelude.{nat_le, max, if◌then◌else◌, replicate}
 use Rattle.std.proofs.lemmas.Bool.Decides.{nat_tests}
 use Rattle.std.proofs.lemmas.List.{length-replicate}
 use Rattle.obj_id.specs.declared.works.Extent.{Extent}
-use Rattle.private_store.specs.Extents.{rounded, first}
+use Rattle.private_store.specs.rules.Extents.{rounded, first}
 use Rattle.job_region.specs.Layout.{placed_in, LaidFrom, gap}
 use Rattle.job_region.proofs.ForCallers.{first-is, gap_is_first, extents-placed}
 use Rattle.extent_tree.specs.declared.spans.Span.{Span}

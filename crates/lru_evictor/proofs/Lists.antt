@@ -2,21 +2,21 @@
 use Rattle.std.proofs.Common.{◌≡◌, ◌≢◌, ℕ, ◌<◌, ◌≤◌, Bool, true, false, ◌||◌, List, [], ◌∷◌, refl, sym, ap, ◌∙◌, arith}
 use Rattle.std.specs.Prelude.{nat_lt, nat_eq, if◌then◌else◌}
 use Rattle.std.proofs.lemmas.Bool.Decides.{nat_tests}
-use Rattle.use_tree.specs.declared.choices.Choices.{Choices}
+use Rattle.use_tree.specs.declared.classes.VictimClasses.{VictimClasses}
 use Rattle.extent_tree.specs.declared.residents.Resident.{Resident}
 use Rattle.augmented_tree.proofs.ForCallers.{all_put, all_above, put_least}
-use Rattle.extent_tree.specs.Residents.{offset_of, IsRising, put_resident, take_resident, has_resident, choose_resident}
+use Rattle.extent_tree.specs.Residents.{resident_offset, AreResidentsRising, put_resident, take_resident, has_resident, resident_with_classes}
 
-pub rising-put : (x : Resident) (xs : List Resident) → IsRising xs → IsRising (put_resident x xs)
+pub rising-put : (x : Resident) (xs : List Resident) → AreResidentsRising xs → AreResidentsRising (put_resident x xs)
 rising-put x [] h = (tt, tt)
-rising-put x (y ∷ ys) h = (elim (nat_lt x.extent.offset y.extent.offset) as (λ b. nat_lt x.extent.offset y.extent.offset ≡ b → IsRising (if b then x ∷ y ∷ ys else (if nat_lt y.extent.offset x.extent.offset then y ∷ put_resident x ys else x ∷ ys))) [
+rising-put x (y ∷ ys) h = (elim (nat_lt x.extent.offset y.extent.offset) as (λ b. nat_lt x.extent.offset y.extent.offset ≡ b → AreResidentsRising (if b then x ∷ y ∷ ys else (if nat_lt y.extent.offset x.extent.offset then y ∷ put_resident x ys else x ∷ ys))) [
   | true ↦ λ t. let lt : x.extent.offset < y.extent.offset = grind (arith, nat_tests, t) in
-      ((lt, all_above offset_of x.extent.offset y.extent.offset ys (omega (arith, lt)) h.0), h)
-  | false ↦ λ t. (elim (nat_lt y.extent.offset x.extent.offset) as (λ b. nat_lt y.extent.offset x.extent.offset ≡ b → IsRising (if b then y ∷ put_resident x ys else x ∷ ys)) [
+      ((lt, all_above resident_offset x.extent.offset y.extent.offset ys (omega (arith, lt)) h.0), h)
+  | false ↦ λ t. (elim (nat_lt y.extent.offset x.extent.offset) as (λ b. nat_lt y.extent.offset x.extent.offset ≡ b → AreResidentsRising (if b then y ∷ put_resident x ys else x ∷ ys)) [
     | true ↦ λ u. let lt : y.extent.offset < x.extent.offset = grind (arith, nat_tests, u) in
-        (all_put offset_of (λ z. y.extent.offset < z.extent.offset) x ys lt h.0, rising-put x ys h.1)
+        (all_put resident_offset (λ z. y.extent.offset < z.extent.offset) x ys lt h.0, rising-put x ys h.1)
     | false ↦ λ u. let same : x.extent.offset ≤ y.extent.offset = grind (arith, nat_tests, u) in
-        (all_above offset_of x.extent.offset y.extent.offset ys same h.0, h.1)
+        (all_above resident_offset x.extent.offset y.extent.offset ys same h.0, h.1)
   ]) refl
 ]) refl
 
@@ -72,11 +72,11 @@ has-take o p (y ∷ ys) h = by (has-take o p ys) (nat_eq p y.extent.offset) refl
       | false ↦ rw e (rest h)
     ]
 
-pub has-choose : (o p : ℕ) (m : Choices) (xs : List Resident) → has_resident p (choose_resident o m xs) ≡ has_resident p xs
-has-choose o p m [] = refl
-has-choose o p m (y ∷ ys) = elim (nat_eq o y.extent.offset) as (λ b. has_resident p (if b then record y { choices = m } ∷ ys else y ∷ choose_resident o m ys) ≡ nat_eq p y.extent.offset || has_resident p ys) [
+pub has-set_info : (o p : ℕ) (m : VictimClasses) (xs : List Resident) → has_resident p (resident_with_classes o m xs) ≡ has_resident p xs
+has-set_info o p m [] = refl
+has-set_info o p m (y ∷ ys) = elim (nat_eq o y.extent.offset) as (λ b. has_resident p (if b then record y { classes = m } ∷ ys else y ∷ resident_with_classes o m ys) ≡ nat_eq p y.extent.offset || has_resident p ys) [
   | true ↦ refl
-  | false ↦ ap (λ b. nat_eq p y.extent.offset || b) (has-choose o p m ys)
+  | false ↦ ap (λ b. nat_eq p y.extent.offset || b) (has-set_info o p m ys)
 ]
 
 -- ---- after one was put in its place
@@ -91,11 +91,11 @@ module _ (x : Resident) where
       by rest (above l e f m) = rw (l, m, e) (ap (λ r. y ∷ r) (rest (ap (λ b. b || has_resident x.extent.offset ys) (sym e) ∙ h)))
       by rest (level l e f m same) = let no : true ≡ false = ap (λ b. b || has_resident x.extent.offset ys) (sym e) ∙ h in cc
 
-  pub choose-put : (m : Choices) (xs : List Resident) → has_resident x.extent.offset xs ≡ false → choose_resident x.extent.offset m (put_resident x xs) ≡ put_resident (record x { choices = m }) xs
-  choose-put m [] h = let t : nat_eq x.extent.offset x.extent.offset ≡ true = grind (arith, nat_tests) in rw t refl
-  choose-put m (y ∷ ys) h = by (choose-put m ys) (ways x.extent.offset y.extent.offset)
+  pub set_info-put : (m : VictimClasses) (xs : List Resident) → has_resident x.extent.offset xs ≡ false → resident_with_classes x.extent.offset m (put_resident x xs) ≡ put_resident (record x { classes = m }) xs
+  set_info-put m [] h = let t : nat_eq x.extent.offset x.extent.offset ≡ true = grind (arith, nat_tests) in rw t refl
+  set_info-put m (y ∷ ys) h = by (set_info-put m ys) (ways x.extent.offset y.extent.offset)
     where
-      by : (has_resident x.extent.offset ys ≡ false → choose_resident x.extent.offset m (put_resident x ys) ≡ put_resident (record x { choices = m }) ys) → Ways x.extent.offset y.extent.offset → choose_resident x.extent.offset m (put_resident x (y ∷ ys)) ≡ put_resident (record x { choices = m }) (y ∷ ys)
+      by : (has_resident x.extent.offset ys ≡ false → resident_with_classes x.extent.offset m (put_resident x ys) ≡ put_resident (record x { classes = m }) ys) → Ways x.extent.offset y.extent.offset → resident_with_classes x.extent.offset m (put_resident x (y ∷ ys)) ≡ put_resident (record x { classes = m }) (y ∷ ys)
       by rest (below l e f n) = let t : nat_eq x.extent.offset x.extent.offset ≡ true = grind (arith, nat_tests) in rw (l, t) refl
       by rest (above l e f n) = rw (l, n, e) (ap (λ r. y ∷ r) (rest (ap (λ b. b || has_resident x.extent.offset ys) (sym e) ∙ h)))
       by rest (level l e f n same) = let no : true ≡ false = ap (λ b. b || has_resident x.extent.offset ys) (sym e) ∙ h in cc
@@ -104,7 +104,7 @@ module _ (x : Resident) where
     off : nat_eq o x.extent.offset ≡ false
     off = differ o x.extent.offset other
 
-    pub take-put_other : (xs : List Resident) → IsRising xs → take_resident o (put_resident x xs) ≡ put_resident x (take_resident o xs)
+    pub take-put_other : (xs : List Resident) → AreResidentsRising xs → take_resident o (put_resident x xs) ≡ put_resident x (take_resident o xs)
     take-put_other [] h = rw off refl
     take-put_other (y ∷ ys) h = by (take-put_other ys h.1) (ways x.extent.offset y.extent.offset)
       where
@@ -112,7 +112,7 @@ module _ (x : Resident) where
         by rest (below l e f m) =
             let lt : x.extent.offset < y.extent.offset = grind (arith, nat_tests, l) in
             rw (l, off) (elim (nat_eq o y.extent.offset) as (λ b. x ∷ (if b then ys else y ∷ take_resident o ys) ≡ put_resident x (if b then ys else y ∷ take_resident o ys)) [
-              | true ↦ sym (put_least offset_of x ys (all_above offset_of x.extent.offset y.extent.offset ys (omega (arith, lt)) h.0))
+              | true ↦ sym (put_least resident_offset x ys (all_above resident_offset x.extent.offset y.extent.offset ys (omega (arith, lt)) h.0))
               | false ↦ rw l refl
             ])
         by rest (above l e f m) =
@@ -124,18 +124,18 @@ module _ (x : Resident) where
             let t : nat_eq o y.extent.offset ≡ false = ap (λ p. nat_eq o p) (sym same) ∙ off in
             rw (l, m, off, t) (rw (l, m) refl)
 
-    pub choose-put_other : (m : Choices) (xs : List Resident) → choose_resident o m (put_resident x xs) ≡ put_resident x (choose_resident o m xs)
-    choose-put_other m [] = rw off refl
-    choose-put_other m (y ∷ ys) = by (choose-put_other m ys) (ways x.extent.offset y.extent.offset)
+    pub set_info-put_other : (m : VictimClasses) (xs : List Resident) → resident_with_classes o m (put_resident x xs) ≡ put_resident x (resident_with_classes o m xs)
+    set_info-put_other m [] = rw off refl
+    set_info-put_other m (y ∷ ys) = by (set_info-put_other m ys) (ways x.extent.offset y.extent.offset)
       where
-        by : choose_resident o m (put_resident x ys) ≡ put_resident x (choose_resident o m ys) → Ways x.extent.offset y.extent.offset → choose_resident o m (put_resident x (y ∷ ys)) ≡ put_resident x (choose_resident o m (y ∷ ys))
+        by : resident_with_classes o m (put_resident x ys) ≡ put_resident x (resident_with_classes o m ys) → Ways x.extent.offset y.extent.offset → resident_with_classes o m (put_resident x (y ∷ ys)) ≡ put_resident x (resident_with_classes o m (y ∷ ys))
         by rest (below l e f n) =
-            rw (l, off) (elim (nat_eq o y.extent.offset) as (λ b. x ∷ (if b then record y { choices = m } ∷ ys else y ∷ choose_resident o m ys) ≡ put_resident x (if b then record y { choices = m } ∷ ys else y ∷ choose_resident o m ys)) [
+            rw (l, off) (elim (nat_eq o y.extent.offset) as (λ b. x ∷ (if b then record y { classes = m } ∷ ys else y ∷ resident_with_classes o m ys) ≡ put_resident x (if b then record y { classes = m } ∷ ys else y ∷ resident_with_classes o m ys)) [
               | true ↦ rw l refl
               | false ↦ rw l refl
             ])
         by rest (above l e f n) =
-            rw (l, n) (elim (nat_eq o y.extent.offset) as (λ b. (if b then record y { choices = m } ∷ put_resident x ys else y ∷ choose_resident o m (put_resident x ys)) ≡ put_resident x (if b then record y { choices = m } ∷ ys else y ∷ choose_resident o m ys)) [
+            rw (l, n) (elim (nat_eq o y.extent.offset) as (λ b. (if b then record y { classes = m } ∷ put_resident x ys else y ∷ resident_with_classes o m (put_resident x ys)) ≡ put_resident x (if b then record y { classes = m } ∷ ys else y ∷ resident_with_classes o m ys)) [
               | true ↦ rw (l, n) refl
               | false ↦ rw (l, n) (ap (λ r. y ∷ r) rest)
             ])

@@ -5,8 +5,8 @@ use Rattle.std.specs.Option.{option_map}
 use Rattle.std.proofs.lemmas.List.{take-append-drop, take-take, take_all, take-append-le}
 use Rattle.obj_id.specs.declared.ids.ObjectId.{ObjectId}
 use Rattle.job_region.specs.Region.{Region}
-use Rattle.private_store.specs.Room.{shortest}
-use Rattle.use_tree.specs.declared.choices.Choice.{Choice}
+use Rattle.private_store.specs.rules.Room.{shortest}
+use Rattle.use_tree.specs.declared.classes.VictimClass.{VictimClass}
 use Rattle.lru_evictor.specs.Searches.{AreEnough, AreMore}
 use Rattle.lru_evictor.specs.Facts.{Looked, passes_at, chosen, fits_without}
 use Rattle.lru_evictor.proofs.Free.{fits-more}
@@ -70,11 +70,11 @@ found-last window facts n ids rest all whole done None some none = found_none (f
 found-last window facts n ids rest all whole done (Some k) some none = found_here (fits_without window facts n) (fits-more window facts n) ids rest all whole k some.within some.enough some.fewer
 
 -- one more is chosen
-pub whole-pushed : (facts : Looked) (choice : Choice) (ids new : List ObjectId) (id : ObjectId) → new ≡ ids ++ id ∷ [] → (left next all : List ObjectId) → left ≡ id ∷ next → true ≡ passes_at facts choice id
-    → ids ++ chosen facts choice left ≡ all → new ++ chosen facts choice next ≡ all
-whole-pushed facts choice ids new id pushed left next all step passed whole =
-    let here : chosen facts choice left ≡ id ∷ chosen facts choice next = ap (chosen facts choice) step ∙ ap (λ b. cond b (id ∷ chosen facts choice next) (chosen facts choice next)) (sym passed) in
-    ap (λ xs. xs ++ chosen facts choice next) pushed
-    ∙ append_assoc ids (id ∷ []) (chosen facts choice next)
+pub whole-pushed : (facts : Looked) (class : VictimClass) (ids new : List ObjectId) (id : ObjectId) → new ≡ ids ++ id ∷ [] → (left next all : List ObjectId) → left ≡ id ∷ next → true ≡ passes_at facts class id
+    → ids ++ chosen facts class left ≡ all → new ++ chosen facts class next ≡ all
+whole-pushed facts class ids new id pushed left next all step passed whole =
+    let here : chosen facts class left ≡ id ∷ chosen facts class next = ap (chosen facts class) step ∙ ap (λ b. cond b (id ∷ chosen facts class next) (chosen facts class next)) (sym passed) in
+    ap (λ xs. xs ++ chosen facts class next) pushed
+    ∙ append_assoc ids (id ∷ []) (chosen facts class next)
     ∙ ap (λ xs. ids ++ xs) (sym here)
     ∙ whole

@@ -7,13 +7,13 @@ use Rattle.std.proofs.lemmas.Map.Keys.{IsDistinct-head, IsDistinct-tail}
 use Rattle.obj_id.specs.declared.ids.ObjectId.{ObjectId}
 use Rattle.obj_id.specs.Ids.{id_eq, same_id}
 use Rattle.store_facts.proofs.Ids.{same_id-id_eq, same_id-equal}
-use Rattle.private_store.specs.Kept.{IsOrderOfUse}
+use Rattle.private_store.specs.laws.Invariants.{IsOrderOfUse}
 use Rattle.store_facts.proofs.KeptLists.{count-append, count-filter, count-yes, count-no}
-use Rattle.use_tree.specs.declared.choices.Choice.{Choice}
+use Rattle.use_tree.specs.declared.classes.VictimClass.{VictimClass}
 use Rattle.use_tree.specs.declared.uses.Use.{Use}
-use Rattle.use_tree.specs.Choices.{has}
+use Rattle.use_tree.specs.Classes.{has}
 use Rattle.lru_evictor.specs.Indexed.{chosen_ids, use_of}
-use Rattle.lru_evictor.specs.declared.index.Place.{Place}
+use Rattle.lru_evictor.specs.declared.index.OrderSlot.{OrderSlot}
 use Rattle.lru_evictor.proofs.CacheOrders.{reverse-cons}
 use Rattle.lru_evictor.proofs.Shortest.{Begins}
 
@@ -37,7 +37,7 @@ once-distinct (k ∷ ks) distinct id = by (same_id id k) refl (once-distinct ks 
         let here = count-no (same_id id) k ks other in
         omega (arith, here, rest)
 
-pub uses-ids : (es : List (ObjectId × Place)) → map (λ (u : Use). u.id) (map use_of es) ≡ keys_of es
+pub uses-ids : (es : List (ObjectId × OrderSlot)) → map (λ (u : Use). u.id) (map use_of es) ≡ keys_of es
 uses-ids [] = refl
 uses-ids (e ∷ es) = ap (λ ids. e.0 ∷ ids) (uses-ids es)
 
@@ -70,11 +70,11 @@ count-begins p ys xs begins =
     let parts = count-append p ys begins.rest in
     omega (arith, all, parts)
 
-pub chosen-once : (us : List Use) (choice : Choice) (b : ℕ) (test : ObjectId → Bool) (ids : List ObjectId) → IsOrderOfUse (map (λ u. u.id) us) → Begins ids (filter test (chosen_ids choice b us)) → IsOrderOfUse ids
-chosen-once us choice b test ids once begins id =
-    let is_chosen : Use → Bool = λ u. nat_lt u.turn b && has choice u.choices in
-    let first = count-begins (same_id id) ids (filter test (chosen_ids choice b us)) begins in
-    let tested = count-filter (same_id id) test (chosen_ids choice b us) in
+pub chosen-once : (us : List Use) (class : VictimClass) (b : ℕ) (test : ObjectId → Bool) (ids : List ObjectId) → IsOrderOfUse (map (λ u. u.id) us) → Begins ids (filter test (chosen_ids class b us)) → IsOrderOfUse ids
+chosen-once us class b test ids once begins id =
+    let is_chosen : Use → Bool = λ u. nat_lt u.turn b && has class u.classes in
+    let first = count-begins (same_id id) ids (filter test (chosen_ids class b us)) begins in
+    let tested = count-filter (same_id id) test (chosen_ids class b us) in
     let turned = count-reverse (same_id id) (map (λ u. u.id) (filter is_chosen us)) in
     let kept = count-filtered (same_id id) is_chosen us in
     let one = once id in

@@ -5,9 +5,9 @@ use Rattle.obj_id.specs.declared.ids.ObjectId.{ObjectId}
 use Rattle.obj_id.specs.Ids.{id_cmp, same_id}
 use Rattle.store_facts.proofs.Ids.{id_cmp-IsAntisymmetric}
 use Rattle.std.specs.FinMap.Entries.{find-where_key}
-use Rattle.private_store.specs.Tables.{ById, at, without_entry}
-use Rattle.private_store.specs.Shape.{Copy}
-use Rattle.private_store.specs.Step.{is_used, reordered}
+use Rattle.private_store.specs.rules.Tables.{ById, at, without_entry}
+use Rattle.private_store.specs.rules.Shape.{Copy}
+use Rattle.private_store.specs.rules.Step.{is_used, reordered}
 use Rattle.lru_evictor.specs.Orders.{without_id, last_used, AreThere}
 use Rattle.lru_evictor.proofs.Truths.{each}
 

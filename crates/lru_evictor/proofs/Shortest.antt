@@ -1,7 +1,7 @@
 -- The shortest beginning that passes a test.
 use Rattle.std.proofs.Common.{◌≡◌, ℕ, zero, suc, ◌<◌, ◌≤◌, Bool, true, false, List, [], ◌∷◌, ◌++◌, take, length, Option, Some, None, refl, sym, ap, ◌∙◌, arith, cond, append_assoc}
 use Rattle.std.specs.Prelude.{if◌then◌else◌, unwrap_or}
-use Rattle.private_store.specs.Room.{shortest_from, shortest}
+use Rattle.private_store.specs.rules.Room.{shortest_from, shortest}
 
 append_nil : {Y : Type 0} (ys : List Y) → ys ++ [] ≡ ys
 append_nil [] = refl

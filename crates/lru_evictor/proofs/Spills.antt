@@ -5,38 +5,38 @@ use Rattle.std.specs.Option.{option_map, option_and_then}
 use Rattle.std.specs.List.{cons_option}
 use Rattle.obj_id.specs.declared.ids.ObjectId.{ObjectId}
 use Rattle.obj_id.specs.declared.works.Extent.{Extent}
-use Rattle.private_store.specs.Room.{shortest_from, shortest}
-use Rattle.use_tree.specs.declared.choices.Choice.TheVariants.{Passing}
-use Rattle.use_tree.specs.declared.choices.Choices.{Choices}
+use Rattle.private_store.specs.rules.Room.{shortest_from, shortest}
+use Rattle.use_tree.specs.declared.classes.VictimClass.TheVariants.{Draining}
+use Rattle.use_tree.specs.declared.classes.VictimClasses.{VictimClasses}
 use Rattle.extent_tree.specs.declared.residents.Resident.{Resident}
-use Rattle.extent_tree.specs.Residents.{IsRising, choices_at, staying, remaining, span_of, has_gap}
+use Rattle.extent_tree.specs.Residents.{AreResidentsRising, classes_at, staying, remaining, span_of, has_gap}
 use Rattle.extent_tree.proofs.ForCallers.{remaining_all, staying_marked, choices_back, choose_none}
 use Rattle.lru_evictor.specs.declared.spilling.Gap.{Gap}
 use Rattle.lru_evictor.specs.Facts.{Looked, extent_at, gone_of}
-use Rattle.lru_evictor.specs.Spilling.{leaves_gap, passes_now, marked, unmarked}
+use Rattle.lru_evictor.specs.Spilling.{leaves_gap, passes_now, marked_draining, unmarked}
 
 -- ---- a mark
 
 -- one that is marked goes
-pub goes-marked : (gap : Gap) (facts : Looked) (residents : List Resident) → IsRising residents → (id : ObjectId) (out : List ObjectId)
-    → leaves_gap gap facts (marked (extent_at facts id) residents) out ≡ leaves_gap gap facts residents (id ∷ out)
+pub goes-marked : (gap : Gap) (facts : Looked) (residents : List Resident) → AreResidentsRising residents → (id : ObjectId) (out : List ObjectId)
+    → leaves_gap gap facts (marked_draining (extent_at facts id) residents) out ≡ leaves_gap gap facts residents (id ∷ out)
 goes-marked gap facts residents rising id out = by (extent_at facts id)
   where
-    by : (o : Option Extent) → has_gap gap.quota gap.need (span_of (staying Passing (remaining (gone_of facts out) (marked o residents))))
-        ≡ has_gap gap.quota gap.need (span_of (staying Passing (remaining (cons_option o (gone_of facts out)) residents)))
+    by : (o : Option Extent) → has_gap gap.quota gap.need (span_of (staying Draining (remaining (gone_of facts out) (marked_draining o residents))))
+        ≡ has_gap gap.quota gap.need (span_of (staying Draining (remaining (cons_option o (gone_of facts out)) residents)))
     by None = refl
-    by (Some e) = ap (λ es. has_gap gap.quota gap.need (span_of es)) (staying_marked Passing e passes_now refl (gone_of facts out) residents rising)
+    by (Some e) = ap (λ es. has_gap gap.quota gap.need (span_of es)) (staying_marked Draining e passes_now refl (gone_of facts out) residents rising)
 
 -- with none marked it is as the tree tells
-pub none-marked : (gap : Gap) (facts : Looked) (residents : List Resident) → has_gap gap.quota gap.need (span_of (staying Passing residents)) ≡ leaves_gap gap facts residents []
-none-marked gap facts residents = ap (λ xs. has_gap gap.quota gap.need (span_of (staying Passing xs))) (sym (remaining_all residents))
+pub none-marked : (gap : Gap) (facts : Looked) (residents : List Resident) → has_gap gap.quota gap.need (span_of (staying Draining residents)) ≡ leaves_gap gap facts residents []
+none-marked gap facts residents = ap (λ xs. has_gap gap.quota gap.need (span_of (staying Draining xs))) (sym (remaining_all residents))
 
 -- a mark that is taken back leaves all as it was
-pub marked-back : (extent : Option Extent) (before : Option Choices) (residents : List Resident) → before ≡ option_and_then (λ e. choices_at e.offset residents) extent
-    → unmarked extent before (marked extent residents) ≡ residents
+pub marked-back : (extent : Option Extent) (before : Option VictimClasses) (residents : List Resident) → before ≡ option_and_then (λ e. classes_at e.offset residents) extent
+    → unmarked extent before (marked_draining extent residents) ≡ residents
 marked-back None before residents is = refl
 marked-back (Some e) None residents is = choose_none e.offset passes_now residents (sym is)
-marked-back (Some e) (Some choices) residents is = choices_back e.offset passes_now choices residents (sym is)
+marked-back (Some e) (Some classes) residents is = choices_back e.offset passes_now classes residents (sym is)
 
 -- ---- the shortest beginning, from its first on
 

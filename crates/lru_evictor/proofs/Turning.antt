@@ -10,18 +10,18 @@ use Rattle.obj_id.specs.declared.ids.ObjectId.{ObjectId}
 use Rattle.store_facts.proofs.Ids.{id_eq-equal, id_eq-itself}
 use Rattle.store_facts.proofs.Tests.{true_false}
 use Rattle.use_tree.specs.declared.uses.Use.{Use}
-use Rattle.use_tree.specs.Uses.{IsRising, take_use, has_use}
-use Rattle.lru_evictor.specs.declared.index.Place.{Place}
-use Rattle.lru_evictor.specs.declared.facts.Standing.{Standing}
-use Rattle.lru_evictor.specs.Indexed.{Listed, IsOf, use_of, with_turn, shown, spread, spread_one, is_clear, AreApart}
+use Rattle.use_tree.specs.Uses.{AreUsesRising, take_use, has_use}
+use Rattle.lru_evictor.specs.declared.index.OrderSlot.{OrderSlot}
+use Rattle.lru_evictor.specs.declared.facts.EvictionInfo.{EvictionInfo}
+use Rattle.lru_evictor.specs.Indexed.{Listed, IsIndexOf, use_of, with_turn, shown_order, spread, spread_one, is_clear, AreSlotsApart}
 use Rattle.lru_evictor.proofs.Uses.{set-moved, use-taken, use-there}
 
 abbrev Entries : Type 0
-Entries = List (ObjectId × Place)
+Entries = List (ObjectId × OrderSlot)
 
 -- ---- the last entry
 
-pub last-is : (xs : Entries) (e : ObjectId × Place) → last_entry (xs ++ e ∷ []) ≡ Some e
+pub last-is : (xs : Entries) (e : ObjectId × OrderSlot) → last_entry (xs ++ e ∷ []) ≡ Some e
 last-is [] e = refl
 last-is (x ∷ xs) e =
     let long = length-append xs (e ∷ []) in
@@ -29,7 +29,7 @@ last-is (x ∷ xs) e =
     ap (slice_get (x ∷ (xs ++ e ∷ []))) on ∙ last-is xs e
 
 -- all keys differ from the last
-last_differs : (k : ObjectId) (xs : Entries) (e : ObjectId × Place) → AllByRecursion (λ y. id_eq k y ≡ false) (keys_of (xs ++ e ∷ [])) → id_eq k e.0 ≡ false
+last_differs : (k : ObjectId) (xs : Entries) (e : ObjectId × OrderSlot) → AllByRecursion (λ y. id_eq k y ≡ false) (keys_of (xs ++ e ∷ [])) → id_eq k e.0 ≡ false
 last_differs k [] e h = h.0
 last_differs k (x ∷ xs) e h = last_differs k xs e h.1
 
@@ -41,7 +41,7 @@ other k last differ = by (id_eq last k) refl
     by false t = t
     by true t = true_false (sym differ ∙ ap (id_eq k) (id_eq-equal last k t) ∙ id_eq-itself k)
 
-module _ (e : ObjectId × Place) where
+module _ (e : ObjectId × OrderSlot) where
   pub last-found : (xs : Entries) → IsDistinct id_eq (keys_of (xs ++ e ∷ [])) → lookup (id_eq e.0) (xs ++ e ∷ []) ≡ Some e.1
   last-found [] d = ap (λ b. cond b (Some e.1) None) (id_eq-itself e.0)
   last-found (x ∷ xs) d =
@@ -62,7 +62,7 @@ distinct-back (x ∷ xs) rest d = distinct-back xs rest (IsDistinct-tail id_eq x
 
 -- ---- one gets its turn
 
-module _ (es done rest : Entries) (e : ObjectId × Place) (is : es ≡ done ++ (rest ++ e ∷ [])) (distinct : IsDistinct id_eq (keys_of es)) where
+module _ (es done rest : Entries) (e : ObjectId × OrderSlot) (is : es ≡ done ++ (rest ++ e ∷ [])) (distinct : IsDistinct id_eq (keys_of es)) where
   whole : es ≡ (done ++ rest) ++ e ∷ []
   whole = is ∙ sym (append_assoc done rest (e ∷ []))
 
@@ -88,7 +88,7 @@ module _ (es done rest : Entries) (e : ObjectId × Place) (is : es ≡ done ++ (
   pub turned-there : has_use e.1.turn (map use_of (rest ++ e ∷ [])) ≡ true
   turned-there = use-there e.0 e.1 (rest ++ e ∷ []) (last-found e rest last_part)
 
-  pub turned-taken : IsRising (map use_of (rest ++ e ∷ [])) → take_use e.1.turn (map use_of (rest ++ e ∷ [])) ≡ map use_of rest
+  pub turned-taken : AreUsesRising (map use_of (rest ++ e ∷ [])) → take_use e.1.turn (map use_of (rest ++ e ∷ [])) ≡ map use_of rest
   turned-taken rising = use-taken e.0 e.1 (rest ++ e ∷ []) rising (last-found e rest last_part) ∙ ap (map use_of) (last-removed e rest last_part)
 
 -- ---- some have their turns, and the others don't yet
@@ -99,7 +99,7 @@ pub record Turning (es entries : Entries) (fresh : Listed) (old : List Use) (mor
   pub rest : Entries
   pub kept : Entries
   pub whole : es ≡ rest ++ kept
-  pub same : shown done ≡ shown kept
+  pub same : shown_order done ≡ shown_order kept
   pub entries_are : entries ≡ done ++ rest
   pub fresh_are : fresh.0 ≡ map use_of done
   pub old_are : old ≡ map use_of rest
@@ -109,7 +109,7 @@ pub record Turning (es entries : Entries) (fresh : Listed) (old : List Use) (mor
 -- with its last one apart
 pub record Ends (xs : Entries) : Type 0 where
   pub front : Entries
-  pub last : ObjectId × Place
+  pub last : ObjectId × OrderSlot
   pub is : xs ≡ front ++ last ∷ []
 
 pub ends : (xs : Entries) → 0 < length xs → Ends xs
@@ -117,42 +117,42 @@ ends [] some = absurd (omega (arith, some))
 ends (x ∷ []) some = record { front = []; last = x; is = refl }
 ends (x ∷ y ∷ ys) some = let t = ends (y ∷ ys) (omega arith) in record { front = x ∷ t.front; last = t.last; is = ap (λ zs. x ∷ zs) t.is }
 
-length-shown : (es : Entries) → length (shown es) ≡ length es
+length-shown : (es : Entries) → length (shown_order es) ≡ length es
 length-shown [] = refl
 length-shown (e ∷ es) = ap suc (length-shown es)
 
 -- those that are shown alike lie alike
-pub spread-shown : (a b : Entries) → shown a ≡ shown b → spread a ≡ spread b
+pub spread-shown : (a b : Entries) → shown_order a ≡ shown_order b → spread a ≡ spread b
 spread-shown [] [] h = refl
 spread-shown [] (y ∷ ys) h = cc
 spread-shown (x ∷ xs) [] h = cc
 spread-shown (x ∷ xs) (y ∷ ys) h =
-    let standing = ap (λ zs. head_standing zs) h in
+    let eviction_info = ap (λ zs. head_standing zs) h in
     let rest = spread-shown xs ys (ap tail_of h) in
-    λ i. spread_one (standing i) (rest i)
+    λ i. spread_one (eviction_info i) (rest i)
   where
-    head_standing : List (ObjectId × Standing) → Standing
-    head_standing [] = x.1.standing
+    head_standing : List (ObjectId × EvictionInfo) → EvictionInfo
+    head_standing [] = x.1.eviction_info
     head_standing (z ∷ zs) = z.1
 
-    tail_of : List (ObjectId × Standing) → List (ObjectId × Standing)
+    tail_of : List (ObjectId × EvictionInfo) → List (ObjectId × EvictionInfo)
     tail_of [] = []
     tail_of (z ∷ zs) = zs
 
-pub apart-shown : (a b : Entries) → shown a ≡ shown b → AreApart b → AreApart a
+pub apart-shown : (a b : Entries) → shown_order a ≡ shown_order b → AreSlotsApart b → AreSlotsApart a
 apart-shown [] [] h apart = tt
 apart-shown [] (y ∷ ys) h apart = cc
 apart-shown (x ∷ xs) [] h apart = cc
 apart-shown (x ∷ xs) (y ∷ ys) h apart =
-    let standing = ap (λ zs. head_standing zs) h in
+    let eviction_info = ap (λ zs. head_standing zs) h in
     let rest = spread-shown xs ys (ap tail_of h) in
-    (ap (λ s. is_clear s (spread xs)) standing ∙ ap (is_clear y.1.standing) rest ∙ apart.0, apart-shown xs ys (ap tail_of h) apart.1)
+    (ap (λ s. is_clear s (spread xs)) eviction_info ∙ ap (is_clear y.1.eviction_info) rest ∙ apart.0, apart-shown xs ys (ap tail_of h) apart.1)
   where
-    head_standing : List (ObjectId × Standing) → Standing
-    head_standing [] = x.1.standing
+    head_standing : List (ObjectId × EvictionInfo) → EvictionInfo
+    head_standing [] = x.1.eviction_info
     head_standing (z ∷ zs) = z.1
 
-    tail_of : List (ObjectId × Standing) → List (ObjectId × Standing)
+    tail_of : List (ObjectId × EvictionInfo) → List (ObjectId × EvictionInfo)
     tail_of [] = []
     tail_of (z ∷ zs) = zs
 
@@ -174,12 +174,12 @@ module _ (es entries : Entries) (fresh : Listed) (old : List Use) where
     pub turning-left : length es < 4611686018427387904 → 0 < more → 1 < fresh.1
     turning-left few some = omega (arith, few, some, t.left, t.count, turning-kept, ap length t.whole, length-append t.rest t.kept)
 
-    pub turning-ends : more ≡ 0 → length es < 4611686018427387904 → (index : Listed) → IsOf es index → fresh.2 ≡ index.2 → (0 < fresh.1) × (IsOf entries fresh) × (shown entries ≡ shown es)
+    pub turning-ends : more ≡ 0 → length es < 4611686018427387904 → (index : Listed) → IsIndexOf es index → fresh.2 ≡ index.2 → (0 < fresh.1) × (IsIndexOf entries fresh) × (shown_order entries ≡ shown_order es)
     turning-ends none few index of residents =
         let gone : t.rest ≡ [] = none-left t.rest (t.count ∙ none) in
         let all : es ≡ t.kept = t.whole ∙ ap (λ xs. xs ++ t.kept) gone in
         let is : entries ≡ t.done = t.entries_are ∙ ap (λ xs. t.done ++ xs) gone ∙ append-nil t.done in
-        let alike : shown entries ≡ shown es = ap shown is ∙ t.same ∙ ap shown (sym all) in (
+        let alike : shown_order entries ≡ shown_order es = ap shown_order is ∙ t.same ∙ ap shown_order (sym all) in (
           omega (arith, few, t.left, turning-kept, ap length all),
           record {
             uses = t.fresh_are ∙ ap (map use_of) (sym is);
@@ -201,7 +201,7 @@ turning-on es entries fresh old more t e entries2 fresh2 old2 these uses olds le
       rest = e.front;
       kept = e.last ∷ t.kept;
       whole = t.whole ∙ ap (λ xs. xs ++ t.kept) e.is ∙ append_assoc e.front (e.last ∷ []) t.kept;
-      same = ap (λ xs. (e.last.0, e.last.1.standing) ∷ xs) t.same;
+      same = ap (λ xs. (e.last.0, e.last.1.eviction_info) ∷ xs) t.same;
       entries_are = these;
       fresh_are = uses;
       old_are = olds;

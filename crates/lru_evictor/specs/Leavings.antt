@@ -2,7 +2,7 @@
 use Rattle.std.specs.Prelude.{ℕ, ◌+◌, nat_lt, Bool, List, [], ◌∷◌, map, filter, Option, Some, None, is_some}
 use Rattle.obj_id.specs.declared.ids.ObjectId.{ObjectId}
 use Rattle.obj_id.specs.declared.works.Extent.{Extent}
-use Rattle.private_store.specs.Extents.{first}
+use Rattle.private_store.specs.rules.Extents.{first}
 use Rattle.job_region.specs.Region.{Region, extents_of, without}
 use Rattle.lru_evictor.specs.declared.search.Leaving.{Leaving}
 use Rattle.lru_evictor.specs.Facts.{Looked, extent_at}

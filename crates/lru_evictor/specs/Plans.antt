@@ -5,29 +5,29 @@ use Rattle.std.specs.FinMap.{is_sorted}
 use Rattle.obj_id.specs.declared.ids.ObjectId.{ObjectId}
 use Rattle.obj_id.specs.declared.works.Extent.{Extent}
 use Rattle.obj_id.specs.Ids.{id_cmp}
-use Rattle.private_store.specs.Limits.{most_works}
-use Rattle.private_store.specs.Tables.{at, is_among}
-use Rattle.private_store.specs.Extents.{rounded}
-use Rattle.private_store.specs.Shape.{Copy, Shape}
-use Rattle.private_store.specs.Copies.{extent_of, is_evictable, is_passing, is_spillable, device_used}
-use Rattle.private_store.specs.Room.{Plan, fits, wait, full, busy, evict, spill}
+use Rattle.private_store.specs.rules.Limits.{most_works}
+use Rattle.private_store.specs.rules.Tables.{at, is_among}
+use Rattle.private_store.specs.rules.Extents.{rounded}
+use Rattle.private_store.specs.rules.Shape.{Copy, Shape}
+use Rattle.private_store.specs.rules.Copies.{extent_of, is_evictable, is_draining, is_spillable, device_used}
+use Rattle.private_store.specs.rules.Room.{Plan, fits, wait, full, busy, evict, spill}
 use Rattle.job_region.specs.Region.{Region, extents_of}
 use Rattle.lru_evictor.specs.declared.facts.CopyFacts.{CopyFacts}
 use Rattle.lru_evictor.specs.declared.facts.DeviceRoom.{DeviceRoom}
 use Rattle.lru_evictor.specs.declared.facts.Plan.{Plan as Found}
 use Rattle.lru_evictor.specs.declared.facts.Plan.TheVariants as found
-use Rattle.lru_evictor.specs.declared.facts.Standing.{Standing}
-use Rattle.lru_evictor.specs.Facts.{Looked, standing_at, device_bytes}
-use Rattle.lru_evictor.specs.Orders.{ids_of, AllPass, same_standing}
+use Rattle.lru_evictor.specs.declared.facts.EvictionInfo.{EvictionInfo}
+use Rattle.lru_evictor.specs.Facts.{Looked, info_at, spilled_bytes}
+use Rattle.lru_evictor.specs.Orders.{order_ids, AllPass, same_info}
 
 -- which kind of plan the rule of room has
-abbrev pub kind_of : Plan → Found
-kind_of fits = found.Fits
-kind_of (evict ids) = found.Evict
-kind_of wait = found.Wait
-kind_of full = found.Full
-kind_of busy = found.Busy
-kind_of (spill ids) = found.Spill (length ids)
+abbrev pub plan_kind_of : Plan → Found
+plan_kind_of fits = found.Fits
+plan_kind_of (evict ids) = found.Evict
+plan_kind_of wait = found.Wait
+plan_kind_of full = found.Full
+plan_kind_of busy = found.Busy
+plan_kind_of (spill ids) = found.Spill (length ids)
 
 -- the copies that a plan names
 abbrev pub listed : Plan → List ObjectId
@@ -42,7 +42,7 @@ facts_of store id copy =
       extent = extent_of copy;
       bytes = rounded copy.length;
       evictable = is_evictable store id copy;
-      passing = is_passing store id copy;
+      draining = is_draining store id copy;
       spillable = is_spillable store id copy;
     }
 
@@ -63,10 +63,10 @@ pub record IsDescribed (store : Shape) (window : Region) (device : DeviceRoom) (
   pub used : device.used ≡ device_used store
   pub works : device.works ≡ length store.works
 
--- an order has each copy that there is, with its standing
-pub record IsOfCopies (order : List (ObjectId × Standing)) (facts : Looked) : Type 0 where
-  pub standings : AllPass (λ id s. same_standing s (standing_at facts id)) order
-  pub listed : (id : ObjectId) → is_some (facts id) ≡ true → is_among (ids_of order) id ≡ true
+-- an order has each copy that there is, with its eviction info
+pub record IsOfCopies (order : List (ObjectId × EvictionInfo)) (facts : Looked) : Type 0 where
+  pub infos : AllPass (λ id s. same_info s (info_at facts id)) order
+  pub listed : (id : ObjectId) → is_some (facts id) ≡ true → is_among (order_ids order) id ≡ true
 
 -- the plan that evicts these copies, if there are any
 abbrev pub evict_here : List ObjectId → Plan
@@ -77,7 +77,7 @@ evict_here (id ∷ ids) = evict (id ∷ ids)
 abbrev pub spill_here : DeviceRoom → Looked → List ObjectId → Plan
 spill_here device facts [] = wait
 spill_here device facts (id ∷ ids) =
-    if nat_lt device.quota (device.used + device_bytes facts (id ∷ ids)) then full else
+    if nat_lt device.quota (device.used + spilled_bytes facts (id ∷ ids)) then full else
     (if most_works - device.works == 0 then busy else spill (take (most_works - device.works) (id ∷ ids)))
 
 -- the plan that spills what is to be spilled, if that is known

@@ -1,4 +1,4 @@
-//! The ids that a walk for room goes over.
+//! The ids of a class of victims.
 ghost use Rattle.std.specs.Prelude.{◌≡◌, ◌<◌};
 ghost use Rattle.std.specs.Map.Iter.{TakesFirst};
 ghost use Rattle.augmented_tree.specs.Lists.{AllOf};
@@ -6,13 +6,13 @@ ghost use Rattle.lru_evictor.specs.Indexed.{chosen_ids};
 
 use obj_id::ObjectId;
 use std::marker::Model;
-use use_tree::{Choice, Uses};
+use use_tree::{Uses, VictimClass};
 
-/// The ids whose copies a walk for room chooses, from the least recently used on. A contract sees those that are left.
+/// The ids whose copies are in a class of victims, from the least recently used on. A contract sees those that are left.
 #[derive(Drop)]
 pub(crate) struct Candidates<'a> {
     uses: &'a Uses,
-    choice: Choice,
+    class: VictimClass,
     // they have a turn below this one
     below: u64,
 }
@@ -24,18 +24,18 @@ impl<'a> Model for Candidates<'a> {
 
     ghost Value = { List ObjectId };
 
-    ghost view = { λ c. chosen_ids c.choice c.below c.uses.now };
+    ghost view = { λ c. chosen_ids c.class c.below c.uses.now };
 }
 
 impl<'a> Candidates<'a> {
     /// Those of these uses.
-    pub(crate) fn chosen(uses: &'a Uses, choice: Choice) -> Candidates<'a>
-        ensures ids { result ≡ chosen_ids choice 4611686018427387904 uses.now }
+    pub(crate) fn chosen(uses: &'a Uses, class: VictimClass) -> Candidates<'a>
+        ensures ids { result ≡ chosen_ids class 4611686018427387904 uses.now }
         ensures all { AllOf (λ u. u.turn < 4611686018427387904) uses.now }
     {
         Candidates {
             uses,
-            choice,
+            class,
             below: uses.end(),
         }
     }
@@ -53,15 +53,15 @@ impl<'a> Iterator for Candidates<'a> {
     ghost remaining = { λ s. at_most (length s) };
 
     fn next(&mut self) -> Option<ObjectId> {
-        next_chosen(self.uses, self.choice, &mut self.below)
+        next_chosen(self.uses, self.class, &mut self.below)
     }
 }
 
 /// The next id whose copy the walk chooses, of those of turns below this one.
-fn next_chosen(uses: &Uses, choice: Choice, below: &mut u64) -> Option<ObjectId>
-    ensures { TakesFirst (λ x. x) (chosen_ids choice below.old uses.now) result (chosen_ids choice below.new uses.now) }
+fn next_chosen(uses: &Uses, class: VictimClass, below: &mut u64) -> Option<ObjectId>
+    ensures { TakesFirst (λ x. x) (chosen_ids class below.old uses.now) result (chosen_ids class below.new uses.now) }
 {
-    let found = uses.last(choice, *below)?;
+    let found = uses.last(class, *below)?;
     *below = found.turn;
     Some(found.id)
 }

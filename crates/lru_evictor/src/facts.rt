@@ -1,29 +1,29 @@
 //! What a plan for room reads, and what it may be.
 ghost use Rattle.std.specs.Prelude.{◌≡◌, Option, None, true, false};
 ghost use Rattle.obj_id.specs.declared.ids.ObjectId.{ObjectId};
-ghost use Rattle.lru_evictor.specs.Facts.{standing_of};
-ghost use Rattle.lru_evictor.specs.Orders.{may_stand as may_stand_lem, stood as stood_lem};
+ghost use Rattle.lru_evictor.specs.Facts.{info_of};
+ghost use Rattle.lru_evictor.specs.Orders.{may_lie as may_stand_lem, stood as stood_lem};
 
 use obj_id::{Extent, ObjectId};
-use use_tree::Choices;
+use use_tree::VictimClasses;
 
-/// Where a copy lies, and the walks for room that choose it.
+/// Where a copy lies, and the classes of victims that it is in.
 #[derive(Clone, Copy, Debug, PartialEq, Eq)]
-pub struct Standing {
+pub struct EvictionInfo {
     /// Where it lies in the window, if it is resident.
     pub extent: Option<Extent>,
-    /// The walks that choose it.
-    pub choices: Choices,
+    /// The classes of victims that it is in.
+    pub classes: VictimClasses,
 }
 
-impl Standing {
-    /// That of a copy that lies nowhere, and that no walk chooses.
-    pub fn nowhere() -> Standing
-        ensures { result ≡ record { extent = None; choices = record { evictable = false; passing = false; spillable = false } } }
+impl EvictionInfo {
+    /// That of a copy that lies nowhere, and is in no class of victims.
+    pub fn nowhere() -> EvictionInfo
+        ensures { result ≡ record { extent = None; classes = record { evictable = false; draining = false; spillable = false } } }
     {
-        Standing {
+        EvictionInfo {
             extent: None,
-            choices: Choices::none(),
+            classes: VictimClasses::none(),
         }
     }
 }
@@ -38,21 +38,21 @@ pub struct CopyFacts {
     /// Sealed, idle, and a secondary or backed: it may be evicted.
     pub evictable: bool,
     /// Resident and working, neither held nor granted: it may be evicted once its work has ended.
-    pub passing: bool,
+    pub draining: bool,
     /// A sealed primary that is idle, not backed and not doomed: it may be spilled.
     pub spillable: bool,
 }
 
 impl CopyFacts {
-    /// Where the copy lies, and the walks for room that choose it.
-    pub fn standing(self) -> Standing
-        ensures { result ≡ standing_of self }
+    /// Where the copy lies, and the classes of victims that it is in.
+    pub fn eviction_info(self) -> EvictionInfo
+        ensures { result ≡ info_of self }
     {
-        Standing {
+        EvictionInfo {
             extent: self.extent,
-            choices: Choices {
+            classes: VictimClasses {
                 evictable: self.evictable,
-                passing: self.passing,
+                draining: self.draining,
                 spillable: self.spillable,
             },
         }
@@ -99,14 +99,14 @@ pub enum Plan {
 }
 
 /// Whether these are the same.
-pub(crate) fn are_same(a: Standing, b: Standing) -> bool
+pub(crate) fn are_same(a: EvictionInfo, b: EvictionInfo) -> bool
     ensures { result ≡ true → a ≡ b }
 {
     a == b
 }
 
 /// How a copy stands that stood so, and of which this is said: it can't come to lie anywhere by that.
-pub(crate) fn stood(before: Standing, after: Standing) -> Standing
+pub(crate) fn stood(before: EvictionInfo, after: EvictionInfo) -> EvictionInfo
     ensures stood { result ≡ stood_lem before after }
     ensures stands { may_stand_lem before.extent result.extent ≡ true }
 {

@@ -1,36 +1,36 @@
-//! The uses of a job's copies and where they lie, each with the walks that choose it, as long as there are turns for further
-//! uses.
+//! The uses of a job's copies and where they lie, each with the classes of victims that it is in, as long
+//! as there are turns for further uses.
 ghost use Rattle.std.specs.Prelude.{◌≡◌, ◌<◌, ◌≤◌, ◌∷◌, ◌&&◌, not, [], List, Some, None, length, take, true, false, nat_lt, is_some, IfSome};
 ghost use Rattle.std.specs.Map.{lookup, remove_entry, set_value};
 ghost use Rattle.std.specs.Option.{option_map};
 ghost use Rattle.augmented_tree.specs.Lists.{AllOf};
 ghost use Rattle.obj_id.specs.Ids.{id_eq};
 ghost use Rattle.obj_id.specs.declared.ids.ObjectId.{ObjectId};
-ghost use Rattle.private_store.specs.Room.{shortest as shortest_beginning};
-ghost use Rattle.use_tree.specs.Uses.{IsRising, take_use as take_use_lem, choose_use as choose_use_lem, has_use};
-ghost use Rattle.use_tree.specs.declared.choices.Choice.TheVariants.{Spillable};
+ghost use Rattle.private_store.specs.rules.Room.{shortest as shortest_beginning};
+ghost use Rattle.use_tree.specs.Uses.{AreUsesRising, take_use as take_use_lem, use_with_classes as choose_use_lem, has_use};
+ghost use Rattle.use_tree.specs.declared.classes.VictimClass.TheVariants.{Spillable};
 ghost use Rattle.extent_tree.specs.Residents.{has_resident};
-ghost use Rattle.lru_evictor.specs.declared.index.Place.{Place};
+ghost use Rattle.lru_evictor.specs.declared.index.OrderSlot.{OrderSlot};
 ghost use Rattle.lru_evictor.specs.Facts.{nowhere};
-ghost use Rattle.lru_evictor.specs.Indexed.{IsOf, Stands, chosen_ids};
-ghost use Rattle.lru_evictor.specs.Orders.{may_stand};
+ghost use Rattle.lru_evictor.specs.Indexed.{IsIndexOf, Stands, chosen_ids};
+ghost use Rattle.lru_evictor.specs.Orders.{may_lie};
 ghost use Rattle.lru_evictor.specs.Spilling.{leaves_gap};
 
 use crate::candidates::Candidates;
-use crate::facts::{CopyLookup, Standing, are_same};
+use crate::facts::{CopyLookup, EvictionInfo, are_same};
 use crate::spilling::{Gap, count_spills};
 use extent_tree::{Resident, Residents};
 use obj_id::ObjectId;
 use std::marker::Model;
 use std::mem;
-use use_tree::{Choice, Choices, Room, Use, Uses};
+use use_tree::{SpareNode, Use, Uses, VictimClass, VictimClasses};
 
 /// The last use of a copy, and where the copy lies.
 #[derive(Clone, Copy, Drop)]
-pub(crate) struct Place {
+pub(crate) struct OrderSlot {
     /// Counts down: a later use has a lesser one.
     pub(crate) turn: u64,
-    pub(crate) standing: Standing,
+    pub(crate) eviction_info: EvictionInfo,
 }
 
 /// The uses of a job's copies, and where they lie. A contract sees both, and between them how many turns are left, which are all
@@ -70,8 +70,8 @@ impl Index {
         }
     }
 
-    /// Adds the latest use, into the room.
-    pub(crate) fn push_use(&mut self, room: Room, latest: Use)
+    /// Adds the latest use, into the spare node.
+    pub(crate) fn push_use(&mut self, room: SpareNode, latest: Use)
         requires { latest.turn < self.old.1 }
         ensures { self.new ≡ (latest ∷ self.old.0, latest.turn, self.old.2) }
     {
@@ -90,95 +90,95 @@ impl Index {
     }
 
     /// Takes out the use of a turn.
-    fn take_use(&mut self, turn: u64) -> Option<Room>
-        ensures rising { IsRising self.old.0 }
+    fn take_use(&mut self, turn: u64) -> Option<SpareNode>
+        ensures rising { AreUsesRising self.old.0 }
         ensures uses { self.new ≡ (take_use_lem turn self.old.0, self.old.1, self.old.2) }
         ensures there { is_some result ≡ has_use turn self.old.0 }
     {
         self.uses.take(turn)
     }
 
-    /// These walks choose the copy of the use of a turn.
-    fn choose_use(&mut self, turn: u64, choices: Choices)
-        ensures rising { IsRising self.old.0 }
-        ensures uses { self.new ≡ (choose_use_lem turn choices self.old.0, self.old.1, self.old.2) }
+    /// The copy of the use of a turn is in these classes of victims.
+    fn set_use_classes(&mut self, turn: u64, classes: VictimClasses)
+        ensures rising { AreUsesRising self.old.0 }
+        ensures uses { self.new ≡ (choose_use_lem turn classes self.old.0, self.old.1, self.old.2) }
     {
-        self.uses.choose(turn, choices);
+        self.uses.set_classes(turn, classes);
     }
 
     /// A copy that stood so stands so now.
-    fn stand(&mut self, before: Standing, after: Standing)
-        requires { may_stand before.extent after.extent ≡ true }
+    fn stand(&mut self, before: EvictionInfo, after: EvictionInfo)
+        requires { may_lie before.extent after.extent ≡ true }
         ensures same { (self.new.0 ≡ self.old.0) × (self.new.1 ≡ self.old.1) }
         ensures stands { Stands before after self.old.2 self.new.2 }
     {
         stand(&mut self.residents, before, after)
     }
 
-    /// Adds the first use of a copy, into the room: it lies nowhere, and no walk chooses it.
-    pub(crate) fn add(&mut self, room: Room, id: ObjectId, turn: u64)
+    /// Adds the first use of a copy, into the spare node: it lies nowhere, and is in no class of victims.
+    pub(crate) fn add(&mut self, room: SpareNode, id: ObjectId, turn: u64)
         requires { turn < self.old.1 }
-        ensures { (es : List (ObjectId × Place)) → IsOf es self.old → IsOf ((id, record { turn = turn; standing = nowhere }) ∷ es) self.new }
+        ensures { (es : List (ObjectId × OrderSlot)) → IsIndexOf es self.old → IsIndexOf ((id, record { turn = turn; eviction_info = nowhere }) ∷ es) self.new }
     {
-        let choices = Choices::none();
-        self.push_use(room, Use { turn, id, choices });
+        let classes = VictimClasses::none();
+        self.push_use(room, Use { turn, id, classes });
     }
 
     /// Takes the latest use of a copy in place of the one before, and how it stands now.
-    pub(crate) fn replace(&mut self, id: ObjectId, before: Place, after: Place)
+    pub(crate) fn replace(&mut self, id: ObjectId, before: OrderSlot, after: OrderSlot)
         requires turn { after.turn < self.old.1 }
-        requires stands { may_stand before.standing.extent after.standing.extent ≡ true }
-        ensures { (es : List (ObjectId × Place)) → lookup (id_eq id) es ≡ Some before → IsOf es self.old → IsOf ((id, after) ∷ remove_entry (id_eq id) es) self.new }
+        requires stands { may_lie before.eviction_info.extent after.eviction_info.extent ≡ true }
+        ensures { (es : List (ObjectId × OrderSlot)) → lookup (id_eq id) es ≡ Some before → IsIndexOf es self.old → IsIndexOf ((id, after) ∷ remove_entry (id_eq id) es) self.new }
     {
         let turn = after.turn;
         let Some(room) = self.take_use(before.turn) else {
             return;
         };
-        let choices = after.standing.choices;
-        self.push_use(room, Use { turn, id, choices });
-        self.stand(before.standing, after.standing);
+        let classes = after.eviction_info.classes;
+        self.push_use(room, Use { turn, id, classes });
+        self.stand(before.eviction_info, after.eviction_info);
     }
 
     /// Takes out a copy.
-    pub(crate) fn remove(&mut self, place: Place)
-        ensures { (id : ObjectId) (es : List (ObjectId × Place)) → lookup (id_eq id) es ≡ Some place → IsOf es self.old → IsOf (remove_entry (id_eq id) es) self.new }
+    pub(crate) fn remove(&mut self, place: OrderSlot)
+        ensures { (id : ObjectId) (es : List (ObjectId × OrderSlot)) → lookup (id_eq id) es ≡ Some place → IsIndexOf es self.old → IsIndexOf (remove_entry (id_eq id) es) self.new }
     {
-        let nowhere = Standing {
+        let nowhere = EvictionInfo {
             extent: None,
-            choices: place.standing.choices,
+            classes: place.eviction_info.classes,
         };
-        self.stand(place.standing, nowhere);
+        self.stand(place.eviction_info, nowhere);
         let _ = self.take_use(place.turn);
     }
 
     /// How a copy stands now.
-    pub(crate) fn choose(&mut self, place: Place, standing: Standing)
-        requires { may_stand place.standing.extent standing.extent ≡ true }
-        ensures { (id : ObjectId) (es : List (ObjectId × Place)) → lookup (id_eq id) es ≡ Some place → IsOf es self.old
-            → IsOf (set_value (id_eq id) es (record { turn = place.turn; standing = standing })) self.new }
+    pub(crate) fn set_info(&mut self, place: OrderSlot, eviction_info: EvictionInfo)
+        requires { may_lie place.eviction_info.extent eviction_info.extent ≡ true }
+        ensures { (id : ObjectId) (es : List (ObjectId × OrderSlot)) → lookup (id_eq id) es ≡ Some place → IsIndexOf es self.old
+            → IsIndexOf (set_value (id_eq id) es (record { turn = place.turn; eviction_info = eviction_info })) self.new }
     {
-        self.choose_use(place.turn, standing.choices);
-        self.stand(place.standing, standing);
+        self.set_use_classes(place.turn, eviction_info.classes);
+        self.stand(place.eviction_info, eviction_info);
     }
 
-    /// A copy that lay nowhere takes its place, into the room, and these walks choose it. Whether it can: not if a copy begins
+    /// A copy that lay nowhere takes its place, into the spare node, and is in these classes of victims. Whether it can: not if a copy begins
     /// there, or the widest window hasn't the place, and then nothing has changed.
-    pub(crate) fn settle(
+    pub(crate) fn insert_resident(
         &mut self,
-        room: extent_tree::Room,
-        place: Place,
+        room: extent_tree::SpareNode,
+        place: OrderSlot,
         resident: Resident,
     ) -> bool
-        requires { place.standing.extent ≡ None }
-        ensures settled { result ≡ true → (id : ObjectId) (es : List (ObjectId × Place)) → lookup (id_eq id) es ≡ Some place → IsOf es self.old
-            → IsOf (set_value (id_eq id) es (record { turn = place.turn; standing = record { extent = Some resident.extent; choices = resident.choices } })) self.new }
+        requires { place.eviction_info.extent ≡ None }
+        ensures settled { result ≡ true → (id : ObjectId) (es : List (ObjectId × OrderSlot)) → lookup (id_eq id) es ≡ Some place → IsIndexOf es self.old
+            → IsIndexOf (set_value (id_eq id) es (record { turn = place.turn; eviction_info = record { extent = Some resident.extent; classes = resident.classes } })) self.new }
         ensures refused { result ≡ false → self.new ≡ self.old }
         ensures when { result ≡ (nat_lt resident.extent.offset 536870912 && (nat_lt resident.extent.length 4294967296 && not (has_resident resident.extent.offset self.old.2))) }
     {
         if !self.residents.put(room, resident) {
             return false;
         }
-        self.choose_use(place.turn, resident.choices);
+        self.set_use_classes(place.turn, resident.classes);
         true
     }
 
@@ -190,11 +190,11 @@ impl Index {
     }
 
     /// The copies that the walk chooses, from the least recently used on.
-    pub(crate) fn candidates(&self, choice: Choice) -> Candidates<'_>
-        ensures ids { result ≡ chosen_ids choice 4611686018427387904 self.now.0 }
+    pub(crate) fn candidates(&self, class: VictimClass) -> Candidates<'_>
+        ensures ids { result ≡ chosen_ids class 4611686018427387904 self.now.0 }
         ensures all { AllOf (λ u. u.turn < 4611686018427387904) self.now.0 }
     {
-        Candidates::chosen(&self.uses, choice)
+        Candidates::chosen(&self.uses, class)
     }
 
     /// Where the copies lie.
@@ -214,14 +214,14 @@ impl Index {
         ensures all { AllOf (λ u. u.turn < 4611686018427387904) self.old.0 }
         ensures same { self.new ≡ self.old }
     {
-        let mut candidates = Candidates::chosen(&self.uses, Choice::Spillable);
+        let mut candidates = Candidates::chosen(&self.uses, VictimClass::Spillable);
         count_spills(&mut self.residents, &mut candidates, copies, gap)
     }
 }
 
 /// A copy that stood so stands so now.
-fn stand(residents: &mut Residents, before: Standing, after: Standing)
-    requires { may_stand before.extent after.extent ≡ true }
+fn stand(residents: &mut Residents, before: EvictionInfo, after: EvictionInfo)
+    requires { may_lie before.extent after.extent ≡ true }
     ensures { Stands before after residents.old residents.new }
 {
     if are_same(before, after) {
@@ -234,6 +234,6 @@ fn stand(residents: &mut Residents, before: Standing, after: Standing)
         None => {
             let _ = residents.take(there.offset);
         }
-        Some(_) => residents.choose(there.offset, after.choices),
+        Some(_) => residents.set_classes(there.offset, after.classes),
     }
 }

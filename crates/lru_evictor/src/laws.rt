@@ -1,9 +1,9 @@
 //! What the changes to an order of use are in the definition of a step.
 ghost use Rattle.std.specs.Prelude.{◌≡◌, List, Some, None, IsTrue};
 ghost use Rattle.obj_id.specs.declared.ids.ObjectId.{ObjectId};
-ghost use Rattle.private_store.specs.Tables.{ById, without_entry};
-ghost use Rattle.private_store.specs.Shape.{Copy};
-ghost use Rattle.private_store.specs.Step.{reordered};
+ghost use Rattle.private_store.specs.rules.Tables.{ById, without_entry};
+ghost use Rattle.private_store.specs.rules.Shape.{Copy};
+ghost use Rattle.private_store.specs.rules.Step.{reordered};
 ghost use Rattle.lru_evictor.specs.Orders.{without_id, last_used, touched, AreThere};
 
 /// If each id of an order has its copy, entering an id is what a step does to the order of use that

@@ -14,8 +14,8 @@ mod search;
 mod spilling;
 mod use_order;
 
-pub use facts::{CopyFacts, CopyLookup, DeviceRoom, Plan, Standing};
+pub use facts::{CopyFacts, CopyLookup, DeviceRoom, EvictionInfo, Plan};
 pub use laws::orders_follow_the_steps;
 pub use search::extents_by_offset;
 pub use use_order::{Order, UseOrder};
-pub use use_tree::Choices;
+pub use use_tree::VictimClasses;

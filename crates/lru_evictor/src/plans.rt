@@ -2,23 +2,23 @@
 ghost use Rattle.std.specs.Prelude.{◌≡◌, ◌≢◌, ◌+◌, ◌<◌, ◌≤◌, ℕ, List, [], take, map, length, true, false, nat_lt, IfOk, IfSome};
 ghost use Rattle.std.specs.List.{list_all};
 ghost use Rattle.std.specs.Option.{option_map};
-ghost use Rattle.use_tree.specs.declared.choices.Choice.TheVariants.{Evictable, Spillable};
+ghost use Rattle.use_tree.specs.declared.classes.VictimClass.TheVariants.{Evictable, Spillable};
 ghost use Rattle.augmented_tree.specs.Lists.{AllOf};
 ghost use Rattle.obj_id.specs.declared.ids.ObjectId.{ObjectId};
-ghost use Rattle.private_store.specs.Extents.{rounded as rounded_lem};
-ghost use Rattle.private_store.specs.Kept.{IsOrderOfUse};
-ghost use Rattle.private_store.specs.Limits.{most_works};
-ghost use Rattle.private_store.specs.Shape.{Shape};
-ghost use Rattle.private_store.specs.Room.{plan as room_plan};
+ghost use Rattle.private_store.specs.rules.Extents.{rounded as rounded_lem};
+ghost use Rattle.private_store.specs.laws.Invariants.{IsOrderOfUse};
+ghost use Rattle.private_store.specs.rules.Limits.{most_works};
+ghost use Rattle.private_store.specs.rules.Shape.{Shape};
+ghost use Rattle.private_store.specs.rules.Room.{plan as room_plan};
 ghost use Rattle.job_region.specs.Region.{Region, extents_of};
 ghost use Rattle.job_region.specs.Layout.{LaidFrom};
 ghost use Rattle.extent_tree.specs.Residents.{staying, span_of, has_gap as has_gap_lem};
-ghost use Rattle.lru_evictor.specs.declared.facts.Standing.{Standing};
+ghost use Rattle.lru_evictor.specs.declared.facts.EvictionInfo.{EvictionInfo};
 ghost use Rattle.lru_evictor.specs.declared.facts.Plan.TheVariants as found;
-ghost use Rattle.lru_evictor.specs.Facts.{Looked, bytes_at, device_bytes, passes_at, fits_without as is_room_without};
+ghost use Rattle.lru_evictor.specs.Facts.{Looked, device_bytes_at, spilled_bytes, passes_at, fits_without as is_room_without};
 ghost use Rattle.lru_evictor.specs.Indexed.{HasIndex, chosen_ids};
-ghost use Rattle.lru_evictor.specs.Orders.{ids_of};
-ghost use Rattle.lru_evictor.specs.Plans.{IsDescribed, IsOfCopies, kind_of, listed, spills_here};
+ghost use Rattle.lru_evictor.specs.Orders.{order_ids};
+ghost use Rattle.lru_evictor.specs.Plans.{IsDescribed, IsOfCopies, plan_kind_of, listed, spills_here};
 
 use crate::candidates::Candidates;
 use crate::facts::{CopyLookup, DeviceRoom, Plan};
@@ -32,11 +32,11 @@ use obj_id::limits::MOST_WORKS;
 use obj_id::{Items, ObjectId};
 use private_store::rounded;
 use std::alloc::{AllocError, Global};
-use use_tree::Choice;
+use use_tree::VictimClass;
 
 impl UseOrder {
     /// How room for an object of `len` bytes is made in the job's window, by the rule of room over the
-    /// job's copies alone, if the order has each of them with its standing. Takes no memory, and changes nothing in the end.
+    /// job's copies alone, if the order has each of them with its eviction info. Takes no memory, and changes nothing in the end.
     ///
     /// Takes one search of the window if there is room. Otherwise one look at the tree of residents tells whether evictions make
     /// room, whether works in flight do, and whether spilling does. For spills each copy that goes is looked up twice, and marked in
@@ -49,7 +49,7 @@ impl UseOrder {
         copies: &C,
     ) -> Plan
         ensures plan { (store : Shape) → IsOfCopies self.old (C.facts copies.now) → IsDescribed store window.now device (C.facts copies.now)
-            → result ≡ kind_of (room_plan (ids_of self.old) store len) }
+            → result ≡ plan_kind_of (room_plan (order_ids self.old) store len) }
         ensures room { result ≡ found.Fits → is_room_without window.now (C.facts copies.now) len [] ≡ true }
         ensures left { (k : ℕ) → result ≡ found.Spill k → k + device.works ≤ most_works }
         ensures same { self.new ≡ self.old }
@@ -57,7 +57,7 @@ impl UseOrder {
         if window.search(len).0.is_some() {
             return Plan::Fits;
         }
-        match &mut self.cache {
+        match &mut self.order {
             None => Plan::Full,
             Some(order) => order.plan(len, device, window, copies),
         }
@@ -76,12 +76,12 @@ impl UseOrder {
         copies: &C,
     ) -> Result<Items<ObjectId>, AllocError>
         ensures plan { IfOk result (λ ids. (store : Shape) (device : DeviceRoom) → IsOfCopies self.now (C.facts copies.now) → IsDescribed store window.now device (C.facts copies.now)
-            → kind_of (room_plan (ids_of self.now) store len) ≡ found.Evict → ids ≡ listed (room_plan (ids_of self.now) store len)) }
+            → plan_kind_of (room_plan (order_ids self.now) store len) ≡ found.Evict → ids ≡ listed (room_plan (order_ids self.now) store len)) }
         ensures room { IfOk result (λ ids. 0 < length ids → is_room_without window.now (C.facts copies.now) len ids ≡ true) }
         ensures evictable { IfOk result (λ ids. list_all (passes_at (C.facts copies.now) Evictable) ids ≡ true) }
         ensures once { IfOk result (λ ids. IsOrderOfUse ids) }
     {
-        let Some(order) = &self.cache else {
+        let Some(order) = &self.order else {
             return Ok(Items::new(alloc));
         };
         victims(order.index(), alloc, len, window, copies)
@@ -91,10 +91,10 @@ impl UseOrder {
     /// a tree for each.
     pub fn spillable(&self, alloc: Global, count: usize) -> Result<Items<ObjectId>, AllocError>
         ensures listed { IfOk result (λ ids. (store : Shape) (window : Region) (device : DeviceRoom) (facts : Looked) (n : ℕ) → IsOfCopies self.now facts → IsDescribed store window device facts
-            → kind_of (room_plan (ids_of self.now) store n) ≡ found.Spill count → ids ≡ listed (room_plan (ids_of self.now) store n)) }
+            → plan_kind_of (room_plan (order_ids self.now) store n) ≡ found.Spill count → ids ≡ listed (room_plan (order_ids self.now) store n)) }
         ensures few { IfOk result (λ ids. length ids ≤ count) }
     {
-        let Some(order) = &self.cache else {
+        let Some(order) = &self.order else {
             return Ok(Items::new(alloc));
         };
         spillable(order.index(), alloc, count)
@@ -110,17 +110,17 @@ pub(crate) fn plan_over<C: CopyLookup>(
     copies: &C,
 ) -> Plan
     requires { length index.old.0 < 4611686018427387904 }
-    ensures plan { (store : Shape) (order : List (ObjectId × Standing)) → 0 < len → is_room_without window.now (C.facts copies.now) len [] ≡ false → HasIndex index.old order → IsOfCopies order (C.facts copies.now) → IsDescribed store window.now device (C.facts copies.now)
-        → result ≡ kind_of (room_plan (ids_of order) store len) }
+    ensures plan { (store : Shape) (order : List (ObjectId × EvictionInfo)) → 0 < len → is_room_without window.now (C.facts copies.now) len [] ≡ false → HasIndex index.old order → IsOfCopies order (C.facts copies.now) → IsDescribed store window.now device (C.facts copies.now)
+        → result ≡ plan_kind_of (room_plan (order_ids order) store len) }
     ensures needed { result ≢ found.Fits }
     ensures left { (k : ℕ) → result ≡ found.Spill k → k + device.works ≤ most_works }
     ensures same { index.new ≡ index.old }
 {
-    if leaves_room(index, Choice::Evictable, window, len) {
+    if leaves_room(index, VictimClass::Evictable, window, len) {
         return Plan::Evict;
     }
     // most jobs without room have none to spill either
-    if !leaves_room(index, Choice::Spillable, window, len) {
+    if !leaves_room(index, VictimClass::Spillable, window, len) {
         return Plan::Full;
     }
     let gap = Gap {
@@ -140,7 +140,7 @@ fn spilling<C: CopyLookup>(
     count: Option<usize>,
 ) -> Plan
     requires within { IfSome count (λ k. k ≤ length (chosen_ids Spillable 4611686018427387904 index.now.0)) }
-    ensures plan { result ≡ kind_of (spills_here device (C.facts copies.now) (option_map (λ k. take k (chosen_ids Spillable 4611686018427387904 index.now.0)) count)) }
+    ensures plan { result ≡ plan_kind_of (spills_here device (C.facts copies.now) (option_map (λ k. take k (chosen_ids Spillable 4611686018427387904 index.now.0)) count)) }
     ensures needed { result ≢ found.Fits }
     ensures left { (k : ℕ) → result ≡ found.Spill k → k + device.works ≤ most_works }
 {
@@ -150,7 +150,12 @@ fn spilling<C: CopyLookup>(
     if count == 0 {
         return Plan::Wait;
     }
-    if passes_quota(device, copies, index.candidates(Choice::Spillable), count) {
+    if passes_quota(
+        device,
+        copies,
+        index.candidates(VictimClass::Spillable),
+        count,
+    ) {
         return Plan::Full;
     }
     if device.works >= MOST_WORKS {
@@ -160,11 +165,11 @@ fn spilling<C: CopyLookup>(
 }
 
 /// Whether the object would fit if all copies went that the walk chooses, and those before it. One look at the tree.
-fn leaves_room(index: &Index, choice: Choice, window: &Window, len: u32) -> bool
-    ensures gap { result ≡ has_gap_lem window.now.quota (rounded_lem len) (span_of (staying choice index.now.2)) }
+fn leaves_room(index: &Index, class: VictimClass, window: &Window, len: u32) -> bool
+    ensures gap { result ≡ has_gap_lem window.now.quota (rounded_lem len) (span_of (staying class index.now.2)) }
     ensures laid { LaidFrom window.now.quota 0 (extents_of window.now.placed) }
 {
-    let span = index.residents().span(choice);
+    let span = index.residents().span(class);
     has_gap(span, window.quota(), rounded(len))
 }
 
@@ -175,7 +180,7 @@ fn passes_quota<C: CopyLookup>(
     candidates: Candidates<'_>,
     count: usize,
 ) -> bool
-    ensures { result ≡ nat_lt device.quota (device.used + device_bytes (C.facts copies.now) (take count candidates.entry)) }
+    ensures { result ≡ nat_lt device.quota (device.used + spilled_bytes (C.facts copies.now) (take count candidates.entry)) }
 {
     if device.used > device.quota {
         return true;
@@ -198,7 +203,7 @@ fn passes_quota<C: CopyLookup>(
 
 /// The device bytes that spilling the copy takes.
 fn bytes_of<C: CopyLookup>(copies: &C, id: &ObjectId) -> u64
-    ensures { result ≡ bytes_at (C.facts copies.now) id.now }
+    ensures { result ≡ device_bytes_at (C.facts copies.now) id.now }
 {
     match copies.facts(id) {
         Some(facts) => facts.bytes,
@@ -214,13 +219,13 @@ fn victims<C: CopyLookup>(
     window: &Window,
     copies: &C,
 ) -> Result<Items<ObjectId>, AllocError>
-    ensures plan { IfOk result (λ ids. (store : Shape) (order : List (ObjectId × Standing)) (device : DeviceRoom) → HasIndex index.now order → IsOfCopies order (C.facts copies.now) → IsDescribed store window.now device (C.facts copies.now)
-        → kind_of (room_plan (ids_of order) store len) ≡ found.Evict → ids ≡ listed (room_plan (ids_of order) store len)) }
+    ensures plan { IfOk result (λ ids. (store : Shape) (order : List (ObjectId × EvictionInfo)) (device : DeviceRoom) → HasIndex index.now order → IsOfCopies order (C.facts copies.now) → IsDescribed store window.now device (C.facts copies.now)
+        → plan_kind_of (room_plan (order_ids order) store len) ≡ found.Evict → ids ≡ listed (room_plan (order_ids order) store len)) }
     ensures room { IfOk result (λ ids. 0 < length ids → is_room_without window.now (C.facts copies.now) len ids ≡ true) }
     ensures evictable { IfOk result (λ ids. list_all (passes_at (C.facts copies.now) Evictable) ids ≡ true) }
     ensures once { IsOrderOfUse (map (λ u. u.id) index.now.0) → IfOk result (λ ids. IsOrderOfUse ids) }
 {
-    let candidates = index.candidates(Choice::Evictable);
+    let candidates = index.candidates(VictimClass::Evictable);
     match shortest(alloc, candidates, window, copies, len)? {
         Some(ids) => Ok(Items::from_vec(ids)),
         None => Ok(Items::new(alloc)),
@@ -234,7 +239,7 @@ fn spillable(index: &Index, alloc: Global, count: usize) -> Result<Items<ObjectI
     ensures few { IfOk result (λ ids. length ids ≤ count) }
 {
     let mut ids = Vec::new(alloc);
-    for id in index.candidates(Choice::Spillable) {
+    for id in index.candidates(VictimClass::Spillable) {
         if ids.len() == count {
             return Ok(Items::from_vec(ids));
         }

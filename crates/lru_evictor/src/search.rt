@@ -3,9 +3,9 @@ ghost use Rattle.std.specs.Prelude.{◌≡◌, ◌-◌, ◌≤◌, take, length,
 ghost use Rattle.std.specs.Option.{option_map};
 ghost use Rattle.std.specs.List.Sorted.{IsPermutation, IsNonDecreasingBy};
 ghost use Rattle.obj_id.specs.declared.works.Extent.{Extent};
-ghost use Rattle.private_store.specs.Room.{shortest as shortest_beginning};
+ghost use Rattle.private_store.specs.rules.Room.{shortest as shortest_beginning};
 ghost use Rattle.lru_evictor.specs.declared.search.Leaving.{Leaving};
-ghost use Rattle.use_tree.specs.declared.choices.Choice.TheVariants.{Evictable};
+ghost use Rattle.use_tree.specs.declared.classes.VictimClass.TheVariants.{Evictable};
 ghost use Rattle.lru_evictor.specs.Facts.{chosen, passes_at, extent_at, gone_of, fits_without as is_room_without};
 ghost use Rattle.lru_evictor.specs.Searches.{AreEnough};
 ghost use Rattle.lru_evictor.specs.Leavings.{leaving_of as all_leaving, firsts, fits_first as is_room_first};

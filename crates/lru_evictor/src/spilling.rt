@@ -1,17 +1,17 @@
 //! How many copies are to be spilled for room, found without memory.
 ghost use Rattle.std.specs.Prelude.{◌≡◌, ◌<◌, ◌≤◌, take, length, IfSome};
 ghost use Rattle.std.specs.Option.{option_map, option_and_then};
-ghost use Rattle.private_store.specs.Room.{shortest as shortest_beginning};
-ghost use Rattle.extent_tree.specs.Residents.{choices_at, has_gap as has_gap_lem, span_of, staying};
-ghost use Rattle.use_tree.specs.declared.choices.Choice.TheVariants.{Passing};
-ghost use Rattle.lru_evictor.specs.Spilling.{leaves_gap, marked, unmarked};
+ghost use Rattle.private_store.specs.rules.Room.{shortest as shortest_beginning};
+ghost use Rattle.extent_tree.specs.Residents.{classes_at, has_gap as has_gap_lem, span_of, staying};
+ghost use Rattle.use_tree.specs.declared.classes.VictimClass.TheVariants.{Draining};
+ghost use Rattle.lru_evictor.specs.Spilling.{leaves_gap, marked_draining, unmarked};
 
 use crate::candidates::Candidates;
 use crate::facts::CopyLookup;
 use crate::search::extent_of;
 use extent_tree::{Residents, has_gap};
 use obj_id::Extent;
-use use_tree::{Choice, Choices};
+use use_tree::{VictimClass, VictimClasses};
 
 /// A gap that is wanted among the copies that stay.
 #[derive(Clone, Copy, Debug)]
@@ -38,7 +38,7 @@ pub(crate) fn count_spills<C: CopyLookup>(
     ensures within { IfSome result (λ k. k ≤ length candidates.old) }
     ensures same { residents.new ≡ residents.old }
 {
-    if has_gap(residents.span(Choice::Passing), gap.quota, gap.need) {
+    if has_gap(residents.span(VictimClass::Draining), gap.quota, gap.need) {
         return Some(0);
     }
     let id = candidates.next()?;
@@ -49,28 +49,28 @@ pub(crate) fn count_spills<C: CopyLookup>(
     Some(others? + 1)
 }
 
-/// Marks the copy that lies there as one that passes, and answers which walks chose it.
-fn mark(residents: &mut Residents, extent: Option<Extent>) -> Option<Choices>
-    ensures before { result ≡ option_and_then (λ e. choices_at e.offset residents.old) extent }
-    ensures marked { residents.new ≡ marked extent residents.old }
+/// Marks the copy that lies there as draining, and answers in which classes of victims it was.
+fn mark(residents: &mut Residents, extent: Option<Extent>) -> Option<VictimClasses>
+    ensures before { result ≡ option_and_then (λ e. classes_at e.offset residents.old) extent }
+    ensures marked { residents.new ≡ marked_draining extent residents.old }
 {
     let extent = extent?;
-    let before = residents.choices(extent.offset);
-    let passing = Choices {
+    let before = residents.classes(extent.offset);
+    let draining = VictimClasses {
         evictable: false,
-        passing: true,
+        draining: true,
         spillable: false,
     };
-    residents.choose(extent.offset, passing);
+    residents.set_classes(extent.offset, draining);
     before
 }
 
 /// Takes the mark of the copy that lies there back.
-fn unmark(residents: &mut Residents, extent: Option<Extent>, before: Option<Choices>)
+fn unmark(residents: &mut Residents, extent: Option<Extent>, before: Option<VictimClasses>)
     ensures { residents.new ≡ unmarked extent before residents.old }
 {
-    let (Some(extent), Some(choices)) = (extent, before) else {
+    let (Some(extent), Some(classes)) = (extent, before) else {
         return;
     };
-    residents.choose(extent.offset, choices);
+    residents.set_classes(extent.offset, classes);
 }

@@ -17,30 +17,30 @@ use Rattle.private_store.specs.declared.inputs.Input.{Input}
 use Rattle.private_store.specs.declared.inputs.Input.TheVariants as input
 use Rattle.private_store.specs.declared.inputs.Judged.TheVariants as judged
 use Rattle.private_store.specs.declared.schedules.Event.TheVariants as event
-use Rattle.private_store.specs.Jobs.{same_job}
-use Rattle.private_store.specs.Limits.{is_quota, most_live_jobs}
-use Rattle.private_store.specs.Shape.{WorkInFlight, HandGiven, live, not_begun}
-use Rattle.private_store.specs.Change.{done}
-use Rattle.private_store.specs.Step.{step}
-use Rattle.private_store.specs.Contents.{Contents, View, judge}
-use Rattle.private_store.specs.Hands.{Hand}
-use Rattle.private_store.specs.Private.{view_step, outcome, no_contents}
-use Rattle.private_store.specs.Shared.{admitted as window_admitted}
-use Rattle.private_store.specs.Kept.{IsViewKept}
+use Rattle.private_store.specs.rules.Jobs.{same_job}
+use Rattle.private_store.specs.rules.Limits.{is_quota, most_live_jobs}
+use Rattle.private_store.specs.rules.Shape.{WorkInFlight, HandGiven, live, not_begun}
+use Rattle.private_store.specs.rules.Change.{done}
+use Rattle.private_store.specs.rules.Step.{step}
+use Rattle.private_store.specs.rules.Contents.{Contents, View, judge}
+use Rattle.private_store.specs.rules.Hands.{Hand}
+use Rattle.private_store.specs.rules.Private.{view_step, outcome, no_contents}
+use Rattle.private_store.specs.rules.Shared.{admitted as window_admitted}
+use Rattle.private_store.specs.laws.Invariants.{IsViewKept}
 use Rattle.store_facts.proofs.Checks.{checked-nil, checked-false}
 use Rattle.store_facts.proofs.StepsKept.{view_keeps, no_store_kept}
 use Rattle.store_facts.proofs.Tests.{both, both_left, both_right, none_some}
 use Rattle.spill_work.specs.Line.{WorkLine}
 use Rattle.job_admission.specs.declared.Live.{Live}
-use Rattle.job_admission.specs.Admissions.{Admissions, admit_check, admitted, place_for, lives_of}
+use Rattle.job_admission.specs.Admissions.{Admissions, admit_check, with_admitted, window_place_for, lives_of}
 use Rattle.job_admission.proofs.ForCallers.{admit_passed}
 use Rattle.node_table.specs.Granting.{row_bytes}
-use Rattle.node_table.specs.Row.{Row, Beside, new_row, beside_of, received_bytes}
+use Rattle.node_table.specs.Row.{Row, SharedTables, new_row, beside_of, received_bytes}
 use Rattle.node_table.specs.Shown.{seen, only, IsShown}
 use Rattle.node_table.proofs.ForCallers.{IsAlike, alike_bytes, granted_length, kept_as_they_are}
-use Rattle.node_core.specs.Hosted.{Hosted, AreHosted, IsRowView, IsBare, IsViewBy, Shows, bare, bytes_here, beside_at}
-use Rattle.node_core.specs.Steps.{answered}
-use Rattle.node_core.specs.OneJob.{IsStepOf, StepsOne}
+use Rattle.node_core.specs.Hosted.{Hosted, AreHosted, IsRowView, IsBare, IsViewBy, Shows, empty_view, bytes_here, beside_at}
+use Rattle.node_core.specs.Steps.{answer_of_check}
+use Rattle.node_core.specs.OneJob.{IsStepOf, NodeStepOne}
 use Rattle.node_core.proofs.Others.{other_view}
 use Rattle.node_core.proofs.Views.{itself, another, node_of}
 
@@ -65,12 +65,12 @@ keys_of-append [] fs = refl
 keys_of-append (e ∷ es) fs = ap (λ ks. e.0 ∷ ks) (keys_of-append es fs)
 
 -- a job that passes the check has a place
-pub placed : (a : Admissions) (job : JobNo) (quota : Quota) → admit_check a job quota ≡ None → (offset : ℕ) × (place_for a quota.window ≡ Some offset)
-placed a job quota h = by (job.0 == 0) (is_quota quota) (nat_le job.0 a.greatest) (nat_le most_live_jobs (length (lives_of a.live))) (place_for a quota.window) refl h
+pub placed : (a : Admissions) (job : JobNo) (quota : Quota) → admit_check a job quota ≡ None → (offset : ℕ) × (window_place_for a quota.window ≡ Some offset)
+placed a job quota h = by (job.0 == 0) (is_quota quota) (nat_le job.0 a.greatest) (nat_le most_live_jobs (length (lives_of a.live))) (window_place_for a quota.window) refl h
   where
-    by : (zero good old full : Bool) (o : Option ℕ) → place_for a quota.window ≡ o
+    by : (zero good old full : Bool) (o : Option ℕ) → window_place_for a quota.window ≡ o
         → cond zero (Some BadId) (cond (not good) (Some BadSize) (cond old (Some Exists) (cond (full || is_none o) (Some NoRoom) None))) ≡ None
-        → (offset : ℕ) × (place_for a quota.window ≡ Some offset)
+        → (offset : ℕ) × (window_place_for a quota.window ≡ Some offset)
     by true good old full o e h = none_some BadId (sym h)
     by false false old full o e h = none_some BadSize (sym h)
     by false true true full o e h = none_some Exists (sym h)
@@ -85,7 +85,7 @@ absent_bytes : (rows : List (JobNo × Row)) (id : ObjectId) → lookup (same_job
 absent_bytes rows id none = ap (λ o. option_map_or (λ row. row_bytes row id) o []) none
 
 -- a store that isn't live keeps the invariants of every store
-bare_kept : (line : WorkLine) (hands : List Hand) (bytes : ObjectId → List ℕ) (job : ℕ) → IsViewKept (bare job not_begun (beside_of line hands bytes job))
+bare_kept : (line : WorkLine) (hands : List Hand) (bytes : ObjectId → List ℕ) (job : ℕ) → IsViewKept (empty_view job not_begun (beside_of line hands bytes job))
 bare_kept line hands bytes job =
     let k = (no_store_kept job).kept in
     record {
@@ -115,11 +115,11 @@ bare_kept line hands bytes job =
     }
 
 module _ (number : ℕ) (line : WorkLine) (hands : List Hand) (bytes : ObjectId → List ℕ) (job : JobNo) (quota : Quota) (good : is_quota quota ≡ true) where
-  abbrev beside : Beside
+  abbrev beside : SharedTables
   beside = beside_of line hands bytes job.0
 
   abbrev fresh_view : View
-  fresh_view = bare job.0 not_begun beside
+  fresh_view = empty_view job.0 not_begun beside
 
   abbrev pub x : Input
   x = input.Begin quota
@@ -176,7 +176,7 @@ module _ (number : ℕ) (line : WorkLine) (hands : List Hand) (bytes : ObjectId 
 -- ---- the step
 
 -- what a greater number admitted leaves of another job's view
-raised_view : (low high : ℕ) (beside : Beside) (q : ℕ) (view : View) (o : Option Row) → low < high → IsViewBy low beside q view o → IsViewBy high beside q view o
+raised_view : (low high : ℕ) (beside : SharedTables) (q : ℕ) (view : View) (o : Option Row) → low < high → IsViewBy low beside q view o → IsViewBy high beside q view o
 raised_view low high beside q view (Some row) lt h = h
 raised_view low high beside q view None lt h = record {
   life = h.life;
@@ -189,7 +189,7 @@ raised_view low high beside q view None lt h = record {
 }
 
 module _ (number : ℕ) (a b : Admissions) (line : WorkLine) (hands : List Hand) (job : JobNo) (quota : Quota) (key : JobKey)
-    (old new : List (JobNo × Row)) (kept : AreHosted a old) (passed : admit_check a job quota ≡ None) (is : b ≡ admitted a job quota key) where
+    (old new : List (JobNo × Row)) (kept : AreHosted a old) (passed : admit_check a job quota ≡ None) (is : b ≡ with_admitted a job quota key) where
   above : a.greatest < job.0
   above = (admit_passed a job quota passed).2
 
@@ -242,8 +242,8 @@ module _ (number : ℕ) (a b : Admissions) (line : WorkLine) (hands : List Hand)
     no_row : (view : View) → Shows before job.0 view → IsBare a.greatest (beside_at before job.0) job.0 view
     no_row view h = subst (IsViewBy a.greatest (beside_at before job.0) job.0 view) absent h.by_row
 
-    fresh_is : (view : View) → IsBare a.greatest (beside_at before job.0) job.0 view → view ≡ bare job.0 not_begun (beside_at before job.0)
-    fresh_is view h = h.is ∙ ap (λ life. bare job.0 life (beside_at before job.0)) (h.fresh above)
+    fresh_is : (view : View) → IsBare a.greatest (beside_at before job.0) job.0 view → view ≡ empty_view job.0 not_begun (beside_at before job.0)
+    fresh_is view h = h.is ∙ ap (λ life. empty_view job.0 life (beside_at before job.0)) (h.fresh above)
 
     shows_at : (q : ℕ) (view : View) → IsViewBy job.0 (beside_at before q) q view (lookup (same_job (record { 0 = q })) new) → Shows after q view
     shows_at q view h = record {
@@ -274,12 +274,12 @@ module _ (number : ℕ) (a b : Admissions) (line : WorkLine) (hands : List Hand)
             subst (λ n. Shows after n (view_step number view (input.Begin quota)).view) (sym same) (own_shows view (subst (λ n. Shows before n view) same h))
         by false e = other_shows q view e h
 
-    pub admit_steps : StepsOne before (event.Admit job quota key) (only reply.Ok) after
+    pub admit_steps : NodeStepOne before (event.Admit job quota key) (only reply.Ok) after
     admit_steps = record {
       number = refl;
       views = λ v shows q. views q (v q) (shows q);
       told = λ view h. subst (λ v. IsStepOf number v (input.Begin quota) (only reply.Ok)) (sym (fresh_is view (no_row view h))) (begin_told number line hands (bytes_here old) job quota good);
-      operator = sym (ap answered passed);
+      operator = sym (ap answer_of_check passed);
       by_views = λ v h. refl;
       admissions = is;
       lives = lives;

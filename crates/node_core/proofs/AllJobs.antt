@@ -15,22 +15,22 @@ use Rattle.private_store.specs.declared.inputs.Input.TheVariants as input
 use Rattle.private_store.specs.declared.schedules.Event.{Event}
 use Rattle.private_store.specs.declared.schedules.Event.TheVariants as event
 use Rattle.private_store.specs.declared.schedules.NodeEvent.TheVariants.{Own}
-use Rattle.private_store.specs.Hands.{Hand}
-use Rattle.private_store.specs.Trace.{hands_by}
-use Rattle.private_store.specs.NodeInputs.{JobInput, Before, wants_memory, own_here, own_due, notes_of, notes_here, hands_after, only_of, inputs_to}
-use Rattle.private_store.specs.Contents.{View, judge}
-use Rattle.private_store.specs.Private.{view_step, view_from}
+use Rattle.private_store.specs.rules.Hands.{Hand}
+use Rattle.private_store.specs.rules.Trace.{hands_by}
+use Rattle.private_store.specs.laws.NodeInputs.{JobInput, Before, wants_memory, own_here, own_due, notes_of, notes_here, hands_after, only_of, inputs_to}
+use Rattle.private_store.specs.rules.Contents.{View, judge}
+use Rattle.private_store.specs.rules.Private.{view_step, view_from}
 use Rattle.spill_work.specs.declared.queue.Queued.{Queued}
 use Rattle.spill_work.specs.Line.{shown, is_of, is_at, works_of, used_by}
 use Rattle.node_table.specs.Asked.{HasAsked}
 use Rattle.node_table.specs.Row.{Row}
-use Rattle.node_table.specs.Shown.{Given as RowGiven}
+use Rattle.node_table.specs.Shown.{RowGiven}
 use Rattle.node_core.specs.Hosted.{Hosted, IsViewBy, Shows, ShowsAll, row_at, beside_at}
-use Rattle.node_core.specs.Calls.{is_frugal}
-use Rattle.node_core.specs.OneJob.{input_of, view_by, view_after, IsGiven as IsRowGiven, IsOperatorAnswer as IsOneAnswer, IsAnswerByViews, IsLineAfter, StepsOne}
+use Rattle.node_core.specs.Calls.{needs_no_memory}
+use Rattle.node_core.specs.OneJob.{event_input_of, view_by, one_view_after, IsGiven as IsRowGiven, IsOperatorAnswer as IsOneAnswer, IsAnswerByViews, IsLineAfter, NodeStepOne}
 use Rattle.node_core.specs.Outcomes.{with_no_notes}
 use Rattle.node_core.specs.Judged.{is_finish, moves_hands, judged_as, IsCallJudged}
-use Rattle.node_core.specs.Steps.{before_of, job_of_event, IsGiven, answered, judged_notes, stale_unless, queued, taken_if, line_left, asked_now, line_after, IsEventAnswer, StepsFrom, Steps}
+use Rattle.node_core.specs.Steps.{before_of, job_of_event, IsGiven, answer_of_check, judged_notes, stale_unless, queued, taken_if, line_left, asked_now, line_after, IsEventAnswer, NodeStepFrom, NodeStep}
 use Rattle.store_facts.proofs.Tests.{both, both_left, both_right}
 use Rattle.node_core.proofs.Never.{told_never}
 use Rattle.node_core.proofs.Lines.{above, above-used, asked_now_is}
@@ -40,14 +40,14 @@ use Rattle.node_core.proofs.Taking.{marked-is}
 
 -- to its own job
 abbrev pub own_of : Event → Reply (List ℕ) → Option JobInput
-own_of e told = option_map (λ x. record { job = job_of_event e; input = x }) (input_of e told)
+own_of e told = option_map (λ x. record { job = job_of_event e; input = x }) (event_input_of e told)
 
 -- a Finish is answered Ok exactly if its work is out
 abbrev pub IsFinishAnswer : Before → Event → Reply (List ℕ) → Type 0
-IsFinishAnswer before (event.Finish job number a) told = told ≡ answered (stale_unless (before.out job.0 number))
+IsFinishAnswer before (event.Finish job number a) told = told ≡ answer_of_check (stale_unless (before.out job.0 number))
 IsFinishAnswer before _ told = told ≡ told
 
-finish_own : (job : JobNo) (number : ℕ) (a : DeviceAnswer) (out : Bool) → cond out (Some (record { job = job.0; input = input.Answer number a })) None ≡ own_of (event.Finish job number a) (answered (stale_unless out))
+finish_own : (job : JobNo) (number : ℕ) (a : DeviceAnswer) (out : Bool) → cond out (Some (record { job = job.0; input = input.Answer number a })) None ≡ own_of (event.Finish job number a) (answer_of_check (stale_unless out))
 finish_own job number a true = refl
 finish_own job number a false = refl
 
@@ -76,7 +76,7 @@ own_here_is before (event.Finish job number a) told is never =
     ap (λ t. cond t None (cond (before.out job.0 number) (Some (record { job = job.0; input = input.Answer number a })) None)) never
     ∙ own_due_is before (event.Finish job number a) told is
 
--- the event with this answer tells no taker of a hand, and the hands stand as they stood
+-- the event with this answer tells no grantee of a hand, and the hands stand as they stood
 pub record IsStill (e : Event) (told : Reply (List ℕ)) : Type 0 where
   pub notes : (before : Before) → notes_here before (Own e) told ≡ []
   pub hands : (hands : List Hand) → hands_after hands (Own e) told ≡ hands
@@ -236,7 +236,7 @@ module _ (old new : Hosted) (v : ℕ → View) (shows : ShowsAll old v) where
   pub own_shown : (job : JobNo) (x : Input) → Shows new job.0 (cond (job.0 == job.0) (view_step old.number (v job.0) x).view (v job.0)) → Shows new job.0 (view_step old.number (v job.0) x).view
   own_shown job x h = let same : (job.0 == job.0) ≡ true = grind (arith, nat_tests) in subst (λ t. Shows new job.0 (cond t (view_step old.number (v job.0) x).view (v job.0))) same h
 
-  pub line_is : (e : Event) (told : Reply (List ℕ)) → IsLineAfter old.works e told new.works → ((job : ℕ) → Shows new job (view_after old.number job (v job) e told))
+  pub line_is : (e : Event) (told : Reply (List ℕ)) → IsLineAfter old.works e told new.works → ((job : ℕ) → Shows new job (one_view_after old.number job (v job) e told))
       → new.works.works ≡ line_left old.works.works (Own e) told ++ asked_now old.number v (own_of e told)
   line_is (event.Admit job quota key) reply.Ok h after = same_line job (input.Begin quota) (own_shown job (input.Begin quota) (after job.0)) h
   line_is (event.Admit job quota key) _ h after = h ∙ sym (append-nil old.works.works)
@@ -263,7 +263,7 @@ finish_answer old v (event.Requota job quota) told is = refl
 finish_answer old v event.Take told is = refl
 finish_answer old v (event.Finish job number a) told is = is
 
-module _ (old new : Hosted) (e : Event) (given : RowGiven) (still : IsStill e given.reply) (h : StepsOne old e given new) where
+module _ (old new : Hosted) (e : Event) (given : RowGiven) (still : IsStill e given.reply) (h : NodeStepOne old e given new) where
   module _ (v : ℕ → View) (shows : ShowsAll old v) where
     abbrev before : Before
     before = before_of old v
@@ -287,7 +287,7 @@ module _ (old new : Hosted) (e : Event) (given : RowGiven) (still : IsStill e gi
     answer = finish_answer old v e given.reply operator
 
     told : IsGiven old.number v (own_due before (Own e) given.reply) (with_no_notes given)
-    told = subst (λ o. IsGiven old.number v o (with_no_notes given)) (sym (own_due_is before e given.reply answer)) (told_is (input_of e given.reply) (h.told (v (job_of_event e)) (shows (job_of_event e))))
+    told = subst (λ o. IsGiven old.number v o (with_no_notes given)) (sym (own_due_is before e given.reply answer)) (told_is (event_input_of e given.reply) (h.told (v (job_of_event e)) (shows (job_of_event e))))
 
     -- an answer is never that there is no memory
     never : wants_memory given.reply ≡ false
@@ -298,8 +298,8 @@ module _ (old new : Hosted) (e : Event) (given : RowGiven) (still : IsStill e gi
         ap (only_of job) ((λ i. option_to_list (own_here_is before e given.reply answer never i) ++ still.notes before i)
         ∙ append-nil (option_to_list (own_of e given.reply)))
 
-    view_is : (job : ℕ) → view_from old.number (v job) (inputs_to before (Own e) given.reply job) ≡ view_after old.number job (v job) e given.reply
-    view_is job = ap (view_from old.number (v job)) (inputs_are job) ∙ one_input old.number job (job_of_event e) (v job) (input_of e given.reply)
+    view_is : (job : ℕ) → view_from old.number (v job) (inputs_to before (Own e) given.reply job) ≡ one_view_after old.number job (v job) e given.reply
+    view_is job = ap (view_from old.number (v job)) (inputs_are job) ∙ one_input old.number job (job_of_event e) (v job) (event_input_of e given.reply)
 
     views : ShowsAll new (λ job. view_from old.number (v job) (inputs_to before (Own e) given.reply job))
     views job = subst (Shows new job) (sym (view_is job)) (h.views v shows job)
@@ -308,7 +308,7 @@ module _ (old new : Hosted) (e : Event) (given : RowGiven) (still : IsStill e gi
     line = line_is old new v shows e given.reply (h.line v shows) (h.views v shows)
         ∙ ap (λ o. line_left old.works.works (Own e) given.reply ++ asked_now old.number v o) (sym (own_here_is before e given.reply answer never))
 
-    from : StepsFrom old v (Own e) (with_no_notes given) new
+    from : NodeStepFrom old v (Own e) (with_no_notes given) new
     from = record {
       views = views;
       told = told;
@@ -317,7 +317,7 @@ module _ (old new : Hosted) (e : Event) (given : RowGiven) (still : IsStill e gi
       line = line;
     }
 
-  pub all_steps : Steps old (Own e) (with_no_notes given) new
+  pub all_steps : NodeStep old (Own e) (with_no_notes given) new
   all_steps = record {
     number = h.number;
     hands = h.hands ∙ sym (still.hands old.hands);
@@ -328,7 +328,7 @@ module _ (old new : Hosted) (e : Event) (given : RowGiven) (still : IsStill e gi
 
 -- ---- what it was to its job
 
-pub judged_is : (place : ℕ) (view : View) (e : Event) (answer : Reply (List ℕ)) → is_finish e ≡ false → option_map (judge place view) (input_of e answer) ≡ judged_as e answer
+pub judged_is : (place : ℕ) (view : View) (e : Event) (answer : Reply (List ℕ)) → is_finish e ≡ false → option_map (judge place view) (event_input_of e answer) ≡ judged_as e answer
 judged_is place view (event.Admit job quota key) reply.Ok other = refl
 judged_is place view (event.Admit job quota key) _ other = refl
 judged_is place view (event.JobEnd job) reply.Ok other = refl
@@ -348,7 +348,7 @@ call_judged event.Take _ = refl
 call_judged (event.Finish job number a) _ = refl
 
 -- what moves hands may take memory
-pub moves_frugal : (node : Hosted) (e : Event) → moves_hands e ≡ true → is_frugal node e ≡ true → ⊥
+pub moves_frugal : (node : Hosted) (e : Event) → moves_hands e ≡ true → needs_no_memory node e ≡ true → ⊥
 moves_frugal node (event.JobEnd job) moves frugal = absurd cc
 moves_frugal node (event.Call job session (command.Create id kind n)) moves frugal = absurd cc
 moves_frugal node (event.Call job session (command.Write id offset bytes)) moves frugal = absurd cc

@@ -13,24 +13,24 @@ use Rattle.private_store.specs.declared.inputs.Input.{Input}
 use Rattle.private_store.specs.declared.inputs.Input.TheVariants as input
 use Rattle.private_store.specs.declared.inputs.Judged.{Judged}
 use Rattle.private_store.specs.declared.schedules.NodeEvent.TheVariants.{Arrive}
-use Rattle.private_store.specs.Jobs.{same_job}
-use Rattle.private_store.specs.Hands.{Hand}
-use Rattle.private_store.specs.Events.{is_live, located, chunk_arrived, not_here_arrived, pull_arrived}
-use Rattle.private_store.specs.Contents.{Contents, View, judge, source_in, chunk_verdict, pull_matches}
-use Rattle.private_store.specs.Private.{view_step, view_from}
-use Rattle.private_store.specs.NodeInputs.{Before, wants_memory, only_of, inputs_to}
+use Rattle.private_store.specs.rules.Jobs.{same_job}
+use Rattle.private_store.specs.rules.Hands.{Hand}
+use Rattle.private_store.specs.rules.Events.{is_live, located, chunk_arrived, not_here_arrived, pull_arrived}
+use Rattle.private_store.specs.rules.Contents.{Contents, View, judge, source_in, chunk_verdict, pull_matches}
+use Rattle.private_store.specs.rules.Private.{view_step, view_from}
+use Rattle.private_store.specs.laws.NodeInputs.{Before, wants_memory, only_of, inputs_to}
 use Rattle.store_facts.proofs.Checks.{checked-true}
-use Rattle.spill_work.specs.Line.{WorkLine, IsSameFor, same_job as same_line_job}
+use Rattle.spill_work.specs.Line.{WorkLine, IsSameFor, same_work_job as same_line_job}
 use Rattle.job_admission.specs.Admissions.{Admissions, live_at, lives_of}
 use Rattle.node_table.specs.Asked.{HasAsked}
 use Rattle.grants.specs.Table.{AreHands}
 use Rattle.node_table.specs.Row.{Row, beside_of}
-use Rattle.node_table.specs.Shown.{seen, IsShown, Given as RowGiven, only, TakesStep}
-use Rattle.node_core.specs.Hosted.{Hosted, IsRowView, IsViewBy, Shows, ShowsAll, bare, bare_shape, bytes_here, beside_at}
+use Rattle.node_table.specs.Shown.{seen, IsShown, RowGiven, only, RowStep}
+use Rattle.node_core.specs.Hosted.{Hosted, IsRowView, IsViewBy, Shows, ShowsAll, empty_view, empty_shape, bytes_here, beside_at}
 use Rattle.node_core.specs.Judged.{arrived}
 use Rattle.node_core.specs.OneJob.{IsStepOf}
 use Rattle.node_core.specs.Outcomes.{with_no_notes}
-use Rattle.node_core.specs.Steps.{before_of, answered, stale_unless, asked_now, line_after, StepsFrom, Steps}
+use Rattle.node_core.specs.Steps.{before_of, answer_of_check, stale_unless, asked_now, line_after, NodeStepFrom, NodeStep}
 use Rattle.node_core.proofs.AllJobs.{one_input, called_line, own_shown}
 use Rattle.node_core.proofs.Lines.{asked_nothing}
 use Rattle.node_core.proofs.Never.{stale_wants}
@@ -39,13 +39,13 @@ use Rattle.node_core.proofs.Views.{Refuses, Takes, node_of, view_is, views_stepp
 -- a store that isn't live refuses it
 arrival_refuses : (number : ℕ) (a : Admissions) (line : WorkLine) (hands : List Hand) (job : JobNo) (x : Arrival) → Refuses number a line hands job (input.Arrive x) refl Stale
 arrival_refuses number a line hands job (arrival.Located id n entries) life beside dead =
-    let s = bare_shape job.0 life beside in checked-true s (not (is_live s)) Stale [] (located s id n (source_in number entries)) (ap not dead)
+    let s = empty_shape job.0 life beside in checked-true s (not (is_live s)) Stale [] (located s id n (source_in number entries)) (ap not dead)
 arrival_refuses number a line hands job (arrival.FromPeer from (peer.Pull id n len digest indexes)) life beside dead =
-    let s = bare_shape job.0 life beside in checked-true s (not (is_live s)) Stale [] (pull_arrived [] s id (pull_matches (bare job.0 life beside) id len digest)) (ap not dead)
+    let s = empty_shape job.0 life beside in checked-true s (not (is_live s)) Stale [] (pull_arrived [] s id (pull_matches (empty_view job.0 life beside) id len digest)) (ap not dead)
 arrival_refuses number a line hands job (arrival.FromPeer from (peer.Chunk id n index bytes)) life beside dead =
-    let s = bare_shape job.0 life beside in checked-true s (not (is_live s)) Stale [] (chunk_arrived s id n index from (chunk_verdict (bare job.0 life beside) id n index bytes from)) (ap not dead)
+    let s = empty_shape job.0 life beside in checked-true s (not (is_live s)) Stale [] (chunk_arrived s id n index from (chunk_verdict (empty_view job.0 life beside) id n index bytes from)) (ap not dead)
 arrival_refuses number a line hands job (arrival.FromPeer from (peer.NotHere id n)) life beside dead =
-    let s = bare_shape job.0 life beside in checked-true s (not (is_live s)) Stale [] (not_here_arrived s id n from) (ap not dead)
+    let s = empty_shape job.0 life beside in checked-true s (not (is_live s)) Stale [] (not_here_arrived s id n from) (ap not dead)
 
 -- what is told of the job's view and of the others' is the step of all of them
 module _ (old new : Hosted) (job : JobNo) (a : Arrival) (given : RowGiven)
@@ -53,7 +53,7 @@ module _ (old new : Hosted) (job : JobNo) (a : Arrival) (given : RowGiven)
     (views : (v : ℕ → View) → ShowsAll old v → (q : ℕ) → Shows new q (cond (q == job.0) (view_step old.number (v q) (input.Arrive a)).view (v q)))
     (told : (view : View) → Shows old job.0 view → IsStepOf old.number view (input.Arrive a) given)
     (asked : (v : ℕ → View) → ShowsAll old v → HasAsked old.works job new.works)
-    (answer : given.reply ≡ answered (stale_unless (is_some (live_at old.admissions job)))) where
+    (answer : given.reply ≡ answer_of_check (stale_unless (is_some (live_at old.admissions job)))) where
   abbrev x : Input
   x = input.Arrive a
 
@@ -75,7 +75,7 @@ module _ (old new : Hosted) (job : JobNo) (a : Arrival) (given : RowGiven)
         called_line old new v shows job x (own_shown old new v shows job x (views v shows job.0)) (asked v shows)
         ∙ ap (λ w. old.works.works ++ asked_now old.number v (cond w None (Some (record { job = job.0; input = x })))) (sym never)
 
-    from : StepsFrom old v (Arrive job a) (with_no_notes given) new
+    from : NodeStepFrom old v (Arrive job a) (with_no_notes given) new
     from = record {
       views = λ q. subst (Shows new q) (sym (view_after q)) (views v shows q);
       told = let t = told (v job.0) (shows job.0) in record { reply = t.reply; posts = t.posts; erased = t.erased };
@@ -84,7 +84,7 @@ module _ (old new : Hosted) (job : JobNo) (a : Arrival) (given : RowGiven)
       line = line;
     }
 
-  arrival_steps : Steps old (Arrive job a) (with_no_notes given) new
+  arrival_steps : NodeStep old (Arrive job a) (with_no_notes given) new
   arrival_steps = record {
     number = number;
     hands = hands;
@@ -100,21 +100,21 @@ module _ (number : ℕ) (a : Admissions) (line : WorkLine) (hands : List Hand) (
   abbrev all : Hosted
   all = node_of number a line hands rows
 
-  pub stale_steps : Steps all (Arrive job x) (with_no_notes (only (reply.Refused Stale))) all
+  pub stale_steps : NodeStep all (Arrive job x) (with_no_notes (only (reply.Refused Stale))) all
   stale_steps =
       let refuses = arrival_refuses number a line hands job x in
       arrival_steps all all job x (only (reply.Refused Stale)) refl refl refl
       (λ v shows q. views_same number a line hands job (input.Arrive x) refl rows none Stale refuses q (v q) (shows q))
       (told_refused number a line hands job (input.Arrive x) refl rows none Stale refuses)
       (λ v shows. asked_nothing line job)
-      (ap (λ b. answered (stale_unless b)) (sym dead))
+      (ap (λ b. answer_of_check (stale_unless b)) (sym dead))
 
 -- a row that took the message
 module _ (number : ℕ) (a : Admissions) (line : WorkLine) (hands : List Hand) (table : AreHands hands) (job : JobNo) (x : Arrival) (old new : List (JobNo × Row)) (row after : Row) (works : WorkLine) (told : RowGiven)
     (found : lookup (same_job job) old ≡ Some row)
     (updated : (q : JobNo) → lookup (same_job q) new ≡ cond (same_job job q) (Some after) (lookup (same_job q) old))
     (took : (given : List Hand) (bytes : ObjectId → List ℕ) (contents : Contents) → IsShown row (beside_of line given bytes row.job) contents
-    → TakesStep number row (beside_of line given bytes row.job) contents (input.Arrive x) told after (beside_of works given bytes row.job))
+    → RowStep number row (beside_of line given bytes row.job) contents (input.Arrive x) told after (beside_of works given bytes row.job))
     (asked : HasAsked line (record { 0 = row.job }) works)
     (others : (other : JobNo) → same_line_job (record { 0 = row.job }) other ≡ false → IsSameFor other line works)
     (live : is_some (live_at a job) ≡ true)
@@ -129,7 +129,7 @@ module _ (number : ℕ) (a : Admissions) (line : WorkLine) (hands : List Hand) (
   module _ (own : row.job ≡ job.0) where
     obeys : Takes number job (input.Arrive x) hands (bytes_here old) row line told after works
     obeys = subst (λ n. (contents : Contents) → row.job ≡ n → IsShown row (beside_of line hands (bytes_here old) n) contents
-        → TakesStep number row (beside_of line hands (bytes_here old) n) contents (input.Arrive x) told after (beside_of works hands (bytes_here old) n)) own
+        → RowStep number row (beside_of line hands (bytes_here old) n) contents (input.Arrive x) told after (beside_of works hands (bytes_here old) n)) own
         (λ contents same shown. took hands (bytes_here old) contents shown)
 
     same_others : (other : JobNo) → same_line_job job other ≡ false → IsSameFor other line works
@@ -147,13 +147,13 @@ module _ (number : ℕ) (a : Admissions) (line : WorkLine) (hands : List Hand) (
   own_row : (view : View) → Shows at_first job.0 view → row.job ≡ job.0
   own_row view h = (subst (IsViewBy a.greatest (beside_at at_first job.0) job.0 view) found h.by_row).own
 
-  pub row_steps : Steps at_first (Arrive job x) (with_no_notes told) afterwards
+  pub row_steps : NodeStep at_first (Arrive job x) (with_no_notes told) afterwards
   row_steps =
       arrival_steps at_first afterwards job x told refl refl refl
       (λ v shows q. views_after (own_row (v job.0) (shows job.0)) v shows q)
       (λ view h. told_after (own_row view h) view h)
       (λ v shows. asked_after (own_row (v job.0) (shows job.0)))
-      (is_ok ∙ ap (λ b. answered (stale_unless b)) (sym live))
+      (is_ok ∙ ap (λ b. answer_of_check (stale_unless b)) (sym live))
 
   -- what it was to the job
   module _ (word : Judged)

@@ -6,15 +6,15 @@ use Rattle.obj_id.specs.declared.ids.JobNo.{JobNo}
 use Rattle.obj_id.specs.declared.ids.ObjectId.{ObjectId}
 use Rattle.obj_id.specs.declared.commands.Usage.{Usage}
 use Rattle.obj_id.specs.declared.refusals.Refusal.TheVariants.{NotAdmitted, NotGranted}
-use Rattle.private_store.specs.Hands.{Hand}
-use Rattle.private_store.specs.Jobs.{same_job}
-use Rattle.private_store.specs.Shape.{Shape}
-use Rattle.private_store.specs.Events.{is_live}
-use Rattle.private_store.specs.Commands.{usage_of}
-use Rattle.private_store.specs.Contents.{Contents, View}
+use Rattle.private_store.specs.rules.Hands.{Hand}
+use Rattle.private_store.specs.rules.Jobs.{same_job}
+use Rattle.private_store.specs.rules.Shape.{Shape}
+use Rattle.private_store.specs.rules.Events.{is_live}
+use Rattle.private_store.specs.rules.Commands.{usage_of}
+use Rattle.private_store.specs.rules.Contents.{Contents, View}
 use Rattle.job_admission.specs.Admissions.{Admissions, live_at}
 use Rattle.node_table.specs.Checks.{lend_check}
-use Rattle.node_table.specs.Row.{Row, Beside, beside_of, copies_of, shape_of}
+use Rattle.node_table.specs.Row.{Row, SharedTables, beside_of, copies_of, shape_of}
 use Rattle.node_table.specs.Shown.{IsShown, IsLent}
 use Rattle.node_core.specs.Hosted.{Hosted, AreHosted, IsRowView, IsViewBy, Shows, row_at, bytes_here, beside_at}
 use Rattle.node_core.specs.Borrowed.{borrowed_check, IsBorrowed}
@@ -25,7 +25,7 @@ pub live-is : (a : Admissions) (rows : List (JobNo × Row)) → AreHosted a rows
 live-is a rows kept job = is_some-lookup (same_job job) rows ∙ ap (list_any (same_job job)) kept.jobs ∙ sym (is_some-lookup (same_job job) a.live)
 
 module _ (node : Hosted) (job : JobNo) (row : Row) (found : row_at node job ≡ Some row) (view : View) (h : Shows node job.0 view) where
-  abbrev beside : Beside
+  abbrev beside : SharedTables
   beside = beside_at node job.0
 
   pub row_shown : IsRowView row beside job.0 view
@@ -48,7 +48,7 @@ module _ (node : Hosted) (job : JobNo) (row : Row) (found : row_at node job ≡ 
       ∙ ap (λ b. cond (not b) (Some NotGranted) (lend_check (copies_of row.copies) session id)) mine
 
   pub lent_bytes : (session : ℕ) (id : ObjectId) (bytes : List ℕ) → (id.job.0 == job.0) ≡ true
-      → ((beside : Beside) (contents : Contents) → IsShown row beside contents → IsLent (copies_of row.copies) contents session id bytes) → IsBorrowed view session id bytes
+      → ((beside : SharedTables) (contents : Contents) → IsShown row beside contents → IsLent (copies_of row.copies) contents session id bytes) → IsBorrowed view session id bytes
   lent_bytes session id bytes mine lent =
       let l = lent beside view.contents row_shown.shown in
       record {

@@ -8,27 +8,27 @@ use Rattle.obj_id.specs.declared.commands.Command.TheVariants as command
 use Rattle.obj_id.specs.declared.commands.Reply.TheVariants as reply
 use Rattle.obj_id.specs.declared.refusals.Refusal.TheVariants.{NotGranted}
 use Rattle.private_store.specs.declared.inputs.Input.TheVariants as input
-use Rattle.private_store.specs.Change.{erasing, refused}
-use Rattle.private_store.specs.Shape.{Change}
-use Rattle.private_store.specs.Contents.{Contents, brief}
-use Rattle.private_store.specs.Step.{commanded, owned}
-use Rattle.node_table.specs.Row.{Row, Beside, shape_of}
-use Rattle.node_table.specs.Shown.{IsShown, only, TakesStep}
+use Rattle.private_store.specs.rules.Change.{erasing, refused}
+use Rattle.private_store.specs.rules.Shape.{Change}
+use Rattle.private_store.specs.rules.Contents.{Contents, without_payload}
+use Rattle.private_store.specs.rules.Step.{commanded, owned}
+use Rattle.node_table.specs.Row.{Row, SharedTables, shape_of}
+use Rattle.node_table.specs.Shown.{IsShown, only, RowStep}
 use Rattle.node_table.proofs.ForCallers.{stays, change, called, foreign}
 use Rattle.store_facts.proofs.Tests.{true_false}
 use Rattle.spill_work.specs.Line.{WorkLine}
 use Rattle.node_core.specs.Calls.{is_of_row, is_own, is_plain}
 use Rattle.node_core.specs.Hosted.{Hosted}
-use Rattle.node_core.specs.Late.{hands_check, IsRoomDue}
+use Rattle.node_core.specs.MemoryLast.{hands_check, IsRoomDue}
 
-module _ (node job : ℕ) (row : Row) (beside : Beside) (session : ℕ) (contents : Contents) (own : row.job ≡ job) (h : IsShown row beside contents) where
-  foreign_is : (id : ObjectId) (c : Command (List ℕ)) (d : Change) → (id.job.0 == job) ≡ false → commanded row.order (shape_of row beside) session (brief c) ≡ owned (shape_of row beside) id d
+module _ (node job : ℕ) (row : Row) (beside : SharedTables) (session : ℕ) (contents : Contents) (own : row.job ≡ job) (h : IsShown row beside contents) where
+  foreign_is : (id : ObjectId) (c : Command (List ℕ)) (d : Change) → (id.job.0 == job) ≡ false → commanded row.order (shape_of row beside) session (without_payload c) ≡ owned (shape_of row beside) id d
       → change node row beside contents h (input.Call session c) ≡ erasing (shape_of row beside) (refused (shape_of row beside) NotGranted)
   foreign_is id c d other is =
-      called row beside session (brief c)
+      called row beside session (without_payload c)
       ∙ ap (erasing (shape_of row beside)) (is ∙ foreign row beside id d (ap (λ n. id.job.0 == n) own ∙ other))
 
-  pub not_granted : (c : Command (List ℕ)) → is_own job c ≡ false → TakesStep node row beside contents (input.Call session c) (only (reply.Refused NotGranted)) row beside
+  pub not_granted : (c : Command (List ℕ)) → is_own job c ≡ false → RowStep node row beside contents (input.Call session c) (only (reply.Refused NotGranted)) row beside
   not_granted (command.Create id kind n) other = stays node row beside contents h (input.Call session (command.Create id kind n)) (reply.Refused NotGranted) (foreign_is id (command.Create id kind n) _ other refl) refl refl refl
   not_granted (command.Write id offset bytes) other = stays node row beside contents h (input.Call session (command.Write id offset bytes)) (reply.Refused NotGranted) (foreign_is id (command.Write id offset bytes) _ other refl) refl refl refl
   not_granted (command.Seal id) other = stays node row beside contents h (input.Call session (command.Seal id)) (reply.Refused NotGranted) (foreign_is id (command.Seal id) _ other refl) refl refl refl

@@ -16,18 +16,18 @@ use Rattle.private_store.specs.declared.inputs.Input.TheVariants as input
 use Rattle.private_store.specs.declared.inputs.Judged.TheVariants as judged
 use Rattle.private_store.specs.declared.schedules.Event.TheVariants as event
 use Rattle.private_store.specs.declared.schedules.NodeEvent.TheVariants.{Own}
-use Rattle.private_store.specs.Jobs.{same_job}
-use Rattle.private_store.specs.Shape.{Seen, ended}
-use Rattle.private_store.specs.Tables.{ids_of}
+use Rattle.private_store.specs.rules.Jobs.{same_job}
+use Rattle.private_store.specs.rules.Shape.{Seen, ended}
+use Rattle.private_store.specs.rules.Tables.{ids_of}
 use Rattle.obj_id.specs.declared.works.DeviceKey.{DeviceKey}
-use Rattle.private_store.specs.Change.{sending, erasing}
-use Rattle.private_store.specs.Events.{end_job_here, over}
-use Rattle.private_store.specs.Step.{step}
-use Rattle.private_store.specs.Contents.{Contents, View, kept}
-use Rattle.private_store.specs.Hands.{Hand, hands_ended, hands_left, is_given_by}
-use Rattle.private_store.specs.Kept.{has_hand}
-use Rattle.private_store.specs.Private.{view_step, outcome, to_directory, no_contents}
-use Rattle.private_store.specs.Shared.{job_is}
+use Rattle.private_store.specs.rules.Change.{sending, erasing}
+use Rattle.private_store.specs.rules.Events.{end_job_here, over}
+use Rattle.private_store.specs.rules.Step.{step}
+use Rattle.private_store.specs.rules.Contents.{Contents, View, kept}
+use Rattle.private_store.specs.rules.Hands.{Hand, hands_ended, hands_left, is_given_by}
+use Rattle.private_store.specs.laws.Invariants.{has_hand}
+use Rattle.private_store.specs.rules.Private.{view_step, outcome, to_directory, no_contents}
+use Rattle.private_store.specs.rules.Shared.{job_is}
 use Rattle.store_facts.proofs.Checks.{checked-nil, checked-false}
 use Rattle.store_facts.proofs.Tests.{true_false, both, both_left, both_right}
 use Rattle.spill_work.specs.Line.{WorkLine, Drops, is_of as is_of_line}
@@ -36,17 +36,17 @@ use Rattle.grants.proofs.ForCallers.{left_are_hands}
 use Rattle.job_admission.specs.Admissions.{Admissions, live_at, lives_of, finished}
 use Rattle.node_table.specs.Granting.{row_bytes}
 use Rattle.node_table.specs.Notes.{beside_rest}
-use Rattle.node_table.specs.Row.{Row, Beside, given_by, received_bytes}
-use Rattle.node_table.specs.Shown.{seen, only, IsShown, Given as RowGiven}
+use Rattle.node_table.specs.Row.{Row, SharedTables, row_given_by, received_bytes}
+use Rattle.node_table.specs.Shown.{seen, only, IsShown, RowGiven}
 use Rattle.node_table.proofs.ForCallers.{sorted-copies, keys-backed, is_of, none_given, rest_of_job, kept_as_they_are}
 use Rattle.node_table.specs.Ending.{keys_backed}
 use Rattle.node_core.proofs.Granted.{own_gave}
 use Rattle.node_core.proofs.HandsEnd.{ended_shows, ended_inputs, ends_judged}
-use Rattle.node_core.specs.Hosted.{Hosted, AreHosted, IsHosted, IsRowView, IsBare, IsViewBy, Shows, ShowsAll, bare, bytes_here, beside_at}
+use Rattle.node_core.specs.Hosted.{Hosted, AreHosted, IsHosted, IsRowView, IsBare, IsViewBy, Shows, ShowsAll, empty_view, bytes_here, beside_at}
 use Rattle.node_core.specs.JobEnds.{IsOwnEnd, LetsJobGo}
 use Rattle.node_core.specs.OneJob.{IsStepOf}
 use Rattle.node_core.specs.Outcomes.{with_no_notes, with_ends, end_noted}
-use Rattle.node_core.specs.Steps.{Given, answered, queued, Steps}
+use Rattle.node_core.specs.Steps.{NodeGiven, answer_of_check, queued, NodeStep}
 use Rattle.node_core.proofs.Views.{itself, view_is, node_of}
 
 -- ---- the numbers
@@ -103,7 +103,7 @@ none_left : (ids : List ObjectId) → filter (λ (id : ObjectId). false) ids ≡
 none_left [] = refl
 none_left (id ∷ ids) = none_left ids
 
-module _ (number : ℕ) (row : Row) (beside : Beside) (contents : Contents) (h : IsShown row beside contents) where
+module _ (number : ℕ) (row : Row) (beside : SharedTables) (contents : Contents) (h : IsShown row beside contents) where
   abbrev v : View
   v = seen row beside contents
 
@@ -117,7 +117,7 @@ module _ (number : ℕ) (row : Row) (beside : Beside) (contents : Contents) (h :
   received_stays : kept (λ seen. true) (λ seen. []) contents.received beside.received ≡ received_bytes beside
   received_stays = ap (λ t. kept (λ (seen : Seen). true) (λ seen. []) t beside.received) h.received ∙ kept_as_they_are beside.bytes beside.received
 
-  pub end_view : (view_step number v input.End).view ≡ bare row.job ended beside
+  pub end_view : (view_step number v input.End).view ≡ empty_view row.job ended beside
   unfolding sending
   end_view =
       ap (λ o. o.view) end_step
@@ -139,7 +139,7 @@ module _ (number : ℕ) (row : Row) (beside : Beside) (contents : Contents) (h :
 -- ---- the step
 
 -- a job that isn't live is refused, and nothing changes
-pub end_refused : (node : Hosted) (job : JobNo) → is_some (live_at node.admissions job) ≡ false → Steps node (Own (event.JobEnd job)) (with_no_notes (only (reply.Refused NotAdmitted))) node
+pub end_refused : (node : Hosted) (job : JobNo) → is_some (live_at node.admissions job) ≡ false → NodeStep node (Own (event.JobEnd job)) (with_no_notes (only (reply.Refused NotAdmitted))) node
 end_refused node job none = record {
   number = refl;
   hands = refl;
@@ -149,7 +149,7 @@ end_refused node job none = record {
     views = shows;
     told = record { posts = refl; erased = refl };
     notes = refl;
-    operator = sym (ap (λ t. answered (cond t None (Some NotAdmitted))) none);
+    operator = sym (ap (λ t. answer_of_check (cond t None (Some NotAdmitted))) none);
     line = sym (append-nil node.works.works);
   };
 }
@@ -187,7 +187,7 @@ module _ (number : ℕ) (a b : Admissions) (line after_line : WorkLine) (hands :
   none_of_job : (id : ObjectId) → list_any (is_of id) left ≡ true → same_job job id.job ≡ true → false ≡ true
   none_of_job id there same =
       let jobs : id.job.0 ≡ job.0 = sym (eqb-true job.0 id.job.0 same) in
-      let gave : has_hand (given_by left job.0) id ≡ true = subst (λ n. has_hand (given_by left n) id ≡ true) jobs (own_gave left (left_are_hands test hands table) id there) in
+      let gave : has_hand (row_given_by left job.0) id ≡ true = subst (λ n. has_hand (row_given_by left n) id ≡ true) jobs (own_gave left (left_are_hands test hands table) id there) in
       ap (λ given. has_hand given id) (sym (none_given hands (bytes_here old) test table number job.0 ended (rest_of_job hands (bytes_here old) job.0))) ∙ gave
 
   rows_other : (q : JobNo) → same_job job q ≡ false → lookup (same_job q) new ≡ lookup (same_job q) old
@@ -212,7 +212,7 @@ module _ (number : ℕ) (a b : Admissions) (line after_line : WorkLine) (hands :
     left_bare = record {
       life = ended;
       is = ap (λ w. (view_step number w input.End).view) (view_is own_row (beside_at before job.0) job.0 (v job.0) r)
-          ∙ end_view number own_row (beside_at before job.0) (v job.0).contents r.shown ∙ ap (λ n. bare n ended (beside_at before job.0)) r.own;
+          ∙ end_view number own_row (beside_at before job.0) (v job.0).contents r.shown ∙ ap (λ n. empty_view n ended (beside_at before job.0)) r.own;
       dead = refl;
       fresh = λ above. absurd (grind (arith, nat_tests, not_above, above));
       works = drops.own_works;
@@ -235,10 +235,10 @@ module _ (number : ℕ) (a b : Admissions) (line after_line : WorkLine) (hands :
         ap (λ w. (view_step number w input.End).works) (view_is own_row (beside_at before job.0) job.0 (v job.0) r)
         ∙ end_works number own_row (beside_at before job.0) (v job.0).contents r.shown
 
-  abbrev pub given : Given
+  abbrev pub given : NodeGiven
   given = record { reply = reply.Ok; posts = to_directory (EndJob number); erased = erased; notes = map end_noted ended_hands }
 
-  pub end_steps : Steps before (Own (event.JobEnd job)) given after
+  pub end_steps : NodeStep before (Own (event.JobEnd job)) given after
   end_steps = record {
     number = refl;
     hands = refl;
@@ -251,7 +251,7 @@ module _ (number : ℕ) (a b : Admissions) (line after_line : WorkLine) (hands :
               (ended_shows number a b low line after_line hands table test job input.End old new (λ hand e. e) rows_other drops.others bytes_left v shows (own_left v shows) q);
           told = record { reply = told.reply; posts = told.posts; erased = told.erased };
           notes = ends_judged number v ended_hands;
-          operator = sym (ap (λ t. answered (cond t None (Some NotAdmitted))) is_live);
+          operator = sym (ap (λ t. answer_of_check (cond t None (Some NotAdmitted))) is_live);
           line = drops.works ∙ sym (append-nil (filter (λ work. not (is_of_line job work)) line.works))
               ∙ ap (λ ws. filter (λ work. not (is_of_line job work)) line.works ++ queued job.0 ws) (sym (no_works v shows));
         };
@@ -259,11 +259,11 @@ module _ (number : ℕ) (a b : Admissions) (line after_line : WorkLine) (hands :
 
 -- from what it gives and what it leaves
 pub job_ends : (old new : Hosted) (job : JobNo) (own : RowGiven) → IsHosted old.admissions old.hands old.rows → is_some (live_at old.admissions job) ≡ true → IsOwnEnd old job own → LetsJobGo old job new
-    → Steps old (Own (event.JobEnd job)) (with_ends own (hands_ended (is_given_by job.0) old.hands)) new
+    → NodeStep old (Own (event.JobEnd job)) (with_ends own (hands_ended (is_given_by job.0) old.hands)) new
 job_ends old new job own hosted is_live gives leaves =
     let at_end : new ≡ node_of old.number new.admissions new.works (hands_left (is_given_by job.0) old.hands) new.rows = λ i. node_of (leaves.number i) new.admissions new.works (leaves.hands i) new.rows in
-    subst (λ (n : Hosted). Steps old (Own (event.JobEnd job)) (with_ends own (hands_ended (is_given_by job.0) old.hands)) n) (sym at_end)
-    (subst (λ (given : RowGiven). Steps old (Own (event.JobEnd job)) (with_ends given (hands_ended (is_given_by job.0) old.hands)) (node_of old.number new.admissions new.works (hands_left (is_given_by job.0) old.hands) new.rows)) (sym gives.is)
+    subst (λ (n : Hosted). NodeStep old (Own (event.JobEnd job)) (with_ends own (hands_ended (is_given_by job.0) old.hands)) n) (sym at_end)
+    (subst (λ (given : RowGiven). NodeStep old (Own (event.JobEnd job)) (with_ends given (hands_ended (is_given_by job.0) old.hands)) (node_of old.number new.admissions new.works (hands_left (is_given_by job.0) old.hands) new.rows)) (sym gives.is)
     (end_steps old.number old.admissions new.admissions old.works new.works old.hands hosted.table job old.rows new.rows hosted.jobs is_live leaves.admissions leaves.works leaves.rows leaves.lives
     gives.row gives.found (keys_backed gives.row (ids_of gives.row.copies)) refl))
 

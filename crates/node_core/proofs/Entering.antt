@@ -7,9 +7,9 @@ use Rattle.std.specs.Map.{keys_of, lookup, set_value}
 use Rattle.std.specs.Option.{option_map_or}
 use Rattle.std.proofs.lemmas.Map.{keys-set_value}
 use Rattle.obj_id.specs.declared.ids.JobNo.{JobNo}
-use Rattle.private_store.specs.Contents.{View}
-use Rattle.private_store.specs.Hands.{Hand}
-use Rattle.private_store.specs.Jobs.{same_job}
+use Rattle.private_store.specs.rules.Contents.{View}
+use Rattle.private_store.specs.rules.Hands.{Hand}
+use Rattle.private_store.specs.rules.Jobs.{same_job}
 use Rattle.spill_work.specs.Line.{WorkLine}
 use Rattle.job_admission.specs.declared.Live.{Live}
 use Rattle.job_admission.specs.Admissions.{Admissions, live_at, entered}

@@ -18,27 +18,27 @@ use Rattle.private_store.specs.declared.inputs.WorkVerdict.{WorkVerdict}
 use Rattle.private_store.specs.declared.inputs.WorkVerdict.TheVariants as work
 use Rattle.private_store.specs.declared.schedules.Event.{Event}
 use Rattle.private_store.specs.declared.schedules.Event.TheVariants as event
-use Rattle.private_store.specs.Hands.{Hand}
-use Rattle.private_store.specs.Jobs.{same_job}
-use Rattle.private_store.specs.Tables.{at}
-use Rattle.private_store.specs.Shape.{Copy, Shape, Change, WorkInFlight}
-use Rattle.private_store.specs.Room.{set_copy}
-use Rattle.private_store.specs.Change.{refused, done, needing, erasing, settled}
-use Rattle.private_store.specs.Events as events
-use Rattle.private_store.specs.Contents.{Contents, View, judge, whole_reply, work_verdict}
-use Rattle.private_store.specs.Private.{view_step}
+use Rattle.private_store.specs.rules.Hands.{Hand}
+use Rattle.private_store.specs.rules.Jobs.{same_job}
+use Rattle.private_store.specs.rules.Tables.{at}
+use Rattle.private_store.specs.rules.Shape.{Copy, Shape, Change, WorkInFlight}
+use Rattle.private_store.specs.rules.Room.{set_copy}
+use Rattle.private_store.specs.rules.Change.{refused, done, needing, erasing, settled}
+use Rattle.private_store.specs.rules.Events as events
+use Rattle.private_store.specs.rules.Contents.{Contents, View, judge, whole_reply, work_verdict}
+use Rattle.private_store.specs.rules.Private.{view_step}
 use Rattle.store_facts.proofs.Tests.{true_false, none_some}
 use Rattle.spill_work.specs.declared.queue.Queued.{Queued}
-use Rattle.spill_work.specs.Line.{WorkLine, IsSameFor, same_job as same_line_job, shown, is_of, is_at, finish_check}
+use Rattle.spill_work.specs.Line.{WorkLine, IsSameFor, same_work_job as same_line_job, shown, is_of, is_at, finish_check}
 use Rattle.job_admission.specs.Admissions.{Admissions}
 use Rattle.grants.specs.Table.{AreHands}
-use Rattle.node_table.specs.Row.{Row, Beside, beside_of, shape_of}
-use Rattle.node_table.specs.Shown.{seen, IsShown, Given, only, TakesStep}
+use Rattle.node_table.specs.Row.{Row, SharedTables, beside_of, shape_of}
+use Rattle.node_table.specs.Shown.{seen, IsShown, RowGiven, only, RowStep}
 use Rattle.node_table.proofs.ForCallers.{copy_at_work, at-copies_found}
 use Rattle.node_core.specs.Hosted.{Hosted, IsRowView, IsBare, IsViewBy, Shows, ShowsAll, bytes_here, beside_at}
 use Rattle.node_core.specs.Judged.{if_ok}
-use Rattle.node_core.specs.OneJob.{IsGiven, input_of, view_by, StepsOne}
-use Rattle.node_core.specs.Steps.{is_taken, answered, stale_unless}
+use Rattle.node_core.specs.OneJob.{IsGiven, event_input_of, view_by, NodeStepOne}
+use Rattle.node_core.specs.Steps.{is_taken, answer_of_check, stale_unless}
 use Rattle.node_core.proofs.Taking.{part, one_each}
 use Rattle.node_core.proofs.Views.{node_of, view_is, views_stepped, told_stepped}
 
@@ -186,13 +186,13 @@ module _ (nodeno : ℕ) (a : Admissions) (line : WorkLine) (hands : List Hand) (
         let b : IsBare a.greatest (beside_at without job.0) job.0 view = subst (IsViewBy a.greatest (beside_at without job.0) job.0 view) none h.by_row in
         none_out job number line.works b.works
 
-    pub stale_steps : StepsOne without e (only (reply.Refused Stale)) without
+    pub stale_steps : NodeStepOne without e (only (reply.Refused Stale)) without
     stale_steps = record {
       number = refl;
       views = λ v shows q. same_view q job.0 without (v q) (shows q);
       told = λ view h. record { posts = refl; erased = refl };
       operator = refl;
-      by_views = λ v shows. sym (ap (λ t. answered (stale_unless t)) (none_at (v job.0) (shows job.0)));
+      by_views = λ v shows. sym (ap (λ t. answer_of_check (stale_unless t)) (none_at (v job.0) (shows job.0)));
       admissions = refl;
       lives = refl;
       line = λ v shows. untaken_stay job number line.works (none_at (v job.0) (shows job.0));
@@ -202,9 +202,9 @@ module _ (nodeno : ℕ) (a : Admissions) (line : WorkLine) (hands : List Hand) (
   -- ---- a live job
 
   -- what is told of the row and the line, where the row's job is of this number
-  pub record Finished (row after : Row) (works : WorkLine) (told : Given) (verdict : WorkVerdict) (n : ℕ) : Type 0 where
+  pub record Finished (row after : Row) (works : WorkLine) (told : RowGiven) (verdict : WorkVerdict) (n : ℕ) : Type 0 where
     pub step : finish_check line (record { 0 = n }) number ≡ None → (bytes : ObjectId → List ℕ) (contents : Contents) → IsShown row (beside_of line hands bytes n) contents
-        → TakesStep nodeno row (beside_of line hands bytes n) contents x told after (beside_of works hands bytes n)
+        → RowStep nodeno row (beside_of line hands bytes n) contents x told after (beside_of works hands bytes n)
     pub judged : finish_check line (record { 0 = n }) number ≡ None → (bytes : ObjectId → List ℕ) (contents : Contents) → IsShown row (beside_of line hands bytes n) contents
         → verdict ≡ work_verdict (seen row (beside_of line hands bytes n) contents) number answer
     pub line_is : finish_check line (record { 0 = n }) number ≡ None → works ≡ record line { works = filter (λ work. not (is_at (record { 0 = n }) number work)) line.works }
@@ -213,7 +213,7 @@ module _ (nodeno : ℕ) (a : Admissions) (line : WorkLine) (hands : List Hand) (
     pub same : (r : Refusal) → finish_check line (record { 0 = n }) number ≡ Some r → after ≡ row
     pub same_line : (r : Refusal) → finish_check line (record { 0 = n }) number ≡ Some r → works ≡ line
 
-  module _ (table : AreHands hands) (old new : List (JobNo × Row)) (row after : Row) (works : WorkLine) (told : Given) (verdict : WorkVerdict)
+  module _ (table : AreHands hands) (old new : List (JobNo × Row)) (row after : Row) (works : WorkLine) (told : RowGiven) (verdict : WorkVerdict)
       (found : lookup (same_job job) old ≡ Some row)
       (updated : (q : JobNo) → lookup (same_job q) new ≡ cond (same_job job q) (Some after) (lookup (same_job q) old))
       (new_is : new ≡ set_value (same_job job) old after)
@@ -224,7 +224,7 @@ module _ (nodeno : ℕ) (a : Admissions) (line : WorkLine) (hands : List Hand) (
     abbrev node_new : Hosted
     node_new = node_of nodeno a works hands new
 
-    abbrev beside : Beside
+    abbrev beside : SharedTables
     beside = beside_at node_old job.0
 
     abbrev taken : Bool
@@ -268,21 +268,21 @@ module _ (nodeno : ℕ) (a : Admissions) (line : WorkLine) (hands : List Hand) (
       told_stale : taken ≡ false → told ≡ only (reply.Refused Stale)
       told_stale is = f.stale Stale (failed is)
 
-      reply_is : told.reply ≡ answered (stale_unless taken)
+      reply_is : told.reply ≡ answer_of_check (stale_unless taken)
       reply_is = by taken refl
         where
-          by : (t : Bool) → taken ≡ t → told.reply ≡ answered (stale_unless t)
+          by : (t : Bool) → taken ≡ t → told.reply ≡ answer_of_check (stale_unless t)
           by true is = told_ok is
           by false is = ap (λ g. g.reply) (told_stale is)
 
-      given : IsGiven nodeno view (input_of e told.reply) told
+      given : IsGiven nodeno view (event_input_of e told.reply) told
       given = by taken refl
         where
-          by : (t : Bool) → taken ≡ t → IsGiven nodeno view (input_of e told.reply) told
+          by : (t : Bool) → taken ≡ t → IsGiven nodeno view (event_input_of e told.reply) told
           by true is =
-              subst (λ g. IsGiven nodeno view (input_of e g) told) (sym (told_ok is))
+              subst (λ g. IsGiven nodeno view (event_input_of e g) told) (sym (told_ok is))
               (told_stepped nodeno a a refl line works hands table job x old new row after told found updated (λ contents own shown. f.step (passed is) (bytes_here old) contents shown) f.others view h)
-          by false is = subst (λ g. IsGiven nodeno view (input_of e g.reply) g) (sym (told_stale is)) (record { posts = refl; erased = refl })
+          by false is = subst (λ g. IsGiven nodeno view (event_input_of e g.reply) g) (sym (told_stale is)) (record { posts = refl; erased = refl })
 
       line_left : works.works ≡ filter (left_by job number) line.works
       line_left = by taken refl
@@ -292,31 +292,31 @@ module _ (nodeno : ℕ) (a : Admissions) (line : WorkLine) (hands : List Hand) (
           by false is = ap (λ (l : WorkLine). l.works) (f.same_line Stale (failed is)) ∙ untaken_stay job number line.works is
 
       -- what it was to the job
-      pub finish_judged : option_map (judge nodeno view) (input_of e told.reply) ≡ if_ok told.reply (judged.Answer number verdict)
+      pub finish_judged : option_map (judge nodeno view) (event_input_of e told.reply) ≡ if_ok told.reply (judged.Answer number verdict)
       finish_judged = by taken refl
         where
-          by : (t : Bool) → taken ≡ t → option_map (judge nodeno view) (input_of e told.reply) ≡ if_ok told.reply (judged.Answer number verdict)
+          by : (t : Bool) → taken ≡ t → option_map (judge nodeno view) (event_input_of e told.reply) ≡ if_ok told.reply (judged.Answer number verdict)
           by true is =
-              subst (λ g. option_map (judge nodeno view) (input_of e g) ≡ if_ok g (judged.Answer number verdict)) (sym (told_ok is))
+              subst (λ g. option_map (judge nodeno view) (event_input_of e g) ≡ if_ok g (judged.Answer number verdict)) (sym (told_ok is))
               (ap (λ v. Some (judged.Answer number v)) (ap (λ v. work_verdict v number answer) (view_is row beside job.0 view r) ∙ sym (f.judged (passed is) (bytes_here old) view.contents r.shown)))
-          by false is = subst (λ g. option_map (judge nodeno view) (input_of e g.reply) ≡ if_ok g.reply (judged.Answer number verdict)) (sym (told_stale is)) refl
+          by false is = subst (λ g. option_map (judge nodeno view) (event_input_of e g.reply) ≡ if_ok g.reply (judged.Answer number verdict)) (sym (told_stale is)) refl
 
-    views : (v : ℕ → View) → ShowsAll node_old v → (q : ℕ) → Shows node_new q (cond (q == job.0) (view_by nodeno (v q) (input_of e told.reply)) (v q))
+    views : (v : ℕ → View) → ShowsAll node_old v → (q : ℕ) → Shows node_new q (cond (q == job.0) (view_by nodeno (v q) (event_input_of e told.reply)) (v q))
     views v shows q = by taken refl
       where
         own : Shows node_old job.0 (v job.0)
         own = shows job.0
 
-        by : (t : Bool) → taken ≡ t → Shows node_new q (cond (q == job.0) (view_by nodeno (v q) (input_of e told.reply)) (v q))
+        by : (t : Bool) → taken ≡ t → Shows node_new q (cond (q == job.0) (view_by nodeno (v q) (event_input_of e told.reply)) (v q))
         by true is =
             let f = f (v job.0) own in
-            subst (λ g. Shows node_new q (cond (q == job.0) (view_by nodeno (v q) (input_of e g)) (v q))) (sym (told_ok (v job.0) own is))
+            subst (λ g. Shows node_new q (cond (q == job.0) (view_by nodeno (v q) (event_input_of e g)) (v q))) (sym (told_ok (v job.0) own is))
             (views_stepped nodeno a a refl line works hands table job x old new row after told found updated (λ contents at shown. f.step (passed (v job.0) own is) (bytes_here old) contents shown) f.others v shows q)
         by false is =
-            subst (λ g. Shows node_new q (cond (q == job.0) (view_by nodeno (v q) (input_of e g.reply)) (v q))) (sym (told_stale (v job.0) own is))
+            subst (λ g. Shows node_new q (cond (q == job.0) (view_by nodeno (v q) (event_input_of e g.reply)) (v q))) (sym (told_stale (v job.0) own is))
             (subst (λ n. Shows n q (cond (q == job.0) (v q) (v q))) (sym (untouched (v job.0) own is)) (same_view q job.0 node_old (v q) (shows q)))
 
-    pub finish_steps : StepsOne node_old e told node_new
+    pub finish_steps : NodeStepOne node_old e told node_new
     finish_steps = record {
       number = refl;
       views = views;

@@ -1,4 +1,4 @@
--- What a Grant leaves at a node: the own step, a hand more beside every row, and its taker is told.
+-- What a Grant leaves at a node: the own step, a hand more beside every row, and its grantee is told.
 use Rattle.std.proofs.Common.{◌≡◌, ℕ, ◌==◌, Bool, true, false, cond, ◌||◌, ◌&&◌, List, [], ◌∷◌, ◌++◌, length, map, inl, inr, ◌⊎◌, Option, Some, None, refl, sym, ap, subst, ◌∙◌, arith}
 use Rattle.std.specs.List.{find, list_any}
 use Rattle.std.specs.Map.{lookup}
@@ -21,27 +21,27 @@ use Rattle.private_store.specs.declared.inputs.Input.TheVariants as input
 use Rattle.private_store.specs.declared.schedules.Event.{Event}
 use Rattle.private_store.specs.declared.schedules.Event.TheVariants as event
 use Rattle.private_store.specs.declared.schedules.NodeEvent.TheVariants.{Own}
-use Rattle.private_store.specs.Contents.{View, bytes_at, judge}
-use Rattle.private_store.specs.Hands.{Hand, ground, new_hand, with_hand}
-use Rattle.private_store.specs.Jobs.{same_job}
-use Rattle.private_store.specs.Kept.{has_hand}
-use Rattle.private_store.specs.NodeInputs.{JobInput, only_of, received_here}
-use Rattle.private_store.specs.Private.{view_step, view_from}
+use Rattle.private_store.specs.rules.Contents.{View, bytes_at, judge}
+use Rattle.private_store.specs.rules.Hands.{Hand, ground, new_hand, with_hand}
+use Rattle.private_store.specs.rules.Jobs.{same_job}
+use Rattle.private_store.specs.laws.Invariants.{has_hand}
+use Rattle.private_store.specs.laws.NodeInputs.{JobInput, only_of, received_here}
+use Rattle.private_store.specs.rules.Private.{view_step, view_from}
 use Rattle.store_facts.proofs.OwnJob.{step_keeps_job}
 use Rattle.store_facts.proofs.Tests.{none_some, or_cases, or_false, true_false}
-use Rattle.grants.specs.Table.{AreHands, is_no_taker, limits_check, hung_check, grant_check as table_check}
+use Rattle.grants.specs.Table.{AreHands, is_no_grantee, limits_check, hung_check, grant_check as table_check}
 use Rattle.grants.proofs.ForCallers.{pushed_are_hands, made_for}
 use Rattle.job_admission.specs.Admissions.{Admissions}
 use Rattle.spill_work.specs.Line.{WorkLine}
 use Rattle.node_table.specs.Granting.{row_bytes}
-use Rattle.node_table.specs.Row.{Row, Beside, given_by, beside_of, shape_of}
-use Rattle.node_table.specs.Shown.{seen, only, IsShown, Given as RowGiven, TakesStep}
+use Rattle.node_table.specs.Row.{Row, SharedTables, row_given_by, beside_of, shape_of}
+use Rattle.node_table.specs.Shown.{seen, only, IsShown, RowGiven, RowStep}
 use Rattle.node_table.proofs.ForCallers.{is_of, alike_bytes, lengths, same_given, others_stand, row_receives, bare_receives, received_is, past}
 use Rattle.node_core.specs.Granting.{grant_refusal, TakesGrant}
 use Rattle.node_core.specs.Hosted.{Hosted, IsRowView, IsViewBy, Shows, ShowsAll, bytes_here, beside_at}
-use Rattle.node_core.specs.Late.{hands_check, IsCallUnrefused, IsRoomDue, IsUnrefused}
+use Rattle.node_core.specs.MemoryLast.{hands_check, IsCallUnrefused, IsRoomDue, IsUnrefused}
 use Rattle.node_core.specs.Outcomes.{with_given, with_no_notes, received_noted}
-use Rattle.node_core.specs.Steps.{queued, IsStepOf, Steps, StepsFrom}
+use Rattle.node_core.specs.Steps.{queued, IsStepOf, NodeStep, NodeStepFrom}
 use Rattle.node_core.proofs.AllJobs.{all_steps, asks_nothing, refused_still}
 use Rattle.node_core.proofs.Granted.{IsSealedCopy, granted_copy, sealed_bytes, sealed_stay, own_gave, bytes_where}
 use Rattle.node_core.proofs.HandCommands.{table_passed, own_sealed}
@@ -51,9 +51,9 @@ use Rattle.node_core.proofs.Views.{itself, view_is, node_of, Takes, call_steps, 
 
 -- ---- the table
 
--- the taker is another job than the giver
-taker_apart : (hands : List Hand) (giver : ℕ) (id : ObjectId) (taker : ℕ) → table_check hands giver id taker ≡ None → (giver == taker) ≡ false
-taker_apart hands giver id taker passed = by (taker == 0) (taker == giver) (taker == id.job.0) (giver == taker) (grind (arith, nat_tests)) (past (is_no_taker id giver taker) BadId _ passed).0
+-- the grantee is another job than the grantor
+grantee_apart : (hands : List Hand) (grantor : ℕ) (id : ObjectId) (grantee : ℕ) → table_check hands grantor id grantee ≡ None → (grantor == grantee) ≡ false
+grantee_apart hands grantor id grantee passed = by (grantee == 0) (grantee == grantor) (grantee == id.job.0) (grantor == grantee) (grind (arith, nat_tests)) (past (is_no_grantee id grantor grantee) BadId _ passed).0
   where
     by : (a b c d : Bool) → b ≡ d → (a || b || c) ≡ false → d ≡ false
     by a false c false same e = refl
@@ -61,46 +61,46 @@ taker_apart hands giver id taker passed = by (taker == 0) (taker == giver) (take
     by true true c d same e = absurd cc
     by false true c d same e = absurd cc
 
--- another job's object is seen by its giver
-hand_found : (hands : List Hand) (giver : ℕ) (id : ObjectId) (taker : ℕ) → (id.job.0 == giver) ≡ false → table_check hands giver id taker ≡ None → list_any (is_of id) hands ≡ true
-hand_found hands giver id taker foreign passed = some_of hands (by (ground hands id giver) refl hung)
+-- another job's object is seen by its grantor
+hand_found : (hands : List Hand) (grantor : ℕ) (id : ObjectId) (grantee : ℕ) → (id.job.0 == grantor) ≡ false → table_check hands grantor id grantee ≡ None → list_any (is_of id) hands ≡ true
+hand_found hands grantor id grantee foreign passed = some_of hands (by (ground hands id grantor) refl hung)
   where
-    hung : hung_check hands giver id taker (ground hands id giver) ≡ None
+    hung : hung_check hands grantor id grantee (ground hands id grantor) ≡ None
     hung =
-        ap (λ b. cond b (limits_check hands giver id taker 0) (hung_check hands giver id taker (ground hands id giver))) (sym foreign)
-        ∙ (past (is_no_taker id giver taker) BadId _ passed).1
+        ap (λ b. cond b (limits_check hands grantor id grantee 0) (hung_check hands grantor id grantee (ground hands id grantor))) (sym foreign)
+        ∙ (past (is_no_grantee id grantor grantee) BadId _ passed).1
 
-    by : (o : Option Hand) → ground hands id giver ≡ o → hung_check hands giver id taker o ≡ None → (h : Hand) × (ground hands id giver ≡ Some h)
+    by : (o : Option Hand) → ground hands id grantor ≡ o → hung_check hands grantor id grantee o ≡ None → (h : Hand) × (ground hands id grantor ≡ Some h)
     by (Some h) is e = (h, is)
     by None is e = absurd cc
 
-    some_of : (hs : List Hand) → (h : Hand) × (find (λ hand. same_id id hand.id && hand.taker == giver) hs ≡ Some h) → list_any (is_of id) hs ≡ true
+    some_of : (hs : List Hand) → (h : Hand) × (find (λ hand. same_id id hand.id && hand.grantee == grantor) hs ≡ Some h) → list_any (is_of id) hs ≡ true
     some_of [] (h, is) = none_some h is
-    some_of (x ∷ hs) (h, is) = each (same_id id x.id) (x.taker == giver) is (some_of hs)
+    some_of (x ∷ hs) (h, is) = each (same_id id x.id) (x.grantee == grantor) is (some_of hs)
       where
-        each : (s g : Bool) → cond (s && g) (Some x) (find (λ hand. same_id id hand.id && hand.taker == giver) hs) ≡ Some h
-            → ((h : Hand) × (find (λ hand. same_id id hand.id && hand.taker == giver) hs ≡ Some h) → list_any (is_of id) hs ≡ true) → (s || list_any (is_of id) hs) ≡ true
+        each : (s g : Bool) → cond (s && g) (Some x) (find (λ hand. same_id id hand.id && hand.grantee == grantor) hs) ≡ Some h
+            → ((h : Hand) × (find (λ hand. same_id id hand.id && hand.grantee == grantor) hs ≡ Some h) → list_any (is_of id) hs ≡ true) → (s || list_any (is_of id) hs) ≡ true
         each true g is rest = refl
         each false g is rest = rest (h, is)
 
 -- the table with the new hand is one
-pub granted_are : (hands : List Hand) (giver : ℕ) (id : ObjectId) (taker : ℕ) → AreHands hands → table_check hands giver id taker ≡ None → AreHands (with_hand hands id giver taker)
-granted_are hands giver id taker table passed = pushed_are_hands hands giver id taker (new_hand hands id giver taker) true (with_hand hands id giver taker) table passed refl refl
+pub granted_are : (hands : List Hand) (grantor : ℕ) (id : ObjectId) (grantee : ℕ) → AreHands hands → table_check hands grantor id grantee ≡ None → AreHands (with_hand hands id grantor grantee)
+granted_are hands grantor id grantee table passed = pushed_are_hands hands grantor id grantee (new_hand hands id grantor grantee) true (with_hand hands id grantor grantee) table passed refl refl
 
 -- ---- the inputs
 
 -- the own one, and one to another job
-two_inputs : (number job taker q : ℕ) (x y : Input) (view : View) → (job == taker) ≡ false
-    → view_from number view (only_of q (record { job = job; input = x } ∷ record { job = taker; input = y } ∷ []))
-    ≡ cond (q == job) (view_step number view x).view (cond (q == taker) (view_step number view y).view view)
-two_inputs number job taker q x y view apart = by (job == q) (taker == q) (q == job) (q == taker) (grind (arith, nat_tests)) (grind (arith, nat_tests)) both_no
+two_inputs : (number job grantee q : ℕ) (x y : Input) (view : View) → (job == grantee) ≡ false
+    → view_from number view (only_of q (record { job = job; input = x } ∷ record { job = grantee; input = y } ∷ []))
+    ≡ cond (q == job) (view_step number view x).view (cond (q == grantee) (view_step number view y).view view)
+two_inputs number job grantee q x y view apart = by (job == q) (grantee == q) (q == job) (q == grantee) (grind (arith, nat_tests)) (grind (arith, nat_tests)) both_no
   where
-    both_no : (job == q) ≡ true → (taker == q) ≡ true → false ≡ true
+    both_no : (job == q) ≡ true → (grantee == q) ≡ true → false ≡ true
     both_no a b = absurd (grind (arith, nat_tests, apart, a, b))
 
     by : (t s u w : Bool) → t ≡ u → s ≡ w → (t ≡ true → s ≡ true → false ≡ true)
         → view_from number view (map (λ (y : JobInput). y.input)
-        (cond t (record { job = job; input = x } ∷ cond s (record { job = taker; input = y } ∷ []) []) (cond s (record { job = taker; input = y } ∷ []) [])))
+        (cond t (record { job = job; input = x } ∷ cond s (record { job = grantee; input = y } ∷ []) []) (cond s (record { job = grantee; input = y } ∷ []) [])))
         ≡ cond u (view_step number view x).view (cond w (view_step number view y).view view)
     by true false true false a b never = refl
     by false true false true a b never = refl
@@ -138,7 +138,7 @@ module _ (number : ℕ) (a : Admissions) (line : WorkLine) (hands : List Hand) (
   abbrev now : Hosted
   now = node_of number a line more new
 
-  -- what the taker is told
+  -- what the grantee is told
   abbrev brought : Input
   brought = input.Received id (bytes_here old id) (record { 0 = job.0 }) hand.depth
 
@@ -146,13 +146,13 @@ module _ (number : ℕ) (a : Admissions) (line : WorkLine) (hands : List Hand) (
   accepted = table_passed row job.0 id target.0 (table_check hands job.0 id target.0) passed
 
   apart : (job.0 == target.0) ≡ false
-  apart = taker_apart hands job.0 id target.0 accepted
+  apart = grantee_apart hands job.0 id target.0 accepted
 
   more_are : AreHands more
   more_are = granted_are hands job.0 id target.0 table accepted
 
   -- after the steps, while objects have the bytes that they had
-  abbrev between : ℕ → Beside
+  abbrev between : ℕ → SharedTables
   between q = beside_of line more (bytes_here old) q
 
   module _ (v : ℕ → View) (shows : ShowsAll before v) where
@@ -162,7 +162,7 @@ module _ (number : ℕ) (a : Admissions) (line : WorkLine) (hands : List Hand) (
     r : IsRowView row (beside_at before job.0) job.0 (v job.0)
     r = subst (IsViewBy a.greatest (beside_at before job.0) job.0 (v job.0)) found (shows job.0).by_row
 
-    t : TakesStep number row (beside_at before job.0) (v job.0).contents asks told after (between job.0)
+    t : RowStep number row (beside_at before job.0) (v job.0).contents asks told after (between job.0)
     t = takes number line hands (bytes_here old) (v job.0).contents r.own passed r.shown
 
     own_after : after.job ≡ job.0
@@ -179,7 +179,7 @@ module _ (number : ℕ) (a : Admissions) (line : WorkLine) (hands : List Hand) (
             let h : IsRowView own (beside_at before id.job.0) id.job.0 (v id.job.0) = subst (IsViewBy a.greatest (beside_at before id.job.0) id.job.0 (v id.job.0)) is (shows id.job.0).by_row in
             ap (λ o. option_map_or (λ row. row_bytes row id) o []) is ∙ sealed_bytes own (beside_at before id.job.0) (v id.job.0).contents h.shown id (sealed h)
 
-        gave : (id.job.0 == job.0) ≡ false → has_hand (given_by hands id.job.0) id ≡ true
+        gave : (id.job.0 == job.0) ≡ false → has_hand (row_given_by hands id.job.0) id ≡ true
         gave foreign = own_gave hands table id (hand_found hands job.0 id target.0 foreign accepted)
 
         by_hand : (id.job.0 == job.0) ≡ false → (o : Option Row) → lookup (same_job id.job) old ≡ o → IsViewBy a.greatest (beside_at before id.job.0) id.job.0 (v id.job.0) o → bytes_here old id ≡ bytes_at (v id.job.0).contents.bytes id
@@ -197,11 +197,11 @@ module _ (number : ℕ) (a : Admissions) (line : WorkLine) (hands : List Hand) (
         sealed_stay number row after (beside_at before job.0) (between job.0) (v job.0).contents asks told r.shown t q
         (sealed_before jobs (or_cases (list_any (is_of q) hands) (same_id q hand.id || false) (sym (list_any-append (is_of q) hands (hand ∷ [])) ∙ there)))
         (granted_copy after (between job.0) (view_step number (seen row (beside_at before job.0) (v job.0).contents) asks).view.contents t.shown q (jobs ∙ sym own_after)
-        (subst (λ n. has_hand (given_by more n) q ≡ true) jobs (own_gave more more_are q there))))
+        (subst (λ n. has_hand (row_given_by more n) q ≡ true) jobs (own_gave more more_are q there))))
       where
         sealed_before : q.job.0 ≡ job.0 → (list_any (is_of q) hands ≡ true) ⊎ ((same_id q hand.id || false) ≡ true) → IsSealedCopy row q
         sealed_before jobs (inl stood) =
-            granted_copy row (beside_at before job.0) (v job.0).contents r.shown q (jobs ∙ sym r.own) (subst (λ n. has_hand (given_by hands n) q ≡ true) jobs (own_gave hands table q stood))
+            granted_copy row (beside_at before job.0) (v job.0).contents r.shown q (jobs ∙ sym r.own) (subst (λ n. has_hand (row_given_by hands n) q ≡ true) jobs (own_gave hands table q stood))
         sealed_before jobs (inr its) =
             let same : q ≡ id = same_id-equal q hand.id (sym (or_false (same_id q hand.id)) ∙ its) ∙ (made_for (lengths (bytes_here old)) hands job.0 id target.0).0 in
             subst (IsSealedCopy row) (sym same)
@@ -224,9 +224,9 @@ module _ (number : ℕ) (a : Admissions) (line : WorkLine) (hands : List Hand) (
     row_stays : (q : ℕ) → (job.0 == q) ≡ false → lookup (same_job (record { 0 = q })) new ≡ lookup (same_job (record { 0 = q })) old
     row_stays q differ = updated (record { 0 = q }) ∙ ap (λ b. cond b (Some after) (lookup (same_job (record { 0 = q })) old)) differ
 
-    -- its taker, live or not
-    taker_shows : Shows now target.0 (view_step number (v target.0) brought).view
-    taker_shows =
+    -- its grantee, live or not
+    grantee_shows : Shows now target.0 (view_step number (v target.0) brought).view
+    grantee_shows =
         let o = lookup (same_job target) old in
         shows_now target.0 (view_step number (v target.0) brought).view o (row_stays target.0 apart) (by o (shows target.0).by_row)
       where
@@ -255,17 +255,17 @@ module _ (number : ℕ) (a : Admissions) (line : WorkLine) (hands : List Hand) (
 
     -- any other job
     other_shows : (q : ℕ) → (job.0 == q) ≡ false → (target.0 == q) ≡ false → Shows now q (v q)
-    other_shows q giver taker =
+    other_shows q grantor grantee =
         let o = lookup (same_job (record { 0 = q })) old in
-        shows_now q (v q) o (row_stays q giver)
-        (subst (λ beside. IsViewBy a.greatest beside q (v q) o) (sym (others_stand line hands (bytes_here old) id job.0 target.0 q giver taker)) (shows q).by_row)
+        shows_now q (v q) o (row_stays q grantor)
+        (subst (λ beside. IsViewBy a.greatest beside q (v q) o) (sym (others_stand line hands (bytes_here old) id job.0 target.0 q grantor grantee)) (shows q).by_row)
 
     each_shows : (q : ℕ) → Shows now q (cond (q == job.0) (view_step number (v q) asks).view (cond (q == target.0) (view_step number (v q) brought).view (v q)))
     each_shows q = by (q == job.0) (q == target.0) refl refl
       where
         by : (t s : Bool) → (q == job.0) ≡ t → (q == target.0) ≡ s → Shows now q (cond t (view_step number (v q) asks).view (cond s (view_step number (v q) brought).view (v q)))
         by true s e f = subst (λ n. Shows now n (view_step number (v n) asks).view) (sym (eqb-true q job.0 e)) own_shows
-        by false true e f = subst (λ n. Shows now n (view_step number (v n) brought).view) (sym (eqb-true q target.0 f)) taker_shows
+        by false true e f = subst (λ n. Shows now n (view_step number (v n) brought).view) (sym (eqb-true q target.0 f)) grantee_shows
         by false false e f = other_shows q (grind (arith, nat_tests, e)) (grind (arith, nat_tests, f))
 
     -- ---- as inputs
@@ -284,7 +284,7 @@ module _ (number : ℕ) (a : Admissions) (line : WorkLine) (hands : List Hand) (
         asks_nothing number before job (v job.0) asks (shows job.0)
         (subst (λ w. (view_step number w asks).view.shape.works ≡ (between job.0).works) (sym (view_is row (beside_at before job.0) job.0 (v job.0) r)) (ap (λ s. s.works) t.shape))
 
-    steps_from : StepsFrom before v (Own e) (with_given (record { reply = reply.Ok; posts = told.posts; erased = told.erased }) hand (length (bytes_here old id))) now
+    steps_from : NodeStepFrom before v (Own e) (with_given (record { reply = reply.Ok; posts = told.posts; erased = told.erased }) hand (length (bytes_here old id))) now
     steps_from = record {
       views = λ q.
           subst (Shows now q) (sym (ap (λ note. view_from number (v q) (only_of q (record { job = job.0; input = asks } ∷ note ∷ []))) noted ∙ two_inputs number job.0 target.0 q asks brought (v q) apart))
@@ -296,10 +296,10 @@ module _ (number : ℕ) (a : Admissions) (line : WorkLine) (hands : List Hand) (
       line = sym (append-nil line.works) ∙ ap (λ ws. line.works ++ queued job.0 ws) (sym no_works);
     }
 
-  pub grant_steps : (n : ℕ) → n ≡ length (bytes_here old id) → Steps before (Own e) (with_given told hand n) now
+  pub grant_steps : (n : ℕ) → n ≡ length (bytes_here old id) → NodeStep before (Own e) (with_given told hand n) now
   grant_steps n is =
-      subst (λ m. Steps before (Own e) (with_given told hand m) now) (sym is)
-      (subst (λ o. Steps before (Own e) (with_given (record { reply = o; posts = told.posts; erased = told.erased }) hand (length (bytes_here old id))) now) (sym is_ok)
+      subst (λ m. NodeStep before (Own e) (with_given told hand m) now) (sym is)
+      (subst (λ o. NodeStep before (Own e) (with_given (record { reply = o; posts = told.posts; erased = told.erased }) hand (length (bytes_here old id))) now) (sym is_ok)
       (record { number = refl; hands = refl; admissions = refl; lives = refl; each = steps_from }))
 
 -- ---- where nothing changes
@@ -307,7 +307,7 @@ module _ (number : ℕ) (a : Admissions) (line : WorkLine) (hands : List Hand) (
 module _ (number : ℕ) (a : Admissions) (line : WorkLine) (hands : List Hand) (table : AreHands hands) (job : JobNo) (session : ℕ) (c : Command (List ℕ)) where
   -- of a job that isn't live
   pub no_row_steps : (rows : List (JobNo × Row)) → lookup (same_job job) rows ≡ None
-      → Steps (node_of number a line hands rows) (Own (event.Call job session c)) (with_no_notes (only (reply.Refused NotAdmitted))) (node_of number a line hands rows)
+      → NodeStep (node_of number a line hands rows) (Own (event.Call job session c)) (with_no_notes (only (reply.Refused NotAdmitted))) (node_of number a line hands rows)
   no_row_steps rows none =
       let node = node_of number a line hands rows in
       all_steps node node (event.Call job session c) (only (reply.Refused NotAdmitted)) (refused_still (event.Call job session c) NotAdmitted) (refused_steps number a line hands job session c rows none)
@@ -316,7 +316,7 @@ module _ (number : ℕ) (a : Admissions) (line : WorkLine) (hands : List Hand) (
   pub row_stays_steps : (old new : List (JobNo × Row)) (row : Row) (r : Refusal) → lookup (same_job job) old ≡ Some row
       → ((q : JobNo) → lookup (same_job q) new ≡ cond (same_job job q) (Some row) (lookup (same_job q) old))
       → Takes number job (input.Call session c) hands (bytes_here old) row line (only (reply.Refused r)) row line
-      → Steps (node_of number a line hands old) (Own (event.Call job session c)) (with_no_notes (only (reply.Refused r))) (node_of number a line hands new)
+      → NodeStep (node_of number a line hands old) (Own (event.Call job session c)) (with_no_notes (only (reply.Refused r))) (node_of number a line hands new)
   row_stays_steps old new row r found updated takes =
       all_steps (node_of number a line hands old) (node_of number a line hands new) (event.Call job session c) (only (reply.Refused r)) (refused_still (event.Call job session c) r)
       (call_steps number a line hands job session c table old new row row line (only (reply.Refused r)) found updated (asked_nothing line job) takes (λ other differ. record { works = refl; used = refl }))

@@ -11,25 +11,25 @@ use Rattle.obj_id.specs.declared.ids.JobNo.{JobNo}
 use Rattle.obj_id.specs.declared.ids.ObjectId.{ObjectId}
 use Rattle.obj_id.specs.Ids.{same_id}
 use Rattle.private_store.specs.declared.inputs.Input.{Input}
-use Rattle.private_store.specs.Copies.{extent_of, is_sealed}
-use Rattle.private_store.specs.Contents.{Contents, bytes_at}
-use Rattle.private_store.specs.Hands.{Hand}
-use Rattle.private_store.specs.Jobs.{same_job}
-use Rattle.private_store.specs.Kept.{has_extent, has_hand}
-use Rattle.private_store.specs.Private.{view_step}
-use Rattle.private_store.specs.Shape.{Fetch}
-use Rattle.private_store.specs.Tables.{at}
+use Rattle.private_store.specs.rules.Copies.{extent_of, is_sealed}
+use Rattle.private_store.specs.rules.Contents.{Contents, bytes_at}
+use Rattle.private_store.specs.rules.Hands.{Hand}
+use Rattle.private_store.specs.rules.Jobs.{same_job}
+use Rattle.private_store.specs.laws.Invariants.{has_extent, has_hand}
+use Rattle.private_store.specs.rules.Private.{view_step}
+use Rattle.private_store.specs.rules.Shape.{Fetch}
+use Rattle.private_store.specs.rules.Tables.{at}
 use Rattle.store_facts.proofs.BytesStay.{bytes_stay}
 use Rattle.store_facts.proofs.Tests.{true_false}
-use Rattle.job_region.specs.Region.{bytes_at as placed_bytes}
+use Rattle.job_region.specs.Region.{region_bytes_at as placed_bytes}
 use Rattle.spill_work.specs.Line.{WorkLine}
 use Rattle.grants.specs.Private.{as_given}
 use Rattle.grants.specs.Table.{AreHands, is_first}
 use Rattle.grants.proofs.ForCallers.{first_stands}
 use Rattle.node_table.specs.Granting.{kept_bytes, row_bytes}
-use Rattle.node_table.specs.Kept.{Kept}
-use Rattle.node_table.specs.Row.{Row, Beside, given_by, beside_of}
-use Rattle.node_table.specs.Shown.{seen, IsShown, Given, TakesStep}
+use Rattle.node_table.specs.CopyViews.{CopyView}
+use Rattle.node_table.specs.Row.{Row, SharedTables, row_given_by, beside_of}
+use Rattle.node_table.specs.Shown.{seen, IsShown, RowGiven, RowStep}
 use Rattle.node_table.proofs.ForCallers.{is_of, at-copies_found, at-copies_none}
 use Rattle.node_core.specs.Hosted.{bytes_here}
 
@@ -44,16 +44,16 @@ lies Away fetch sealed = true_false sealed
 
 -- a copy that is there, and sealed
 pub record IsSealedCopy (row : Row) (id : ObjectId) : Type 0 where
-  pub kept : Kept
+  pub kept : CopyView
   pub found : at row.copies id ≡ Some kept
   pub sealed : is_sealed kept.copy.state ≡ true
 
-module _ (row : Row) (beside : Beside) (contents : Contents) (h : IsShown row beside contents) (id : ObjectId) where
+module _ (row : Row) (beside : SharedTables) (contents : Contents) (h : IsShown row beside contents) (id : ObjectId) where
   -- a granted one is such
   pub granted_copy : id.job.0 ≡ row.job → has_hand beside.given id ≡ true → IsSealedCopy row id
   granted_copy own given = by (at row.copies id) refl
     where
-      by : (o : Option Kept) → at row.copies id ≡ o → IsSealedCopy row id
+      by : (o : Option CopyView) → at row.copies id ≡ o → IsSealedCopy row id
       by None none = true_false (sym (h.kept.kept.shape.hands_of_copies id own (at-copies_none row.copies id none)) ∙ given)
       by (Some k) found = record { kept = k; found = found; sealed = ((h.kept.kept.shape.each id k.copy (at-copies_found row.copies id k found)).granted given).0 }
 
@@ -63,14 +63,14 @@ module _ (row : Row) (beside : Beside) (contents : Contents) (h : IsShown row be
       let copy = (h.kept.kept.shape.each id g.kept.copy (at-copies_found row.copies id g.kept g.found)) in
       ap (λ o. option_map_or (kept_bytes row) o []) g.found ∙ by_place g.kept g.found g.kept.copy.offset refl (copy.resident ∙ lies g.kept.copy.state g.kept.copy.fetch g.sealed)
     where
-      by_place : (k : Kept) → at row.copies id ≡ Some k → (o : Option ℕ) → k.copy.offset ≡ o → is_some k.copy.offset ≡ true → kept_bytes row k ≡ bytes_at contents.bytes id
+      by_place : (k : CopyView) → at row.copies id ≡ Some k → (o : Option ℕ) → k.copy.offset ≡ o → is_some k.copy.offset ≡ true → kept_bytes row k ≡ bytes_at contents.bytes id
       by_place k found None is there = true_false (sym (ap is_some is) ∙ there)
       by_place k found (Some offset) is there =
           let e = ap (λ p. extent_of (record k.copy { offset = p })) is in
           ap (λ p. option_map_or (λ e. take k.copy.length (placed_bytes e row.window.placed)) p []) e ∙ sym (h.bytes id k _ found e)
 
 -- a step leaves them
-module _ (node : ℕ) (row after : Row) (before beside : Beside) (contents : Contents) (x : Input) (told : Given) (h : IsShown row before contents) (t : TakesStep node row before contents x told after beside) where
+module _ (node : ℕ) (row after : Row) (before beside : SharedTables) (contents : Contents) (x : Input) (told : RowGiven) (h : IsShown row before contents) (t : RowStep node row before contents x told after beside) where
   pub sealed_stay : (id : ObjectId) → IsSealedCopy row id → IsSealedCopy after id → row_bytes row id ≡ row_bytes after id
   sealed_stay id g s =
       sealed_bytes row before contents h id g
@@ -95,32 +95,32 @@ module _ (job : JobNo) (old new : List (JobNo × Row)) (row after : Row) (found 
           ∙ sym (ap (λ o. option_map_or (λ row. row_bytes row id) o []) (updated id.job ∙ ap (λ b. cond b (Some after) (lookup (same_job id.job) old)) same))
 
 -- an object's own job gave a hand of it exactly if a first hand of it stands
-pub first_given : (id : ObjectId) (hands : List Hand) → list_any (is_first id) hands ≡ has_hand (given_by hands id.job.0) id
+pub first_given : (id : ObjectId) (hands : List Hand) → list_any (is_first id) hands ≡ has_hand (row_given_by hands id.job.0) id
 first_given id [] = refl
-first_given id (h ∷ hs) = by (same_id id h.id) (h.giver == id.job.0) refl (first_given id hs)
+first_given id (h ∷ hs) = by (same_id id h.id) (h.grantor == id.job.0) refl (first_given id hs)
   where
-    by : (s g : Bool) → same_id id h.id ≡ s → list_any (is_first id) hs ≡ has_hand (given_by hs id.job.0) id
-        → ((s && g) || list_any (is_first id) hs) ≡ has_hand (map as_given (cond g (h ∷ filter (λ hand. hand.giver == id.job.0) hs) (filter (λ hand. hand.giver == id.job.0) hs))) id
-    by true true is rest = sym (ap (λ b. b || has_hand (given_by hs id.job.0) id) is)
+    by : (s g : Bool) → same_id id h.id ≡ s → list_any (is_first id) hs ≡ has_hand (row_given_by hs id.job.0) id
+        → ((s && g) || list_any (is_first id) hs) ≡ has_hand (map as_given (cond g (h ∷ filter (λ hand. hand.grantor == id.job.0) hs) (filter (λ hand. hand.grantor == id.job.0) hs))) id
+    by true true is rest = sym (ap (λ b. b || has_hand (row_given_by hs id.job.0) id) is)
     by true false is rest = rest
-    by false true is rest = rest ∙ sym (ap (λ b. b || has_hand (given_by hs id.job.0) id) is)
+    by false true is rest = rest ∙ sym (ap (λ b. b || has_hand (row_given_by hs id.job.0) id) is)
     by false false is rest = rest
 
 module _ (hands : List Hand) (table : AreHands hands) where
   -- where a hand of an object stands, its own job gave one
-  pub own_gave : (id : ObjectId) → list_any (is_of id) hands ≡ true → has_hand (given_by hands id.job.0) id ≡ true
+  pub own_gave : (id : ObjectId) → list_any (is_of id) hands ≡ true → has_hand (row_given_by hands id.job.0) id ≡ true
   own_gave id there = sym (first_given id hands) ∙ first_stands hands table id there
 
-  module _ (node : ℕ) (line works : WorkLine) (bytes : ObjectId → List ℕ) (job : JobNo) (old new : List (JobNo × Row)) (row after : Row) (contents : Contents) (x : Input) (told : Given)
+  module _ (node : ℕ) (line works : WorkLine) (bytes : ObjectId → List ℕ) (job : JobNo) (old new : List (JobNo × Row)) (row after : Row) (contents : Contents) (x : Input) (told : RowGiven)
       (found : lookup (same_job job) old ≡ Some row)
       (updated : (q : JobNo) → lookup (same_job q) new ≡ cond (same_job job q) (Some after) (lookup (same_job q) old))
       (own : row.job ≡ job.0) (own_after : after.job ≡ job.0)
       (h : IsShown row (beside_of line hands bytes job.0) contents)
-      (t : TakesStep node row (beside_of line hands bytes job.0) contents x told after (beside_of works hands bytes job.0)) where
+      (t : RowStep node row (beside_of line hands bytes job.0) contents x told after (beside_of works hands bytes job.0)) where
     pub bytes_same : (id : ObjectId) → list_any (is_of id) hands ≡ true → bytes_here old id ≡ bytes_here new id
     bytes_same id there =
         bytes_where job old new row after found updated id (λ jobs.
-        let gave : has_hand (given_by hands job.0) id ≡ true = subst (λ n. has_hand (given_by hands n) id ≡ true) jobs (own_gave id there) in
+        let gave : has_hand (row_given_by hands job.0) id ≡ true = subst (λ n. has_hand (row_given_by hands n) id ≡ true) jobs (own_gave id there) in
         sealed_stay node row after (beside_of line hands bytes job.0) (beside_of works hands bytes job.0) contents x told h t id
         (granted_copy row (beside_of line hands bytes job.0) contents h id (jobs ∙ sym own) gave)
         (granted_copy after (beside_of works hands bytes job.0) (view_step node (seen row (beside_of line hands bytes job.0) contents) x).view.contents t.shown id (jobs ∙ sym own_after) gave))

@@ -1,4 +1,4 @@
--- Hands that end at a node: the own step comes first, then each taker is told, and every job's view is shown beside the
+-- Hands that end at a node: the own step comes first, then each grantee is told, and every job's view is shown beside the
 -- hands that are left.
 use Rattle.std.proofs.Common.{◌≡◌, ℕ, ◌==◌, Bool, true, false, cond, List, [], ◌∷◌, ◌++◌, map, filter, Option, Some, None, option_to_list, refl, sym, ap, subst, ◌∙◌, arith}
 use Rattle.std.specs.List.{list_any}
@@ -8,16 +8,16 @@ use Rattle.std.proofs.lemmas.Bool.Decides.{nat_tests}
 use Rattle.obj_id.specs.declared.ids.JobNo.{JobNo}
 use Rattle.obj_id.specs.declared.ids.ObjectId.{ObjectId}
 use Rattle.private_store.specs.declared.inputs.Input.{Input}
-use Rattle.private_store.specs.Contents.{View}
-use Rattle.private_store.specs.Hands.{Hand, hands_ended, hands_left, is_given_by}
-use Rattle.private_store.specs.Jobs.{same_job}
-use Rattle.private_store.specs.NodeInputs.{JobInput, only_of, withdrawn_here}
-use Rattle.private_store.specs.Private.{view_step, view_from}
-use Rattle.spill_work.specs.Line.{WorkLine, IsSameFor, same_job as same_line_job}
+use Rattle.private_store.specs.rules.Contents.{View}
+use Rattle.private_store.specs.rules.Hands.{Hand, hands_ended, hands_left, is_given_by}
+use Rattle.private_store.specs.rules.Jobs.{same_job}
+use Rattle.private_store.specs.laws.NodeInputs.{JobInput, only_of, withdrawn_here}
+use Rattle.private_store.specs.rules.Private.{view_step, view_from}
+use Rattle.spill_work.specs.Line.{WorkLine, IsSameFor, same_work_job as same_line_job}
 use Rattle.job_admission.specs.Admissions.{Admissions}
 use Rattle.grants.specs.Table.{AreHands}
 use Rattle.node_table.specs.Notes.{IsSeen, ends_to, beside_rest}
-use Rattle.node_table.specs.Row.{Row, Beside, beside_of}
+use Rattle.node_table.specs.Row.{Row, SharedTables, beside_of}
 use Rattle.node_table.proofs.ForCallers.{is_of, alike_bytes, row_ends, bare_ends, none_given, rest_of_other, ends_of}
 use Rattle.node_core.specs.Hosted.{Hosted, IsRowView, IsViewBy, Shows, ShowsAll, bytes_here, beside_at}
 use Rattle.node_core.specs.Outcomes.{end_noted}
@@ -28,10 +28,10 @@ use Rattle.node_core.proofs.Views.{node_of, another}
 -- ---- one job that is told of its ends
 
 module _ (number greatest : ℕ) (hands : List Hand) (table : AreHands hands) (test : Hand → Bool) (line : WorkLine) (bytes : ObjectId → List ℕ) where
-  abbrev rest : ℕ → Beside
+  abbrev rest : ℕ → SharedTables
   rest q = beside_rest line test hands bytes q
 
-  abbrev left : ℕ → Beside
+  abbrev left : ℕ → SharedTables
   left q = beside_of line (hands_left test hands) bytes q
 
   abbrev told : ℕ → View → View

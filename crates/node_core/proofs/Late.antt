@@ -10,18 +10,18 @@ use Rattle.private_store.specs.declared.inputs.Input.TheVariants as input
 use Rattle.private_store.specs.declared.schedules.Event.{Event}
 use Rattle.private_store.specs.declared.schedules.Event.TheVariants as event
 use Rattle.private_store.specs.declared.schedules.NodeEvent.TheVariants.{Own}
-use Rattle.private_store.specs.Contents.{Contents}
-use Rattle.private_store.specs.Private.{view_step}
-use Rattle.private_store.specs.Hands.{Hand}
+use Rattle.private_store.specs.rules.Contents.{Contents}
+use Rattle.private_store.specs.rules.Private.{view_step}
+use Rattle.private_store.specs.rules.Hands.{Hand}
 use Rattle.spill_work.specs.Line.{WorkLine}
 use Rattle.node_table.specs.Granting.{peek_check}
-use Rattle.node_table.specs.Row.{Row, Beside, beside_of}
-use Rattle.node_table.specs.Late.{is_more, has_begun, may_grow, IsDueMore}
+use Rattle.node_table.specs.Row.{Row, SharedTables, beside_of}
+use Rattle.node_table.specs.MemoryLast.{is_more, work_has_begun, may_grow, IsDueMore}
 use Rattle.node_table.specs.Shown.{seen, IsShown}
 use Rattle.node_table.proofs.ForCallers.{seal_late, read_late, list_late, leave_late, unpin_late, borrow_late, give_up_late, delete_late, end_task_late, peeks}
 use Rattle.node_core.specs.Hosted.{Hosted, IsRowView, IsViewBy, bytes_here, beside_at}
-use Rattle.node_core.specs.Late.{is_accepted, hands_check, IsLate, IsRoomDue, IsUnrefused, IsEventUnrefused}
-use Rattle.node_core.specs.Steps.{answered}
+use Rattle.node_core.specs.MemoryLast.{is_accepted, hands_check, IsMemoryLast, IsRoomDue, IsUnrefused, IsEventUnrefused}
+use Rattle.node_core.specs.Steps.{answer_of_check}
 use Rattle.node_core.proofs.HandCommands.{IsGrowing, grant_late, withdraw_late}
 use Rattle.node_core.proofs.Taking.{front_given}
 use Rattle.node_core.proofs.Views.{view_is}
@@ -32,10 +32,10 @@ peek_late : (node : ℕ) (line : WorkLine) (hands : List Hand) (bytes : ObjectId
     → IsGrowing node row (beside_of line hands bytes row.job) contents session (command.Peek id offset n)
 peek_late node line hands bytes row contents session id offset n h passed =
     let before = seen row (beside_of line hands bytes row.job) contents in
-    ap (is_more (has_begun before (view_step node before (input.Call session (command.Peek id offset n)))))
+    ap (is_more (work_has_begun before (view_step node before (input.Call session (command.Peek id offset n)))))
     (sym (peeks node line hands bytes row contents session id offset n h).reply ∙ ap (λ o. option_map_or reply.Refused o (reply.Bytes (take n (drop offset (bytes id))))) passed)
 
-module _ (node : ℕ) (row : Row) (beside : Beside) (contents : Contents) (session : ℕ) (h : IsShown row beside contents) where
+module _ (node : ℕ) (row : Row) (beside : SharedTables) (contents : Contents) (session : ℕ) (h : IsShown row beside contents) where
   -- that a command is due more than a refusal, where it is the hands that say so, or the plan for room
   abbrev pub IsLateBeside : Command (List ℕ) → Type 0
   IsLateBeside (command.Create id kind n) = IsGrowing node row beside contents session (command.Create id kind n)
@@ -84,15 +84,15 @@ late_beside node job row contents session h own (command.Peek id offset n) passe
     (subst (λ j. IsShown row (beside_at node j) contents) (sym own) h) (subst (λ j. peek_check node.hands j id (length (bytes_here node.rows id)) offset n ≡ None) (sym own) passed))
 late_beside node job row contents session h own _ passed due = tt
 
-pub event_late : (node : Hosted) (e : Event) → IsEventUnrefused node e → IsLate node (Own e)
-event_late node (event.Admit job quota key) u v shows = ap (λ check. is_accepted (answered check)) u
-event_late node (event.JobEnd job) u v shows = ap (λ check. is_accepted (answered check)) u
+pub event_late : (node : Hosted) (e : Event) → IsEventUnrefused node e → IsMemoryLast node (Own e)
+event_late node (event.Admit job quota key) u v shows = ap (λ check. is_accepted (answer_of_check check)) u
+event_late node (event.JobEnd job) u v shows = ap (λ check. is_accepted (answer_of_check check)) u
 event_late node (event.Call job session c) u v shows =
     let beside = beside_at node job.0 in
     let r : IsRowView u.row beside job.0 (v job.0) = subst (IsViewBy node.admissions.greatest beside job.0 (v job.0)) u.found (shows job.0).by_row in
     subst (λ w. may_grow w (view_step node.number w (input.Call session c)) ≡ true) (sym (view_is u.row beside job.0 (v job.0) r))
     (row_late node.number u.row beside (v job.0).contents session r.shown c (subst (λ n. IsUnrefused u.row n session c) (sym r.own) u.unrefused)
     (late_beside node job u.row (v job.0).contents session r.shown r.own c u.by_hands (u.by_room r.own)))
-event_late node (event.Requota job quota) u v shows = ap (λ check. is_accepted (answered check)) (u (v job.0) (shows job.0))
+event_late node (event.Requota job quota) u v shows = ap (λ check. is_accepted (answer_of_check check)) (u (v job.0) (shows job.0))
 event_late node event.Take u v shows = ap is_accepted (front_given node u.asked u.first u.row u.found v shows).1
 event_late node (event.Finish job number a) u v shows = absurd u

@@ -8,20 +8,20 @@ use Rattle.obj_id.specs.declared.commands.Reply.{Reply}
 use Rattle.obj_id.specs.declared.ids.JobNo.{JobNo}
 use Rattle.private_store.specs.declared.inputs.Input.TheVariants as input
 use Rattle.private_store.specs.declared.schedules.Event.TheVariants as event
-use Rattle.private_store.specs.Commands.{granted_items}
-use Rattle.private_store.specs.Contents.{Contents}
-use Rattle.private_store.specs.Hands.{Hand}
-use Rattle.private_store.specs.Jobs.{same_job}
+use Rattle.private_store.specs.rules.Commands.{granted_items}
+use Rattle.private_store.specs.rules.Contents.{Contents}
+use Rattle.private_store.specs.rules.Hands.{Hand}
+use Rattle.private_store.specs.rules.Jobs.{same_job}
 use Rattle.spill_work.specs.Line.{WorkLine}
 use Rattle.grants.specs.Table.{AreHands}
 use Rattle.grants.proofs.ForCallers.{seen_items}
 use Rattle.job_admission.specs.Admissions.{Admissions}
-use Rattle.node_table.specs.Row.{Row, Beside, shape_of}
-use Rattle.node_table.specs.Shown.{IsShown, only, TakesStep}
+use Rattle.node_table.specs.Row.{Row, SharedTables, shape_of}
+use Rattle.node_table.specs.Shown.{IsShown, only, RowStep}
 use Rattle.node_core.specs.Granted.{granted_here}
 use Rattle.node_core.specs.Hosted.{Hosted, bytes_here, beside_at}
-use Rattle.node_core.specs.Late.{IsCallUnrefused}
-use Rattle.node_core.specs.OneJob.{StepsOne}
+use Rattle.node_core.specs.MemoryLast.{IsCallUnrefused}
+use Rattle.node_core.specs.OneJob.{NodeStepOne}
 use Rattle.node_core.proofs.Lines.{asked_nothing}
 use Rattle.node_core.proofs.Views.{node_of, call_steps}
 
@@ -35,9 +35,9 @@ row_stays rows job row found q = by (same_job job q) refl
 
 module _ (number : ℕ) (a : Admissions) (line : WorkLine) (hands : List Hand) (table : AreHands hands) (job : JobNo) (session : ℕ) (rows : List (JobNo × Row)) (row : Row)
     (found : lookup (same_job job) rows ≡ Some row) (granted : List GrantedItem) (is : granted ≡ granted_here (node_of number a line hands rows) job.0) (told : Reply (List ℕ))
-    (lists : (node session : ℕ) (beside : Beside) (contents : Contents) → IsShown row beside contents → granted ≡ granted_items (shape_of row beside)
-    → TakesStep node row beside contents (input.Call session command.List) (only told) row beside) where
-  pub list_steps : StepsOne (node_of number a line hands rows) (event.Call job session command.List) (only told) (node_of number a line hands rows)
+    (lists : (node session : ℕ) (beside : SharedTables) (contents : Contents) → IsShown row beside contents → granted ≡ granted_items (shape_of row beside)
+    → RowStep node row beside contents (input.Call session command.List) (only told) row beside) where
+  pub list_steps : NodeStepOne (node_of number a line hands rows) (event.Call job session command.List) (only told) (node_of number a line hands rows)
   list_steps =
       call_steps number a line hands job session command.List table rows rows row row line (only told) found (row_stays rows job row found) (asked_nothing line job)
       (λ contents own shown.

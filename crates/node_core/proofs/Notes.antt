@@ -1,4 +1,4 @@
--- What an event is to the takers of hands: inputs of two kinds, which send nothing and which no view judges.
+-- What an event is to the grantees of hands: inputs of two kinds, which send nothing and which no view judges.
 use Rattle.std.proofs.Common.{◌≡◌, ℕ, Bool, true, false, cond, ◌==◌, List, [], ◌∷◌, map, Option, Some, None, refl}
 use Rattle.std.specs.Prelude.{filter}
 use Rattle.std.specs.Option.{option_map_or}
@@ -11,14 +11,14 @@ use Rattle.private_store.specs.declared.schedules.Event.{Event}
 use Rattle.private_store.specs.declared.schedules.Event.TheVariants as event
 use Rattle.private_store.specs.declared.schedules.NodeEvent.{NodeEvent}
 use Rattle.private_store.specs.declared.schedules.NodeEvent.TheVariants.{Own, Arrive}
-use Rattle.private_store.specs.Hands.{Hand, hands_ended}
-use Rattle.private_store.specs.Trace.{ends}
-use Rattle.private_store.specs.NodeInputs.{JobInput, Before, only_of, notes_of, notes_here, withdrawn_here}
+use Rattle.private_store.specs.rules.Hands.{Hand, hands_ended}
+use Rattle.private_store.specs.rules.Trace.{ends}
+use Rattle.private_store.specs.laws.NodeInputs.{JobInput, Before, only_of, notes_of, notes_here, withdrawn_here}
 
 -- a hand that comes or ends
 abbrev pub is_note : Input → Bool
-is_note (input.Received id bytes giver depth) = true
-is_note (input.Withdrawn id giver depth) = true
+is_note (input.Received id bytes grantor depth) = true
+is_note (input.Withdrawn id grantor depth) = true
 is_note _ = false
 
 abbrev pub AreNotes : List Input → Type 0

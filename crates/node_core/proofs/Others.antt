@@ -2,18 +2,18 @@
 use Rattle.std.proofs.Common.{◌≡◌, ℕ, ◌==◌, false, [], Option, Some, None, sym, ◌∙◌, arith}
 use Rattle.std.proofs.lemmas.Bool.Decides.{nat_tests}
 use Rattle.obj_id.specs.declared.ids.JobNo.{JobNo}
-use Rattle.private_store.specs.Contents.{View}
-use Rattle.private_store.specs.Private.{no_contents}
-use Rattle.private_store.specs.Shape.{Life}
-use Rattle.spill_work.specs.Line.{same_job}
-use Rattle.node_table.specs.Row.{Row, Beside}
+use Rattle.private_store.specs.rules.Contents.{View}
+use Rattle.private_store.specs.rules.Private.{no_contents}
+use Rattle.private_store.specs.rules.Shape.{Life}
+use Rattle.spill_work.specs.Line.{same_work_job}
+use Rattle.node_table.specs.Row.{Row, SharedTables}
 use Rattle.node_table.proofs.ForCallers.{IsAlike, alike_shape, alike_shown}
-use Rattle.node_core.specs.Hosted.{bare, bare_shape, IsBare, IsViewBy}
+use Rattle.node_core.specs.Hosted.{empty_view, empty_shape, IsBare, IsViewBy}
 
-module _ (a b : Beside) (same : IsAlike a b) where
-  pub alike_bare : (job : ℕ) (life : Life) → bare job life a ≡ bare job life b
+module _ (a b : SharedTables) (same : IsAlike a b) where
+  pub alike_bare : (job : ℕ) (life : Life) → empty_view job life a ≡ empty_view job life b
   alike_bare job life = λ i. record {
-    shape = record (bare_shape job life a) { received = same.received i };
+    shape = record (empty_shape job life a) { received = same.received i };
     order = [];
     contents = record no_contents { received = same.bytes i };
   }
@@ -34,5 +34,5 @@ module _ (a b : Beside) (same : IsAlike a b) where
   other_view greatest q view (Some row) h = record { own = h.own; shape = h.shape ∙ alike_shape a b same row; order = h.order; shown = alike_shown a b same row view.contents h.shown }
   other_view greatest q view None h = alike_bare_view greatest q view h
 
-pub not_same : (job : JobNo) (q : ℕ) → (q == job.0) ≡ false → same_job job (record { 0 = q }) ≡ false
+pub not_same : (job : JobNo) (q : ℕ) → (q == job.0) ≡ false → same_work_job job (record { 0 = q }) ≡ false
 not_same job q e = grind (arith, nat_tests, e)

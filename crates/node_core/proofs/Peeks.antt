@@ -10,18 +10,18 @@ use Rattle.obj_id.specs.declared.ids.ObjectId.{ObjectId}
 use Rattle.obj_id.specs.declared.refusals.Refusal.{Refusal}
 use Rattle.private_store.specs.declared.inputs.Input.TheVariants as input
 use Rattle.private_store.specs.declared.schedules.Event.TheVariants as event
-use Rattle.private_store.specs.Hands.{Hand}
-use Rattle.private_store.specs.Jobs.{same_job}
+use Rattle.private_store.specs.rules.Hands.{Hand}
+use Rattle.private_store.specs.rules.Jobs.{same_job}
 use Rattle.spill_work.specs.Line.{WorkLine}
 use Rattle.grants.specs.Table.{AreHands}
 use Rattle.job_admission.specs.Admissions.{Admissions}
 use Rattle.node_table.specs.Granting.{peek_check, peek_reply}
 use Rattle.node_table.specs.Row.{Row, beside_of}
-use Rattle.node_table.specs.Shown.{IsShown, only, TakesStep}
+use Rattle.node_table.specs.Shown.{IsShown, only, RowStep}
 use Rattle.node_table.proofs.ForCallers.{peeks}
 use Rattle.node_core.specs.Hosted.{Hosted, row_at, bytes_here}
-use Rattle.node_core.specs.Late.{IsCallUnrefused}
-use Rattle.node_core.specs.OneJob.{StepsOne}
+use Rattle.node_core.specs.MemoryLast.{IsCallUnrefused}
+use Rattle.node_core.specs.OneJob.{NodeStepOne}
 use Rattle.node_core.proofs.Lines.{asked_nothing}
 use Rattle.node_core.proofs.Listed.{row_stays}
 use Rattle.node_core.proofs.Views.{node_of, call_steps}
@@ -37,12 +37,12 @@ found_any test (hand ∷ hands) = by (test hand) (found_any test hands)
 
 module _ (number : ℕ) (a : Admissions) (line : WorkLine) (hands : List Hand) (table : AreHands hands) (job : JobNo) (session : ℕ) (id : ObjectId) (offset n : ℕ) (rows : List (JobNo × Row)) (row : Row)
     (found : lookup (same_job job) rows ≡ Some row) where
-  peek_steps : StepsOne (node_of number a line hands rows) (event.Call job session (command.Peek id offset n)) (only (peek_reply hands job.0 id (bytes_here rows id) offset n)) (node_of number a line hands rows)
+  peek_steps : NodeStepOne (node_of number a line hands rows) (event.Call job session (command.Peek id offset n)) (only (peek_reply hands job.0 id (bytes_here rows id) offset n)) (node_of number a line hands rows)
   peek_steps =
       call_steps number a line hands job session (command.Peek id offset n) table rows rows row row line (only (peek_reply hands job.0 id (bytes_here rows id) offset n)) found (row_stays rows job row found) (asked_nothing line job)
       (λ contents own shown.
       let bytes = bytes_here rows in
-      subst (λ j. TakesStep number row (beside_of line hands bytes j) contents (input.Call session (command.Peek id offset n)) (only (peek_reply hands j id (bytes id) offset n)) row (beside_of line hands bytes j)) own
+      subst (λ j. RowStep number row (beside_of line hands bytes j) contents (input.Call session (command.Peek id offset n)) (only (peek_reply hands j id (bytes id) offset n)) row (beside_of line hands bytes j)) own
       (peeks number line hands bytes row contents session id offset n (subst (λ j. IsShown row (beside_of line hands bytes j) contents) (sym own) shown)))
       (λ other differ. record { works = refl; used = refl })
 
@@ -50,11 +50,11 @@ module _ (number : ℕ) (a : Admissions) (line : WorkLine) (hands : List Hand) (
 module _ (node : Hosted) (number : ℕ) (a : Admissions) (line : WorkLine) (hands : List Hand) (table : AreHands hands) (rows : List (JobNo × Row)) (is : node_of number a line hands rows ≡ node)
     (job : JobNo) (session : ℕ) (id : ObjectId) (offset n : ℕ) (row : Row) (found : lookup (same_job job) rows ≡ Some row)
     (whole : List ℕ) (same : whole ≡ bytes_here node.rows id) (o : Option Refusal) (check : o ≡ peek_check node.hands job.0 id (length whole) offset n) where
-  pub peek_answers : StepsOne node (event.Call job session (command.Peek id offset n)) (only (option_map_or reply.Refused o (reply.Bytes (take n (drop offset whole))))) node
+  pub peek_answers : NodeStepOne node (event.Call job session (command.Peek id offset n)) (only (option_map_or reply.Refused o (reply.Bytes (take n (drop offset whole))))) node
   peek_answers =
-      subst (λ p. StepsOne node (event.Call job session (command.Peek id offset n)) (only (option_map_or reply.Refused p (reply.Bytes (take n (drop offset whole))))) node) (sym check)
-      (subst (λ bs. StepsOne node (event.Call job session (command.Peek id offset n)) (only (peek_reply node.hands job.0 id bs offset n)) node) (sym same)
-      (subst (λ (m : Hosted). StepsOne m (event.Call job session (command.Peek id offset n)) (only (peek_reply m.hands job.0 id (bytes_here m.rows id) offset n)) m) is
+      subst (λ p. NodeStepOne node (event.Call job session (command.Peek id offset n)) (only (option_map_or reply.Refused p (reply.Bytes (take n (drop offset whole))))) node) (sym check)
+      (subst (λ bs. NodeStepOne node (event.Call job session (command.Peek id offset n)) (only (peek_reply node.hands job.0 id bs offset n)) node) (sym same)
+      (subst (λ (m : Hosted). NodeStepOne m (event.Call job session (command.Peek id offset n)) (only (peek_reply m.hands job.0 id (bytes_here m.rows id) offset n)) m) is
       (peek_steps number a line hands table job session id offset n rows row found)))
 
   pub peek_unrefused : o ≡ None → IsCallUnrefused node job session (command.Peek id offset n)

@@ -13,23 +13,23 @@ use Rattle.obj_id.specs.declared.refusals.Refusal.TheVariants.{NotAdmitted, BadS
 use Rattle.obj_id.specs.declared.works.Quota.{Quota}
 use Rattle.private_store.specs.declared.inputs.Input.TheVariants as input
 use Rattle.private_store.specs.declared.schedules.Event.TheVariants as event
-use Rattle.private_store.specs.Jobs.{same_job}
-use Rattle.private_store.specs.Limits.{is_quota}
-use Rattle.private_store.specs.Copies.{fits_quota}
-use Rattle.private_store.specs.Contents.{Contents, View}
-use Rattle.private_store.specs.Hands.{Hand}
-use Rattle.private_store.specs.Shared.{job_is, widened, can_widen}
-use Rattle.spill_work.specs.Line.{WorkLine, IsSameFor, same_job as same_line_job}
+use Rattle.private_store.specs.rules.Jobs.{same_job}
+use Rattle.private_store.specs.rules.Limits.{is_quota}
+use Rattle.private_store.specs.rules.Copies.{fits_quota}
+use Rattle.private_store.specs.rules.Contents.{Contents, View}
+use Rattle.private_store.specs.rules.Hands.{Hand}
+use Rattle.private_store.specs.rules.Shared.{job_is, widened, can_widen}
+use Rattle.spill_work.specs.Line.{WorkLine, IsSameFor, same_work_job as same_line_job}
 use Rattle.grants.specs.Table.{AreHands}
 use Rattle.job_admission.specs.declared.Live.{Live}
 use Rattle.job_admission.specs.Admissions.{Admissions, live_at, lives_of, resize_check, resized}
 use Rattle.node_table.specs.Quotas.{store_check}
-use Rattle.node_table.specs.Row.{Row, Beside, shape_of}
-use Rattle.node_table.specs.Shown.{only, IsShown, TakesStep}
+use Rattle.node_table.specs.Row.{Row, SharedTables, shape_of}
+use Rattle.node_table.specs.Shown.{only, IsShown, RowStep}
 use Rattle.node_core.specs.Hosted.{Hosted, AreHosted, IsRowView, IsViewBy, Shows, bytes_here, beside_at}
-use Rattle.node_core.specs.OneJob.{StepsOne}
+use Rattle.node_core.specs.OneJob.{NodeStepOne}
 use Rattle.node_core.specs.Quotas.{refused_or, requota_refusal}
-use Rattle.node_core.specs.Steps.{answered, requota_check}
+use Rattle.node_core.specs.Steps.{answer_of_check, requota_check}
 use Rattle.node_core.proofs.Ending.{is_some-lookup}
 use Rattle.node_core.proofs.Views.{Takes, node_of, views_stepped, told_stepped}
 
@@ -64,7 +64,7 @@ module _ (number : ℕ) (a : Admissions) (line : WorkLine) (hands : List Hand) (
       sym (ap (λ b. cond (not b) (Some NotAdmitted) (cond (not (is_quota quota)) (Some BadSize) (cond (not (fits_quota view.shape quota)) (Some Full) (cond (not (can_widen a.memory job.0 quota.window (lives_of a.live))) (Some NoRoom) None)))) (lives ∙ ap is_some none))
 
   -- of a job that has a row, by what the row says
-  pub by_row : (row : Row) → lookup (same_job job) rows ≡ Some row → (o : Option Refusal) → ((beside : Beside) (contents : Contents) → IsShown row beside contents → o ≡ store_check (shape_of row beside) quota)
+  pub by_row : (row : Row) → lookup (same_job job) rows ≡ Some row → (o : Option Refusal) → ((beside : SharedTables) (contents : Contents) → IsShown row beside contents → o ≡ store_check (shape_of row beside) quota)
       → (view : View) → Shows node job.0 view → refused_or o (resize_check a job quota) ≡ requota_check a view job quota
   by_row row found o store view h =
       let beside = beside_at node job.0 in
@@ -102,7 +102,7 @@ module _ (number : ℕ) (a b : Admissions) (line : WorkLine) (hands : List Hand)
     (found : lookup (same_job job) old ≡ Some row)
     (updated : (q : JobNo) → lookup (same_job q) new ≡ cond (same_job job q) (Some after) (lookup (same_job q) old))
     (is : b ≡ resized a job quota) (lives : lives_of b.live ≡ map (widened job.0 quota.window) (lives_of a.live))
-    (steps : (node : ℕ) (beside : Beside) (contents : Contents) → IsShown row beside contents → TakesStep node row beside contents (input.Requota quota) (only reply.Ok) after beside) where
+    (steps : (node : ℕ) (beside : SharedTables) (contents : Contents) → IsShown row beside contents → RowStep node row beside contents (input.Requota quota) (only reply.Ok) after beside) where
   abbrev at_old : Hosted
   at_old = node_of number a line hands old
 
@@ -118,13 +118,13 @@ module _ (number : ℕ) (a b : Admissions) (line : WorkLine) (hands : List Hand)
   same : (other : JobNo) → same_line_job job other ≡ false → IsSameFor other line line
   same other differ = record { works = refl; used = refl }
 
-  pub requota_steps : requota_refusal at_old job quota ≡ None → ((view : View) → Shows at_old job.0 view → None ≡ requota_check a view job quota) → StepsOne at_old (event.Requota job quota) (only reply.Ok) at_new
+  pub requota_steps : requota_refusal at_old job quota ≡ None → ((view : View) → Shows at_old job.0 view → None ≡ requota_check a view job quota) → NodeStepOne at_old (event.Requota job quota) (only reply.Ok) at_new
   requota_steps none shown = record {
     number = refl;
     views = views_stepped number a b low line line hands table job (input.Requota quota) old new row after (only reply.Ok) found updated takes same;
     told = told_stepped number a b low line line hands table job (input.Requota quota) old new row after (only reply.Ok) found updated takes same;
-    operator = sym (ap answered none);
-    by_views = λ v h. ap answered (shown (v job.0) (h job.0));
+    operator = sym (ap answer_of_check none);
+    by_views = λ v h. ap answer_of_check (shown (v job.0) (h job.0));
     admissions = is;
     lives = lives;
     line = λ v shows. refl;

@@ -15,28 +15,28 @@ use Rattle.private_store.specs.declared.inputs.Input.TheVariants as input
 use Rattle.private_store.specs.declared.schedules.Event.{Event}
 use Rattle.private_store.specs.declared.schedules.Event.TheVariants as event
 use Rattle.private_store.specs.declared.schedules.NodeEvent.TheVariants.{Own}
-use Rattle.private_store.specs.Answers.{is_small_reply, AreGrantedWithin}
-use Rattle.private_store.specs.Contents.{View}
-use Rattle.private_store.specs.Hands.{Hand}
-use Rattle.private_store.specs.Jobs.{same_job}
-use Rattle.private_store.specs.Kept.{IsViewKept}
-use Rattle.private_store.specs.Limits.{most_live_jobs}
-use Rattle.private_store.specs.Private.{view_step}
+use Rattle.private_store.specs.laws.Answers.{is_small_reply, AreGrantedWithin}
+use Rattle.private_store.specs.rules.Contents.{View}
+use Rattle.private_store.specs.rules.Hands.{Hand}
+use Rattle.private_store.specs.rules.Jobs.{same_job}
+use Rattle.private_store.specs.laws.Invariants.{IsViewKept}
+use Rattle.private_store.specs.rules.Limits.{most_live_jobs}
+use Rattle.private_store.specs.rules.Private.{view_step}
 use Rattle.store_facts.proofs.AnswersAre.{answers_small}
 use Rattle.store_facts.proofs.Tests.{both_left, both_right, none_some, true_false}
 use Rattle.grants.specs.Private.{as_given}
 use Rattle.grants.specs.Table.{AreHands, given_by}
 use Rattle.grants.proofs.ForCallers.{is_among, few_granted}
 use Rattle.node_table.specs.Row.{Row}
-use Rattle.node_core.specs.Foreseen.{takers_told, AreTakers}
+use Rattle.node_core.specs.Foreseen.{grantees_told, AreTakers}
 use Rattle.node_core.specs.Hosted.{Hosted, IsViewBy, ShowsAll, row_at, beside_at, bytes_here}
 use Rattle.node_core.specs.Judged.{moves_hands, SeesFew, IsSmall}
 use Rattle.node_core.specs.declared.outcome.Note.{Note}
 use Rattle.node_core.specs.Outcomes.{inputs_noted, end_noted, received_noted}
-use Rattle.node_core.specs.Steps.{JobJudged, Given, Steps}
+use Rattle.node_core.specs.Steps.{JobJudged, NodeGiven, NodeStep}
 use Rattle.node_core.proofs.Views.{view_is, told_refused, call_refuses}
 
--- ---- the givers of hands are live
+-- ---- the grantors of hands are live
 
 abbrev numbers : List (JobNo × Row) → List ℕ
 numbers rows = map (λ (e : JobNo × Row). e.0.0) rows
@@ -51,29 +51,29 @@ has_number (e ∷ rows) n row found = by (n == e.0.0) (e.0.0 == n) (grind (arith
     by false true is found rest = refl
     by true false is found rest = absurd cc
 
--- no hand is of a giver that gave none
-none_given : (hands : List Hand) (g : ℕ) → map as_given (given_by g hands) ≡ [] → list_all (λ (h : Hand). not (h.giver == g)) hands ≡ true
+-- no hand is of a grantor that gave none
+none_given : (hands : List Hand) (g : ℕ) → map as_given (given_by g hands) ≡ [] → list_all (λ (h : Hand). not (h.grantor == g)) hands ≡ true
 none_given [] g none = refl
-none_given (h ∷ hs) g none = by (h.giver == g) none (none_given hs g)
+none_given (h ∷ hs) g none = by (h.grantor == g) none (none_given hs g)
   where
-    by : (b : Bool) → map as_given (cond b (h ∷ given_by g hs) (given_by g hs)) ≡ [] → (map as_given (given_by g hs) ≡ [] → list_all (λ (x : Hand). not (x.giver == g)) hs ≡ true) → not b && list_all (λ (x : Hand). not (x.giver == g)) hs ≡ true
+    by : (b : Bool) → map as_given (cond b (h ∷ given_by g hs) (given_by g hs)) ≡ [] → (map as_given (given_by g hs) ≡ [] → list_all (λ (x : Hand). not (x.grantor == g)) hs ≡ true) → not b && list_all (λ (x : Hand). not (x.grantor == g)) hs ≡ true
     by true none rest = absurd cc
     by false none rest = rest none
 
 module _ (numbers_live : List ℕ) where
-  all_live : (hs : List Hand) → ((g : ℕ) → is_among numbers_live g ≡ false → list_all (λ (h : Hand). not (h.giver == g)) hs ≡ true) → list_all (λ (h : Hand). is_among numbers_live h.giver) hs ≡ true
+  all_live : (hs : List Hand) → ((g : ℕ) → is_among numbers_live g ≡ false → list_all (λ (h : Hand). not (h.grantor == g)) hs ≡ true) → list_all (λ (h : Hand). is_among numbers_live h.grantor) hs ≡ true
   all_live [] f = refl
-  all_live (h ∷ hs) f = by (is_among numbers_live h.giver) refl (all_live hs (λ g none. both_right (not (h.giver == g)) (list_all (λ (x : Hand). not (x.giver == g)) hs) (f g none)))
+  all_live (h ∷ hs) f = by (is_among numbers_live h.grantor) refl (all_live hs (λ g none. both_right (not (h.grantor == g)) (list_all (λ (x : Hand). not (x.grantor == g)) hs) (f g none)))
     where
-      by : (b : Bool) → is_among numbers_live h.giver ≡ b → list_all (λ (x : Hand). is_among numbers_live x.giver) hs ≡ true → b && list_all (λ (x : Hand). is_among numbers_live x.giver) hs ≡ true
+      by : (b : Bool) → is_among numbers_live h.grantor ≡ b → list_all (λ (x : Hand). is_among numbers_live x.grantor) hs ≡ true → b && list_all (λ (x : Hand). is_among numbers_live x.grantor) hs ≡ true
       by true e rest = rest
-      by false e rest = let itself = both_left (not (h.giver == h.giver)) (list_all (λ (x : Hand). not (x.giver == h.giver)) hs) (f h.giver e) in absurd (grind (arith, nat_tests, itself))
+      by false e rest = let itself = both_left (not (h.grantor == h.grantor)) (list_all (λ (x : Hand). not (x.grantor == h.grantor)) hs) (f h.grantor e) in absurd (grind (arith, nat_tests, itself))
 
 module _ (node : Hosted) (v : ℕ → View) (shows : ShowsAll node v) where
-  none_of : (g : ℕ) → is_among (numbers node.rows) g ≡ false → list_all (λ (h : Hand). not (h.giver == g)) node.hands ≡ true
+  none_of : (g : ℕ) → is_among (numbers node.rows) g ≡ false → list_all (λ (h : Hand). not (h.grantor == g)) node.hands ≡ true
   none_of g none = by (row_at node (record { 0 = g })) refl (shows g).by_row
     where
-      by : (o : Option Row) → row_at node (record { 0 = g }) ≡ o → IsViewBy node.admissions.greatest (beside_at node g) g (v g) o → list_all (λ (h : Hand). not (h.giver == g)) node.hands ≡ true
+      by : (o : Option Row) → row_at node (record { 0 = g }) ≡ o → IsViewBy node.admissions.greatest (beside_at node g) g (v g) o → list_all (λ (h : Hand). not (h.grantor == g)) node.hands ≡ true
       by (Some row) is r = true_false (sym none ∙ has_number node.rows g row is)
       by None is b = none_given node.hands g b.given
 
@@ -86,8 +86,8 @@ module _ (node : Hosted) (v : ℕ → View) (shows : ShowsAll node v) where
           (few_granted (λ id. length (bytes_here node.rows id)) node.hands (numbers node.rows) job table (all_live (numbers node.rows) node.hands none_of) few (has_number node.rows job row is))
       by None is b live = true_false live
 
-pub sees_few : (node : Hosted) → AreHands node.hands → keys_of node.rows ≡ keys_of node.admissions.live → length node.admissions.live ≤ most_live_jobs → SeesFew node
-sees_few node table jobs few v shows = few_shown node v shows table (less (length-map node.rows (λ (e : JobNo × Row). e.0.0)) (sym (length-map node.rows (λ (e : JobNo × Row). e.0)) ∙ ap length jobs ∙ length-map node.admissions.live (λ e. e.0)))
+pub received_bound : (node : Hosted) → AreHands node.hands → keys_of node.rows ≡ keys_of node.admissions.live → length node.admissions.live ≤ most_live_jobs → SeesFew node
+received_bound node table jobs few v shows = few_shown node v shows table (less (length-map node.rows (λ (e : JobNo × Row). e.0.0)) (sym (length-map node.rows (λ (e : JobNo × Row). e.0)) ∙ ap length jobs ∙ length-map node.admissions.live (λ e. e.0)))
   where
     less : length (numbers node.rows) ≡ length node.rows → length node.rows ≡ length node.admissions.live → length (numbers node.rows) ≤ most_live_jobs
     less a b = omega (arith, a, b, few)
@@ -108,7 +108,7 @@ module _ (node : Hosted) (few : SeesFew node) (v : ℕ → View) (shows : ShowsA
           ap is_small_reply (sym (told_refused node.number node.admissions node.works node.hands job x refl node.rows is NotAdmitted
           (call_refuses node.number node.admissions node.works node.hands job session c) (v job.0) (shows job.0)).reply)
 
-pub small : (old new : Hosted) (e : Event) (given : Given) → SeesFew old → Steps old (Own e) given new → IsSmall old e given.reply
+pub small : (old new : Hosted) (e : Event) (given : NodeGiven) → SeesFew old → NodeStep old (Own e) given new → IsSmall old e given.reply
 small old new (event.Call job session c) given few steps v shows = ap is_small_reply (steps.each v shows).told.reply ∙ small_call old few v shows job session c
 small old new (event.Admit job quota key) given few steps v shows = refl
 small old new (event.Requota job quota) given few steps v shows = refl
@@ -116,7 +116,7 @@ small old new (event.JobEnd job) given few steps v shows = refl
 small old new event.Take given few steps v shows = refl
 small old new (event.Finish job number a) given few steps v shows = refl
 
--- ---- takers
+-- ---- grantees
 
 -- of what moves no hand nobody is told
 pub none_told : (hands : List Hand) (e : Event) (told : Reply (List ℕ)) → moves_hands e ≡ false → AreTakers hands e told []
@@ -149,13 +149,13 @@ jobs_noted [] = refl
 jobs_noted (n ∷ ns) = ap (λ js. n.job ∷ js) (jobs_noted ns)
 
 -- of the note of a new hand
-pub taker_noted : (notes : List Note) (hand : Hand) (n : ℕ) → inputs_noted notes ≡ received_noted hand n ∷ [] → map (λ note. note.job) notes ≡ record { 0 = hand.taker } ∷ []
-taker_noted notes hand n is = jobs_noted notes ∙ ap (map (λ (x : JobJudged). record { 0 = x.job })) is
+pub grantee_noted : (notes : List Note) (hand : Hand) (n : ℕ) → inputs_noted notes ≡ received_noted hand n ∷ [] → map (λ note. note.job) notes ≡ record { 0 = hand.grantee } ∷ []
+grantee_noted notes hand n is = jobs_noted notes ∙ ap (map (λ (x : JobJudged). record { 0 = x.job })) is
 
 -- of notes of ends
-pub takers_noted : (notes : List Note) (ended : List Hand) → inputs_noted notes ≡ map end_noted ended → map (λ note. note.job) notes ≡ takers_told ended
-takers_noted notes ended is = jobs_noted notes ∙ ap (map (λ (x : JobJudged). record { 0 = x.job })) is ∙ jobs_ended ended
+pub grantees_noted : (notes : List Note) (ended : List Hand) → inputs_noted notes ≡ map end_noted ended → map (λ note. note.job) notes ≡ grantees_told ended
+grantees_noted notes ended is = jobs_noted notes ∙ ap (map (λ (x : JobJudged). record { 0 = x.job })) is ∙ jobs_ended ended
   where
-    jobs_ended : (hs : List Hand) → map (λ (x : JobJudged). record { 0 = x.job }) (map end_noted hs) ≡ takers_told hs
+    jobs_ended : (hs : List Hand) → map (λ (x : JobJudged). record { 0 = x.job }) (map end_noted hs) ≡ grantees_told hs
     jobs_ended [] = refl
-    jobs_ended (h ∷ hs) = ap (λ js. record { 0 = h.taker } ∷ js) (jobs_ended hs)
+    jobs_ended (h ∷ hs) = ap (λ js. record { 0 = h.grantee } ∷ js) (jobs_ended hs)

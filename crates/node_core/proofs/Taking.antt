@@ -10,22 +10,22 @@ use Rattle.obj_id.specs.declared.commands.Reply.{Reply}
 use Rattle.obj_id.specs.declared.commands.Reply.TheVariants as reply
 use Rattle.obj_id.specs.declared.works.Work.{Work}
 use Rattle.private_store.specs.declared.schedules.Event.TheVariants as event
-use Rattle.private_store.specs.Jobs.{same_job}
-use Rattle.private_store.specs.Contents.{Contents, View}
-use Rattle.private_store.specs.Hands.{Hand}
-use Rattle.private_store.specs.Shape.{WorkInFlight}
+use Rattle.private_store.specs.rules.Jobs.{same_job}
+use Rattle.private_store.specs.rules.Contents.{Contents, View}
+use Rattle.private_store.specs.rules.Hands.{Hand}
+use Rattle.private_store.specs.rules.Shape.{WorkInFlight}
 use Rattle.store_facts.proofs.KeptLists.{count-yes, count-no, some_counted, find-any}
 use Rattle.store_facts.proofs.Tests.{some_value, none_some}
-use Rattle.spill_work.specs.declared.queue.Asked.{Asked}
+use Rattle.spill_work.specs.declared.queue.IoRequest.{IoRequest}
 use Rattle.spill_work.specs.declared.queue.Queued.{Queued}
-use Rattle.spill_work.specs.Line.{WorkLine, shown, is_of, is_at, used_by, front_of, marked, MarksTaken}
+use Rattle.spill_work.specs.Line.{WorkLine, shown, is_of, is_at, used_by, front_of, marked_taken, MarksTaken}
 use Rattle.job_admission.specs.Admissions.{Admissions}
-use Rattle.node_table.specs.Row.{Row, Beside}
+use Rattle.node_table.specs.Row.{Row, SharedTables}
 use Rattle.node_table.specs.Shown.{seen, only, IsShown}
 use Rattle.node_core.specs.Hosted.{Hosted, IsRowView, IsBare, IsViewBy, Shows, ShowsAll, bytes_here, beside_at}
-use Rattle.node_core.specs.OneJob.{StepsOne}
+use Rattle.node_core.specs.OneJob.{NodeStepOne}
 use Rattle.node_table.proofs.ForCallers.{copy_at_work, alike_bytes, work_is}
-use Rattle.node_core.specs.Steps.{taken_if, work_given, work_of, take_told}
+use Rattle.node_core.specs.Steps.{taken_if, row_work_given, row_work_of, take_told}
 use Rattle.node_core.proofs.Others.{other_view}
 use Rattle.node_core.proofs.Views.{node_of, view_is}
 
@@ -68,22 +68,22 @@ module _ (job : JobNo) (number : ℕ) where
       by true rest none = absurd (omega (arith, none))
       by false rest none = ap (λ t. w ∷ t) (rest none)
 
-  marked-all : (ws : List Queued) → length (filter (is_at job number) ws) ≤ 1 → map (taken_if job number) ws ≡ marked job number ws
+  marked-all : (ws : List Queued) → length (filter (is_at job number) ws) ≤ 1 → map (taken_if job number) ws ≡ marked_taken job number ws
   marked-all [] one = refl
   marked-all (w ∷ ws) one = by (is_at job number w) (marked-all ws) one
     where
-      by : (b : Bool) → (length (filter (is_at job number) ws) ≤ 1 → map (taken_if job number) ws ≡ marked job number ws)
+      by : (b : Bool) → (length (filter (is_at job number) ws) ≤ 1 → map (taken_if job number) ws ≡ marked_taken job number ws)
           → length (cond b (w ∷ filter (is_at job number) ws) (filter (is_at job number) ws)) ≤ 1
-          → cond b (record w { taken = true }) w ∷ map (taken_if job number) ws ≡ cond b (record w { taken = true } ∷ ws) (w ∷ marked job number ws)
+          → cond b (record w { taken = true }) w ∷ map (taken_if job number) ws ≡ cond b (record w { taken = true } ∷ ws) (w ∷ marked_taken job number ws)
       by true rest one = ap (λ t. record w { taken = true } ∷ t) (unmarked ws (omega (arith, one)))
       by false rest one = ap (λ t. w ∷ t) (rest one)
 
   -- the one that is marked is the only one
-  pub marked-is : (ws : List Queued) → ((n : ℕ) → count_by (λ w. w.number == n) (part job ws) ≤ 1) → map (taken_if job number) ws ≡ marked job number ws
+  pub marked-is : (ws : List Queued) → ((n : ℕ) → count_by (λ w. w.number == n) (part job ws) ≤ 1) → map (taken_if job number) ws ≡ marked_taken job number ws
   marked-is ws one = let n = one_each ws in let few = one number in marked-all ws (omega (arith, n, few))
 
 -- the front is the work of its job under its number
-front_found : (ws : List Queued) (asked : Asked) → front_of ws ≡ Some asked → count_by (λ w. w.number == asked.number) (part asked.job ws) ≤ 1
+front_found : (ws : List Queued) (asked : IoRequest) → front_of ws ≡ Some asked → count_by (λ w. w.number == asked.number) (part asked.job ws) ≤ 1
     → find (λ w. w.number == asked.number) (part asked.job ws) ≡ Some (shown asked)
 front_found [] asked front one = none_some asked front
 front_found (w ∷ ws) asked front one = by w.taken front (is_of asked.job w) refl (w.asked.number == asked.number) refl one (front_found ws asked)
@@ -96,7 +96,7 @@ front_found (w ∷ ws) asked front one = by w.taken front (is_of asked.job w) re
 
     here : w.asked ≡ asked → Found (map (λ (work : Queued). shown work.asked) (cond (is_of asked.job w) (w ∷ filter (is_of asked.job) ws) (filter (is_of asked.job) ws)))
     here is =
-        subst (λ (a : Asked). find (λ v. v.number == a.number) (map (λ (work : Queued). shown work.asked) (cond (a.job.0 == w.asked.job.0) (w ∷ filter (is_of asked.job) ws) (filter (is_of asked.job) ws))) ≡ Some (shown a)) is
+        subst (λ (a : IoRequest). find (λ v. v.number == a.number) (map (λ (work : Queued). shown work.asked) (cond (a.job.0 == w.asked.job.0) (w ∷ filter (is_of asked.job) ws) (filter (is_of asked.job) ws))) ≡ Some (shown a)) is
         (ap (λ b. find (λ v. v.number == w.asked.number) (map (λ (work : Queued). shown work.asked) (cond b (w ∷ filter (is_of asked.job) ws) (filter (is_of asked.job) ws)))) (itself w.asked.job.0)
         ∙ ap (λ b. cond b (Some (shown w.asked)) (find (λ v. v.number == w.asked.number) (part asked.job ws))) (itself w.asked.number))
 
@@ -137,7 +137,7 @@ module _ (number : ℕ) (a : Admissions) (line : WorkLine) (hands : List Hand) (
       by false = shows
 
   -- nothing is given
-  pub none_taken : ((v : ℕ → View) → ShowsAll (at_line line) v → reply.NoWork ≡ take_told line.works v) → StepsOne (at_line line) event.Take (only reply.NoWork) (at_line line)
+  pub none_taken : ((v : ℕ → View) → ShowsAll (at_line line) v → reply.NoWork ≡ take_told line.works v) → NodeStepOne (at_line line) event.Take (only reply.NoWork) (at_line line)
   none_taken told = record {
     number = refl;
     views = λ v shows q. same_view q (v q) (shows q) reply.NoWork (at_line line) (shows q);
@@ -150,33 +150,33 @@ module _ (number : ℕ) (a : Admissions) (line : WorkLine) (hands : List Hand) (
     hands = refl;
   }
 
-  module _ (asked : Asked) (front : front_of line.works ≡ Some asked) where
+  module _ (asked : IoRequest) (front : front_of line.works ≡ Some asked) where
     -- what is told of the front
-    front_told : (v : ℕ → View) (o : Option (Work (List ℕ))) → o ≡ work_of asked.job.0 asked.number (v asked.job.0) → option_map_or reply.Work o reply.NoWork ≡ take_told line.works v
+    front_told : (v : ℕ → View) (o : Option (Work (List ℕ))) → o ≡ row_work_of asked.job.0 asked.number (v asked.job.0) → option_map_or reply.Work o reply.NoWork ≡ take_told line.works v
     front_told v o is =
         ap (λ o. option_map_or reply.Work o reply.NoWork) is
-        ∙ sym (ap (λ o. option_map_or (λ (asked : Asked). option_map_or reply.Work (work_of asked.job.0 asked.number (v asked.job.0)) reply.NoWork) o reply.NoWork) front)
+        ∙ sym (ap (λ o. option_map_or (λ (asked : IoRequest). option_map_or reply.Work (row_work_of asked.job.0 asked.number (v asked.job.0)) reply.NoWork) o reply.NoWork) front)
 
     -- a job without a row has no works
     pub no_row : lookup (same_job asked.job) rows ≡ None → (v : ℕ → View) → ShowsAll (at_line line) v → reply.NoWork ≡ take_told line.works v
     no_row none v shows =
         let beside = beside_at (at_line line) asked.job.0 in
         let b : IsBare a.greatest beside asked.job.0 (v asked.job.0) = subst (IsViewBy a.greatest beside asked.job.0 (v asked.job.0)) none (shows asked.job.0).by_row in
-        front_told v None (sym (ap (work_of asked.job.0 asked.number) b.is))
+        front_told v None (sym (ap (row_work_of asked.job.0 asked.number) b.is))
 
     module _ (row : Row) (found : lookup (same_job asked.job) rows ≡ Some row) (o : Option (Work (List ℕ)))
-        (given : (beside : Beside) (contents : Contents) → asked.job.0 ≡ row.job → IsShown row beside contents → find (λ w. w.number == asked.number) beside.works ≡ Some (shown asked) → o ≡ work_of row.job asked.number (seen row beside contents)) where
+        (given : (beside : SharedTables) (contents : Contents) → asked.job.0 ≡ row.job → IsShown row beside contents → find (λ w. w.number == asked.number) beside.works ≡ Some (shown asked) → o ≡ row_work_of row.job asked.number (seen row beside contents)) where
       pub told_is : (v : ℕ → View) → ShowsAll (at_line line) v → option_map_or reply.Work o reply.NoWork ≡ take_told line.works v
       told_is v shows =
           let beside = beside_at (at_line line) asked.job.0 in
           let r : IsRowView row beside asked.job.0 (v asked.job.0) = subst (IsViewBy a.greatest beside asked.job.0 (v asked.job.0)) found (shows asked.job.0).by_row in
           front_told v o (
           given beside (v asked.job.0).contents (sym r.own) r.shown (front_found line.works asked front (r.shown.kept.kept.shape.one_number asked.number))
-          ∙ ap (λ job. work_of job asked.number (seen row beside (v asked.job.0).contents)) r.own
-          ∙ ap (work_of asked.job.0 asked.number) (sym (view_is row beside asked.job.0 (v asked.job.0) r)))
+          ∙ ap (λ job. row_work_of job asked.number (seen row beside (v asked.job.0).contents)) r.own
+          ∙ ap (row_work_of asked.job.0 asked.number) (sym (view_is row beside asked.job.0 (v asked.job.0) r)))
 
       pub taken_so : (work : Work (List ℕ)) → o ≡ Some work → work.job ≡ asked.job → work.number ≡ asked.number → (after : WorkLine) → MarksTaken line asked.job asked.number after
-          → StepsOne (at_line line) event.Take (only (reply.Work work)) (at_line after)
+          → NodeStepOne (at_line line) event.Take (only (reply.Work work)) (at_line after)
       taken_so work is of_job under after marks = record {
         number = refl;
         views = λ v shows q. same_view q (v q) (shows q) (reply.Work work) (at_line after)
@@ -190,12 +190,12 @@ module _ (number : ℕ) (a : Admissions) (line : WorkLine) (hands : List Hand) (
         by_views = λ v shows. sym (ap (λ o. option_map_or reply.Work o reply.NoWork) is) ∙ told_is v shows;
         admissions = refl;
         lives = refl;
-        line = λ v shows. ap (λ (l : WorkLine). l.works) marks.line ∙ (λ i. marked (sym of_job i) (sym under i) line.works);
+        line = λ v shows. ap (λ (l : WorkLine). l.works) marks.line ∙ (λ i. marked_taken (sym of_job i) (sym under i) line.works);
         hands = refl;
       }
 
 -- the front of a job that has a row is given
-pub front_given : (node : Hosted) (asked : Asked) → front_of node.works.works ≡ Some asked → (row : Row) → lookup (same_job asked.job) node.rows ≡ Some row → (v : ℕ → View) → ShowsAll node v
+pub front_given : (node : Hosted) (asked : IoRequest) → front_of node.works.works ≡ Some asked → (row : Row) → lookup (same_job asked.job) node.rows ≡ Some row → (v : ℕ → View) → ShowsAll node v
     → (work : Work (List ℕ)) × (take_told node.works.works v ≡ reply.Work work)
 front_given node asked front row found v shows =
     let beside = beside_at node asked.job.0 in
@@ -203,10 +203,10 @@ front_given node asked front row found v shows =
     let flying = front_found node.works.works asked front (r.shown.kept.kept.shape.one_number asked.number) in
     let k = copy_at_work row beside (v asked.job.0).contents r.shown asked.number (shown asked) flying in
     let given = work_is row beside (v asked.job.0).contents r.shown asked flying k.0 k.1 in
-    let work = work_given row.job (seen row beside (v asked.job.0).contents) (shown asked) k.0.copy in (
+    let work = row_work_given row.job (seen row beside (v asked.job.0).contents) (shown asked) k.0.copy in (
       work,
-      ap (λ o. option_map_or (λ (asked : Asked). option_map_or reply.Work (work_of asked.job.0 asked.number (v asked.job.0)) reply.NoWork) o reply.NoWork) front
+      ap (λ o. option_map_or (λ (asked : IoRequest). option_map_or reply.Work (row_work_of asked.job.0 asked.number (v asked.job.0)) reply.NoWork) o reply.NoWork) front
           ∙ ap (λ o. option_map_or reply.Work o reply.NoWork)
-          (ap (work_of asked.job.0 asked.number) (view_is row beside asked.job.0 (v asked.job.0) r)
-          ∙ ap (λ job. work_of job asked.number (seen row beside (v asked.job.0).contents)) (sym r.own) ∙ given),
+          (ap (row_work_of asked.job.0 asked.number) (view_is row beside asked.job.0 (v asked.job.0) r)
+          ∙ ap (λ job. row_work_of job asked.number (seen row beside (v asked.job.0).contents)) (sym r.own) ∙ given),
     )

@@ -1,5 +1,5 @@
 -- The end of a task: its job's row takes the step, the hands of the task's objects end with all that hangs on them, and each
--- taker is told.
+-- grantee is told.
 use Rattle.std.proofs.Common.{◌≡◌, ℕ, Bool, true, false, cond, ◌++◌, List, [], Option, Some, None, refl, sym, ap, subst, ◌∙◌, eq-eqb}
 use Rattle.std.specs.Prelude.{not, is_none, ◌||◌, ◌==◌}
 use Rattle.std.specs.List.{list_any, list_all}
@@ -19,12 +19,12 @@ use Rattle.private_store.specs.declared.inputs.Input.{Input}
 use Rattle.private_store.specs.declared.inputs.Input.TheVariants as input
 use Rattle.private_store.specs.declared.schedules.Event.TheVariants as event
 use Rattle.private_store.specs.declared.schedules.NodeEvent.TheVariants.{Own}
-use Rattle.private_store.specs.Contents.{Contents, View, judge}
-use Rattle.private_store.specs.Hands.{Hand, hands_ended, hands_left, is_of_task, is_given_by}
-use Rattle.private_store.specs.Jobs.{same_job}
-use Rattle.private_store.specs.Kept.{has_hand}
-use Rattle.private_store.specs.Private.{Post, view_step}
-use Rattle.private_store.specs.Shape.{HandGiven}
+use Rattle.private_store.specs.rules.Contents.{Contents, View, judge}
+use Rattle.private_store.specs.rules.Hands.{Hand, hands_ended, hands_left, is_of_task, is_given_by}
+use Rattle.private_store.specs.rules.Jobs.{same_job}
+use Rattle.private_store.specs.laws.Invariants.{has_hand}
+use Rattle.private_store.specs.rules.Private.{Post, view_step}
+use Rattle.private_store.specs.rules.Shape.{HandGiven}
 use Rattle.store_facts.proofs.OwnJob.{step_keeps_job}
 use Rattle.store_facts.proofs.Tests.{both_left, none_some, some_value}
 use Rattle.spill_work.specs.Line.{WorkLine, works_of, used_by}
@@ -34,14 +34,14 @@ use Rattle.job_admission.specs.Admissions.{Admissions}
 use Rattle.node_table.specs.Checks.{end_task_check}
 use Rattle.node_table.specs.EndingTasks.{beside_ended, beside_after}
 use Rattle.node_table.specs.Notes.{beside_rest}
-use Rattle.node_table.specs.Row.{Row, Beside, given_by, shape_of}
-use Rattle.node_table.specs.Shown.{seen, IsShown, Given as RowGiven, only, TakesStep}
+use Rattle.node_table.specs.Row.{Row, SharedTables, row_given_by, shape_of}
+use Rattle.node_table.specs.Shown.{seen, IsShown, RowGiven, only, RowStep}
 use Rattle.node_table.proofs.ForCallers.{is_of, end_task_refused, rest_of_task, first_left}
 use Rattle.node_core.specs.Hosted.{Hosted, row_at, IsRowView, IsViewBy, Shows, bytes_here, beside_at}
-use Rattle.node_core.specs.Late.{task_refusal, IsCallUnrefused}
+use Rattle.node_core.specs.MemoryLast.{task_refusal, IsCallUnrefused}
 use Rattle.node_core.specs.OneJob.{IsStepOf}
 use Rattle.node_core.specs.Outcomes.{with_no_notes, with_ends}
-use Rattle.node_core.specs.Steps.{queued, Steps}
+use Rattle.node_core.specs.Steps.{queued, NodeStep}
 use Rattle.node_core.proofs.AllJobs.{Works, works_shown, all_steps, refused_still}
 use Rattle.node_core.proofs.Granted.{granted_copy, sealed_stay, own_gave, bytes_where}
 use Rattle.node_core.proofs.HandsEnd.{ended_shows, ended_inputs, ends_judged}
@@ -63,23 +63,23 @@ module _ (number : ℕ) (a : Admissions) (line : WorkLine) (hands : List Hand) (
   abbrev at_node : Hosted
   at_node = node_of number a line hands rows
 
-  row_refuses : (row : Row) (r : Refusal) → lookup (same_job job) rows ≡ Some row → end_task_check row task ≡ Some r → Steps at_node (Own (event.Call job session (command.EndTask task))) (with_no_notes (only (reply.Refused r))) at_node
+  row_refuses : (row : Row) (r : Refusal) → lookup (same_job job) rows ≡ Some row → end_task_check row task ≡ Some r → NodeStep at_node (Own (event.Call job session (command.EndTask task))) (with_no_notes (only (reply.Refused r))) at_node
   row_refuses row r found failed =
       all_steps at_node at_node (event.Call job session (command.EndTask task)) (only (reply.Refused r)) (refused_still (event.Call job session (command.EndTask task)) r)
       (call_steps number a line hands job session (command.EndTask task) table rows rows row row line (only (reply.Refused r)) found (row_stays rows job row found) (asked_nothing line job)
       (λ contents own shown.
       let beside = beside_at at_node job.0 in
-      subst (λ o. TakesStep number row beside contents (input.Call session (command.EndTask task)) (only (reply.Refused r)) row (option_map_or (λ (refusal : Refusal). beside) o (beside_ended row.job task beside))) failed
+      subst (λ o. RowStep number row beside contents (input.Call session (command.EndTask task)) (only (reply.Refused r)) row (option_map_or (λ (refusal : Refusal). beside) o (beside_ended row.job task beside))) failed
       (end_task_refused number row beside contents session task shown r failed))
       (λ other differ. record { works = refl; used = refl }))
 
-  pub task_refused : (r : Refusal) → task_refusal (lookup (same_job job) rows) task ≡ Some r → Steps at_node (Own (event.Call job session (command.EndTask task))) (with_no_notes (only (reply.Refused r))) at_node
+  pub task_refused : (r : Refusal) → task_refusal (lookup (same_job job) rows) task ≡ Some r → NodeStep at_node (Own (event.Call job session (command.EndTask task))) (with_no_notes (only (reply.Refused r))) at_node
   task_refused r failed = by (lookup (same_job job) rows) refl failed
     where
-      by : (o : Option Row) → lookup (same_job job) rows ≡ o → task_refusal o task ≡ Some r → Steps at_node (Own (event.Call job session (command.EndTask task))) (with_no_notes (only (reply.Refused r))) at_node
+      by : (o : Option Row) → lookup (same_job job) rows ≡ o → task_refusal o task ≡ Some r → NodeStep at_node (Own (event.Call job session (command.EndTask task))) (with_no_notes (only (reply.Refused r))) at_node
       by (Some row) found failed = row_refuses row r found failed
       by None none failed =
-          subst (λ q. Steps at_node (Own (event.Call job session (command.EndTask task))) (with_no_notes (only (reply.Refused q))) at_node) (some_value NotAdmitted r failed)
+          subst (λ q. NodeStep at_node (Own (event.Call job session (command.EndTask task))) (with_no_notes (only (reply.Refused q))) at_node) (some_value NotAdmitted r failed)
           (all_steps at_node at_node (event.Call job session (command.EndTask task)) (only (reply.Refused NotAdmitted)) (refused_still (event.Call job session (command.EndTask task)) NotAdmitted) (refused_steps number a line hands job session (command.EndTask task) rows none))
 
 -- ---- it is taken
@@ -89,8 +89,8 @@ module _ (number : ℕ) (a : Admissions) (line : WorkLine) (hands : List Hand) (
     (found : lookup (same_job job) old ≡ Some row)
     (updated : (q : JobNo) → lookup (same_job q) new ≡ cond (same_job job q) (Some after) (lookup (same_job q) old))
     (passed : end_task_check row task ≡ None)
-    (takes : (beside : Beside) (contents : Contents) → IsShown row beside contents
-    → TakesStep number row beside contents (input.Call session (command.EndTask task)) (record { reply = reply.Ok; posts = posts; erased = erased }) after (beside_after row task beside)) where
+    (takes : (beside : SharedTables) (contents : Contents) → IsShown row beside contents
+    → RowStep number row beside contents (input.Call session (command.EndTask task)) (record { reply = reply.Ok; posts = posts; erased = erased }) after (beside_after row task beside)) where
   abbrev test : Hand → Bool
   test = is_of_task job.0 task
 
@@ -112,11 +112,11 @@ module _ (number : ℕ) (a : Admissions) (line : WorkLine) (hands : List Hand) (
   abbrev at_end : Hosted
   at_end = node_of number a line left new
 
-  abbrev beside : Beside
+  abbrev beside : SharedTables
   beside = beside_at before job.0
 
-  -- after the own step, before any taker is told
-  abbrev rest : Beside
+  -- after the own step, before any grantee is told
+  abbrev rest : SharedTables
   rest = beside_rest line test hands (bytes_here old) job.0
 
   rest_is : row.job ≡ job.0 → beside_after row task beside ≡ rest
@@ -131,14 +131,14 @@ module _ (number : ℕ) (a : Admissions) (line : WorkLine) (hands : List Hand) (
   rows_other q e = updated q ∙ ap (λ t. cond t (Some after) (lookup (same_job q) old)) e
 
   own_test : (hand : Hand) → test hand ≡ true → is_given_by job.0 hand ≡ true
-  own_test hand e = both_left (hand.giver == job.0) (hand.id.job.0 == job.0) (both_left _ (same_task task hand.id.task) e)
+  own_test hand e = both_left (hand.grantor == job.0) (hand.id.job.0 == job.0) (both_left _ (same_task task hand.id.task) e)
 
   module _ (view : View) (shown : Shows before job.0 view) where
     r : IsRowView row beside job.0 view
     r = row_view view shown
 
-    t : TakesStep number row beside view.contents x told after rest
-    t = subst (TakesStep number row beside view.contents x told after) (rest_is r.own) (takes beside view.contents r.shown)
+    t : RowStep number row beside view.contents x told after rest
+    t = subst (RowStep number row beside view.contents x told after) (rest_is r.own) (takes beside view.contents r.shown)
 
     own_after : after.job ≡ job.0
     own_after = sym (ap (λ s. s.job) t.shape) ∙ step_keeps_job row.order (shape_of row beside) (judge number (seen row beside view.contents) x) ∙ r.own
@@ -151,14 +151,14 @@ module _ (number : ℕ) (a : Admissions) (line : WorkLine) (hands : List Hand) (
     -- a hand of an own object that is left was given, and didn't end by itself
     given_left : (id : ObjectId) → id.job.0 ≡ job.0 → list_any (is_of id) left ≡ true → has_hand rest.given id ≡ true
     given_left id own there =
-        let hung : list_all (λ (hand : HandGiven). not (hand.id.job.0 == job.0) || is_none hand.hangs_on) rest.given ≡ true =
-        subst (λ n. list_all (λ (hand : HandGiven). not (hand.id.job.0 == n) || is_none hand.hangs_on) rest.given ≡ true) own_after t.shown.kept.kept.shape.own_hands in
+        let hung : list_all (λ (hand : HandGiven). not (hand.id.job.0 == job.0) || is_none hand.parent) rest.given ≡ true =
+        subst (λ n. list_all (λ (hand : HandGiven). not (hand.id.job.0 == n) || is_none hand.parent) rest.given ≡ true) own_after t.shown.kept.kept.shape.own_hands in
         first_left hands (bytes_here old) test table job.0 id (eq-eqb id.job.0 job.0 own) hung ∙ first_stands left (left_are_hands test hands table) id there
 
     bytes_left : (id : ObjectId) → list_any (is_of id) left ≡ true → bytes_here old id ≡ bytes_here new id
     bytes_left id there =
         bytes_where job old new row after found updated id (λ jobs.
-        let gave : has_hand (given_by hands job.0) id ≡ true = subst (λ n. has_hand (given_by hands n) id ≡ true) jobs (own_gave hands table id (any_filtered (is_of id) _ hands there)) in
+        let gave : has_hand (row_given_by hands job.0) id ≡ true = subst (λ n. has_hand (row_given_by hands n) id ≡ true) jobs (own_gave hands table id (any_filtered (is_of id) _ hands there)) in
         sealed_stay number row after beside rest view.contents x told r.shown t id
         (granted_copy row beside view.contents r.shown id (jobs ∙ sym r.own) gave)
         (granted_copy after rest (view_step number (seen row beside view.contents) x).view.contents t.shown id (jobs ∙ sym own_after) (given_left id jobs there)))
@@ -173,7 +173,7 @@ module _ (number : ℕ) (a : Admissions) (line : WorkLine) (hands : List Hand) (
         let works = ap (λ u. (view_step number u x).view.shape.works) (view_is row beside job.0 view r) ∙ ap (λ s. s.works) t.shape in
         (λ i. above (w.asked i) (works i)) ∙ above-used (used_by line job) (works_of line job) w.used
 
-  pub task_steps : Steps before (Own (event.Call job session (command.EndTask task))) (with_ends told ended_hands) at_end
+  pub task_steps : NodeStep before (Own (event.Call job session (command.EndTask task))) (with_ends told ended_hands) at_end
   task_steps = record {
     number = refl;
     hands = refl;

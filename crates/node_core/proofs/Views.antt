@@ -13,25 +13,25 @@ use Rattle.obj_id.specs.declared.refusals.Refusal.TheVariants.{NotAdmitted}
 use Rattle.private_store.specs.declared.inputs.Input.{Input}
 use Rattle.private_store.specs.declared.inputs.Input.TheVariants as input
 use Rattle.private_store.specs.declared.schedules.Event.TheVariants as event
-use Rattle.private_store.specs.Jobs.{same_job}
-use Rattle.private_store.specs.Hands.{Hand}
-use Rattle.private_store.specs.Shape.{Life, Shape, Seen}
-use Rattle.private_store.specs.Change.{refused, erasing}
-use Rattle.private_store.specs.Events.{is_live}
-use Rattle.private_store.specs.Step.{step, commanded}
-use Rattle.private_store.specs.Contents.{Contents, View, brief, judge, bytes_received, brought, kept}
-use Rattle.private_store.specs.Private.{view_step, outcome}
+use Rattle.private_store.specs.rules.Jobs.{same_job}
+use Rattle.private_store.specs.rules.Hands.{Hand}
+use Rattle.private_store.specs.rules.Shape.{Life, Shape, Seen}
+use Rattle.private_store.specs.rules.Change.{refused, erasing}
+use Rattle.private_store.specs.rules.Events.{is_live}
+use Rattle.private_store.specs.rules.Step.{step, commanded}
+use Rattle.private_store.specs.rules.Contents.{Contents, View, without_payload, judge, bytes_received, brought, kept}
+use Rattle.private_store.specs.rules.Private.{view_step, outcome}
 use Rattle.store_facts.proofs.Checks.{checked-true}
-use Rattle.spill_work.specs.Line.{WorkLine, IsSameFor, same_job as same_line_job}
+use Rattle.spill_work.specs.Line.{WorkLine, IsSameFor, same_work_job as same_line_job}
 use Rattle.node_core.proofs.Others.{other_view, not_same}
 use Rattle.job_admission.specs.Admissions.{Admissions}
 use Rattle.grants.specs.Table.{AreHands}
-use Rattle.node_table.specs.Row.{Row, Beside, beside_of, received_bytes, shape_of}
-use Rattle.node_table.specs.Shown.{seen, IsShown, Given, only, TakesStep}
+use Rattle.node_table.specs.Row.{Row, SharedTables, beside_of, received_bytes, shape_of}
+use Rattle.node_table.specs.Shown.{seen, IsShown, RowGiven, only, RowStep}
 use Rattle.node_table.proofs.ForCallers.{is_of, alike_bytes, kept_as_they_are}
-use Rattle.node_core.specs.Hosted.{Hosted, IsRowView, IsBare, IsViewBy, Shows, ShowsAll, bare, bare_shape, bytes_here, beside_at}
+use Rattle.node_core.specs.Hosted.{Hosted, IsRowView, IsBare, IsViewBy, Shows, ShowsAll, empty_view, empty_shape, bytes_here, beside_at}
 use Rattle.node_core.proofs.Granted.{bytes_same}
-use Rattle.node_core.specs.OneJob.{IsStepOf, StepsOne}
+use Rattle.node_core.specs.OneJob.{IsStepOf, NodeStepOne}
 use Rattle.node_table.specs.Asked.{HasAsked}
 use Rattle.node_core.proofs.Lines.{asked_nothing}
 use Rattle.store_facts.proofs.OwnJob.{step_keeps_job}
@@ -43,7 +43,7 @@ pub another : (job : JobNo) (q : ℕ) → (q == job.0) ≡ false → same_job jo
 another job q e = grind (arith, nat_tests, e)
 
 -- the view that a row shows with what stands beside it
-pub view_is : (row : Row) (beside : Beside) (job : ℕ) (view : View) → IsRowView row beside job view → view ≡ seen row beside view.contents
+pub view_is : (row : Row) (beside : SharedTables) (job : ℕ) (view : View) → IsRowView row beside job view → view ≡ seen row beside view.contents
 view_is row beside job view h =
     ap (λ s. record { shape = s; order = view.order; contents = view.contents }) h.shape
     ∙ ap (λ ids. record { shape = shape_of row beside; order = ids; contents = view.contents }) h.order
@@ -54,13 +54,13 @@ node_of number a line hands rows = record { number = number; admissions = a; wor
 -- ---- a row takes a step, and no hand changes
 
 -- the row and the line of works take the step, beside these hands where objects have these bytes
-abbrev pub Takes : ℕ → JobNo → Input → List Hand → (ObjectId → List ℕ) → Row → WorkLine → Given → Row → WorkLine → Type 0
+abbrev pub Takes : ℕ → JobNo → Input → List Hand → (ObjectId → List ℕ) → Row → WorkLine → RowGiven → Row → WorkLine → Type 0
 Takes number job x hands bytes row line told after works =
     (contents : Contents) → row.job ≡ job.0 → IsShown row (beside_of line hands bytes job.0) contents
-    → TakesStep number row (beside_of line hands bytes job.0) contents x told after (beside_of works hands bytes job.0)
+    → RowStep number row (beside_of line hands bytes job.0) contents x told after (beside_of works hands bytes job.0)
 
 module _ (number : ℕ) (a b : Admissions) (low : b.greatest ≡ a.greatest) (line works : WorkLine) (hands : List Hand) (table : AreHands hands) (job : JobNo) (x : Input)
-    (old new : List (JobNo × Row)) (row after : Row) (told : Given)
+    (old new : List (JobNo × Row)) (row after : Row) (told : RowGiven)
     (found : lookup (same_job job) old ≡ Some row)
     (updated : (q : JobNo) → lookup (same_job q) new ≡ cond (same_job job q) (Some after) (lookup (same_job q) old))
     (obeys : Takes number job x hands (bytes_here old) row line told after works)
@@ -71,11 +71,11 @@ module _ (number : ℕ) (a b : Admissions) (low : b.greatest ≡ a.greatest) (li
   abbrev at_new : Hosted
   at_new = node_of number b works hands new
 
-  abbrev before : Beside
+  abbrev before : SharedTables
   before = beside_at at_old job.0
 
   -- after the step, while objects have the bytes that they had
-  abbrev between : Beside
+  abbrev between : SharedTables
   between = beside_of works hands (bytes_here old) job.0
 
   row_view : (view : View) → Shows at_old job.0 view → IsRowView row before job.0 view
@@ -94,7 +94,7 @@ module _ (number : ℕ) (a b : Admissions) (low : b.greatest ≡ a.greatest) (li
     r : IsRowView row before job.0 own
     r = row_view own h
 
-    t : TakesStep number row before own.contents x told after between
+    t : RowStep number row before own.contents x told after between
     t = obeys own.contents r.own r.shown
 
     own_after : after.job ≡ job.0
@@ -134,12 +134,12 @@ module _ (number : ℕ) (a b : Admissions) (low : b.greatest ≡ a.greatest) (li
 -- ---- on a job that isn't live
 
 module _ (number : ℕ) (a : Admissions) (line : WorkLine) (hands : List Hand) (job : JobNo) (x : Input) (quiet : bytes_received x ≡ None) where
-  module _ (life : Life) (beside : Beside) (refusal : Refusal) (is_refused : step [] (bare_shape job.0 life beside) (judge number (bare job.0 life beside) x) ≡ refused (bare_shape job.0 life beside) refusal) where
+  module _ (life : Life) (beside : SharedTables) (refusal : Refusal) (is_refused : step [] (empty_shape job.0 life beside) (judge number (empty_view job.0 life beside) x) ≡ refused (empty_shape job.0 life beside) refusal) where
     abbrev s : Shape
-    s = bare_shape job.0 life beside
+    s = empty_shape job.0 life beside
 
     abbrev v : View
-    v = bare job.0 life beside
+    v = empty_view job.0 life beside
 
     refused_step : view_step number v x ≡ outcome number v x (judge number v x) (refused s refusal)
     refused_step = ap (outcome number v x (judge number v x)) is_refused
@@ -160,8 +160,8 @@ module _ (number : ℕ) (a : Admissions) (line : WorkLine) (hands : List Hand) (
   -- whatever of it was not begun or has ended
   abbrev pub Refuses : Refusal → Type 0
   Refuses refusal =
-      (life : Life) (beside : Beside) → is_live (bare_shape job.0 life beside) ≡ false
-      → step [] (bare_shape job.0 life beside) (judge number (bare job.0 life beside) x) ≡ refused (bare_shape job.0 life beside) refusal
+      (life : Life) (beside : SharedTables) → is_live (empty_shape job.0 life beside) ≡ false
+      → step [] (empty_shape job.0 life beside) (judge number (empty_view job.0 life beside) x) ≡ refused (empty_shape job.0 life beside) refusal
 
   module _ (rows : List (JobNo × Row)) (none : lookup (same_job job) rows ≡ None) (refusal : Refusal) (refuses : Refuses refusal) where
     abbrev node : Hosted
@@ -191,13 +191,13 @@ module _ (number : ℕ) (a : Admissions) (line : WorkLine) (hands : List Hand) (
 -- ---- a command
 
 module _ (number : ℕ) (a : Admissions) (line : WorkLine) (hands : List Hand) (job : JobNo) (session : ℕ) (c : Command (List ℕ)) where
-  module _ (table : AreHands hands) (old new : List (JobNo × Row)) (row after : Row) (works : WorkLine) (told : Given)
+  module _ (table : AreHands hands) (old new : List (JobNo × Row)) (row after : Row) (works : WorkLine) (told : RowGiven)
       (found : lookup (same_job job) old ≡ Some row)
       (updated : (q : JobNo) → lookup (same_job q) new ≡ cond (same_job job q) (Some after) (lookup (same_job q) old))
       (line_after : HasAsked line job works)
       (obeys : Takes number job (input.Call session c) hands (bytes_here old) row line told after works)
       (others : (other : JobNo) → same_line_job job other ≡ false → IsSameFor other line works) where
-    pub call_steps : StepsOne (node_of number a line hands old) (event.Call job session c) told (node_of number a works hands new)
+    pub call_steps : NodeStepOne (node_of number a line hands old) (event.Call job session c) told (node_of number a works hands new)
     call_steps = record {
       number = refl;
       views = views_stepped number a a refl line works hands table job (input.Call session c) old new row after told found updated obeys others;
@@ -212,11 +212,11 @@ module _ (number : ℕ) (a : Admissions) (line : WorkLine) (hands : List Hand) (
 
   pub call_refuses : Refuses number a line hands job (input.Call session c) refl NotAdmitted
   call_refuses life beside dead =
-      let s = bare_shape job.0 life beside in
-      checked-true s (not (is_live s)) NotAdmitted [] (erasing s (commanded [] s session (brief c))) (ap not dead)
+      let s = empty_shape job.0 life beside in
+      checked-true s (not (is_live s)) NotAdmitted [] (erasing s (commanded [] s session (without_payload c))) (ap not dead)
 
   module _ (rows : List (JobNo × Row)) (none : lookup (same_job job) rows ≡ None) where
-    pub refused_steps : StepsOne (node_of number a line hands rows) (event.Call job session c) (only (reply.Refused NotAdmitted)) (node_of number a line hands rows)
+    pub refused_steps : NodeStepOne (node_of number a line hands rows) (event.Call job session c) (only (reply.Refused NotAdmitted)) (node_of number a line hands rows)
     refused_steps = record {
       number = refl;
       views = λ v shows q. views_same number a line hands job (input.Call session c) refl rows none NotAdmitted call_refuses q (v q) (shows q);

@@ -1,4 +1,4 @@
--- What a Withdraw leaves at a node: the own step, and then each taker of what ends is told.
+-- What a Withdraw leaves at a node: the own step, and then each grantee of what ends is told.
 use Rattle.std.proofs.Common.{◌≡◌, ℕ, ◌==◌, Bool, true, false, cond, not, ◌||◌, ◌&&◌, List, [], ◌++◌, Some, None, refl, sym, ap, subst, ◌∙◌, arith}
 use Rattle.std.specs.Prelude.{is_none}
 use Rattle.std.specs.List.{list_any, list_all}
@@ -15,12 +15,12 @@ use Rattle.private_store.specs.declared.inputs.Input.TheVariants as input
 use Rattle.private_store.specs.declared.schedules.Event.{Event}
 use Rattle.private_store.specs.declared.schedules.Event.TheVariants as event
 use Rattle.private_store.specs.declared.schedules.NodeEvent.TheVariants.{Own}
-use Rattle.private_store.specs.Contents.{View, judge}
-use Rattle.private_store.specs.Hands.{Hand, hands_ended, hands_left, is_withdrawn, is_given_by, ended_from, same_hand}
-use Rattle.private_store.specs.Jobs.{same_job}
-use Rattle.private_store.specs.Kept.{has_hand}
-use Rattle.private_store.specs.Shape.{HandGiven}
-use Rattle.private_store.specs.Private.{view_step}
+use Rattle.private_store.specs.rules.Contents.{View, judge}
+use Rattle.private_store.specs.rules.Hands.{Hand, hands_ended, hands_left, is_withdrawn, is_given_by, ended_from, same_hand}
+use Rattle.private_store.specs.rules.Jobs.{same_job}
+use Rattle.private_store.specs.laws.Invariants.{has_hand}
+use Rattle.private_store.specs.rules.Shape.{HandGiven}
+use Rattle.private_store.specs.rules.Private.{view_step}
 use Rattle.store_facts.proofs.KeptLists.{any-filter-only}
 use Rattle.store_facts.proofs.OwnJob.{step_keeps_job}
 use Rattle.store_facts.proofs.Tests.{both_left}
@@ -29,13 +29,13 @@ use Rattle.grants.proofs.ForCallers.{left_are_hands, first_stands}
 use Rattle.job_admission.specs.Admissions.{Admissions}
 use Rattle.spill_work.specs.Line.{WorkLine}
 use Rattle.node_table.specs.Notes.{beside_rest}
-use Rattle.node_table.specs.Row.{Row, Beside, given_by, shape_of}
-use Rattle.node_table.specs.Shown.{seen, Given as RowGiven, TakesStep}
+use Rattle.node_table.specs.Row.{Row, SharedTables, row_given_by, shape_of}
+use Rattle.node_table.specs.Shown.{seen, RowGiven, RowStep}
 use Rattle.node_table.proofs.ForCallers.{is_of, first_left}
 use Rattle.node_core.specs.Granting.{TakesWithdraw}
 use Rattle.node_core.specs.Hosted.{Hosted, IsRowView, IsViewBy, ShowsAll, Shows, bytes_here, beside_at}
 use Rattle.node_core.specs.Outcomes.{with_ends}
-use Rattle.node_core.specs.Steps.{queued, IsStepOf, Steps, StepsFrom}
+use Rattle.node_core.specs.Steps.{queued, IsStepOf, NodeStep, NodeStepFrom}
 use Rattle.node_core.proofs.AllJobs.{asks_nothing}
 use Rattle.node_core.proofs.Granted.{granted_copy, sealed_stay, own_gave, bytes_where}
 use Rattle.node_core.proofs.HandsEnd.{ended_shows, ended_inputs, ends_judged}
@@ -69,8 +69,8 @@ module _ (number : ℕ) (a : Admissions) (line : WorkLine) (hands : List Hand) (
   abbrev now : Hosted
   now = node_of number a line left new
 
-  -- once the own step is done, before the takers are told
-  abbrev between : Beside
+  -- once the own step is done, before the grantees are told
+  abbrev between : SharedTables
   between = beside_rest line test hands (bytes_here old) job.0
 
   left_are : AreHands left
@@ -78,7 +78,7 @@ module _ (number : ℕ) (a : Admissions) (line : WorkLine) (hands : List Hand) (
 
   own_test : (hand : Hand) → test hand ≡ true → is_given_by job.0 hand ≡ true
   own_test hand passes =
-      both_left (hand.giver == job.0) (same_id id hand.id) (both_left (hand.giver == job.0 && same_id id hand.id) (hand.taker == target.0) passes)
+      both_left (hand.grantor == job.0) (same_id id hand.id) (both_left (hand.grantor == job.0 && same_id id hand.id) (hand.grantee == target.0) passes)
 
   rows_other : (q : JobNo) → same_job job q ≡ false → lookup (same_job q) new ≡ lookup (same_job q) old
   rows_other q other = updated q ∙ ap (λ b. cond b (Some after) (lookup (same_job q) old)) other
@@ -87,7 +87,7 @@ module _ (number : ℕ) (a : Admissions) (line : WorkLine) (hands : List Hand) (
     r : IsRowView row (beside_at before job.0) job.0 (v job.0)
     r = subst (IsViewBy a.greatest (beside_at before job.0) job.0 (v job.0)) found (shows job.0).by_row
 
-    t : TakesStep number row (beside_at before job.0) (v job.0).contents x told after between
+    t : RowStep number row (beside_at before job.0) (v job.0).contents x told after between
     t = takes number line hands (bytes_here old) (v job.0).contents table r.own stands says r.shown
 
     own_after : after.job ≡ job.0
@@ -98,9 +98,9 @@ module _ (number : ℕ) (a : Admissions) (line : WorkLine) (hands : List Hand) (
     bytes_stay q there =
         bytes_where job old new row after found updated q (λ jobs.
         let stood : list_any (is_of q) hands ≡ true = any-filter-only (is_of q) (λ hand. not (list_any (same_hand hand) (ended_from test [] hands))) hands there in
-        let gave : has_hand (given_by hands job.0) q ≡ true = subst (λ n. has_hand (given_by hands n) q ≡ true) jobs (own_gave hands table q stood) in
+        let gave : has_hand (row_given_by hands job.0) q ≡ true = subst (λ n. has_hand (row_given_by hands n) q ≡ true) jobs (own_gave hands table q stood) in
         let mine : (q.job.0 == job.0) ≡ true = grind (arith, nat_tests, jobs) in
-        let still : has_hand between.given q ≡ true = first_left hands (bytes_here old) test table job.0 q mine (subst (λ n. list_all (λ (hand : HandGiven). not (hand.id.job.0 == n) || is_none hand.hangs_on) between.given ≡ true) own_after t.shown.kept.kept.shape.own_hands) ∙ first_stands left left_are q there in
+        let still : has_hand between.given q ≡ true = first_left hands (bytes_here old) test table job.0 q mine (subst (λ n. list_all (λ (hand : HandGiven). not (hand.id.job.0 == n) || is_none hand.parent) between.given ≡ true) own_after t.shown.kept.kept.shape.own_hands) ∙ first_stands left left_are q there in
         sealed_stay number row after (beside_at before job.0) between (v job.0).contents x told r.shown t q
         (granted_copy row (beside_at before job.0) (v job.0).contents r.shown q (jobs ∙ sym r.own) gave)
         (granted_copy after between (view_step number (seen row (beside_at before job.0) (v job.0).contents) x).view.contents t.shown q (jobs ∙ sym own_after) still))
@@ -117,7 +117,7 @@ module _ (number : ℕ) (a : Admissions) (line : WorkLine) (hands : List Hand) (
         asks_nothing number before job (v job.0) x (shows job.0)
         (subst (λ w. (view_step number w x).view.shape.works ≡ between.works) (sym (view_is row (beside_at before job.0) job.0 (v job.0) r)) (ap (λ s. s.works) t.shape))
 
-    steps_from : StepsFrom before v (Own e) (with_ends (record { reply = reply.Ok; posts = told.posts; erased = told.erased }) ended) now
+    steps_from : NodeStepFrom before v (Own e) (with_ends (record { reply = reply.Ok; posts = told.posts; erased = told.erased }) ended) now
     steps_from = record {
       views = λ q. subst (Shows now q) (sym (ended_inputs number job.0 x ended q (v q)))
           (ended_shows number a a refl line line hands table test job x old new own_test rows_other (λ other differ. record { works = refl; used = refl }) bytes_stay v shows own_left q);
@@ -128,7 +128,7 @@ module _ (number : ℕ) (a : Admissions) (line : WorkLine) (hands : List Hand) (
       line = sym (append-nil line.works) ∙ ap (λ ws. line.works ++ queued job.0 ws) (sym no_works);
     }
 
-  pub withdraw_steps : Steps before (Own e) (with_ends told ended) now
+  pub withdraw_steps : NodeStep before (Own e) (with_ends told ended) now
   withdraw_steps =
-      subst (λ o. Steps before (Own e) (with_ends (record { reply = o; posts = told.posts; erased = told.erased }) ended) now) (sym is_ok)
+      subst (λ o. NodeStep before (Own e) (with_ends (record { reply = o; posts = told.posts; erased = told.erased }) ended) now) (sym is_ok)
       (record { number = refl; hands = refl; admissions = refl; lives = refl; each = steps_from })

@@ -3,9 +3,9 @@ use Rattle.std.specs.Prelude.{◌≡◌, ℕ, ◌==◌, not, if◌then◌else◌
 use Rattle.obj_id.specs.declared.ids.ObjectId.{ObjectId}
 use Rattle.obj_id.specs.declared.refusals.Refusal.{Refusal}
 use Rattle.obj_id.specs.declared.refusals.Refusal.TheVariants.{NotAdmitted, NotGranted}
-use Rattle.private_store.specs.Shape.{Shape}
-use Rattle.private_store.specs.Events.{is_live}
-use Rattle.private_store.specs.Contents.{View}
+use Rattle.private_store.specs.rules.Shape.{Shape}
+use Rattle.private_store.specs.rules.Events.{is_live}
+use Rattle.private_store.specs.rules.Contents.{View}
 use Rattle.node_table.specs.Checks.{lend_check}
 use Rattle.node_table.specs.Shown.{IsLent}
 

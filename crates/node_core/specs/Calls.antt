@@ -7,11 +7,11 @@ use Rattle.obj_id.specs.declared.commands.Command.TheVariants as command
 use Rattle.private_store.specs.declared.inputs.Input.TheVariants as input
 use Rattle.private_store.specs.declared.schedules.Event.{Event}
 use Rattle.private_store.specs.declared.schedules.Event.TheVariants as event
-use Rattle.private_store.specs.Contents.{Contents}
-use Rattle.private_store.specs.Hands.{Hand}
+use Rattle.private_store.specs.rules.Contents.{Contents}
+use Rattle.private_store.specs.rules.Hands.{Hand}
 use Rattle.spill_work.specs.Line.{WorkLine}
 use Rattle.node_table.specs.Row.{Row, beside_of}
-use Rattle.node_table.specs.Shown.{IsShown, Given, TakesStep}
+use Rattle.node_table.specs.Shown.{IsShown, RowGiven, RowStep}
 use Rattle.node_table.specs.Usages.{total, doomed_one}
 use Rattle.node_core.specs.Hosted.{Hosted, row_at}
 
@@ -52,17 +52,17 @@ is_plain (command.Get id) = false
 is_plain c = is_of_row c
 
 -- and those that send nothing and erase nothing, whatever the row
-abbrev pub is_answered : Command (List ℕ) → Bool
-is_answered (command.Write id offset bytes) = true
-is_answered (command.Read id offset n) = true
-is_answered command.Usage = true
-is_answered _ = false
+abbrev pub is_answered_here : Command (List ℕ) → Bool
+is_answered_here (command.Write id offset bytes) = true
+is_answered_here (command.Read id offset n) = true
+is_answered_here command.Usage = true
+is_answered_here _ = false
 
 -- the job's row and works take the command's step, whatever hands stand and contents it shows
-abbrev pub Obeys : ℕ → ℕ → Row → WorkLine → ℕ → Command (List ℕ) → Given → Row → WorkLine → Type 0
-Obeys node job old line session c told new after =
+abbrev pub CallStep : ℕ → ℕ → Row → WorkLine → ℕ → Command (List ℕ) → RowGiven → Row → WorkLine → Type 0
+CallStep node job old line session c told new after =
     (hands : List Hand) (bytes : ObjectId → List ℕ) (contents : Contents) → old.job ≡ job → IsShown old (beside_of line hands bytes job) contents
-    → TakesStep node old (beside_of line hands bytes job) contents (input.Call session c) told new (beside_of after hands bytes job)
+    → RowStep node old (beside_of line hands bytes job) contents (input.Call session c) told new (beside_of after hands bytes job)
 
 -- a command that takes no memory of a job with this row, or none, and so is never refused for it: Leave takes some
 -- where a copy is doomed
@@ -74,7 +74,7 @@ takes_no_memory row command.Leave = option_map_or (λ r. total doomed_one r.copi
 takes_no_memory row _ = false
 
 -- an event that takes none
-abbrev pub is_frugal : Hosted → Event → Bool
-is_frugal node (event.Call job session c) = takes_no_memory (row_at node job) c
-is_frugal node (event.Finish job number a) = true
-is_frugal node _ = false
+abbrev pub needs_no_memory : Hosted → Event → Bool
+needs_no_memory node (event.Call job session c) = takes_no_memory (row_at node job) c
+needs_no_memory node (event.Finish job number a) = true
+needs_no_memory node _ = false

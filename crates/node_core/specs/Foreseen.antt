@@ -11,8 +11,8 @@ use Rattle.obj_id.specs.declared.commands.Reply.{Reply}
 use Rattle.obj_id.specs.declared.commands.Reply.TheVariants as reply
 use Rattle.private_store.specs.declared.schedules.Event.{Event}
 use Rattle.private_store.specs.declared.schedules.Event.TheVariants as event
-use Rattle.private_store.specs.Hands.{Hand, hands_ended}
-use Rattle.private_store.specs.Trace.{ends}
+use Rattle.private_store.specs.rules.Hands.{Hand, hands_ended}
+use Rattle.private_store.specs.rules.Trace.{ends}
 use Rattle.node_table.specs.Row.{Row}
 use Rattle.node_core.specs.Hosted.{Hosted, row_at}
 
@@ -44,22 +44,22 @@ most_by_arrival own (arrival.FromPeer from (peer.Chunk id number index bytes)) =
 most_by_arrival own (arrival.FromPeer from (peer.NotHere id number)) = option_map_or (λ row. 1) own 0
 
 -- of hands, those to whom they were given
-abbrev pub takers_told : List Hand → List JobNo
-takers_told hands = map (λ hand. record { 0 = hand.taker }) hands
+abbrev pub grantees_told : List Hand → List JobNo
+grantees_told hands = map (λ hand. record { 0 = hand.grantee }) hands
 
--- the hands that end if the event is accepted, and their takers, in the order in which they are told
+-- the hands that end if the event is accepted, and their grantees, in the order in which they are told
 abbrev pub ended_by : List Hand → Event → List Hand
 ended_by hands e = option_map_or (λ test. hands_ended test hands) (ends e) []
 
-abbrev pub takers_of_ended : List Hand → Event → List JobNo
-takers_of_ended hands e = takers_told (ended_by hands e)
+abbrev pub grantees_of_ended : List Hand → Event → List JobNo
+grantees_of_ended hands e = grantees_told (ended_by hands e)
 
 -- the jobs that the event tells of hands if it is accepted, one for each note, in their order
-abbrev pub takers_of : List Hand → Event → List JobNo
-takers_of hands (event.Call job session (command.Grant id target)) = target ∷ []
-takers_of hands e = option_map_or (λ test. takers_told (hands_ended test hands)) (ends e) []
+abbrev pub grantees_of : List Hand → Event → List JobNo
+grantees_of hands (event.Call job session (command.Grant id target)) = target ∷ []
+grantees_of hands e = option_map_or (λ test. grantees_told (hands_ended test hands)) (ends e) []
 
 -- these are the jobs that it told
 abbrev pub AreTakers : List Hand → Event → Reply (List ℕ) → List JobNo → Type 0
-AreTakers hands e reply.Ok takers = takers ≡ takers_of hands e
-AreTakers hands e _ takers = takers ≡ []
+AreTakers hands e reply.Ok grantees = grantees ≡ grantees_of hands e
+AreTakers hands e _ grantees = grantees ≡ []

@@ -2,7 +2,7 @@
 use Rattle.std.specs.Prelude.{ℕ, List, length, map}
 use Rattle.obj_id.specs.declared.commands.GrantedItem.{GrantedItem}
 use Rattle.obj_id.specs.declared.ids.JobNo.{JobNo}
-use Rattle.private_store.specs.Hands.{Hand}
+use Rattle.private_store.specs.rules.Hands.{Hand}
 use Rattle.grants.specs.Table.{seen_list}
 use Rattle.node_table.specs.Row.{Row}
 use Rattle.node_core.specs.Hosted.{Hosted, bytes_here}

@@ -5,17 +5,17 @@ use Rattle.std.specs.Map.{keys_of, lookup}
 use Rattle.std.specs.Option.{option_map_or}
 use Rattle.obj_id.specs.declared.ids.JobNo.{JobNo}
 use Rattle.obj_id.specs.declared.ids.ObjectId.{ObjectId}
-use Rattle.private_store.specs.Jobs.{same_job}
-use Rattle.private_store.specs.Shape.{Life, Shape, not_begun, unbegun}
-use Rattle.private_store.specs.Events.{is_live}
-use Rattle.private_store.specs.Contents.{View}
-use Rattle.private_store.specs.Hands.{Hand}
-use Rattle.private_store.specs.Private.{no_contents}
+use Rattle.private_store.specs.rules.Jobs.{same_job}
+use Rattle.private_store.specs.rules.Shape.{Life, Shape, not_begun, unbegun}
+use Rattle.private_store.specs.rules.Events.{is_live}
+use Rattle.private_store.specs.rules.Contents.{View}
+use Rattle.private_store.specs.rules.Hands.{Hand}
+use Rattle.private_store.specs.rules.Private.{no_contents}
 use Rattle.spill_work.specs.Line.{WorkLine}
 use Rattle.grants.specs.Table.{AreHands}
 use Rattle.job_admission.specs.Admissions.{Admissions}
 use Rattle.node_table.specs.Granting.{row_bytes}
-use Rattle.node_table.specs.Row.{Row, Beside, beside_of, received_bytes, shape_of}
+use Rattle.node_table.specs.Row.{Row, SharedTables, beside_of, received_bytes, shape_of}
 use Rattle.node_table.specs.Shown.{IsShown}
 
 pub record Hosted : Type 0 where
@@ -52,28 +52,28 @@ bytes_here rows id = option_map_or (λ row. row_bytes row id) (lookup (same_job 
 -- ---- views
 
 -- what a job's row is shown beside
-abbrev pub beside_at : Hosted → ℕ → Beside
+abbrev pub beside_at : Hosted → ℕ → SharedTables
 beside_at node job = beside_of node.works node.hands (bytes_here node.rows) job
 
 -- the row and what stands beside it show the view of a live job
-pub record IsRowView (row : Row) (beside : Beside) (job : ℕ) (view : View) : Type 0 where
+pub record IsRowView (row : Row) (beside : SharedTables) (job : ℕ) (view : View) : Type 0 where
   pub own : row.job ≡ job
   pub shape : view.shape ≡ shape_of row beside
   pub order : view.order ≡ row.order
   pub shown : IsShown row beside view.contents
 
 -- a store with nothing but what others granted
-abbrev pub bare_shape : ℕ → Life → Beside → Shape
-bare_shape job life beside = record (unbegun job) { life = life; received = beside.received }
+abbrev pub empty_shape : ℕ → Life → SharedTables → Shape
+empty_shape job life beside = record (unbegun job) { life = life; received = beside.received }
 
-abbrev pub bare : ℕ → Life → Beside → View
-bare job life beside = record { shape = bare_shape job life beside; order = []; contents = record no_contents { received = received_bytes beside } }
+abbrev pub empty_view : ℕ → Life → SharedTables → View
+empty_view job life beside = record { shape = empty_shape job life beside; order = []; contents = record no_contents { received = received_bytes beside } }
 
 -- a job that isn't live has a store that isn't, with nothing but what others granted
-pub record IsBare (greatest : ℕ) (beside : Beside) (job : ℕ) (view : View) : Type 0 where
+pub record IsBare (greatest : ℕ) (beside : SharedTables) (job : ℕ) (view : View) : Type 0 where
   pub life : Life
-  pub is : view ≡ bare job life beside
-  pub dead : is_live (bare_shape job life beside) ≡ false
+  pub is : view ≡ empty_view job life beside
+  pub dead : is_live (empty_shape job life beside) ≡ false
   -- one whose number is above all that were admitted here has not begun
   pub fresh : greatest < job → life ≡ not_begun
   -- and the line has no work of it, and no hand is its gift
@@ -82,7 +82,7 @@ pub record IsBare (greatest : ℕ) (beside : Beside) (job : ℕ) (view : View) :
   pub given : beside.given ≡ []
 
 -- the view of a job that has this row, or none
-abbrev pub IsViewBy : ℕ → Beside → ℕ → View → Option Row → Type 0
+abbrev pub IsViewBy : ℕ → SharedTables → ℕ → View → Option Row → Type 0
 IsViewBy greatest beside job view (Some row) = IsRowView row beside job view
 IsViewBy greatest beside job view None = IsBare greatest beside job view
 

@@ -4,20 +4,20 @@ use Rattle.std.specs.Map.{lookup}
 use Rattle.obj_id.specs.declared.ids.JobNo.{JobNo}
 use Rattle.obj_id.specs.declared.messages.DirectoryMessage.TheVariants.{EndJob}
 use Rattle.obj_id.specs.declared.commands.Reply.TheVariants as reply
-use Rattle.private_store.specs.Hands.{hands_left, is_given_by}
-use Rattle.private_store.specs.Jobs.{same_job}
-use Rattle.private_store.specs.Private.{to_directory}
-use Rattle.private_store.specs.Shared.{job_is}
-use Rattle.private_store.specs.Tables.{ids_of}
+use Rattle.private_store.specs.rules.Hands.{hands_left, is_given_by}
+use Rattle.private_store.specs.rules.Jobs.{same_job}
+use Rattle.private_store.specs.rules.Private.{to_directory}
+use Rattle.private_store.specs.rules.Shared.{job_is}
+use Rattle.private_store.specs.rules.Tables.{ids_of}
 use Rattle.spill_work.specs.Line.{Drops}
 use Rattle.job_admission.specs.Admissions.{lives_of, finished}
 use Rattle.node_table.specs.Ending.{keys_backed}
 use Rattle.node_table.specs.Row.{Row}
-use Rattle.node_table.specs.Shown.{Given}
+use Rattle.node_table.specs.Shown.{RowGiven}
 use Rattle.node_core.specs.Hosted.{Hosted, row_at}
 
 -- what it gives to the job itself, which is live: the directory is told, and the keys of its backed copies are to be erased
-pub record IsOwnEnd (node : Hosted) (job : JobNo) (given : Given) : Type 0 where
+pub record IsOwnEnd (node : Hosted) (job : JobNo) (given : RowGiven) : Type 0 where
   pub row : Row
   pub found : row_at node job ≡ Some row
   pub is : given ≡ record { reply = reply.Ok; posts = to_directory (EndJob node.number); erased = keys_backed row (ids_of row.copies) }

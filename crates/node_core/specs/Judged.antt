@@ -11,10 +11,10 @@ use Rattle.private_store.specs.declared.inputs.Judged.{Judged}
 use Rattle.private_store.specs.declared.inputs.Judged.TheVariants as judged
 use Rattle.private_store.specs.declared.schedules.Event.{Event}
 use Rattle.private_store.specs.declared.schedules.Event.TheVariants as event
-use Rattle.private_store.specs.Contents.{View, brief, judge}
-use Rattle.private_store.specs.Answers.{is_small_reply, AreGrantedWithin}
+use Rattle.private_store.specs.rules.Contents.{View, without_payload, judge}
+use Rattle.private_store.specs.laws.Answers.{is_small_reply, AreGrantedWithin}
 use Rattle.node_core.specs.Hosted.{Hosted, Shows, ShowsAll, row_at}
-use Rattle.node_core.specs.OneJob.{input_of}
+use Rattle.node_core.specs.OneJob.{event_input_of}
 use Rattle.node_core.specs.Steps.{job_of_event}
 
 -- an input, if the event was answered Ok
@@ -40,17 +40,17 @@ abbrev pub judged_as : Event → Reply (List ℕ) → Option Judged
 judged_as (event.Admit job quota key) told = if_ok told (judged.Begin quota)
 judged_as (event.Requota job quota) told = if_ok told (judged.Requota quota)
 judged_as (event.JobEnd job) told = if_ok told judged.End
-judged_as (event.Call job session c) told = Some (judged.Call session (brief c))
+judged_as (event.Call job session c) told = Some (judged.Call session (without_payload c))
 judged_as _ told = None
 
 -- of a command it is told whatever the views are
 abbrev pub IsCallJudged : Event → Option Judged → Type 0
-IsCallJudged (event.Call job session c) was = was ≡ Some (judged.Call session (brief c))
+IsCallJudged (event.Call job session c) was = was ≡ Some (judged.Call session (without_payload c))
 IsCallJudged _ was = was ≡ was
 
 -- this is what the event with this answer was to its job
 pub record IsJudged (old : Hosted) (e : Event) (told : Reply (List ℕ)) (was : Option Judged) : Type 0 where
-  pub by_view : (view : View) → Shows old (job_of_event e) view → option_map (judge old.number view) (input_of e told) ≡ was
+  pub by_view : (view : View) → Shows old (job_of_event e) view → option_map (judge old.number view) (event_input_of e told) ≡ was
   pub by_call : IsCallJudged e was
 
 -- ---- messages

@@ -10,4 +10,4 @@ pub mod Calls
 pub mod Borrowed
 pub mod Foreseen
 pub mod Judged
-pub mod Late
+pub mod MemoryLast

@@ -7,22 +7,22 @@ ghost use Rattle.obj_id.specs.declared.messages.Arrival.TheVariants as arrival;
 ghost use Rattle.obj_id.specs.declared.refusals.Refusal.TheVariants.{Stale};
 ghost use Rattle.private_store.specs.declared.inputs.Input.TheVariants as input;
 ghost use Rattle.private_store.specs.declared.schedules.NodeEvent.TheVariants as node_event;
-ghost use Rattle.private_store.specs.Contents.{Contents, judge, source_in as source_in_lem};
-ghost use Rattle.private_store.specs.Hands.{Hand};
-ghost use Rattle.spill_work.specs.Line.{same_job, IsSameFor};
+ghost use Rattle.private_store.specs.rules.Contents.{Contents, judge, source_in as source_in_lem};
+ghost use Rattle.private_store.specs.rules.Hands.{Hand};
+ghost use Rattle.spill_work.specs.Line.{same_work_job, IsSameFor};
 ghost use Rattle.node_table.specs.Asked.{HasAsked};
-ghost use Rattle.node_table.specs.Outcomes.{given_of as row_given_of};
+ghost use Rattle.node_table.specs.Outcomes.{row_given_of};
 ghost use Rattle.node_table.specs.Row.{beside_of};
-ghost use Rattle.node_table.specs.Shown.{seen, IsShown, TakesStep};
+ghost use Rattle.node_table.specs.Shown.{seen, IsShown, RowStep};
 ghost use Rattle.node_core.specs.Foreseen.{most_by_arrival};
 ghost use Rattle.node_core.specs.Hosted.{row_at};
 ghost use Rattle.node_core.specs.Judged.{IsArrivalJudged};
-ghost use Rattle.node_core.specs.Late.{IsLate};
-ghost use Rattle.node_core.specs.Outcomes.{given_of};
-ghost use Rattle.node_core.specs.Steps.{Steps};
+ghost use Rattle.node_core.specs.MemoryLast.{IsMemoryLast};
+ghost use Rattle.node_core.specs.Outcomes.{node_given_of};
+ghost use Rattle.node_core.specs.Steps.{NodeStep};
 
 use crate::Node;
-use crate::outcome::Outcome;
+use crate::outcome::NodeOutcome;
 use fetch_core::elsewhere;
 use node_table::JobRow;
 use obj_id::{Arrival, JobNo, Location, PeerMessage, Refusal, Reply};
@@ -37,10 +37,10 @@ impl Node {
     /// message, and every other job's is as it was. `Stale` if the job isn't live, and then nothing changes. The error
     /// is out of memory, and then nothing has changed; it never stands in for `Stale`. It sends no more messages than
     /// `foresee_arrival` says, tells no job of a hand, and says what it was to its own job: nothing if it is stale.
-    pub fn arrive(&mut self, job: JobNo, arrival: &Arrival) -> Result<Outcome, AllocError>
-        ensures ok { IfOk result (λ o. Steps self.old (node_event.Arrive job arrival.now) (given_of o) self.new) }
-        ensures late { OnErr result (IsLate self.old (node_event.Arrive job arrival.now)) }
-        ensures few { IfOk result (λ o. length o.messages ≤ most_by_arrival (row_at self.old job) arrival.now) }
+    pub fn arrive(&mut self, job: JobNo, arrival: &Arrival) -> Result<NodeOutcome, AllocError>
+        ensures ok { IfOk result (λ o. NodeStep self.old (node_event.Arrive job arrival.now) (node_given_of o) self.new) }
+        ensures memory_last { OnErr result (IsMemoryLast self.old (node_event.Arrive job arrival.now)) }
+        ensures bounded { IfOk result (λ o. length o.messages ≤ most_by_arrival (row_at self.old job) arrival.now) }
         ensures judged { IfOk result (λ o. IsArrivalJudged self.old job arrival.now o.reply o.judged) }
         ensures silent { IfOk result (λ o. o.notes ≡ []) }
         ensures stale { IfOk result (λ o. o.reply ≡ reply.Refused Stale → self.new ≡ self.old) }
@@ -48,11 +48,11 @@ impl Node {
     {
         let Some(row) = self.rows.get_mut(&job) else {
             let reply = Reply::Refused(Refusal::Stale);
-            let outcome = node_table::Outcome::only(self.alloc, reply);
-            return Ok(Outcome::of_row(self.alloc, outcome, None));
+            let outcome = node_table::RowOutcome::only(self.alloc, reply);
+            return Ok(NodeOutcome::of_row(self.alloc, outcome, None));
         };
         let (outcome, judged) = deliver(self.alloc, self.number, row, &mut self.works, arrival)?;
-        Ok(Outcome::of_row(self.alloc, outcome, Some(judged)))
+        Ok(NodeOutcome::of_row(self.alloc, outcome, Some(judged)))
     }
 }
 
@@ -64,15 +64,15 @@ fn deliver(
     row: &mut JobRow,
     works: &mut Works,
     arrival: &Arrival,
-) -> Result<(node_table::Outcome, Judged), AllocError>
+) -> Result<(node_table::RowOutcome, Judged), AllocError>
     ensures ok { IfOk result (λ o. (hands : List Hand) (bytes : ObjectId → List ℕ) (contents : Contents) → IsShown row.old (beside_of works.old hands bytes row.old.job) contents
-        → TakesStep node row.old (beside_of works.old hands bytes row.old.job) contents (input.Arrive arrival.now) (row_given_of o.0) row.new (beside_of works.new hands bytes row.old.job)) }
+        → RowStep node row.old (beside_of works.old hands bytes row.old.job) contents (input.Arrive arrival.now) (row_given_of o.0) row.new (beside_of works.new hands bytes row.old.job)) }
     ensures judged { IfOk result (λ o. (hands : List Hand) (bytes : ObjectId → List ℕ) (contents : Contents) → IsShown row.old (beside_of works.old hands bytes row.old.job) contents
         → o.1 ≡ judge node (seen row.old (beside_of works.old hands bytes row.old.job) contents) (input.Arrive arrival.now)) }
     ensures told { IfOk result (λ o. o.0.reply ≡ reply.Ok) }
-    ensures few { IfOk result (λ o. length o.0.messages ≤ most_by_arrival (Some row.old) arrival.now) }
+    ensures bounded { IfOk result (λ o. length o.0.messages ≤ most_by_arrival (Some row.old) arrival.now) }
     ensures line { OnOk result (HasAsked works.old (record { 0 = row.old.job }) works.new) }
-    ensures others { (other : JobNo) → same_job (record { 0 = row.old.job }) other ≡ false → IsSameFor other works.old works.new }
+    ensures others { (other : JobNo) → same_work_job (record { 0 = row.old.job }) other ≡ false → IsSameFor other works.old works.new }
     ensures err { OnErr result (row.new ≡ row.old) }
     ensures works { OnErr result (works.new ≡ works.old) }
 {
@@ -84,7 +84,7 @@ fn deliver(
         } => {
             let entries = entries.as_slice();
             row.located(node, id, *number, entries);
-            let outcome = node_table::Outcome::only(alloc, Reply::Ok);
+            let outcome = node_table::RowOutcome::only(alloc, Reply::Ok);
             let judged = Judged::Located {
                 id: *id,
                 number: *number,
@@ -104,15 +104,15 @@ fn deliver_from(
     works: &mut Works,
     from: u32,
     message: &PeerMessage,
-) -> Result<(node_table::Outcome, Judged), AllocError>
+) -> Result<(node_table::RowOutcome, Judged), AllocError>
     ensures ok { IfOk result (λ o. (hands : List Hand) (bytes : ObjectId → List ℕ) (contents : Contents) → IsShown row.old (beside_of works.old hands bytes row.old.job) contents
-        → TakesStep node row.old (beside_of works.old hands bytes row.old.job) contents (input.Arrive (arrival.FromPeer from message.now)) (row_given_of o.0) row.new (beside_of works.new hands bytes row.old.job)) }
+        → RowStep node row.old (beside_of works.old hands bytes row.old.job) contents (input.Arrive (arrival.FromPeer from message.now)) (row_given_of o.0) row.new (beside_of works.new hands bytes row.old.job)) }
     ensures judged { IfOk result (λ o. (hands : List Hand) (bytes : ObjectId → List ℕ) (contents : Contents) → IsShown row.old (beside_of works.old hands bytes row.old.job) contents
         → o.1 ≡ judge node (seen row.old (beside_of works.old hands bytes row.old.job) contents) (input.Arrive (arrival.FromPeer from message.now))) }
     ensures told { IfOk result (λ o. o.0.reply ≡ reply.Ok) }
-    ensures few { IfOk result (λ o. length o.0.messages ≤ most_by_arrival (Some row.old) (arrival.FromPeer from message.now)) }
+    ensures bounded { IfOk result (λ o. length o.0.messages ≤ most_by_arrival (Some row.old) (arrival.FromPeer from message.now)) }
     ensures line { OnOk result (HasAsked works.old (record { 0 = row.old.job }) works.new) }
-    ensures others { (other : JobNo) → same_job (record { 0 = row.old.job }) other ≡ false → IsSameFor other works.old works.new }
+    ensures others { (other : JobNo) → same_work_job (record { 0 = row.old.job }) other ≡ false → IsSameFor other works.old works.new }
     ensures err { OnErr result (row.new ≡ row.old) }
     ensures works { OnErr result (works.new ≡ works.old) }
 {

@@ -1,16 +1,16 @@
 //! The commands of a session, carried out on the row of its job.
 ghost use Rattle.std.specs.Prelude.{◌≡◌, ℕ, ◌≤◌, length, Some, true, false, IfOk, OnOk, OnErr, IsOk};
 ghost use Rattle.obj_id.specs.declared.ids.JobNo.{JobNo};
-ghost use Rattle.spill_work.specs.Line.{same_job, IsSameFor};
+ghost use Rattle.spill_work.specs.Line.{same_work_job, IsSameFor};
 ghost use Rattle.node_table.specs.Asked.{HasAsked};
-ghost use Rattle.node_table.specs.Outcomes.{given_of};
+ghost use Rattle.node_table.specs.Outcomes.{row_given_of};
 ghost use Rattle.node_table.specs.Shown.{only};
-ghost use Rattle.node_core.specs.Calls.{is_of_row, is_plain, is_answered, is_own as is_own_lem, takes_no_memory, Obeys};
+ghost use Rattle.node_core.specs.Calls.{is_of_row, is_plain, is_answered_here, is_own as is_own_lem, takes_no_memory, CallStep};
 ghost use Rattle.node_core.specs.Foreseen.{most_by_command};
-ghost use Rattle.node_core.specs.Late.{IsLateOnRow, IsRoomDue, IsUnrefused};
+ghost use Rattle.node_core.specs.MemoryLast.{IsMemoryLastOnRow, IsRoomDue, IsUnrefused};
 
 use bytes::Bytes;
-use node_table::{JobRow, Outcome};
+use node_table::{JobRow, RowOutcome};
 use obj_id::{Command, JobNo, Refusal, Reply};
 use spill_work::Works;
 use std::alloc::{AllocError, Global};
@@ -27,20 +27,20 @@ pub(crate) fn carry_out(
     works: &mut Works,
     session: u32,
     command: &Command<Bytes>,
-) -> Result<Outcome, AllocError>
+) -> Result<RowOutcome, AllocError>
     requires { is_of_row command.now ≡ true }
-    ensures ok { IfOk result (λ o. Obeys node job.0 row.old works.old session command.now (given_of o) row.new works.new) }
-    ensures few { IfOk result (λ o. length o.messages ≤ most_by_command (Some row.old) command.now) }
+    ensures ok { IfOk result (λ o. CallStep node job.0 row.old works.old session command.now (row_given_of o) row.new works.new) }
+    ensures bounded { IfOk result (λ o. length o.messages ≤ most_by_command (Some row.old) command.now) }
     ensures line { OnOk result (HasAsked works.old job works.new) }
-    ensures others { (other : JobNo) → same_job job other ≡ false → IsSameFor other works.old works.new }
-    ensures late { OnErr result (IsUnrefused row.old job.0 session command.now) }
+    ensures others { (other : JobNo) → same_work_job job other ≡ false → IsSameFor other works.old works.new }
+    ensures memory_last { OnErr result (IsUnrefused row.old job.0 session command.now) }
     ensures room { OnErr result (row.old.job ≡ job.0 → IsRoomDue node row.old works.old command.now) }
-    ensures frugal { takes_no_memory (Some row.old) command.now ≡ true → IsOk result }
+    ensures without_memory { takes_no_memory (Some row.old) command.now ≡ true → IsOk result }
     ensures err { OnErr result (row.new ≡ row.old) }
     ensures works { OnErr result (works.new ≡ works.old) }
 {
     if !is_own(job, command) {
-        return Ok(Outcome::only(alloc, Reply::Refused(Refusal::NotGranted)));
+        return Ok(RowOutcome::only(alloc, Reply::Refused(Refusal::NotGranted)));
     }
     match command {
         Command::Create {
@@ -49,23 +49,23 @@ pub(crate) fn carry_out(
             length: len,
         } => row.create(alloc, node, works, id, *kind, *len),
         Command::Get(id) => row.get(alloc, node, works, session, id),
-        _ => carry_out_plain(alloc, node, row, works, session, command),
+        _ => carry_out_without_work(alloc, node, row, works, session, command),
     }
 }
 
 /// The same of a command that asks for no work, and whose object, if it names one, is the job's own.
-fn carry_out_plain(
+fn carry_out_without_work(
     alloc: Global,
     node: u32,
     row: &mut JobRow,
     works: &Works,
     session: u32,
     command: &Command<Bytes>,
-) -> Result<Outcome, AllocError>
+) -> Result<RowOutcome, AllocError>
     requires { is_plain command.now ≡ true }
-    ensures ok { IfOk result (λ o. (job : ℕ) → is_own_lem job command.now ≡ true → Obeys node job row.old works.now session command.now (given_of o) row.new works.now) }
-    ensures few { IfOk result (λ o. length o.messages ≤ most_by_command (Some row.old) command.now) }
-    ensures late { OnErr result (IsLateOnRow row.old session command.now) }
+    ensures ok { IfOk result (λ o. (job : ℕ) → is_own_lem job command.now ≡ true → CallStep node job row.old works.now session command.now (row_given_of o) row.new works.now) }
+    ensures bounded { IfOk result (λ o. length o.messages ≤ most_by_command (Some row.old) command.now) }
+    ensures memory_last { OnErr result (IsMemoryLastOnRow row.old session command.now) }
     ensures err { OnErr result (row.new ≡ row.old) }
 {
     match command {
@@ -78,7 +78,7 @@ fn carry_out_plain(
         Command::Leave => Ok(row.leave(alloc, session)?),
         _ => {
             let reply = answer(alloc, row, works, session, command)?;
-            Ok(Outcome::only(alloc, reply))
+            Ok(RowOutcome::only(alloc, reply))
         }
     }
 }
@@ -91,9 +91,9 @@ fn answer(
     session: u32,
     command: &Command<Bytes>,
 ) -> Result<Reply<Bytes>, AllocError>
-    requires { is_answered command.now ≡ true }
-    ensures ok { IfOk result (λ told. (node job : ℕ) → is_own_lem job command.now ≡ true → Obeys node job row.old works.now session command.now (only told) row.new works.now) }
-    ensures late { OnErr result (IsLateOnRow row.old session command.now) }
+    requires { is_answered_here command.now ≡ true }
+    ensures ok { IfOk result (λ told. (node job : ℕ) → is_own_lem job command.now ≡ true → CallStep node job row.old works.now session command.now (only told) row.new works.now) }
+    ensures memory_last { OnErr result (IsMemoryLastOnRow row.old session command.now) }
     ensures err { OnErr result (row.new ≡ row.old) }
 {
     match command {

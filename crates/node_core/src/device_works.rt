@@ -1,13 +1,13 @@
 //! The works that a node's device workers take and answer.
 ghost use Rattle.std.specs.Prelude.{◌≡◌, [], IfOk, OnErr, option_map, is_some};
 ghost use Rattle.private_store.specs.declared.schedules.Event.TheVariants as event;
-ghost use Rattle.private_store.specs.Contents.{View, judge};
-ghost use Rattle.spill_work.specs.Line.{front_of, taken_by};
-ghost use Rattle.node_table.specs.Outcomes.{given_of as row_given_of};
+ghost use Rattle.private_store.specs.rules.Contents.{View, judge};
+ghost use Rattle.spill_work.specs.Line.{front_of, works_taken_by};
+ghost use Rattle.node_table.specs.Outcomes.{row_given_of};
 ghost use Rattle.node_core.specs.Hosted.{Shows};
-ghost use Rattle.node_core.specs.Late.{IsFront};
+ghost use Rattle.node_core.specs.MemoryLast.{IsFront};
 ghost use Rattle.node_core.specs.Steps.{job_in_turn as job_in_turn_lem};
-ghost use Rattle.node_core.specs.OneJob.{input_of, StepsOne};
+ghost use Rattle.node_core.specs.OneJob.{event_input_of, NodeStepOne};
 
 use crate::Node;
 use crate::judged::if_ok;
@@ -36,30 +36,30 @@ impl Node {
     /// How many works of the job were taken and not answered. No event: nothing changes. Takes no memory, and a walk over the
     /// job's works.
     pub fn taken(&self, job: JobNo) -> usize
-        ensures { result ≡ taken_by self.now.works job }
+        ensures { result ≡ works_taken_by self.now.works job }
     {
         self.works.taken(job)
     }
 
     /// A worker asks for a work: of all jobs' the first that nobody has taken, with a write's bytes. `NoWork` if there is
     /// none. The error is out of memory, and then nobody has taken the work.
-    pub(crate) fn take(&mut self) -> Result<node_table::Outcome, AllocError>
-        ensures ok { IfOk result (λ o. StepsOne self.old event.Take (row_given_of o) self.new) }
+    pub(crate) fn take(&mut self) -> Result<node_table::RowOutcome, AllocError>
+        ensures ok { IfOk result (λ o. NodeStepOne self.old event.Take (row_given_of o) self.new) }
         ensures silent { IfOk result (λ o. o.messages ≡ []) }
-        ensures late { OnErr result (IsFront self.old) }
+        ensures memory_last { OnErr result (IsFront self.old) }
         ensures err { OnErr result (self.new ≡ self.old) }
     {
         let Some(asked) = self.works.front() else {
-            return Ok(node_table::Outcome::only(self.alloc, Reply::NoWork));
+            return Ok(node_table::RowOutcome::only(self.alloc, Reply::NoWork));
         };
         let Some(row) = self.rows.get(&asked.job) else {
-            return Ok(node_table::Outcome::only(self.alloc, Reply::NoWork));
+            return Ok(node_table::RowOutcome::only(self.alloc, Reply::NoWork));
         };
         let Some(work) = row.work(self.alloc, &asked)? else {
-            return Ok(node_table::Outcome::only(self.alloc, Reply::NoWork));
+            return Ok(node_table::RowOutcome::only(self.alloc, Reply::NoWork));
         };
         self.works.mark_taken(asked.job, asked.number);
-        Ok(node_table::Outcome::only(self.alloc, Reply::Work(work)))
+        Ok(node_table::RowOutcome::only(self.alloc, Reply::Work(work)))
     }
 
     /// A worker answers a work that it was given: the work leaves the line, and its job takes the step. Answers what it was
@@ -70,14 +70,14 @@ impl Node {
         job: JobNo,
         number: u64,
         answer: &DeviceAnswer,
-    ) -> (node_table::Outcome, Option<Judged>)
-        ensures ok { StepsOne self.old (event.Finish job number answer.now) (row_given_of result.0) self.new }
+    ) -> (node_table::RowOutcome, Option<Judged>)
+        ensures ok { NodeStepOne self.old (event.Finish job number answer.now) (row_given_of result.0) self.new }
         ensures silent { result.0.messages ≡ [] }
-        ensures judged { (view : View) → Shows self.old job.0 view → option_map (judge self.old.number view) (input_of (event.Finish job number answer.now) result.0.reply) ≡ result.1 }
+        ensures judged { (view : View) → Shows self.old job.0 view → option_map (judge self.old.number view) (event_input_of (event.Finish job number answer.now) result.0.reply) ≡ result.1 }
     {
         let Some(row) = self.rows.get_mut(&job) else {
             let reply = Reply::Refused(Refusal::Stale);
-            return (node_table::Outcome::only(self.alloc, reply), None);
+            return (node_table::RowOutcome::only(self.alloc, reply), None);
         };
         let answered = row.finish(self.alloc, &mut self.works, number, answer);
         let judged = if_ok(

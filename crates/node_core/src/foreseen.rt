@@ -1,7 +1,7 @@
 //! What a node knows of an event before it is taken.
 ghost use Rattle.std.specs.Prelude.{◌≡◌, ◌∷◌, [], Some, IfOk};
 ghost use Rattle.node_core.specs.Hosted.{row_at};
-ghost use Rattle.node_core.specs.Foreseen.{takers_of_ended as takers_of_ended_lem, most_by_arrival as most_by_arrival_lem, most_by_command as most_by_command_lem, most_messages as most_messages_lem, takers_of as takers_of_lem, takers_told};
+ghost use Rattle.node_core.specs.Foreseen.{grantees_of_ended as grantees_of_ended_lem, most_by_arrival as most_by_arrival_lem, most_by_command as most_by_command_lem, most_messages as most_messages_lem, grantees_of as grantees_of_lem, grantees_told};
 
 use crate::Node;
 use bytes::Bytes;
@@ -42,21 +42,21 @@ impl Node {
 
     /// The jobs that the event tells of hands if it is accepted, one for each note, in their order. The error is out
     /// of memory. It changes nothing.
-    pub fn takers(&self, event: &Event) -> Result<Items<JobNo>, AllocError>
-        ensures takers { IfOk result (λ takers. takers ≡ takers_of_lem self.now.hands event.now) }
+    pub fn grantees(&self, event: &Event) -> Result<Items<JobNo>, AllocError>
+        ensures grantees { IfOk result (λ grantees. grantees ≡ grantees_of_lem self.now.hands event.now) }
     {
         match event {
             Event::Call {
                 command: Command::Grant(_, target),
                 ..
-            } => Ok(one_taker(self.alloc, *target)?),
-            _ => Ok(self.takers_of_ended(event)?),
+            } => Ok(one_grantee(self.alloc, *target)?),
+            _ => Ok(self.grantees_of_ended(event)?),
         }
     }
 
-    /// The takers of the hands that end if the event is accepted, in the order in which they are told.
-    fn takers_of_ended(&self, event: &Event) -> Result<Items<JobNo>, AllocError>
-        ensures { IfOk result (λ takers. takers ≡ takers_of_ended_lem self.now.hands event.now) }
+    /// The grantees of the hands that end if the event is accepted, in the order in which they are told.
+    fn grantees_of_ended(&self, event: &Event) -> Result<Items<JobNo>, AllocError>
+        ensures { IfOk result (λ grantees. grantees ≡ grantees_of_ended_lem self.now.hands event.now) }
     {
         let ends = match event {
             Event::JobEnd(job) => self.hands.ends_with_job(*job)?,
@@ -72,7 +72,7 @@ impl Node {
             } => { self.hands.ends_with_hand(*job, *id, *target)? }
             _ => return Ok(Items::new(self.alloc)),
         };
-        takers_of(self.alloc, ends.hands())
+        grantees_of(self.alloc, ends.hands())
     }
 
     /// The most messages that the event sends.
@@ -110,24 +110,24 @@ impl Node {
     }
 }
 
-/// One taker.
-fn one_taker(alloc: Global, taker: JobNo) -> Result<Items<JobNo>, AllocError>
-    ensures { IfOk result (λ takers. takers ≡ taker ∷ []) }
+/// One grantee.
+fn one_grantee(alloc: Global, grantee: JobNo) -> Result<Items<JobNo>, AllocError>
+    ensures { IfOk result (λ grantees. grantees ≡ grantee ∷ []) }
 {
-    let mut takers = Vec::with_capacity(alloc, 1)?;
-    takers.push(taker)?;
-    Ok(Items::from_vec(takers))
+    let mut grantees = Vec::with_capacity(alloc, 1)?;
+    grantees.push(grantee)?;
+    Ok(Items::from_vec(grantees))
 }
 
-/// The takers of the hands, in their order.
-fn takers_of(alloc: Global, hands: &[Hand]) -> Result<Items<JobNo>, AllocError>
-    ensures { IfOk result (λ takers. takers ≡ takers_told hands.now) }
+/// The grantees of the hands, in their order.
+fn grantees_of(alloc: Global, hands: &[Hand]) -> Result<Items<JobNo>, AllocError>
+    ensures { IfOk result (λ grantees. grantees ≡ grantees_told hands.now) }
 {
-    let mut takers = Vec::with_capacity(alloc, hands.len())?;
+    let mut grantees = Vec::with_capacity(alloc, hands.len())?;
     for hand in hands {
-        takers.push(hand.taker())?;
+        grantees.push(hand.grantee())?;
     }
-    Ok(Items::from_vec(takers))
+    Ok(Items::from_vec(grantees))
 }
 
 /// The most messages that a live job's node sends if this arrives: a Pull is sent the chunks that it asks for, or makes room

@@ -4,16 +4,16 @@ ghost use Rattle.obj_id.specs.declared.commands.Command.TheVariants as command;
 ghost use Rattle.obj_id.specs.declared.commands.Reply.TheVariants as reply;
 ghost use Rattle.private_store.specs.declared.schedules.Event.TheVariants as event;
 ghost use Rattle.private_store.specs.declared.schedules.NodeEvent.TheVariants as node_event;
-ghost use Rattle.node_table.specs.Outcomes.{given_of as row_given_of};
+ghost use Rattle.node_table.specs.Outcomes.{row_given_of};
 ghost use Rattle.node_core.specs.Foreseen.{AreTakers};
 ghost use Rattle.node_core.specs.Granting.{grant_refusal as grant_refusal_lem, TakesGrant, TakesWithdraw};
 ghost use Rattle.node_core.specs.Judged.{judged_as};
-ghost use Rattle.node_core.specs.Late.{IsCallUnrefused};
-ghost use Rattle.node_core.specs.Outcomes.{given_of};
-ghost use Rattle.node_core.specs.Steps.{Steps};
+ghost use Rattle.node_core.specs.MemoryLast.{IsCallUnrefused};
+ghost use Rattle.node_core.specs.Outcomes.{node_given_of};
+ghost use Rattle.node_core.specs.Steps.{NodeStep};
 
 use crate::Node;
-use crate::outcome::Outcome;
+use crate::outcome::NodeOutcome;
 use node_table::JobRow;
 use obj_id::{Command, JobNo, ObjectId, Refusal, Reply};
 use private_store::Judged;
@@ -30,33 +30,33 @@ impl Node {
         session: u32,
         id: &ObjectId,
         target: JobNo,
-    ) -> Result<Outcome, AllocError>
-        ensures ok { IfOk result (λ o. Steps self.old (node_event.Own (event.Call job session (command.Grant id.now target))) (given_of o) self.new) }
+    ) -> Result<NodeOutcome, AllocError>
+        ensures ok { IfOk result (λ o. NodeStep self.old (node_event.Own (event.Call job session (command.Grant id.now target))) (node_given_of o) self.new) }
         ensures silent { IfOk result (λ o. o.messages ≡ []) }
         ensures judged { IfOk result (λ o. o.judged ≡ judged_as (event.Call job session (command.Grant id.now target)) o.reply) }
-        ensures takers { IfOk result (λ o. AreTakers self.old.hands (event.Call job session (command.Grant id.now target)) o.reply (map (λ note. note.job) o.notes)) }
-        ensures late { OnErr result (IsCallUnrefused self.old job session (command.Grant id.now target)) }
+        ensures grantees { IfOk result (λ o. AreTakers self.old.hands (event.Call job session (command.Grant id.now target)) o.reply (map (λ note. note.job) o.notes)) }
+        ensures memory_last { OnErr result (IsCallUnrefused self.old job session (command.Grant id.now target)) }
         ensures err { OnErr result (self.new ≡ self.old) }
     {
         let judged = Some(Judged::Call(session, Command::Grant(*id, target)));
         let length = self.granted_length(id);
         let Some(row) = self.rows.get_mut(&job) else {
-            return Ok(Outcome::refused(self.alloc, Refusal::NotAdmitted, judged));
+            return Ok(NodeOutcome::refused(self.alloc, Refusal::NotAdmitted, judged));
         };
         let table = self.hands.grant_check(job, *id, target);
         if let Some(refusal) = grant_refusal(row, job, id, target, table) {
-            return Ok(Outcome::refused(self.alloc, refusal, judged));
+            return Ok(NodeOutcome::refused(self.alloc, refusal, judged));
         }
         let notes = Vec::with_capacity(self.alloc, 1)?;
         let Ok(hand) = self.hands.grant(job, *id, target) else {
             return Err(AllocError);
         };
         let outcome = give(self.alloc, job, row, session, id, target, table);
-        Ok(Outcome::with_given(outcome, notes, &hand, length, judged))
+        Ok(NodeOutcome::with_given(outcome, notes, &hand, length, judged))
     }
 
     /// Takes back from the target an object that the job granted to it: the hand ends, with all that hang on it, and
-    /// each taker is told. `NotAdmitted` if the job isn't live, `NotGranted` if no such hand stands. The error is
+    /// each grantee is told. `NotAdmitted` if the job isn't live, `NotGranted` if no such hand stands. The error is
     /// out of memory, and then nothing has changed.
     pub(crate) fn withdraw(
         &mut self,
@@ -64,20 +64,20 @@ impl Node {
         session: u32,
         id: &ObjectId,
         target: JobNo,
-    ) -> Result<Outcome, AllocError>
-        ensures ok { IfOk result (λ o. Steps self.old (node_event.Own (event.Call job session (command.Withdraw id.now target))) (given_of o) self.new) }
+    ) -> Result<NodeOutcome, AllocError>
+        ensures ok { IfOk result (λ o. NodeStep self.old (node_event.Own (event.Call job session (command.Withdraw id.now target))) (node_given_of o) self.new) }
         ensures silent { IfOk result (λ o. o.messages ≡ []) }
         ensures judged { IfOk result (λ o. o.judged ≡ judged_as (event.Call job session (command.Withdraw id.now target)) o.reply) }
-        ensures takers { IfOk result (λ o. AreTakers self.old.hands (event.Call job session (command.Withdraw id.now target)) o.reply (map (λ note. note.job) o.notes)) }
-        ensures late { OnErr result (IsCallUnrefused self.old job session (command.Withdraw id.now target)) }
+        ensures grantees { IfOk result (λ o. AreTakers self.old.hands (event.Call job session (command.Withdraw id.now target)) o.reply (map (λ note. note.job) o.notes)) }
+        ensures memory_last { OnErr result (IsCallUnrefused self.old job session (command.Withdraw id.now target)) }
         ensures err { OnErr result (self.new ≡ self.old) }
     {
         let judged = Some(Judged::Call(session, Command::Withdraw(*id, target)));
         let Some(row) = self.rows.get_mut(&job) else {
-            return Ok(Outcome::refused(self.alloc, Refusal::NotAdmitted, judged));
+            return Ok(NodeOutcome::refused(self.alloc, Refusal::NotAdmitted, judged));
         };
         if !self.hands.has_given(job, *id, target) {
-            return Ok(Outcome::refused(self.alloc, Refusal::NotGranted, judged));
+            return Ok(NodeOutcome::refused(self.alloc, Refusal::NotGranted, judged));
         }
         let notes = Vec::with_capacity(self.alloc, self.hands.len())?;
         let Ok(ended) = self.hands.withdraw(job, *id, target) else {
@@ -85,7 +85,7 @@ impl Node {
         };
         let granted = self.hands.is_granted(*id);
         let outcome = let_go(self.alloc, job, row, session, id, target, granted);
-        Ok(Outcome::with_ends(outcome, notes, ended.as_slice(), judged))
+        Ok(NodeOutcome::with_ends(outcome, notes, ended.as_slice(), judged))
     }
 }
 
@@ -115,7 +115,7 @@ fn give(
     id: &ObjectId,
     target: JobNo,
     table: Option<Refusal>,
-) -> node_table::Outcome
+) -> node_table::RowOutcome
     requires { grant_refusal_lem row.now job.0 id.now target.0 table ≡ None }
     ensures step { TakesGrant row.old job.0 session id.now target (row_given_of result) row.new }
     ensures reply { result.reply ≡ reply.Ok }
@@ -124,7 +124,7 @@ fn give(
     if id.job().0 == job.0 {
         return row.grant(alloc, session, id, target, table);
     }
-    node_table::Outcome::only(alloc, Reply::Ok)
+    node_table::RowOutcome::only(alloc, Reply::Ok)
 }
 
 /// The step of the job's row by a Withdraw of a hand that stood, if hands of the object from its own job are left or
@@ -137,7 +137,7 @@ fn let_go(
     id: &ObjectId,
     target: JobNo,
     granted: bool,
-) -> node_table::Outcome
+) -> node_table::RowOutcome
     ensures step { TakesWithdraw row.old job.0 session id.now target granted (row_given_of result) row.new }
     ensures reply { result.reply ≡ reply.Ok }
     ensures silent { result.messages ≡ [] }
@@ -145,5 +145,5 @@ fn let_go(
     if id.job().0 == job.0 {
         return row.withdraw(alloc, session, id, target, granted);
     }
-    node_table::Outcome::only(alloc, Reply::Ok)
+    node_table::RowOutcome::only(alloc, Reply::Ok)
 }

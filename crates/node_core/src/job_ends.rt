@@ -2,48 +2,48 @@
 ghost use Rattle.std.specs.Prelude.{◌≡◌, ◌≤◌, None, true, length, map, is_some, IfOk, OnErr};
 ghost use Rattle.private_store.specs.declared.schedules.Event.TheVariants as event;
 ghost use Rattle.private_store.specs.declared.schedules.NodeEvent.TheVariants as node_event;
-ghost use Rattle.private_store.specs.Hands.{is_given_by};
+ghost use Rattle.private_store.specs.rules.Hands.{is_given_by};
 ghost use Rattle.grants.specs.Table.{ends_found};
 ghost use Rattle.job_admission.specs.Admissions.{live_at};
-ghost use Rattle.node_table.specs.Outcomes.{given_of as row_given_of};
+ghost use Rattle.node_table.specs.Outcomes.{row_given_of};
 ghost use Rattle.node_core.specs.Foreseen.{AreTakers};
 ghost use Rattle.node_core.specs.JobEnds.{IsOwnEnd, LetsJobGo};
 ghost use Rattle.node_core.specs.Judged.{judged_as};
-ghost use Rattle.node_core.specs.Outcomes.{given_of};
-ghost use Rattle.node_core.specs.Steps.{Steps, end_check};
+ghost use Rattle.node_core.specs.Outcomes.{node_given_of};
+ghost use Rattle.node_core.specs.Steps.{NodeStep, end_check};
 
 use crate::Node;
-use crate::outcome::Outcome;
+use crate::outcome::NodeOutcome;
 use grants::EndingHands;
-use obj_id::{DirectoryMessage, JobNo, Message, Place, Refusal, Reply};
+use obj_id::{DirectoryMessage, Endpoint, JobNo, Message, Refusal, Reply};
 use private_store::Judged;
 use std::alloc::AllocError;
 
 impl Node {
     /// The operator ends a job: nothing is left of it here, the directory is told, the device keys of its copies are to be
-    /// erased, and what it granted ends, with all that hangs on it: the takers are told in the order of the ends. The error
+    /// erased, and what it granted ends, with all that hangs on it: the grantees are told in the order of the ends. The error
     /// is out of memory, and then nothing has changed.
-    pub(crate) fn end_job(&mut self, job: JobNo) -> Result<Outcome, AllocError>
-        ensures ok { IfOk result (λ o. Steps self.old (node_event.Own (event.JobEnd job)) (given_of o) self.new) }
-        ensures few { IfOk result (λ o. length o.messages ≤ 1) }
+    pub(crate) fn end_job(&mut self, job: JobNo) -> Result<NodeOutcome, AllocError>
+        ensures ok { IfOk result (λ o. NodeStep self.old (node_event.Own (event.JobEnd job)) (node_given_of o) self.new) }
+        ensures bounded { IfOk result (λ o. length o.messages ≤ 1) }
         ensures judged { IfOk result (λ o. o.judged ≡ judged_as (event.JobEnd job) o.reply) }
-        ensures takers { IfOk result (λ o. AreTakers self.old.hands (event.JobEnd job) o.reply (map (λ note. note.job) o.notes)) }
-        ensures late { OnErr result (end_check self.old.admissions job ≡ None) }
+        ensures grantees { IfOk result (λ o. AreTakers self.old.hands (event.JobEnd job) o.reply (map (λ note. note.job) o.notes)) }
+        ensures memory_last { OnErr result (end_check self.old.admissions job ≡ None) }
         ensures err { OnErr result (self.new ≡ self.old) }
     {
         if !self.admission.is_live(job) {
-            return Ok(Outcome::refused(self.alloc, Refusal::NotAdmitted, None));
+            return Ok(NodeOutcome::refused(self.alloc, Refusal::NotAdmitted, None));
         }
         let ends = self.hands.ends_with_job(job)?;
         let notes = Vec::with_capacity(self.alloc, ends.hands().len())?;
         let outcome = self.own_end(job)?;
         self.let_job_go(job, &ends);
         let judged = Some(Judged::End);
-        Ok(Outcome::with_ends(outcome, notes, ends.hands(), judged))
+        Ok(NodeOutcome::with_ends(outcome, notes, ends.hands(), judged))
     }
 
     /// What the end of a live job gives to the job itself, before anything changes.
-    fn own_end(&self, job: JobNo) -> Result<node_table::Outcome, AllocError>
+    fn own_end(&self, job: JobNo) -> Result<node_table::RowOutcome, AllocError>
         requires { is_some (live_at self.now.admissions job) ≡ true }
         ensures { IfOk result (λ o. IsOwnEnd self.now job (row_given_of o)) }
     {
@@ -52,8 +52,12 @@ impl Node {
         };
         let erase = row.device_keys(self.alloc)?;
         let message = Message::ToDirectory(DirectoryMessage::EndJob(self.number));
-        let messages = node_table::Outcome::one_message(self.alloc, Place::Directory, message)?;
-        Ok(node_table::Outcome {
+        let messages = node_table::RowOutcome::one_message(
+            self.alloc,
+            Endpoint::Directory,
+            message,
+        )?;
+        Ok(node_table::RowOutcome {
             reply: Reply::Ok,
             messages,
             erase,

@@ -1,6 +1,6 @@
 //! What an event was to its own job, without contents.
 ghost use Rattle.std.specs.Prelude.{◌≡◌};
-ghost use Rattle.private_store.specs.Contents.{brief as brief_lem};
+ghost use Rattle.private_store.specs.rules.Contents.{without_payload as brief_lem};
 ghost use Rattle.node_core.specs.Judged.{if_ok as if_ok_lem, judged_as as judged_as_lem, moves_hands as moves_hands_lem};
 
 use bytes::Bytes;
@@ -19,7 +19,7 @@ pub(crate) fn judged_as(event: &Event, reply: &Reply<Bytes>) -> Option<Judged>
             session,
             command,
             ..
-        } => Some(Judged::Call(*session, brief(command))),
+        } => Some(Judged::Call(*session, without_payload(command))),
         Event::Take | Event::Finish { .. } => None,
     }
 }
@@ -49,7 +49,7 @@ pub(crate) fn if_ok(reply: &Reply<Bytes>, input: Judged) -> Option<Judged>
 }
 
 /// The command, with the number of the bytes that it writes.
-fn brief(command: &Command<Bytes>) -> Command<u64>
+fn without_payload(command: &Command<Bytes>) -> Command<u64>
     ensures { result ≡ brief_lem command.now }
 {
     match command {

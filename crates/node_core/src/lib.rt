@@ -8,21 +8,21 @@ ghost use Rattle.obj_id.specs.declared.commands.Reply.TheVariants as reply;
 ghost use Rattle.obj_id.specs.declared.refusals.Refusal.{Refusal};
 ghost use Rattle.obj_id.specs.declared.refusals.Refusal.TheVariants.{NotAdmitted};
 ghost use Rattle.private_store.specs.declared.schedules.Event.TheVariants as event;
-ghost use Rattle.private_store.specs.Jobs.{same_job};
-ghost use Rattle.private_store.specs.Contents.{View};
-ghost use Rattle.private_store.specs.Commands.{usage_of};
-ghost use Rattle.private_store.specs.Private.{view_of, no_store};
+ghost use Rattle.private_store.specs.rules.Jobs.{same_job};
+ghost use Rattle.private_store.specs.rules.Contents.{View};
+ghost use Rattle.private_store.specs.rules.Commands.{usage_of};
+ghost use Rattle.private_store.specs.rules.Private.{view_of, no_store};
 ghost use Rattle.job_admission.specs.Admissions.{largest_memory, live_at, admit_check, sessions_entered, enter_check, entered};
-ghost use Rattle.node_table.specs.Outcomes.{given_of as row_given_of};
+ghost use Rattle.node_table.specs.Outcomes.{row_given_of};
 ghost use Rattle.node_table.specs.Shown.{only};
 ghost use Rattle.private_store.specs.declared.schedules.NodeEvent.TheVariants as node_event;
-ghost use Rattle.node_core.specs.Calls.{is_of_row, takes_no_memory, is_frugal};
+ghost use Rattle.node_core.specs.Calls.{is_of_row, takes_no_memory, needs_no_memory};
 ghost use Rattle.node_core.specs.Hosted.{Shows, row_at};
 ghost use Rattle.node_core.specs.Borrowed.{borrowed_check, IsBorrowed};
-ghost use Rattle.node_core.specs.Steps.{Steps};
-ghost use Rattle.node_core.specs.Late.{IsCallUnrefused, IsEventUnrefused, IsLate};
-ghost use Rattle.node_core.specs.OneJob.{StepsOne};
-ghost use Rattle.node_core.specs.Outcomes.{given_of};
+ghost use Rattle.node_core.specs.Steps.{NodeStep};
+ghost use Rattle.node_core.specs.MemoryLast.{IsCallUnrefused, IsEventUnrefused, IsMemoryLast};
+ghost use Rattle.node_core.specs.OneJob.{NodeStepOne};
+ghost use Rattle.node_core.specs.Outcomes.{node_given_of};
 ghost use Rattle.node_core.specs.Foreseen.{most_by_command, most_messages, AreTakers};
 ghost use Rattle.node_core.specs.Judged.{is_finish, moves_hands, judged_as, IsJudged, SeesFew, IsSmall};
 
@@ -47,7 +47,7 @@ use indexmap::IndexMap;
 use job_admission::Admission;
 pub use node_table::{Erase, JobRow, Prepared};
 use obj_id::{Command, JobKey, JobNo, ObjectId, Quota, Refusal, Reply, Usage};
-pub use outcome::{Note, Outcome};
+pub use outcome::{NodeOutcome, Note};
 use private_store::Event;
 use spill_work::Works;
 use std::alloc::{AllocError, Global};
@@ -119,19 +119,19 @@ impl Node {
     /// make of the view before, on the list of inputs that the event is to that job. The error is out of memory, and then nothing
     /// has changed: it never stands in for a refusal that is known before anything grows. A Finish and the commands Write,
     /// Release and Usage take no memory, nor does Leave while no copy is doomed. It sends no more messages than
-    /// `foresee` says, tells of hands the jobs that `takers` says, and says what it was to its own job. The reply to a command
+    /// `foresee` says, tells of hands the jobs that `grantees` says, and says what it was to its own job. The reply to a command
     /// has a frame.
-    pub fn apply(&mut self, event: &Event) -> Result<Outcome, AllocError>
-        ensures ok { IfOk result (λ o. Steps self.old (node_event.Own event.now) (given_of o) self.new) }
-        ensures late { OnErr result (IsLate self.old (node_event.Own event.now)) }
-        ensures few { IfOk result (λ o. length o.messages ≤ most_messages self.old event.now) }
+    pub fn apply(&mut self, event: &Event) -> Result<NodeOutcome, AllocError>
+        ensures ok { IfOk result (λ o. NodeStep self.old (node_event.Own event.now) (node_given_of o) self.new) }
+        ensures memory_last { OnErr result (IsMemoryLast self.old (node_event.Own event.now)) }
+        ensures bounded { IfOk result (λ o. length o.messages ≤ most_messages self.old event.now) }
         ensures judged { IfOk result (λ o. IsJudged self.old event.now o.reply o.judged) }
-        ensures takers { IfOk result (λ o. AreTakers self.old.hands event.now o.reply (map (λ note. note.job) o.notes)) }
+        ensures grantees { IfOk result (λ o. AreTakers self.old.hands event.now o.reply (map (λ note. note.job) o.notes)) }
         ensures small { IfOk result (λ o. IsSmall self.old event.now o.reply) }
-        ensures frugal { is_frugal self.old event.now ≡ true → IsOk result }
+        ensures without_memory { needs_no_memory self.old event.now ≡ true → IsOk result }
         ensures err { OnErr result (self.new ≡ self.old) }
     {
-        self.sees_few();
+        self.received_bound();
         if let Event::Finish {
             job,
             number,
@@ -139,31 +139,31 @@ impl Node {
         } = event
         {
             let (outcome, judged) = self.finish(*job, *number, answer);
-            return Ok(Outcome::of_row(self.alloc, outcome, judged));
+            return Ok(NodeOutcome::of_row(self.alloc, outcome, judged));
         }
         if judged::moves_hands(event) {
             return self.move_hands(event);
         }
         let outcome = self.step_one(event)?;
         let judged = judged::judged_as(event, &outcome.reply);
-        Ok(Outcome::of_row(self.alloc, outcome, judged))
+        Ok(NodeOutcome::of_row(self.alloc, outcome, judged))
     }
 
     /// A law of every node: at most 63 other live jobs granted something to a live job, each no more than 64 objects.
-    fn sees_few(&self)
+    fn received_bound(&self)
         ensures { SeesFew self.now }
     {
         let _ = self.admission.live_jobs();
     }
 
     /// A step of what may end hands or give one.
-    fn move_hands(&mut self, event: &Event) -> Result<Outcome, AllocError>
+    fn move_hands(&mut self, event: &Event) -> Result<NodeOutcome, AllocError>
         requires moves { moves_hands event.now ≡ true }
-        ensures ok { IfOk result (λ o. Steps self.old (node_event.Own event.now) (given_of o) self.new) }
-        ensures few { IfOk result (λ o. length o.messages ≤ most_messages self.old event.now) }
+        ensures ok { IfOk result (λ o. NodeStep self.old (node_event.Own event.now) (node_given_of o) self.new) }
+        ensures bounded { IfOk result (λ o. length o.messages ≤ most_messages self.old event.now) }
         ensures judged { IfOk result (λ o. o.judged ≡ judged_as event.now o.reply) }
-        ensures takers { IfOk result (λ o. AreTakers self.old.hands event.now o.reply (map (λ note. note.job) o.notes)) }
-        ensures late { OnErr result (IsEventUnrefused self.old event.now) }
+        ensures grantees { IfOk result (λ o. AreTakers self.old.hands event.now o.reply (map (λ note. note.job) o.notes)) }
+        ensures memory_last { OnErr result (IsEventUnrefused self.old event.now) }
         ensures err { OnErr result (self.new ≡ self.old) }
     {
         match event {
@@ -188,13 +188,13 @@ impl Node {
     }
 
     /// A step of all else but a Finish.
-    fn step_one(&mut self, event: &Event) -> Result<node_table::Outcome, AllocError>
+    fn step_one(&mut self, event: &Event) -> Result<node_table::RowOutcome, AllocError>
         requires other { is_finish event.now ≡ false }
         requires lasting { moves_hands event.now ≡ false }
-        ensures ok { IfOk result (λ o. StepsOne self.old event.now (row_given_of o) self.new) }
-        ensures few { IfOk result (λ o. length o.messages ≤ most_messages self.old event.now) }
-        ensures late { OnErr result (IsEventUnrefused self.old event.now) }
-        ensures frugal { is_frugal self.old event.now ≡ true → IsOk result }
+        ensures ok { IfOk result (λ o. NodeStepOne self.old event.now (row_given_of o) self.new) }
+        ensures bounded { IfOk result (λ o. length o.messages ≤ most_messages self.old event.now) }
+        ensures memory_last { OnErr result (IsEventUnrefused self.old event.now) }
+        ensures without_memory { needs_no_memory self.old event.now ≡ true → IsOk result }
         ensures err { OnErr result (self.new ≡ self.old) }
     {
         match event {
@@ -211,7 +211,7 @@ impl Node {
     }
 
     /// The number of the job's next session, from 1. `NotAdmitted` if the job isn't live or the key isn't
-    /// the whole of its own, which are told alike; `TooMany` if 4,294,967,295 numbers were given. A
+    /// the whole of its own, which are answered alike; `TooMany` if 4,294,967,295 numbers were given. A
     /// refusal changes nothing and uses no number. No event: no job's view changes. Takes no memory.
     pub fn enter(&mut self, job: JobNo, key: &JobKey) -> Result<u32, Refusal>
         ensures number { IfOk result (λ number. number ≡ sessions_entered self.old.admissions job + 1) }
@@ -285,12 +285,12 @@ impl Node {
         job: JobNo,
         session: u32,
         command: &Command<Bytes>,
-    ) -> Result<node_table::Outcome, AllocError>
+    ) -> Result<node_table::RowOutcome, AllocError>
         requires lasting { moves_hands (event.Call job session command.now) ≡ false }
-        ensures ok { IfOk result (λ o. StepsOne self.old (event.Call job session command.now) (row_given_of o) self.new) }
-        ensures few { IfOk result (λ o. length o.messages ≤ most_by_command (row_at self.old job) command.now) }
-        ensures late { OnErr result (IsCallUnrefused self.old job session command.now) }
-        ensures frugal { takes_no_memory (row_at self.old job) command.now ≡ true → IsOk result }
+        ensures ok { IfOk result (λ o. NodeStepOne self.old (event.Call job session command.now) (row_given_of o) self.new) }
+        ensures bounded { IfOk result (λ o. length o.messages ≤ most_by_command (row_at self.old job) command.now) }
+        ensures memory_last { OnErr result (IsCallUnrefused self.old job session command.now) }
+        ensures without_memory { takes_no_memory (row_at self.old job) command.now ≡ true → IsOk result }
         ensures err { OnErr result (self.new ≡ self.old) }
     {
         if let Command::List = command {
@@ -313,17 +313,17 @@ impl Node {
         job: JobNo,
         session: u32,
         command: &Command<Bytes>,
-    ) -> Result<node_table::Outcome, AllocError>
+    ) -> Result<node_table::RowOutcome, AllocError>
         requires { is_of_row command.now ≡ true }
-        ensures ok { IfOk result (λ o. StepsOne self.old (event.Call job session command.now) (row_given_of o) self.new) }
-        ensures few { IfOk result (λ o. length o.messages ≤ most_by_command (row_at self.old job) command.now) }
-        ensures late { OnErr result (IsCallUnrefused self.old job session command.now) }
-        ensures frugal { takes_no_memory (row_at self.old job) command.now ≡ true → IsOk result }
+        ensures ok { IfOk result (λ o. NodeStepOne self.old (event.Call job session command.now) (row_given_of o) self.new) }
+        ensures bounded { IfOk result (λ o. length o.messages ≤ most_by_command (row_at self.old job) command.now) }
+        ensures memory_last { OnErr result (IsCallUnrefused self.old job session command.now) }
+        ensures without_memory { takes_no_memory (row_at self.old job) command.now ≡ true → IsOk result }
         ensures err { OnErr result (self.new ≡ self.old) }
     {
         let Some(row) = self.rows.get_mut(&job) else {
             let reply = Reply::Refused(Refusal::NotAdmitted);
-            return Ok(node_table::Outcome::only(self.alloc, reply));
+            return Ok(node_table::RowOutcome::only(self.alloc, reply));
         };
         calls::carry_out(
             self.alloc,
@@ -342,23 +342,23 @@ impl Node {
         job: JobNo,
         quota: Quota,
         key: JobKey,
-    ) -> Result<node_table::Outcome, AllocError>
-        ensures ok { IfOk result (λ o. StepsOne self.old (event.Admit job quota key) (row_given_of o) self.new) }
+    ) -> Result<node_table::RowOutcome, AllocError>
+        ensures ok { IfOk result (λ o. NodeStepOne self.old (event.Admit job quota key) (row_given_of o) self.new) }
         ensures silent { IfOk result (λ o. o.messages ≡ []) }
-        ensures late { OnErr result (admit_check self.old.admissions job quota ≡ None) }
+        ensures memory_last { OnErr result (admit_check self.old.admissions job quota ≡ None) }
         ensures err { OnErr result (self.new ≡ self.old) }
     {
         if let Some(refusal) = self.admission.admit_check(job, quota) {
-            return Ok(node_table::Outcome::only(self.alloc, Reply::Refused(refusal)));
+            return Ok(node_table::RowOutcome::only(self.alloc, Reply::Refused(refusal)));
         }
         self.add_row(job, quota, key)?;
-        Ok(node_table::Outcome::only(self.alloc, Reply::Ok))
+        Ok(node_table::RowOutcome::only(self.alloc, Reply::Ok))
     }
 
     /// The job is live from now on, with an empty row. All growth comes before the first change.
     fn add_row(&mut self, job: JobNo, quota: Quota, key: JobKey) -> Result<(), AllocError>
         requires { admit_check self.old.admissions job quota ≡ None }
-        ensures ok { OnOk result (StepsOne self.old (event.Admit job quota key) (only reply.Ok) self.new) }
+        ensures ok { OnOk result (NodeStepOne self.old (event.Admit job quota key) (only reply.Ok) self.new) }
         ensures err { OnErr result (self.new ≡ self.old) }
     {
         let Ok(row) = JobRow::new(self.alloc, job, quota) else {

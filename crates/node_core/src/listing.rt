@@ -1,12 +1,12 @@
-//! What a job is told of its copies and of what others granted to it.
+//! What a job is shown of its copies and of what others granted to it.
 ghost use Rattle.std.specs.Prelude.{◌≡◌, [], length, map, IfOk, OnErr};
 ghost use Rattle.obj_id.specs.declared.commands.Command.TheVariants as command;
 ghost use Rattle.private_store.specs.declared.schedules.Event.TheVariants as event;
-ghost use Rattle.node_table.specs.Outcomes.{given_of as row_given_of};
+ghost use Rattle.node_table.specs.Outcomes.{row_given_of};
 ghost use Rattle.node_core.specs.Granted.{granted_item as granted_item_lem, granted_here};
 ghost use Rattle.node_core.specs.Hosted.{bytes_here};
-ghost use Rattle.node_core.specs.Late.{IsCallUnrefused};
-ghost use Rattle.node_core.specs.OneJob.{StepsOne};
+ghost use Rattle.node_core.specs.MemoryLast.{IsCallUnrefused};
+ghost use Rattle.node_core.specs.OneJob.{NodeStepOne};
 
 use crate::Node;
 use grants::Hand;
@@ -16,18 +16,22 @@ use std::alloc::AllocError;
 impl Node {
     /// List: the job's own copies by rising id, and the objects that others granted to it. `NotAdmitted` if the job
     /// isn't live. The error is out of memory. Changes nothing.
-    pub(crate) fn list(&self, job: JobNo, session: u32) -> Result<node_table::Outcome, AllocError>
-        ensures ok { IfOk result (λ o. StepsOne self.now (event.Call job session command.List) (row_given_of o) self.now) }
+    pub(crate) fn list(
+        &self,
+        job: JobNo,
+        session: u32,
+    ) -> Result<node_table::RowOutcome, AllocError>
+        ensures ok { IfOk result (λ o. NodeStepOne self.now (event.Call job session command.List) (row_given_of o) self.now) }
         ensures silent { IfOk result (λ o. o.messages ≡ []) }
-        ensures late { OnErr result (IsCallUnrefused self.now job session command.List) }
+        ensures memory_last { OnErr result (IsCallUnrefused self.now job session command.List) }
     {
         let Some(row) = self.rows.get(&job) else {
             let reply = Reply::Refused(Refusal::NotAdmitted);
-            return Ok(node_table::Outcome::only(self.alloc, reply));
+            return Ok(node_table::RowOutcome::only(self.alloc, reply));
         };
         let granted = self.granted(job)?;
         let reply = row.list(self.alloc, granted)?;
-        Ok(node_table::Outcome::only(self.alloc, reply))
+        Ok(node_table::RowOutcome::only(self.alloc, reply))
     }
 
     /// The objects that others granted to the job, by rising id, each with the depth of its oldest hand.

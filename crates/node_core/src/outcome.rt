@@ -1,49 +1,49 @@
 //! What an event gives at a node.
 ghost use Rattle.std.specs.Prelude.{◌≡◌, ◌≤◌, [], length, vec_len, vec_capacity};
 ghost use Rattle.obj_id.specs.declared.commands.Reply.TheVariants as reply;
-ghost use Rattle.node_table.specs.Outcomes.{given_of as row_given_of};
+ghost use Rattle.node_table.specs.Outcomes.{row_given_of};
 ghost use Rattle.node_table.specs.Shown.{only};
-ghost use Rattle.node_core.specs.Outcomes.{given_of, input_noted, end_noted, received_noted, with_no_notes, with_given, with_ends};
+ghost use Rattle.node_core.specs.Outcomes.{node_given_of, input_noted, end_noted, received_noted, with_no_notes, with_given, with_ends};
 
 use bytes::Bytes;
 use grants::Hand;
 use node_table::Erase;
-use obj_id::{Items, JobNo, Message, Place, Refusal, Reply};
+use obj_id::{Endpoint, Items, JobNo, Message, Refusal, Reply};
 use private_store::Judged;
 use std::alloc::Global;
 
-/// What an event was to the taker of a hand, without contents.
+/// What an event was to the grantee of a hand, without contents.
 #[derive(Debug, Drop)]
 pub struct Note {
-    /// The taker.
+    /// The grantee.
     pub job: JobNo,
     pub input: Judged,
 }
 
 /// What an event gave: the answer, the messages that are to be sent, in their order and each with its place, the
-/// device keys that are to be erased, in order of id, and what it was to the takers of hands.
+/// device keys that are to be erased, in order of id, and what it was to the grantees of hands.
 #[derive(Drop)]
-pub struct Outcome {
+pub struct NodeOutcome {
     pub reply: Reply<Bytes>,
-    pub messages: Items<(Place, Message)>,
+    pub messages: Items<(Endpoint, Message)>,
     pub erase: Erase,
     pub notes: Items<Note>,
     /// What it was to its own job, without contents, or nothing.
     pub judged: Option<Judged>,
 }
 
-impl Outcome {
+impl NodeOutcome {
     /// What a row gave, if no hand changed, with what the event was to its job. Takes no memory.
     pub(crate) fn of_row(
         alloc: Global,
-        outcome: node_table::Outcome,
+        outcome: node_table::RowOutcome,
         judged: Option<Judged>,
-    ) -> Outcome
-        ensures given { given_of result ≡ with_no_notes (row_given_of outcome) }
+    ) -> NodeOutcome
+        ensures given { node_given_of result ≡ with_no_notes (row_given_of outcome) }
         ensures notes { result.notes ≡ [] }
         ensures judged { result.judged ≡ judged }
     {
-        Outcome {
+        NodeOutcome {
             reply: outcome.reply,
             messages: outcome.messages,
             erase: outcome.erase,
@@ -53,31 +53,31 @@ impl Outcome {
     }
 
     /// A refusal, which changed nothing. Takes no memory.
-    pub(crate) fn refused(alloc: Global, refusal: Refusal, judged: Option<Judged>) -> Outcome
-        ensures given { given_of result ≡ with_no_notes (only (reply.Refused refusal)) }
+    pub(crate) fn refused(alloc: Global, refusal: Refusal, judged: Option<Judged>) -> NodeOutcome
+        ensures given { node_given_of result ≡ with_no_notes (only (reply.Refused refusal)) }
         ensures notes { result.notes ≡ [] }
         ensures judged { result.judged ≡ judged }
     {
-        let outcome = node_table::Outcome::only(alloc, Reply::Refused(refusal));
-        Outcome::of_row(alloc, outcome, judged)
+        let outcome = node_table::RowOutcome::only(alloc, Reply::Refused(refusal));
+        NodeOutcome::of_row(alloc, outcome, judged)
     }
 
     /// What a row gave, if this hand of an object of this length was given: `notes` is empty, and has room for one.
     pub(crate) fn with_given(
-        outcome: node_table::Outcome,
+        outcome: node_table::RowOutcome,
         notes: Vec<Note>,
         hand: &Hand,
         length: u32,
         judged: Option<Judged>,
-    ) -> Outcome
+    ) -> NodeOutcome
         requires empty { (notes.items ≡ []) × (vec_len notes ≡ 0) }
         requires room { 1 ≤ vec_capacity notes }
-        ensures given { given_of result ≡ with_given (row_given_of outcome) hand.now length }
+        ensures given { node_given_of result ≡ with_given (row_given_of outcome) hand.now length }
         ensures judged { result.judged ≡ judged }
     {
         let mut notes = notes;
         notes.push(received_note(hand, length)).unwrap();
-        Outcome {
+        NodeOutcome {
             reply: outcome.reply,
             messages: outcome.messages,
             erase: outcome.erase,
@@ -88,21 +88,21 @@ impl Outcome {
 
     /// The same, if these hands end by it: `notes` is empty, and has room for a note of each.
     pub(crate) fn with_ends(
-        outcome: node_table::Outcome,
+        outcome: node_table::RowOutcome,
         notes: Vec<Note>,
         ended: &[Hand],
         judged: Option<Judged>,
-    ) -> Outcome
+    ) -> NodeOutcome
         requires empty { (notes.items ≡ []) × (vec_len notes ≡ 0) }
         requires room { length ended.now ≤ vec_capacity notes }
-        ensures given { given_of result ≡ with_ends (row_given_of outcome) ended.now }
+        ensures given { node_given_of result ≡ with_ends (row_given_of outcome) ended.now }
         ensures judged { result.judged ≡ judged }
     {
         let mut notes = notes;
         for hand in ended {
             notes.push(end_note(hand)).unwrap();
         }
-        Outcome {
+        NodeOutcome {
             reply: outcome.reply,
             messages: outcome.messages,
             erase: outcome.erase,
@@ -112,30 +112,30 @@ impl Outcome {
     }
 }
 
-/// What a hand of an object of this length is to its taker.
+/// What a hand of an object of this length is to its grantee.
 fn received_note(hand: &Hand, length: u32) -> Note
     ensures { input_noted result ≡ received_noted hand.now length }
 {
     Note {
-        job: hand.taker(),
+        job: hand.grantee(),
         input: Judged::Received {
             id: hand.id(),
             length,
-            giver: hand.giver(),
+            grantor: hand.grantor(),
             depth: hand.depth(),
         },
     }
 }
 
-/// What the end of a hand is to its taker.
+/// What the end of a hand is to its grantee.
 fn end_note(hand: &Hand) -> Note
     ensures { input_noted result ≡ end_noted hand.now }
 {
     Note {
-        job: hand.taker(),
+        job: hand.grantee(),
         input: Judged::Withdrawn {
             id: hand.id(),
-            giver: hand.giver(),
+            grantor: hand.grantor(),
             depth: hand.depth(),
         },
     }

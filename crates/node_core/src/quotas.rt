@@ -1,10 +1,10 @@
 //! Changes of the quotas of a node's jobs.
 ghost use Rattle.std.specs.Prelude.{◌≡◌, [], None, IfOk, OnErr};
 ghost use Rattle.private_store.specs.declared.schedules.Event.TheVariants as event;
-ghost use Rattle.private_store.specs.Contents.{View};
-ghost use Rattle.node_table.specs.Outcomes.{given_of as row_given_of};
+ghost use Rattle.private_store.specs.rules.Contents.{View};
+ghost use Rattle.node_table.specs.Outcomes.{row_given_of};
 ghost use Rattle.node_core.specs.Hosted.{Shows};
-ghost use Rattle.node_core.specs.OneJob.{StepsOne};
+ghost use Rattle.node_core.specs.OneJob.{NodeStepOne};
 ghost use Rattle.node_core.specs.Quotas.{requota_refusal};
 ghost use Rattle.node_core.specs.Steps.{requota_check as requota_check_lem};
 
@@ -33,14 +33,14 @@ impl Node {
         &mut self,
         job: JobNo,
         quota: Quota,
-    ) -> Result<node_table::Outcome, AllocError>
-        ensures ok { IfOk result (λ o. StepsOne self.old (event.Requota job quota) (row_given_of o) self.new) }
+    ) -> Result<node_table::RowOutcome, AllocError>
+        ensures ok { IfOk result (λ o. NodeStepOne self.old (event.Requota job quota) (row_given_of o) self.new) }
         ensures silent { IfOk result (λ o. o.messages ≡ []) }
-        ensures late { OnErr result ((view : View) → Shows self.old job.0 view → requota_check_lem self.old.admissions view job quota ≡ None) }
+        ensures memory_last { OnErr result ((view : View) → Shows self.old job.0 view → requota_check_lem self.old.admissions view job quota ≡ None) }
         ensures err { OnErr result (self.new ≡ self.old) }
     {
         if let Some(refusal) = self.requota_check(job, quota) {
-            return Ok(node_table::Outcome::only(self.alloc, Reply::Refused(refusal)));
+            return Ok(node_table::RowOutcome::only(self.alloc, Reply::Refused(refusal)));
         }
         let Some(own_row) = self.rows.get_mut(&job) else {
             unreachable!()
@@ -51,6 +51,6 @@ impl Node {
         let Ok(()) = self.admission.resize(job, quota) else {
             unreachable!()
         };
-        Ok(node_table::Outcome::only(self.alloc, Reply::Ok))
+        Ok(node_table::RowOutcome::only(self.alloc, Reply::Ok))
     }
 }

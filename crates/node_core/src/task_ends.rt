@@ -6,37 +6,37 @@ ghost use Rattle.private_store.specs.declared.schedules.NodeEvent.TheVariants as
 ghost use Rattle.node_core.specs.Foreseen.{most_by_command, AreTakers};
 ghost use Rattle.node_core.specs.Hosted.{row_at};
 ghost use Rattle.node_core.specs.Judged.{judged_as};
-ghost use Rattle.node_core.specs.Late.{task_refusal as task_refusal_lem, IsCallUnrefused};
-ghost use Rattle.node_core.specs.Outcomes.{given_of};
-ghost use Rattle.node_core.specs.Steps.{Steps};
+ghost use Rattle.node_core.specs.MemoryLast.{task_refusal as task_refusal_lem, IsCallUnrefused};
+ghost use Rattle.node_core.specs.Outcomes.{node_given_of};
+ghost use Rattle.node_core.specs.Steps.{NodeStep};
 
 use crate::Node;
-use crate::outcome::Outcome;
+use crate::outcome::NodeOutcome;
 use obj_id::{Command, JobNo, Refusal, Reply, TaskNo};
 use private_store::Judged;
 use std::alloc::AllocError;
 
 impl Node {
     /// A session ends a task of its job: the row doesn't take the task's commands from then on, and what the job granted
-    /// of the task's objects ends, with all that hangs on it: the takers are told in the order of the ends. All growth
+    /// of the task's objects ends, with all that hangs on it: the grantees are told in the order of the ends. All growth
     /// comes first. The error is out of memory, and then nothing has changed.
     pub(crate) fn end_task(
         &mut self,
         job: JobNo,
         session: u32,
         task: TaskNo,
-    ) -> Result<Outcome, AllocError>
-        ensures ok { IfOk result (λ o. Steps self.old (node_event.Own (event.Call job session (command.EndTask task))) (given_of o) self.new) }
-        ensures few { IfOk result (λ o. length o.messages ≤ most_by_command (row_at self.old job) (command.EndTask task)) }
+    ) -> Result<NodeOutcome, AllocError>
+        ensures ok { IfOk result (λ o. NodeStep self.old (node_event.Own (event.Call job session (command.EndTask task))) (node_given_of o) self.new) }
+        ensures bounded { IfOk result (λ o. length o.messages ≤ most_by_command (row_at self.old job) (command.EndTask task)) }
         ensures judged { IfOk result (λ o. o.judged ≡ judged_as (event.Call job session (command.EndTask task)) o.reply) }
-        ensures takers { IfOk result (λ o. AreTakers self.old.hands (event.Call job session (command.EndTask task)) o.reply (map (λ note. note.job) o.notes)) }
-        ensures late { OnErr result (IsCallUnrefused self.old job session (command.EndTask task)) }
+        ensures grantees { IfOk result (λ o. AreTakers self.old.hands (event.Call job session (command.EndTask task)) o.reply (map (λ note. note.job) o.notes)) }
+        ensures memory_last { OnErr result (IsCallUnrefused self.old job session (command.EndTask task)) }
         ensures err { OnErr result (self.new ≡ self.old) }
     {
         let judged = Some(Judged::Call(session, Command::EndTask(task)));
         if let Some(refusal) = self.task_refusal(job, task) {
-            let outcome = node_table::Outcome::only(self.alloc, Reply::Refused(refusal));
-            return Ok(Outcome::of_row(self.alloc, outcome, judged));
+            let outcome = node_table::RowOutcome::only(self.alloc, Reply::Refused(refusal));
+            return Ok(NodeOutcome::of_row(self.alloc, outcome, judged));
         }
         let ends = self.hands.ends_with_task(job, task)?;
         let notes = Vec::with_capacity(self.alloc, ends.hands().len())?;
@@ -45,7 +45,7 @@ impl Node {
         };
         let outcome = row.end_task(self.alloc, self.number, session, task)?;
         self.hands.take_out(&ends);
-        Ok(Outcome::with_ends(outcome, notes, ends.hands(), judged))
+        Ok(NodeOutcome::with_ends(outcome, notes, ends.hands(), judged))
     }
 
     /// Why the task can't end: `NotAdmitted` if its job isn't live, `Gone` if it has ended already, `TooMany` at 1,024

@@ -6,12 +6,12 @@ use Rattle.std.proofs.Math.Logic.{∥∥₁_elim}
 use base.Stored.{Coded-set}
 use native.Mathlib.Nat.{ℕ_set}
 use Rattle.obj_id.specs.declared.ids.JobNo.{JobNo}
-use Rattle.private_store.specs.Contents.{View}
-use Rattle.private_store.specs.Replay.{Brief, brief_of}
+use Rattle.private_store.specs.rules.Contents.{View}
+use Rattle.private_store.specs.rules.Replay.{Brief, brief_of}
 use Rattle.store_facts.proofs.Tests.{none_some}
 use Rattle.plain_store.specs.contracts.store.PlainStore as plain
 use Rattle.plain_store.specs.Parts.{has_begun}
-use Rattle.spill_work.specs.Line.{taken_by}
+use Rattle.spill_work.specs.Line.{works_taken_by}
 use Rattle.node_core.specs.Hosted.{Hosted, Shows}
 use Rattle.node_journal.specs.declared.entries.Line.{Line}
 use Rattle.node_journal.specs.Journals.{Journal, Tells, begins, folded_if, last_of, step_of, store_of, taken_of, base_after}
@@ -41,7 +41,7 @@ base_is node journals job base h is = ∥∥₁_elim h (Brief-set _ _) (λ t.
     is (t.views job) (t.shown job) (sym (ap (λ (b : Brief). has_begun b.shape.life) told.replays) ∙ replay_begins (journals job).list (journals job).base.store told.due) ∙ sym told.replays)
 
 -- and so are the works that it has as taken
-pub taken_is : (node : Hosted) (journals : ℕ → Journal) (job : JobNo) → ∥ Tells node journals ∥₁ → taken_by node.works job ≡ taken_of (journals job.0)
+pub taken_is : (node : Hosted) (journals : ℕ → Journal) (job : JobNo) → ∥ Tells node journals ∥₁ → works_taken_by node.works job ≡ taken_of (journals job.0)
 taken_is node journals job h = ∥∥₁_elim h (ℕ_set _ _) (λ t. sym (t.taken job.0))
 
 -- ---- those of several

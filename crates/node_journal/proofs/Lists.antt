@@ -2,20 +2,20 @@
 use Rattle.std.proofs.Common.{◌≡◌, List, [], ◌∷◌, ◌++◌, map, append-nil, append_assoc, Option, Some, None, refl, sym, ap, ◌∙◌}
 use Rattle.std.specs.Prelude.{option_to_list}
 use Rattle.private_store.specs.declared.inputs.Judged.{Judged}
-use Rattle.private_store.specs.Replay.{Brief, Line as Replayed, replayed, answers_due, brief_after, brief_step}
+use Rattle.private_store.specs.rules.Replay.{Brief, Line as Replayed, replayed, answers_due, brief_after, brief_step}
 use Rattle.node_journal.specs.declared.entries.Line.{Line}
 use Rattle.node_journal.specs.Replies.{unlisted}
-use Rattle.node_journal.specs.Journals.{line_of, lines_of, AreDue}
+use Rattle.node_journal.specs.Journals.{journal_line_of, lines_of, AreDue}
 
 map-snoc : {A B : Type 0} (f : A → B) (xs : List A) (y : A) → map f (xs ++ y ∷ []) ≡ map f xs ++ f y ∷ []
 map-snoc f [] y = refl
 map-snoc f (x ∷ xs) y = ap (λ r. f x ∷ r) (map-snoc f xs y)
 
-pub lines_of-snoc : (ls : List Line) (l : Line) → lines_of (ls ++ l ∷ []) ≡ lines_of ls ++ option_to_list (line_of l)
-lines_of-snoc [] l = append-nil (option_to_list (line_of l))
+pub lines_of-snoc : (ls : List Line) (l : Line) → lines_of (ls ++ l ∷ []) ≡ lines_of ls ++ option_to_list (journal_line_of l)
+lines_of-snoc [] l = append-nil (option_to_list (journal_line_of l))
 lines_of-snoc (x ∷ xs) l =
-    ap (λ r. option_to_list (line_of x) ++ r) (lines_of-snoc xs l)
-    ∙ sym (append_assoc (option_to_list (line_of x)) (lines_of xs) (option_to_list (line_of l)))
+    ap (λ r. option_to_list (journal_line_of x) ++ r) (lines_of-snoc xs l)
+    ∙ sym (append_assoc (option_to_list (journal_line_of x)) (lines_of xs) (option_to_list (journal_line_of l)))
 
 pub replayed-snoc : (b : Brief) (lines : List Replayed) (l : Replayed) → replayed b (lines ++ l ∷ []) ≡ brief_after (replayed b lines) l.input
 replayed-snoc b [] l = refl

@@ -13,21 +13,21 @@ use Rattle.private_store.specs.declared.inputs.Judged.{Judged}
 use Rattle.private_store.specs.declared.inputs.Judged.TheVariants as judged
 use Rattle.private_store.specs.declared.inputs.WorkVerdict.{WorkVerdict}
 use Rattle.private_store.specs.declared.inputs.WorkVerdict.TheVariants as work
-use Rattle.private_store.specs.Tables.{at}
-use Rattle.private_store.specs.Shape.{Copy, Shape, Change, Life, WorkInFlight, Seen, not_begun, live, ended}
-use Rattle.private_store.specs.Change.{checked, needing, settled, done, refused, erasing}
-use Rattle.private_store.specs.Copies.{is_idle}
-use Rattle.private_store.specs.Limits.{is_quota}
-use Rattle.private_store.specs.Room.{set_copy, drop_copy}
-use Rattle.private_store.specs.Events.{is_live, begin, answer, written, read_back, work_of, without_work, is_hand, hand_ended, withdrawn}
-use Rattle.private_store.specs.Made.{Edit, marks, drops, creates, fetches, asks, finishes, flags, ends_task, gives, leaves, receives, loses, begins, requotas, ends, Edits, none, then_edit}
-use Rattle.private_store.specs.Step.{step}
-use Rattle.private_store.specs.Replay.{Brief, Line as Replayed, replayed, brief_after}
+use Rattle.private_store.specs.rules.Tables.{at}
+use Rattle.private_store.specs.rules.Shape.{Copy, Shape, Change, Life, WorkInFlight, Seen, not_begun, live, ended}
+use Rattle.private_store.specs.rules.Change.{checked, needing, settled, done, refused, erasing}
+use Rattle.private_store.specs.rules.Copies.{is_idle}
+use Rattle.private_store.specs.rules.Limits.{is_quota}
+use Rattle.private_store.specs.rules.Room.{set_copy, drop_copy}
+use Rattle.private_store.specs.rules.Events.{is_live, begin, answer, written, read_back, work_of, without_work, is_hand, hand_ended, withdrawn}
+use Rattle.private_store.specs.laws.Made.{Edit, marks, drops, creates, fetches, asks, finishes, flags, ends_task, gives, leaves, receives, loses, begins, requotas, ends, Edits, none, then_edit}
+use Rattle.private_store.specs.rules.Step.{step}
+use Rattle.private_store.specs.rules.Replay.{Brief, Line as Replayed, replayed, brief_after}
 use Rattle.store_facts.proofs.Checks.{checked-nil, checked-true, checked-false}
 use Rattle.store_facts.proofs.EachStep.{step_made}
 use Rattle.plain_store.specs.Parts.{has_begun}
 use Rattle.node_journal.specs.Replies.{unlisted}
-use Rattle.node_journal.specs.Journals.{AreDue, is_begin, is_ok, begins as line_begins, lines_of, line_of}
+use Rattle.node_journal.specs.Journals.{AreDue, is_begin, is_ok, begins as line_begins, lines_of, journal_line_of}
 use Rattle.node_journal.specs.declared.entries.Line.{Line}
 
 -- ---- one that was admitted
@@ -43,8 +43,8 @@ edit_begun store after (flags failed) h = h
 edit_begun store after (ends_task task) h = h
 edit_begun store after (gives hand) h = h
 edit_begun store after (leaves stands) h = h
-edit_begun store after (receives id n giver depth is) h = h
-edit_begun store after (loses id giver depth seen found) h = h
+edit_begun store after (receives id n grantor depth is) h = h
+edit_begun store after (loses id grantor depth seen found) h = h
 edit_begun store after (begins quota fresh fine) h = refl
 edit_begun store after (requotas quota fine fits) h = h
 edit_begun store after (ends is) h = refl
@@ -84,10 +84,10 @@ module _ (store : Shape) where
         | false ↦ settled_same (set_copy rest w.id (read_back copy verdict)) w.id
       ]))
 
-  withdrawn_same : (id : ObjectId) (giver depth : ℕ) → Same (withdrawn store id giver depth)
-  withdrawn_same id giver depth = elim (at store.received id) as (λ (o : Option Seen). (option_map_or (λ (seen : Seen). cond (list_any (is_hand giver depth) seen.hands) (hand_ended store id giver depth seen) store) o store).life ≡ store.life) [
+  withdrawn_same : (id : ObjectId) (grantor depth : ℕ) → Same (withdrawn store id grantor depth)
+  withdrawn_same id grantor depth = elim (at store.received id) as (λ (o : Option Seen). (option_map_or (λ (seen : Seen). cond (list_any (is_hand grantor depth) seen.hands) (hand_ended store id grantor depth seen) store) o store).life ≡ store.life) [
     | None ↦ refl
-    | Some seen ↦ elim (list_any (is_hand giver depth) seen.hands) as (λ b. (cond b (hand_ended store id giver depth seen) store).life ≡ store.life) [ true ↦ refl | false ↦ refl ]
+    | Some seen ↦ elim (list_any (is_hand grantor depth) seen.hands) as (λ b. (cond b (hand_ended store id grantor depth seen) store).life ≡ store.life) [ true ↦ refl | false ↦ refl ]
   ]
 
   module _ (dead : is_live store ≡ false) where
@@ -103,8 +103,8 @@ module _ (store : Shape) where
     still order (judged.Chunk id number index from verdict) other = refused_same Stale _
     still order (judged.Pull id number matches) other = refused_same Stale _
     still order (judged.NotHere id number from) other = refused_same Stale _
-    still order (judged.Received id n giver depth) other = refl
-    still order (judged.Withdrawn id giver depth) other = withdrawn_same id giver.0 depth
+    still order (judged.Received id n grantor depth) other = refl
+    still order (judged.Withdrawn id grantor depth) other = withdrawn_same id grantor.0 depth
     still order judged.End other = refused_same Stale _
 
 -- ---- one step
@@ -150,8 +150,8 @@ module _ (store : Shape) (fresh : store.life ≡ not_begun) where
   fresh_so order (judged.Chunk id number index from verdict) = other_so order (judged.Chunk id number index from verdict) refl
   fresh_so order (judged.Pull id number matches) = other_so order (judged.Pull id number matches) refl
   fresh_so order (judged.NotHere id number from) = other_so order (judged.NotHere id number from) refl
-  fresh_so order (judged.Received id n giver depth) = other_so order (judged.Received id n giver depth) refl
-  fresh_so order (judged.Withdrawn id giver depth) = other_so order (judged.Withdrawn id giver depth) refl
+  fresh_so order (judged.Received id n grantor depth) = other_so order (judged.Received id n grantor depth) refl
+  fresh_so order (judged.Withdrawn id grantor depth) = other_so order (judged.Withdrawn id grantor depth) refl
   fresh_so order judged.End = other_so order judged.End refl
 
 step_so : (order : List ObjectId) (store : Shape) (x : Judged) → IsBegunBy store x (step order store x)
@@ -188,7 +188,7 @@ rest_told (r ∷ rs) = rs
 
 pub replay_begins : (ls : List Line) (b : Brief) → AreDue b (lines_of ls) → has_begun (replayed b (lines_of ls)).shape.life ≡ (has_begun b.shape.life || list_any line_begins ls)
 replay_begins [] b due = or_false (has_begun b.shape.life)
-replay_begins (l ∷ ls) b due = by (replay_begins ls) (line_of l) due
+replay_begins (l ∷ ls) b due = by (replay_begins ls) (journal_line_of l) due
   where
     Then : Brief → Type 0
     Then from = AreDue from (lines_of ls) → has_begun (replayed from (lines_of ls)).shape.life ≡ (has_begun from.shape.life || list_any line_begins ls)

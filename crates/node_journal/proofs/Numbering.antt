@@ -9,7 +9,7 @@ use Rattle.node_journal.specs.declared.entries.Entry.{Entry}
 use Rattle.node_journal.specs.declared.entries.Line.{Line}
 use Rattle.node_journal.specs.declared.entries.Line.TheVariants as line
 use Rattle.node_journal.specs.declared.entries.Agreement.TheVariants as agree
-use Rattle.node_journal.specs.Journals.{Journal, fresh, notes_for, agreement, is_entry, is_this, same_entry, step_of, last_of, follows, rise_above, AreNumbered, folded_if, with_lines}
+use Rattle.node_journal.specs.Journals.{Journal, fresh, notes_for, agreement, is_entry, is_this, same_entry, step_of, last_of, follows, rise_above, AreEntriesNumbered, folded_if, with_lines}
 
 abbrev all_within : ℕ → List Line → Bool
 all_within most ls = list_all (λ (l : Line). nat_le (step_of l) most) ls
@@ -62,7 +62,7 @@ lt_next : (a b : ℕ) → nat_le a b ≡ true → nat_lt a (b + 1) ≡ true
 lt_next a b h = grind (arith, nat_tests, h)
 
 -- a note of the last step
-note_numbered : (count : ℕ) (j : Journal) (x : JobJudged) → nat_lt j.covered count ≡ true → AreNumbered count j → AreNumbered count (with_lines j (line.Note count x.input ∷ []))
+note_numbered : (count : ℕ) (j : Journal) (x : JobJudged) → nat_lt j.covered count ≡ true → AreEntriesNumbered count j → AreEntriesNumbered count (with_lines j (line.Note count x.input ∷ []))
 note_numbered count j x past h = record {
   covered = h.covered;
   rise = rise-snoc j.covered count j.list (line.Note count x.input) h.covered (within_itself count) h.most h.rise;
@@ -70,27 +70,27 @@ note_numbered count j x past h = record {
   most = all-snoc (λ l. nat_le (step_of l) count) j.list (line.Note count x.input) (within_itself count) h.most;
 }
 
-notes_numbered : (count job : ℕ) (j : Journal) (notes : List JobJudged) → nat_lt j.covered count ≡ true → AreNumbered count j → AreNumbered count (with_lines j (notes_for count notes job))
+notes_numbered : (count job : ℕ) (j : Journal) (notes : List JobJudged) → nat_lt j.covered count ≡ true → AreEntriesNumbered count j → AreEntriesNumbered count (with_lines j (notes_for count notes job))
 notes_numbered count job j notes past h = by (filter (λ (note : JobJudged). note.job == job) notes) j past h
   where
-    by : (xs : List JobJudged) (j : Journal) → nat_lt j.covered count ≡ true → AreNumbered count j → AreNumbered count (with_lines j (map (λ (note : JobJudged). line.Note count note.input) xs))
-    by [] j past h = subst (λ ls. AreNumbered count (record j { list = ls })) (sym (append-nil j.list)) h
+    by : (xs : List JobJudged) (j : Journal) → nat_lt j.covered count ≡ true → AreEntriesNumbered count j → AreEntriesNumbered count (with_lines j (map (λ (note : JobJudged). line.Note count note.input) xs))
+    by [] j past h = subst (λ ls. AreEntriesNumbered count (record j { list = ls })) (sym (append-nil j.list)) h
     by (x ∷ xs) j past h =
-        subst (λ ls. AreNumbered count (record j { list = ls })) (append_assoc j.list (line.Note count x.input ∷ []) (map (λ (note : JobJudged). line.Note count note.input) xs))
+        subst (λ ls. AreEntriesNumbered count (record j { list = ls })) (append_assoc j.list (line.Note count x.input ∷ []) (map (λ (note : JobJudged). line.Note count note.input) xs))
         (by xs (with_lines j (line.Note count x.input ∷ [])) past (note_numbered count j x past h))
 
 -- an entry of the next step, of this job or another, and its notes
 next_numbered : (count job : ℕ) (own : Bool) (j : Journal) (entry : Entry) (notes : List JobJudged) → entry.number ≡ count + 1
-    → AreNumbered count j → AreNumbered (count + 1) (with_lines j ((if own then line.Entry entry ∷ [] else []) ++ notes_for (count + 1) notes job))
+    → AreEntriesNumbered count j → AreEntriesNumbered (count + 1) (with_lines j ((if own then line.Entry entry ∷ [] else []) ++ notes_for (count + 1) notes job))
 next_numbered count job own j entry notes is h = by own
   where
     past : nat_lt j.covered (count + 1) ≡ true
     past = lt_next j.covered count h.covered
 
-    without : AreNumbered (count + 1) j
+    without : AreEntriesNumbered (count + 1) j
     without = record { covered = le_next j.covered count h.covered; rise = h.rise; above = h.above; most = within_more count j.list h.most }
 
-    with_entry : AreNumbered (count + 1) (with_lines j (line.Entry entry ∷ []))
+    with_entry : AreEntriesNumbered (count + 1) (with_lines j (line.Entry entry ∷ []))
     with_entry = record {
       covered = without.covered;
       rise = rise-snoc j.covered count j.list (line.Entry entry) h.covered (ap (nat_lt count) is ∙ less_next count) h.most h.rise;
@@ -98,24 +98,24 @@ next_numbered count job own j entry notes is h = by own
       most = all-snoc (λ l. nat_le (step_of l) (count + 1)) j.list (line.Entry entry) (ap (λ n. nat_le n (count + 1)) is ∙ within_itself (count + 1)) (within_more count j.list h.most);
     }
 
-    by : (b : Bool) → AreNumbered (count + 1) (with_lines j (cond b (line.Entry entry ∷ []) [] ++ notes_for (count + 1) notes job))
-    by true = subst (λ ls. AreNumbered (count + 1) (record j { list = ls })) (append_assoc j.list (line.Entry entry ∷ []) (notes_for (count + 1) notes job)) (notes_numbered (count + 1) job (with_lines j (line.Entry entry ∷ [])) notes past with_entry)
+    by : (b : Bool) → AreEntriesNumbered (count + 1) (with_lines j (cond b (line.Entry entry ∷ []) [] ++ notes_for (count + 1) notes job))
+    by true = subst (λ ls. AreEntriesNumbered (count + 1) (record j { list = ls })) (append_assoc j.list (line.Entry entry ∷ []) (notes_for (count + 1) notes job)) (notes_numbered (count + 1) job (with_lines j (line.Entry entry ∷ [])) notes past with_entry)
     by false = notes_numbered (count + 1) job j notes past without
 
 -- folding keeps that
-folded_numbered : (count : ℕ) (b : Bool) (j : Journal) → AreNumbered count j → AreNumbered count (folded_if b j)
+folded_numbered : (count : ℕ) (b : Bool) (j : Journal) → AreEntriesNumbered count j → AreEntriesNumbered count (folded_if b j)
 folded_numbered count true j h = record { covered = last_within count j.covered j.list h.covered h.most; rise = refl; above = refl; most = refl }
 folded_numbered count false j h = h
 
 pub all_numbered : (count job : ℕ) (own full : Bool) (j after : Journal) (entry : Entry) (notes : List JobJudged) → entry.number ≡ count + 1
-    → after ≡ with_lines (folded_if full j) ((if own then line.Entry entry ∷ [] else []) ++ notes_for (count + 1) notes job) → AreNumbered count j → AreNumbered (count + 1) after
-all_numbered count job own full j after entry notes is e h = subst (AreNumbered (count + 1)) (sym e) (next_numbered count job own (folded_if full j) entry notes is (folded_numbered count full j h))
+    → after ≡ with_lines (folded_if full j) ((if own then line.Entry entry ∷ [] else []) ++ notes_for (count + 1) notes job) → AreEntriesNumbered count j → AreEntriesNumbered (count + 1) after
+all_numbered count job own full j after entry notes is e h = subst (AreEntriesNumbered (count + 1)) (sym e) (next_numbered count job own (folded_if full j) entry notes is (folded_numbered count full j h))
 
-pub fold_numbered : (count : ℕ) (b : Bool) (j after : Journal) → after ≡ folded_if b j → AreNumbered count j → AreNumbered count after
-fold_numbered count b j after e h = subst (AreNumbered count) (sym e) (folded_numbered count b j h)
+pub fold_numbered : (count : ℕ) (b : Bool) (j after : Journal) → after ≡ folded_if b j → AreEntriesNumbered count j → AreEntriesNumbered count after
+fold_numbered count b j after e h = subst (AreEntriesNumbered count) (sym e) (folded_numbered count b j h)
 
-pub none_numbered : (job : ℕ) (j : Journal) → j ≡ fresh job → AreNumbered 0 j
-none_numbered job j is = subst (AreNumbered 0) (sym is) (record { covered = refl; rise = refl; above = refl; most = refl })
+pub none_numbered : (job : ℕ) (j : Journal) → j ≡ fresh job → AreEntriesNumbered 0 j
+none_numbered job j is = subst (AreEntriesNumbered 0) (sym is) (record { covered = refl; rise = refl; above = refl; most = refl })
 
 -- ---- what a journal doesn't say No of
 
@@ -138,7 +138,7 @@ agreed_here true entry j not = refl
 agreed_here false entry j not = absurd (not refl)
 
 -- and of a step that was made
-pub agreed_within : (count : ℕ) (entry : Entry) (here : Bool) (j : Journal) → AreNumbered count j → agreement here entry j ≢ agree.No → nat_le entry.number count ≡ true
+pub agreed_within : (count : ℕ) (entry : Entry) (here : Bool) (j : Journal) → AreEntriesNumbered count j → agreement here entry j ≢ agree.No → nat_le entry.number count ≡ true
 agreed_within count entry false j h not = absurd (not refl)
 agreed_within count entry true j h not = by (nat_le entry.number j.covered) refl (list_any (is_this entry) j.list) refl
   where

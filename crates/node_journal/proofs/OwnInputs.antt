@@ -8,9 +8,9 @@ use Rattle.private_store.specs.declared.inputs.Input.TheVariants as input
 use Rattle.private_store.specs.declared.schedules.Event.{Event}
 use Rattle.private_store.specs.declared.schedules.Event.TheVariants as event
 use Rattle.private_store.specs.declared.schedules.NodeEvent.TheVariants.{Own}
-use Rattle.private_store.specs.Answers.{wants_memory}
-use Rattle.private_store.specs.NodeInputs.{JobInput, Before, own_here, only_of}
-use Rattle.node_core.specs.Steps.{answered, stale_unless}
+use Rattle.private_store.specs.laws.Answers.{wants_memory}
+use Rattle.private_store.specs.laws.NodeInputs.{JobInput, Before, own_here, only_of}
+use Rattle.node_core.specs.Steps.{answer_of_check, stale_unless}
 use Rattle.node_core.proofs.ForCallers.{own_of, IsFinishAnswer}
 
 -- ---- the own input
@@ -29,7 +29,7 @@ here_is before (event.Requota job quota) _ is never = refl
 here_is before event.Take told is never = refl
 here_is before (event.Finish job number a) told is never = by (before.out job.0 number) is
   where
-    by : (out : Bool) → told ≡ answered (stale_unless out) → cond (wants_memory told) None (cond out (Some (record { job = job.0; input = input.Answer number a })) None) ≡ own_of (event.Finish job number a) told
+    by : (out : Bool) → told ≡ answer_of_check (stale_unless out) → cond (wants_memory told) None (cond out (Some (record { job = job.0; input = input.Answer number a })) None) ≡ own_of (event.Finish job number a) told
     by true is = subst (λ t. cond (wants_memory t) None (Some (record { job = job.0; input = input.Answer number a })) ≡ own_of (event.Finish job number a) t) (sym is) refl
     by false is = subst (λ t. cond (wants_memory t) None None ≡ own_of (event.Finish job number a) t) (sym is) refl
 

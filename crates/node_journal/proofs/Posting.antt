@@ -14,18 +14,18 @@ use Rattle.obj_id.specs.declared.messages.PeerMessage.TheVariants as peer
 use Rattle.store_facts.proofs.Ids.{same_id-itself}
 use Rattle.private_store.specs.declared.inputs.Input.TheVariants as input
 use Rattle.private_store.specs.declared.inputs.Judged.{Judged}
-use Rattle.private_store.specs.Contents.{View, judge}
+use Rattle.private_store.specs.rules.Contents.{View, judge}
 use Rattle.store_facts.proofs.Tests.{both}
 use Rattle.node_core.specs.Hosted.{Hosted}
 use Rattle.node_core.specs.Judged.{arrived, IsArrivalJudged}
 use Rattle.node_journal.specs.Journals.{Journal, Tells}
-use Rattle.node_journal.specs.Posts.{is_of, is_entered}
+use Rattle.node_journal.specs.Posts.{is_post_of, is_entered}
 
 equal : (n : ℕ) → (n == n) ≡ true
 equal n = grind (arith, nat_tests)
 
 -- the word of a message is of it, whatever the view is
-judged_of : (node : ℕ) (view : View) (a : Arrival) → is_of a (judge node view (input.Arrive a)) ≡ true
+judged_of : (node : ℕ) (view : View) (a : Arrival) → is_post_of a (judge node view (input.Arrive a)) ≡ true
 judged_of node view (arrival.Located id number entries) = both (same_id id id) (number == number) (same_id-itself id) (equal number)
 judged_of node view (arrival.FromPeer from (peer.Pull id number size digest indexes)) = both (same_id id id) (number == number) (same_id-itself id) (equal number)
 judged_of node view (arrival.FromPeer from (peer.Chunk id number index bytes)) =

@@ -4,7 +4,7 @@ use Rattle.std.specs.Prelude.{if◌then◌else◌, nat_le, option_map, option_to
 use Rattle.std.specs.List.{list_any}
 use Rattle.std.proofs.Math.Logic.{∥∥₁_map}
 use Rattle.private_store.specs.declared.inputs.Judged.{Judged}
-use Rattle.private_store.specs.Replay.{Brief, Line as Replayed, replayed, brief_after, brief_step}
+use Rattle.private_store.specs.rules.Replay.{Brief, Line as Replayed, replayed, brief_after, brief_step}
 use Rattle.store_facts.proofs.Tests.{both_right}
 use Rattle.node_core.specs.Hosted.{Hosted}
 use Rattle.node_journal.specs.declared.entries.Agreement.TheVariants as agree
@@ -12,7 +12,7 @@ use Rattle.node_journal.specs.declared.entries.Entry.{Entry}
 use Rattle.node_journal.specs.declared.entries.Line.{Line}
 use Rattle.node_journal.specs.declared.entries.Line.TheVariants as line
 use Rattle.node_journal.specs.Replies.{unlisted}
-use Rattle.node_journal.specs.Journals.{Journal, AreDue, AreWorksDue, IsWorkDue, Tells, agreement, is_entry, is_this, line_of, lines_of, same_entry, taken_after, taken_from}
+use Rattle.node_journal.specs.Journals.{Journal, AreDue, AreWorksDue, IsWorkDue, Tells, agreement, is_entry, is_this, journal_line_of, lines_of, same_entry, taken_after, taken_from}
 use Rattle.node_journal.specs.Receipts.{AnswersAgree, IsDueIn}
 use Rattle.node_journal.proofs.Lists.{replayed_one}
 
@@ -61,14 +61,14 @@ due_at : (brief : Brief) (before : List Line) (own : Entry) (after : List Line) 
     → own.reply ≡ unlisted (brief_step (replayed brief (lines_of before)) x).reply
 due_at brief [] own after x is h = due_first brief own own.input x (lines_of after) is h
 due_at brief (l ∷ before) own after x is h =
-    due_at (replayed brief (option_to_list (line_of l))) before own after x is (after_one brief (line_of l) (lines_of (before ++ line.Entry own ∷ after)) h)
-    ∙ ap (λ b. unlisted (brief_step b x).reply) (sym (replayed_one brief (line_of l) (lines_of before)))
+    due_at (replayed brief (option_to_list (journal_line_of l))) before own after x is (after_one brief (journal_line_of l) (lines_of (before ++ line.Entry own ∷ after)) h)
+    ∙ ap (λ b. unlisted (brief_step b x).reply) (sym (replayed_one brief (journal_line_of l) (lines_of before)))
 
 given_at : (brief : Brief) (n : ℕ) (before : List Line) (own : Entry) (after : List Line) → AreWorksDue brief n (before ++ line.Entry own ∷ after) → IsWorkDue (replayed brief (lines_of before)) (taken_from n before) (line.Entry own)
 given_at brief n [] own after h = h.0
 given_at brief n (l ∷ before) own after h =
-    subst (λ b. IsWorkDue b (taken_from (taken_after n l) before) (line.Entry own)) (sym (replayed_one brief (line_of l) (lines_of before)))
-    (given_at (replayed brief (option_to_list (line_of l))) (taken_after n l) before own after h.1)
+    subst (λ b. IsWorkDue b (taken_from (taken_after n l) before) (line.Entry own)) (sym (replayed_one brief (journal_line_of l) (lines_of before)))
+    (given_at (replayed brief (option_to_list (journal_line_of l))) (taken_after n l) before own after h.1)
 
 -- ---- a receipt that the journal has
 

@@ -9,24 +9,24 @@ use Rattle.obj_id.specs.declared.ids.JobNo.{JobNo}
 use Rattle.obj_id.specs.declared.commands.Reply.{Reply}
 use Rattle.obj_id.specs.declared.commands.Reply.TheVariants as reply
 use Rattle.private_store.specs.declared.schedules.Event.{Event}
-use Rattle.private_store.specs.Hands.{Hand}
+use Rattle.private_store.specs.rules.Hands.{Hand}
 use Rattle.node_core.specs.declared.outcome.Note.{Note}
-use Rattle.node_core.specs.Foreseen.{AreTakers, takers_of}
+use Rattle.node_core.specs.Foreseen.{AreTakers, grantees_of}
 use Rattle.node_core.specs.Outcomes.{inputs_noted}
 use Rattle.node_core.specs.Steps.{JobJudged}
 use Rattle.node_journal.specs.declared.entries.Line.{Line}
 use Rattle.node_journal.specs.declared.entries.Line.TheVariants as line
-use Rattle.node_journal.specs.Journals.{Journal, folded_if, has_no_room, lines_due, most_lines, notes_for, with_lines}
+use Rattle.node_journal.specs.Journals.{Journal, folded_if, list_is_full, lines_due, most_lines, notes_for, with_lines}
 
 abbrev is_its : ℕ → JobNo → Bool
-is_its job taker = taker.0 == job
+is_its job grantee = grantee.0 == job
 
 count-cons : (job : ℕ) (t : JobNo) (ts : List JobNo) → count_by (is_its job) (t ∷ ts) ≡ cond (is_its job t) 1 0 + count_by (is_its job) ts
 count-cons job t ts = sum_by-cons (λ t. cond (is_its job t) 1 0) t ts
 
 -- ---- a job that the step isn't of, and tells nothing
 
-count_none : (job : ℕ) (takers : List JobNo) → list_any (is_its job) takers ≡ false → count_by (is_its job) takers ≡ 0
+count_none : (job : ℕ) (grantees : List JobNo) → list_any (is_its job) grantees ≡ false → count_by (is_its job) grantees ≡ 0
 count_none job [] h = refl
 count_none job (t ∷ ts) h = count-cons job t ts ∙ by (is_its job t) h (count_none job ts)
   where
@@ -34,31 +34,31 @@ count_none job (t ∷ ts) h = count-cons job t ts ∙ by (is_its job t) h (count
     by true h later = absurd cc
     by false h later = omega (arith, later h)
 
-none_full : (own : ℕ) (takers : List JobNo) (job n : ℕ) → n ≤ most_lines → ((own == job || list_any (is_its job) takers) && has_no_room own takers job n) ≡ has_no_room own takers job n
-none_full own takers job n few = by (own == job) (list_any (is_its job) takers) refl refl
+none_full : (own : ℕ) (grantees : List JobNo) (job n : ℕ) → n ≤ most_lines → ((own == job || list_any (is_its job) grantees) && list_is_full own grantees job n) ≡ list_is_full own grantees job n
+none_full own grantees job n few = by (own == job) (list_any (is_its job) grantees) refl refl
   where
-    by : (a b : Bool) → (own == job) ≡ a → list_any (is_its job) takers ≡ b → ((a || b) && has_no_room own takers job n) ≡ has_no_room own takers job n
+    by : (a b : Bool) → (own == job) ≡ a → list_any (is_its job) grantees ≡ b → ((a || b) && list_is_full own grantees job n) ≡ list_is_full own grantees job n
     by true b s e = refl
     by false true s e = refl
     by false false s e =
-        let none : lines_due own takers job ≡ 0 = ap (λ b. count_by (is_its job) takers + cond b 1 0) s ∙ ap (λ k. k + 0) (count_none job takers e) in
+        let none : lines_due own grantees job ≡ 0 = ap (λ b. count_by (is_its job) grantees + cond b 1 0) s ∙ ap (λ k. k + 0) (count_none job grantees e) in
         sym (ap (λ k. nat_lt most_lines (n + k)) none ∙ small n few)
       where
         small : (n : ℕ) → n ≤ 65536 → nat_lt 65536 (n + 0) ≡ false
         small n few = grind (arith, nat_tests, few)
 
-pub full_is : (own : ℕ) (takers : List JobNo) (job n : ℕ) (a : Bool) (rest : List JobNo) → n ≤ most_lines → rest ≡ []
-    → (a || (list_any (is_its job) rest && has_no_room own takers job n)) ≡ ((own == job || list_any (is_its job) takers) && has_no_room own takers job n)
-    → a ≡ has_no_room own takers job n
-full_is own takers job n a rest few none is = by a (sym (ap (λ ts. a || (list_any (is_its job) ts && has_no_room own takers job n)) none) ∙ is ∙ none_full own takers job n few)
+pub full_is : (own : ℕ) (grantees : List JobNo) (job n : ℕ) (a : Bool) (rest : List JobNo) → n ≤ most_lines → rest ≡ []
+    → (a || (list_any (is_its job) rest && list_is_full own grantees job n)) ≡ ((own == job || list_any (is_its job) grantees) && list_is_full own grantees job n)
+    → a ≡ list_is_full own grantees job n
+full_is own grantees job n a rest few none is = by a (sym (ap (λ ts. a || (list_any (is_its job) ts && list_is_full own grantees job n)) none) ∙ is ∙ none_full own grantees job n few)
   where
-    by : (a : Bool) → (a || false) ≡ has_no_room own takers job n → a ≡ has_no_room own takers job n
+    by : (a : Bool) → (a || false) ≡ list_is_full own grantees job n → a ≡ list_is_full own grantees job n
     by true h = h
     by false h = h
 
 -- ---- what a step makes
 
-count_few : (job : ℕ) (takers : List JobNo) → count_by (is_its job) takers ≤ length takers
+count_few : (job : ℕ) (grantees : List JobNo) → count_by (is_its job) grantees ≤ length grantees
 count_few job [] = omega arith
 count_few job (t ∷ ts) = subst (λ n. n ≤ length (t ∷ ts)) (sym (count-cons job t ts)) (by (is_its job t) (count_few job ts))
   where
@@ -77,8 +77,8 @@ notes_count number job (note ∷ notes) = by (is_its job note.job) (notes_count 
     by false h = omega (arith, h)
 
 notes_few : (hands : List Hand) (e : Event) (told : Reply (List ℕ)) (number job : ℕ) (notes : List Note) → AreTakers hands e told (map (λ (note : Note). note.job) notes)
-    → length (notes_for number (inputs_noted notes) job) ≤ count_by (is_its job) (takers_of hands e)
-notes_few hands e told number job notes are = subst (λ n. n ≤ count_by (is_its job) (takers_of hands e)) (sym (notes_count number job notes)) (by told are)
+    → length (notes_for number (inputs_noted notes) job) ≤ count_by (is_its job) (grantees_of hands e)
+notes_few hands e told number job notes are = subst (λ n. n ≤ count_by (is_its job) (grantees_of hands e)) (sym (notes_count number job notes)) (by told are)
   where
     same : (a b : ℕ) → a ≡ b → a ≤ b
     same a b h = omega (arith, h)
@@ -86,21 +86,21 @@ notes_few hands e told number job notes are = subst (λ n. n ≤ count_by (is_it
     none : (a b : ℕ) → a ≡ 0 → a ≤ b
     none a b h = omega (arith, h)
 
-    by : (told : Reply (List ℕ)) → AreTakers hands e told (map (λ (note : Note). note.job) notes) → count_by (is_its job) (map (λ (note : Note). note.job) notes) ≤ count_by (is_its job) (takers_of hands e)
+    by : (told : Reply (List ℕ)) → AreTakers hands e told (map (λ (note : Note). note.job) notes) → count_by (is_its job) (map (λ (note : Note). note.job) notes) ≤ count_by (is_its job) (grantees_of hands e)
     by reply.Ok are = same _ _ (ap (count_by (is_its job)) are)
     by _ are = none _ _ (ap (count_by (is_its job)) are)
 
-made_few : (own job : ℕ) (takers : List JobNo) (entry : Line) (notes : List Line) → length notes ≤ count_by (is_its job) takers
-    → length ((if own == job then entry ∷ [] else []) ++ notes) ≤ lines_due own takers job
-made_few own job takers entry notes few = by (own == job)
+made_few : (own job : ℕ) (grantees : List JobNo) (entry : Line) (notes : List Line) → length notes ≤ count_by (is_its job) grantees
+    → length ((if own == job then entry ∷ [] else []) ++ notes) ≤ lines_due own grantees job
+made_few own job grantees entry notes few = by (own == job)
   where
-    by : (b : Bool) → length (cond b (entry ∷ []) [] ++ notes) ≤ count_by (is_its job) takers + cond b 1 0
+    by : (b : Bool) → length (cond b (entry ∷ []) [] ++ notes) ≤ count_by (is_its job) grantees + cond b 1 0
     by true = omega (arith, few)
     by false = omega (arith, few)
 
-stays_few : (own job : ℕ) (takers : List JobNo) (j : Journal) (made : List Line) (full : Bool) → full ≡ has_no_room own takers job (length j.list) → length takers < most_lines
-    → length made ≤ lines_due own takers job → length (with_lines (folded_if full j) made).list ≤ most_lines
-stays_few own job takers j made full is some few = by full is
+stays_few : (own job : ℕ) (grantees : List JobNo) (j : Journal) (made : List Line) (full : Bool) → full ≡ list_is_full own grantees job (length j.list) → length grantees < most_lines
+    → length made ≤ lines_due own grantees job → length (with_lines (folded_if full j) made).list ≤ most_lines
+stays_few own job grantees j made full is some few = by full is
   where
     one : (b : Bool) → cond b 1 0 ≤ 1
     one true = omega arith
@@ -109,29 +109,29 @@ stays_few own job takers j made full is some few = by full is
     room : (n due : ℕ) → false ≡ nat_lt 65536 (n + due) → n + due ≤ 65536
     room n due h = grind (arith, nat_tests, h)
 
-    by : (full : Bool) → full ≡ has_no_room own takers job (length j.list) → length (with_lines (folded_if full j) made).list ≤ 65536
-    by true is = omega (arith, few, some, count_few job takers, one (own == job))
-    by false is = omega (arith, few, room (length j.list) (lines_due own takers job) is, length-append j.list made)
+    by : (full : Bool) → full ≡ list_is_full own grantees job (length j.list) → length (with_lines (folded_if full j) made).list ≤ 65536
+    by true is = omega (arith, few, some, count_few job grantees, one (own == job))
+    by false is = omega (arith, few, room (length j.list) (lines_due own grantees job) is, length-append j.list made)
 
 pub all_few : (own : ℕ) (hands : List Hand) (e : Event) (told : Reply (List ℕ)) (number job : ℕ) (notes : List Note) (j after : Journal) (entry : Line)
-    → AreTakers hands e told (map (λ (note : Note). note.job) notes) → length (takers_of hands e) < most_lines
-    → after ≡ with_lines (folded_if (has_no_room own (takers_of hands e) job (length j.list)) j) ((if own == job then entry ∷ [] else []) ++ notes_for number (inputs_noted notes) job)
+    → AreTakers hands e told (map (λ (note : Note). note.job) notes) → length (grantees_of hands e) < most_lines
+    → after ≡ with_lines (folded_if (list_is_full own (grantees_of hands e) job (length j.list)) j) ((if own == job then entry ∷ [] else []) ++ notes_for number (inputs_noted notes) job)
     → length after.list ≤ most_lines
 all_few own hands e told number job notes j after entry are some is =
-    let takers : List JobNo = takers_of hands e in
+    let grantees : List JobNo = grantees_of hands e in
     let made : List Line = (if own == job then entry ∷ [] else []) ++ notes_for number (inputs_noted notes) job in
     subst (λ (k : Journal). length k.list ≤ most_lines) (sym is)
-    (stays_few own job takers j made (has_no_room own takers job (length j.list)) refl some
-    (made_few own job takers entry (notes_for number (inputs_noted notes) job) (notes_few hands e told number job notes are)))
+    (stays_few own job grantees j made (list_is_full own grantees job (length j.list)) refl some
+    (made_few own job grantees entry (notes_for number (inputs_noted notes) job) (notes_few hands e told number job notes are)))
 
 -- after a message, which tells nobody
 pub arrival_few : (own number job : ℕ) (notes : List Note) (j after : Journal) (entry : Line) → notes ≡ []
-    → after ≡ with_lines (folded_if (has_no_room own [] job (length j.list)) j) ((if own == job then entry ∷ [] else []) ++ notes_for number (inputs_noted notes) job)
+    → after ≡ with_lines (folded_if (list_is_full own [] job (length j.list)) j) ((if own == job then entry ∷ [] else []) ++ notes_for number (inputs_noted notes) job)
     → length after.list ≤ most_lines
 arrival_few own number job notes j after entry silent is =
     let made : List Line = (if own == job then entry ∷ [] else []) ++ notes_for number (inputs_noted notes) job in
     subst (λ (k : Journal). length k.list ≤ most_lines) (sym is)
-    (stays_few own job [] j made (has_no_room own [] job (length j.list)) refl (omega arith)
+    (stays_few own job [] j made (list_is_full own [] job (length j.list)) refl (omega arith)
     (made_few own job [] entry (notes_for number (inputs_noted notes) job) (subst (λ ns. length (notes_for number (inputs_noted ns) job) ≤ 0) (sym silent) (omega arith))))
 
 pub fold_few : (b : Bool) (j after : Journal) → after ≡ folded_if b j → length j.list ≤ most_lines → length after.list ≤ most_lines

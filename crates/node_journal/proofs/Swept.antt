@@ -7,19 +7,19 @@ use Rattle.std.proofs.lemmas.Bool.Decides.{nat_tests}
 use Rattle.std.proofs.lemmas.List.{nil_from_length}
 use Rattle.std.proofs.Math.Logic.{∥∥₁_map, ∥∥₁_elim}
 use Rattle.obj_id.specs.declared.ids.JobNo.{JobNo}
-use Rattle.private_store.specs.Jobs.{same_job}
-use Rattle.private_store.specs.Shape.{Life, Shape, not_begun, live, ended, unbegun}
-use Rattle.private_store.specs.Contents.{View}
-use Rattle.private_store.specs.Replay.{Brief, brief_of, unbegun_brief, replayed}
+use Rattle.private_store.specs.rules.Jobs.{same_job}
+use Rattle.private_store.specs.rules.Shape.{Life, Shape, not_begun, live, ended, unbegun}
+use Rattle.private_store.specs.rules.Contents.{View}
+use Rattle.private_store.specs.rules.Replay.{Brief, brief_of, unbegun_brief, replayed}
 use Rattle.store_facts.proofs.Tests.{both_left, both_right, or_cases, true_false, false_true}
 use Rattle.plain_store.specs.Parts.{has_begun}
-use Rattle.node_core.specs.Hosted.{Hosted, IsViewBy, Shows, bare, beside_at, row_at}
+use Rattle.node_core.specs.Hosted.{Hosted, IsViewBy, Shows, empty_view, beside_at, row_at}
 use Rattle.node_journal.specs.declared.entries.Agreement.{Agreement}
 use Rattle.node_journal.specs.declared.entries.Agreement.TheVariants as agree
 use Rattle.node_journal.specs.declared.entries.Entry.{Entry}
 use Rattle.node_journal.specs.declared.entries.Line.{Line}
 use Rattle.node_journal.specs.declared.entries.Line.TheVariants as line
-use Rattle.node_journal.specs.Journals.{AreNumbered, GivesDue, IsSwept, IsTold, Journal, StillAgrees, Tells, agreement, fresh, folded, folded_if, follows, has_entries, has_hands, is_some_entry, is_this, last_of, lines_of, many_lines, most_lines, rise_above, same_entry, seems_fresh, settled, settled_if, step_of, swept_if, taken_of}
+use Rattle.node_journal.specs.Journals.{AreEntriesNumbered, GivesDue, IsSwept, IsTold, Journal, StillAgrees, Tells, agreement, fresh, folded, folded_if, follows, has_entries, has_hands, is_some_entry, is_this, last_of, lines_of, many_lines, most_lines, rise_above, same_entry, seems_fresh, with_notes_absorbed, with_notes_absorbed_if, step_of, swept_if, taken_of}
 use Rattle.node_journal.specs.Logs.{JobLog, journal_of}
 use Rattle.node_journal.proofs.Bases.{Brief-set}
 use Rattle.node_journal.proofs.Logging.{journal_in}
@@ -34,7 +34,7 @@ same_number a b t = grind (arith, nat_tests)
 -- ---- what is so of each journal
 
 abbrev by_parts : Bool → Bool → Journal → Journal
-by_parts entries many journal = if entries then folded_if many journal else settled journal
+by_parts entries many journal = if entries then folded_if many journal else with_notes_absorbed journal
 
 parts_told : (view : View) (entries many : Bool) (j : Journal) → IsTold view j → IsTold view (by_parts entries many j)
 parts_told view true true j h = record { kept = h.kept; replays = h.replays; due = refl }
@@ -72,20 +72,20 @@ all_swept node before after dead is h = told_alike node node (λ job. swept_if (
   works = λ job. swept_works (dead job) (before job) (t.works job);
 }))
 
-settled_told : (view : View) (some : Bool) (j : Journal) → IsTold view j → IsTold view (settled_if some j)
+settled_told : (view : View) (some : Bool) (j : Journal) → IsTold view j → IsTold view (with_notes_absorbed_if some j)
 settled_told view true j h = parts_told view false false j h
 settled_told view false j h = h
 
-settled_taken : (some : Bool) (j : Journal) → taken_of (settled_if some j) ≡ taken_of j
+settled_taken : (some : Bool) (j : Journal) → taken_of (with_notes_absorbed_if some j) ≡ taken_of j
 settled_taken true j = refl
 settled_taken false j = refl
 
-settled_works : (some : Bool) (j : Journal) → GivesDue j → GivesDue (settled_if some j)
+settled_works : (some : Bool) (j : Journal) → GivesDue j → GivesDue (with_notes_absorbed_if some j)
 settled_works true j h = tt
 settled_works false j h = h
 
-pub all_settled : (node : Hosted) (before after : ℕ → Journal) (some : ℕ → Bool) → ((job : ℕ) → after job ≡ settled_if (some job) (before job)) → ∥ Tells node before ∥₁ → ∥ Tells node after ∥₁
-all_settled node before after some is h = told_alike node node (λ job. settled_if (some job) (before job)) after refl is (∥∥₁_map h (λ t. record {
+pub all_settled : (node : Hosted) (before after : ℕ → Journal) (some : ℕ → Bool) → ((job : ℕ) → after job ≡ with_notes_absorbed_if (some job) (before job)) → ∥ Tells node before ∥₁ → ∥ Tells node after ∥₁
+all_settled node before after some is h = told_alike node node (λ job. with_notes_absorbed_if (some job) (before job)) after refl is (∥∥₁_map h (λ t. record {
   views = t.views;
   shown = t.shown;
   told = λ job. settled_told (t.views job) (some job) (before job) (t.told job);
@@ -94,14 +94,14 @@ all_settled node before after some is h = told_alike node node (λ job. settled_
   works = λ job. settled_works (some job) (before job) (t.works job);
 }))
 
-pub sweep_numbered : (count : ℕ) (dead : Bool) (j after : Journal) → after ≡ swept_if dead j → AreNumbered count j → AreNumbered count after
-sweep_numbered count dead j after e h = subst (AreNumbered count) (sym e) (by dead (has_entries j))
+pub sweep_numbered : (count : ℕ) (dead : Bool) (j after : Journal) → after ≡ swept_if dead j → AreEntriesNumbered count j → AreEntriesNumbered count after
+sweep_numbered count dead j after e h = subst (AreEntriesNumbered count) (sym e) (by dead (has_entries j))
   where
-    parts : (entries : Bool) → AreNumbered count (by_parts entries (nat_le many_lines (length j.list)) j)
+    parts : (entries : Bool) → AreEntriesNumbered count (by_parts entries (nat_le many_lines (length j.list)) j)
     parts true = fold_numbered count (nat_le many_lines (length j.list)) j _ refl h
     parts false = record { covered = h.covered; rise = refl; above = refl; most = refl }
 
-    by : (dead entries : Bool) → AreNumbered count (if dead then by_parts entries (nat_le many_lines (length j.list)) j else j)
+    by : (dead entries : Bool) → AreEntriesNumbered count (if dead then by_parts entries (nat_le many_lines (length j.list)) j else j)
     by true entries = parts entries
     by false entries = h
 
@@ -122,17 +122,17 @@ itself : (job : ℕ) → (job == job) ≡ true
 itself job = grind (arith, nat_tests)
 
 -- no lines are settled already
-nothing_settled : (j : Journal) → j.list ≡ [] → j ≡ settled j
+nothing_settled : (j : Journal) → j.list ≡ [] → j ≡ with_notes_absorbed j
 nothing_settled j none = is j.list none
   where
-    is : (ls : List Line) → ls ≡ [] → record j { list = ls } ≡ settled (record j { list = ls })
+    is : (ls : List Line) → ls ≡ [] → record j { list = ls } ≡ with_notes_absorbed (record j { list = ls })
     is [] e = refl
     is (l ∷ ls) e = absurd cc
 
-pub none_settled : (job : ℕ) (journals : ℕ → Journal) → (journals job).list ≡ [] → (other : ℕ) → journals other ≡ settled_if (job == other) (journals other)
+pub none_settled : (job : ℕ) (journals : ℕ → Journal) → (journals job).list ≡ [] → (other : ℕ) → journals other ≡ with_notes_absorbed_if (job == other) (journals other)
 none_settled job journals none other = by (job == other) refl
   where
-    by : (b : Bool) → (job == other) ≡ b → journals other ≡ settled_if b (journals other)
+    by : (b : Bool) → (job == other) ≡ b → journals other ≡ with_notes_absorbed_if b (journals other)
     by true t = nothing_settled (journals other) (ap (λ k. (journals k).list) (sym (same_number job other t)) ∙ none)
     by false t = refl
 
@@ -146,7 +146,7 @@ shows_fresh node job view h new none =
       | None ↦ λ v. ap brief_of v.is ∙ by v.life (sym (ap (λ (w : View). has_begun w.shape.life) v.is) ∙ new) (sym (ap (λ (w : View). w.shape.received) v.is) ∙ none)
     ] h.by_row
   where
-    by : (life : Life) → has_begun life ≡ false → (beside_at node job).received ≡ [] → brief_of (bare job life (beside_at node job)) ≡ unbegun_brief job
+    by : (life : Life) → has_begun life ≡ false → (beside_at node job).received ≡ [] → brief_of (empty_view job life (beside_at node job)) ≡ unbegun_brief job
     by not_begun e r = ap (λ received. record { shape = record (unbegun job) { received = received }; order = [] }) r
     by live e r = false_true e
     by ended e r = false_true e
@@ -270,10 +270,10 @@ folded_agrees entry j rise = by (nat_le entry.number (last_of j.covered j.list))
     by false a false b true s = true_false (sym a ∙ any_before_last entry j.covered j.list rise s)
     by false a false b false s = inl (ap (λ t. said t false) a ∙ sym (ap (λ t. said t (list_any (is_this entry) j.list)) b ∙ ap (said false) s))
 
-settled_agrees : (entry : Entry) (j : Journal) → has_entries j ≡ false → agreement true entry (settled j) ≡ agreement true entry j
+settled_agrees : (entry : Entry) (j : Journal) → has_entries j ≡ false → agreement true entry (with_notes_absorbed j) ≡ agreement true entry j
 settled_agrees entry j none = ap (said (nat_le entry.number j.covered)) (sym (none_this entry j.list none))
 
-pub sweep_agrees : (count : ℕ) (lives here : Bool) (entry : Entry) (before after : Journal) → AreNumbered count before → IsSwept lives before after → StillAgrees here entry before after
+pub sweep_agrees : (count : ℕ) (lives here : Bool) (entry : Entry) (before after : Journal) → AreEntriesNumbered count before → IsSwept lives before after → StillAgrees here entry before after
 sweep_agrees count lives false entry before after h is = inl refl
 sweep_agrees count lives true entry before after h (inl same) = inl (ap (agreement true entry) same)
 sweep_agrees count lives true entry before after h (inr (dead, is)) = subst (StillAgrees true entry before) (sym is) (by (has_entries before) refl (nat_le many_lines (length before.list)))

@@ -7,12 +7,12 @@ use Rattle.std.proofs.lemmas.List.{length-append}
 use Rattle.std.proofs.lemmas.List.Elements.{filter-append}
 use Rattle.std.proofs.lemmas.List.Folds.{list_all-append}
 use Rattle.obj_id.specs.declared.ids.JobNo.{JobNo}
-use Rattle.private_store.specs.Shape.{WorkInFlight}
+use Rattle.private_store.specs.rules.Shape.{WorkInFlight}
 use Rattle.store_facts.proofs.KeptLists.{all-filter}
 use Rattle.store_facts.proofs.Tests.{both, both_left, both_right, none_some, some_value, true_false}
-use Rattle.spill_work.specs.declared.queue.Asked.{Asked}
+use Rattle.spill_work.specs.declared.queue.IoRequest.{IoRequest}
 use Rattle.spill_work.specs.declared.queue.Queued.{Queued}
-use Rattle.spill_work.specs.Line.{same_job, shown, is_of, is_at, front_of}
+use Rattle.spill_work.specs.Line.{same_work_job, shown, is_of, is_at, front_of}
 use Rattle.node_core.specs.Steps.{taken_if, queued}
 use Rattle.node_core.proofs.ForCallers.{part, unmarked}
 use Rattle.node_journal.specs.Journals.{taken_come_first}
@@ -180,7 +180,7 @@ module _ (job : JobNo) (number : ℕ) where
           over true e = ap suc e
           over false e = e
 
-  pub others_keep : (other : JobNo) (ws : List Queued) → same_job job other ≡ false → count other (without ws) ≡ count other ws
+  pub others_keep : (other : JobNo) (ws : List Queued) → same_work_job job other ≡ false → count other (without ws) ≡ count other ws
   others_keep other ws apart = others_left (λ w. not (is_done w)) other ws (λ w of. ap not (not_done w of))
     where
       differ : (a b c : ℕ) → (a == b) ≡ false → (b == c) ≡ true → (a == c) ≡ false
@@ -191,7 +191,7 @@ module _ (job : JobNo) (number : ℕ) where
 
 -- ---- a work that is taken
 
-module _ (asked : Asked) where
+module _ (asked : IoRequest) where
   abbrev mark : Queued → Queued
   mark w = taken_if asked.job asked.number w
 
@@ -213,7 +213,7 @@ module _ (asked : Asked) where
   -- the front is where it is marked
   front_here : (w : Queued) → w.asked ≡ asked → at_it w ≡ true
   front_here w is =
-      ap (λ (a : Asked). asked.job.0 == a.job.0 && a.number == asked.number) is
+      ap (λ (a : IoRequest). asked.job.0 == a.job.0 && a.number == asked.number) is
       ∙ both (asked.job.0 == asked.job.0) (asked.number == asked.number) (itself asked.job.0) (itself asked.number)
     where
       itself : (n : ℕ) → (n == n) ≡ true
@@ -261,7 +261,7 @@ module _ (asked : Asked) where
           ∙ (λ i. more ((mark_of w own ∙ of) i && mark_here w here i) (count own (unmarked own asked.number ws (none_more at_it w ws here few) i)))
           ∙ sym (λ i. suc (more (of i && is i) (count own ws)))
 
-  pub others_unmarked : (other : JobNo) (ws : List Queued) → same_job asked.job other ≡ false → count other (map mark ws) ≡ count other ws
+  pub others_unmarked : (other : JobNo) (ws : List Queued) → same_work_job asked.job other ≡ false → count other (map mark ws) ≡ count other ws
   others_unmarked other [] apart = refl
   others_unmarked other (w ∷ ws) apart =
       count-cons other (mark w) (map mark ws) ∙ by (at_it w) refl ∙ ap (more (is_of other w && w.taken)) (others_unmarked other ws apart) ∙ sym (count-cons other w ws)
@@ -290,7 +290,7 @@ module _ (job : JobNo) (w : Queued) (ws : List Queued) (o : Option WorkInFlight)
       by false = h
 
 -- the front is that of its job
-pub front_at : (asked : Asked) (ws : List Queued) → front_of ws ≡ Some asked → taken_come_first ws ≡ true → slice_get (part asked.job ws) (count asked.job ws) ≡ Some (shown asked)
+pub front_at : (asked : IoRequest) (ws : List Queued) → front_of ws ≡ Some asked → taken_come_first ws ≡ true → slice_get (part asked.job ws) (count asked.job ws) ≡ Some (shown asked)
 front_at asked [] front first = none_some asked front
 front_at asked (w ∷ ws) front first = by w.taken refl front first (front_at asked ws)
   where

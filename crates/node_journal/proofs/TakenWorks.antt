@@ -19,19 +19,19 @@ use Rattle.private_store.specs.declared.inputs.Judged.{Judged}
 use Rattle.private_store.specs.declared.schedules.Event.{Event}
 use Rattle.private_store.specs.declared.schedules.Event.TheVariants as event
 use Rattle.private_store.specs.declared.schedules.NodeEvent.TheVariants.{Own, Arrive}
-use Rattle.private_store.specs.Tables.{at}
-use Rattle.private_store.specs.Shape.{Copy, WorkInFlight}
-use Rattle.private_store.specs.Contents.{View, judge}
-use Rattle.private_store.specs.NodeInputs.{JobInput, own_here}
-use Rattle.private_store.specs.Private.{view_step}
+use Rattle.private_store.specs.rules.Tables.{at}
+use Rattle.private_store.specs.rules.Shape.{Copy, WorkInFlight}
+use Rattle.private_store.specs.rules.Contents.{View, judge}
+use Rattle.private_store.specs.laws.NodeInputs.{JobInput, own_here}
+use Rattle.private_store.specs.rules.Private.{view_step}
 use Rattle.store_facts.proofs.KeptLists.{find-passes}
 use Rattle.store_facts.proofs.Tests.{none_some, some_value}
-use Rattle.spill_work.specs.declared.queue.Asked.{Asked}
+use Rattle.spill_work.specs.declared.queue.IoRequest.{IoRequest}
 use Rattle.spill_work.specs.declared.queue.Queued.{Queued}
-use Rattle.spill_work.specs.Line.{same_job, is_of, is_at, front_of}
+use Rattle.spill_work.specs.Line.{same_work_job, is_of, is_at, front_of}
 use Rattle.node_core.specs.Hosted.{Hosted, ShowsAll}
-use Rattle.node_core.specs.OneJob.{input_of}
-use Rattle.node_core.specs.Steps.{Given, JobJudged, StepsFrom, IsEventAnswer, before_of, job_of_event, job_at, is_taken, taken_if, line_left, asked_now, answered, requota_check, stale_unless, work_given, work_of}
+use Rattle.node_core.specs.OneJob.{event_input_of}
+use Rattle.node_core.specs.Steps.{NodeGiven, JobJudged, NodeStepFrom, IsEventAnswer, before_of, job_of_event, job_at, is_taken, taken_if, line_left, asked_now, answer_of_check, requota_check, stale_unless, row_work_given, row_work_of}
 use Rattle.node_core.proofs.ForCallers.{works_shown, one_each}
 use Rattle.job_admission.specs.Admissions.{admit_check, live_at}
 use Rattle.node_journal.specs.declared.entries.EventName.{EventName}
@@ -56,7 +56,7 @@ same_line works own made keep = record { first = λ h. h; counts = λ job. by jo
     by job false = refl
 
 -- of one job in this way, and of no other
-of_one : (own : JobNo) (before after : JobNo → ℕ) (next : ℕ → ℕ) → after own ≡ next (before own) → ((other : JobNo) → same_job own other ≡ false → after other ≡ before other)
+of_one : (own : JobNo) (before after : JobNo → ℕ) (next : ℕ → ℕ) → after own ≡ next (before own) → ((other : JobNo) → same_work_job own other ≡ false → after other ≡ before other)
     → (job : ℕ) → after (numbered job) ≡ (if own.0 == job then next (before (numbered job)) else before (numbered job))
 of_one own before after next mine others job = by (own.0 == job) refl
   where
@@ -83,17 +83,17 @@ module _ (job number : ℕ) (view : View) (work : Work (List ℕ)) where
   same_number : (n : ℕ) → (n == number) ≡ true → n ≡ number
   same_number n h = grind (arith, nat_tests, h)
 
-  work_is : work_of job number view ≡ Some work → (work.job ≡ numbered job) × (work.number ≡ number)
+  work_is : row_work_of job number view ≡ Some work → (work.job ≡ numbered job) × (work.number ≡ number)
   work_is is = by (find is_numbered view.shape.works) refl is
     where
-      given : (w : WorkInFlight) → is_numbered w ≡ true → (o : Option Copy) → option_map (work_given job view w) o ≡ Some work → (work.job ≡ numbered job) × (work.number ≡ number)
+      given : (w : WorkInFlight) → is_numbered w ≡ true → (o : Option Copy) → option_map (row_work_given job view w) o ≡ Some work → (work.job ≡ numbered job) × (work.number ≡ number)
       given w found None is = none_some work is
       given w found (Some copy) is =
-          let e : work_given job view w copy ≡ work = some_value (work_given job view w copy) work is in
+          let e : row_work_given job view w copy ≡ work = some_value (row_work_given job view w copy) work is in
           (sym (ap (λ (x : Work (List ℕ)). x.job) e), sym (ap (λ (x : Work (List ℕ)). x.number) e) ∙ same_number w.number found)
 
       by : (o : Option WorkInFlight) → find is_numbered view.shape.works ≡ o
-          → option_and_then (λ w. option_map (work_given job view w) (at view.shape.copies w.id)) o ≡ Some work → (work.job ≡ numbered job) × (work.number ≡ number)
+          → option_and_then (λ w. option_map (row_work_given job view w) (at view.shape.copies w.id)) o ≡ Some work → (work.job ≡ numbered job) × (work.number ≡ number)
       by None found is = none_some work is
       by (Some w) found is = given w (find-passes is_numbered view.shape.works w found) (at view.shape.copies w.id) is
 
@@ -114,14 +114,14 @@ module _ (old : Hosted) (v : ℕ → View) (shows : ShowsAll old v) (number : �
 
   -- what an event with this answer is to its job
   abbrev pub word : Event → Reply (List ℕ) → Option Judged
-  word e told = option_map (judge old.number (v (job_of_event e))) (input_of e told)
+  word e told = option_map (judge old.number (v (job_of_event e))) (event_input_of e told)
 
   -- a Take
-  taken_so : (asked : Asked) (work : Work (List ℕ)) → front_of works ≡ Some asked → work_of asked.job.0 asked.number (v asked.job.0) ≡ Some work → Leaves event.Take (reply.Work work) None
+  taken_so : (asked : IoRequest) (work : Work (List ℕ)) → front_of works ≡ Some asked → row_work_of asked.job.0 asked.number (v asked.job.0) ≡ Some work → Leaves event.Take (reply.Work work) None
   taken_so asked work front is =
       let given = work_is asked.job.0 asked.number (v asked.job.0) work is in
       let once = few asked.job asked.number in
-      let own : job_at works (Own event.Take) ≡ asked.job.0 = ap (λ o. option_map_or (λ (a : Asked). a.job.0) o 0) front in
+      let own : job_at works (Own event.Take) ≡ asked.job.0 = ap (λ o. option_map_or (λ (a : IoRequest). a.job.0) o 0) front in
       subst (λ k. KeepsTaken works (line_left works (Own event.Take) (reply.Work work)) k (line.Entry (entry_for number named None (reply.Work work)))) (sym own)
       (subst (λ left. KeepsTaken works left asked.job.0 (line.Entry (entry_for number named None (reply.Work work)))) (λ i. map (taken_if (sym (given.0) i) (sym (given.1) i)) works)
       (record {
@@ -139,14 +139,14 @@ module _ (old : Hosted) (v : ℕ → View) (shows : ShowsAll old v) (number : �
       nothing : Leaves event.Take reply.NoWork None
       nothing = same_line works (job_at works (Own event.Take)) (line.Entry (entry_for number named None reply.NoWork)) (λ n. refl)
 
-      given : (asked : Asked) → front_of works ≡ Some asked → (o : Option (Work (List ℕ))) → work_of asked.job.0 asked.number (v asked.job.0) ≡ o → Leaves event.Take (option_map_or reply.Work o reply.NoWork) None
+      given : (asked : IoRequest) → front_of works ≡ Some asked → (o : Option (Work (List ℕ))) → row_work_of asked.job.0 asked.number (v asked.job.0) ≡ o → Leaves event.Take (option_map_or reply.Work o reply.NoWork) None
       given asked front None is = nothing
       given asked front (Some work) is = taken_so asked work front is
 
-      by : (o : Option Asked) → front_of works ≡ o
-          → Leaves event.Take (option_map_or (λ asked. option_map_or reply.Work (work_of asked.job.0 asked.number (v asked.job.0)) reply.NoWork) o reply.NoWork) None
+      by : (o : Option IoRequest) → front_of works ≡ o
+          → Leaves event.Take (option_map_or (λ asked. option_map_or reply.Work (row_work_of asked.job.0 asked.number (v asked.job.0)) reply.NoWork) o reply.NoWork) None
       by None front = nothing
-      by (Some asked) front = given asked front (work_of asked.job.0 asked.number (v asked.job.0)) refl
+      by (Some asked) front = given asked front (row_work_of asked.job.0 asked.number (v asked.job.0)) refl
 
   -- a device's answer
   finish_leaves : (job : JobNo) (n : ℕ) (a : DeviceAnswer) (told : Reply (List ℕ)) → IsEventAnswer old v (event.Finish job n a) told → Leaves (event.Finish job n a) told (word (event.Finish job n a) told)
@@ -158,7 +158,7 @@ module _ (old : Hosted) (v : ℕ → View) (shows : ShowsAll old v) (number : �
       one_off : (k m : ℕ) → suc k ≡ m → k ≡ m - 1
       one_off k m h = omega (arith, h)
 
-      by : (out : Bool) → is_taken works job.0 n ≡ out → Leaves (event.Finish job n a) (answered (stale_unless out)) (word (event.Finish job n a) (answered (stale_unless out)))
+      by : (out : Bool) → is_taken works job.0 n ≡ out → Leaves (event.Finish job n a) (answer_of_check (stale_unless out)) (word (event.Finish job n a) (answer_of_check (stale_unless out)))
       by true out = record {
         first = first_left (λ w. not (is_at job n w && w.taken)) works;
         counts = of_one job (λ k. count k works) (λ k. count k (filter (λ w. not (is_at job n w && w.taken)) works)) (λ m. m - 1)
@@ -166,7 +166,7 @@ module _ (old : Hosted) (v : ℕ → View) (shows : ShowsAll old v) (number : �
             (λ other apart. others_keep job n other works apart);
       }
       by false out =
-          let made : Line = line.Entry (entry_for number named None (answered (stale_unless false))) in
+          let made : Line = line.Entry (entry_for number named None (answer_of_check (stale_unless false))) in
           subst (λ left. KeepsTaken works left job.0 made) (sym (stays job n works out)) (same_line works job.0 made (λ m. refl))
 
   -- the end of a job
@@ -176,7 +176,7 @@ module _ (old : Hosted) (v : ℕ → View) (shows : ShowsAll old v) (number : �
       differ : (a b c : ℕ) → (a == b) ≡ false → (b == c) ≡ true → (a == c) ≡ false
       differ a b c h k = grind (arith, nat_tests, h, k)
 
-      by : (live : Bool) → Leaves (event.JobEnd job) (answered (if live then None else Some NotAdmitted)) (word (event.JobEnd job) (answered (if live then None else Some NotAdmitted)))
+      by : (live : Bool) → Leaves (event.JobEnd job) (answer_of_check (if live then None else Some NotAdmitted)) (word (event.JobEnd job) (answer_of_check (if live then None else Some NotAdmitted)))
       by true = record {
         first = first_left (λ w. not (is_of job w)) works;
         counts = of_one job (λ k. count k works) (λ k. count k (filter (λ w. not (is_of job w)) works)) (λ m. 0) (none_left job works)
@@ -187,12 +187,12 @@ module _ (old : Hosted) (v : ℕ → View) (shows : ShowsAll old v) (number : �
   leaves : (e : Event) (told : Reply (List ℕ)) → IsEventAnswer old v e told → Leaves e told (word e told)
   leaves (event.Admit job quota key) told is = subst (λ t. Leaves (event.Admit job quota key) t (word (event.Admit job quota key) t)) (sym is) (by (admit_check old.admissions job quota))
     where
-      by : (o : Option Refusal) → Leaves (event.Admit job quota key) (answered o) (word (event.Admit job quota key) (answered o))
+      by : (o : Option Refusal) → Leaves (event.Admit job quota key) (answer_of_check o) (word (event.Admit job quota key) (answer_of_check o))
       by None = same_line works job.0 _ (λ n. refl)
       by (Some r) = same_line works job.0 _ (λ n. refl)
   leaves (event.Requota job quota) told is = subst (λ t. Leaves (event.Requota job quota) t (word (event.Requota job quota) t)) (sym is) (by (requota_check old.admissions (v job.0) job quota))
     where
-      by : (o : Option Refusal) → Leaves (event.Requota job quota) (answered o) (word (event.Requota job quota) (answered o))
+      by : (o : Option Refusal) → Leaves (event.Requota job quota) (answer_of_check o) (word (event.Requota job quota) (answer_of_check o))
       by None = same_line works job.0 _ (λ n. refl)
       by (Some r) = same_line works job.0 _ (λ n. refl)
   leaves (event.JobEnd job) told is = end_leaves job told is
@@ -205,7 +205,7 @@ module _ (old : Hosted) (v : ℕ → View) (shows : ShowsAll old v) (number : �
   asked_untaken (Some x) = queued_untaken x.job (view_step old.number (v x.job) x.input).works
 
   -- a step
-  pub step_keeps : (e : Event) (given : Given) (new : Hosted) → StepsFrom old v (Own e) given new → (was : Option Judged) → was ≡ word e given.reply
+  pub step_keeps : (e : Event) (given : NodeGiven) (new : Hosted) → NodeStepFrom old v (Own e) given new → (was : Option Judged) → was ≡ word e given.reply
       → KeepsTaken works new.works.works (job_at works (Own e)) (line.Entry (entry_for number named was given.reply))
   step_keeps e given new from was is =
       let made : Line = line.Entry (entry_for number named was given.reply) in
@@ -221,7 +221,7 @@ module _ (old : Hosted) (v : ℕ → View) (shows : ShowsAll old v) (number : �
   message_keeps view (arrival.FromPeer from (peer.Chunk id k index bytes)) n told = refl
   message_keeps view (arrival.FromPeer from (peer.NotHere id k)) n told = refl
 
-  pub arrival_keeps : (to : JobNo) (a : Arrival) (given : Given) (new : Hosted) → StepsFrom old v (Arrive to a) given new → (was : Option Judged) → was ≡ Some (judge old.number (v to.0) (input.Arrive a))
+  pub arrival_keeps : (to : JobNo) (a : Arrival) (given : NodeGiven) (new : Hosted) → NodeStepFrom old v (Arrive to a) given new → (was : Option Judged) → was ≡ Some (judge old.number (v to.0) (input.Arrive a))
       → KeepsTaken works new.works.works to.0 (line.Entry (entry_for number named was given.reply))
   arrival_keeps to a given new from was is =
       let made : Line = line.Entry (entry_for number named was given.reply) in
@@ -248,7 +248,7 @@ notes_keep n number job notes = by (filter (λ (note : JobJudged). note.job == j
     by [] = refl
     by (x ∷ xs) = by xs
 
-taken_made : (j : Journal) (number own job : ℕ) (named : EventName) (was : Option Judged) (given : Given)
+taken_made : (j : Journal) (number own job : ℕ) (named : EventName) (was : Option Judged) (given : NodeGiven)
     → taken_of (with_lines j (lines_made number named own was given job)) ≡ (if own == job then taken_after (taken_of j) (line.Entry (entry_for number named was given.reply)) else taken_of j)
 taken_made j number own job named was given = from-append j.base.taken j.list (lines_made number named own was given job) ∙ by (own == job)
   where
@@ -260,7 +260,7 @@ taken_made j number own job named was given = from-append j.base.taken j.list (l
     by false = notes_keep (taken_of j) number job given.notes
 
 -- the journals tell of what the line has
-pub next_taken : (before after : List Queued) (number own job : ℕ) (named : EventName) (was : Option Judged) (given : Given) (j next : Journal) → KeepsTaken before after own (line.Entry (entry_for number named was given.reply))
+pub next_taken : (before after : List Queued) (number own job : ℕ) (named : EventName) (was : Option Judged) (given : NodeGiven) (j next : Journal) → KeepsTaken before after own (line.Entry (entry_for number named was given.reply))
     → next ≡ with_lines j (lines_made number named own was given job) → taken_of j ≡ count (numbered job) before → taken_of next ≡ count (numbered job) after
 next_taken before after number own job named was given j next keeps is h =
     ap taken_of is ∙ taken_made j number own job named was given

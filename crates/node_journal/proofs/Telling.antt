@@ -17,26 +17,26 @@ use Rattle.private_store.specs.declared.inputs.Judged.{Judged}
 use Rattle.private_store.specs.declared.schedules.Event.{Event}
 use Rattle.private_store.specs.declared.schedules.Event.TheVariants as event
 use Rattle.private_store.specs.declared.schedules.NodeEvent.TheVariants.{Own, Arrive}
-use Rattle.private_store.specs.Contents.{View, judge}
-use Rattle.private_store.specs.Answers.{wants_memory, is_small_reply}
-use Rattle.private_store.specs.NodeInputs.{JobInput, Before, own_here, notes_here, only_of, inputs_to}
-use Rattle.private_store.specs.Private.{view_step, view_from, view_of, no_store}
-use Rattle.private_store.specs.Replay.{Line as Replayed, replayed, brief_after, brief_step, brief_of}
+use Rattle.private_store.specs.rules.Contents.{View, judge}
+use Rattle.private_store.specs.laws.Answers.{wants_memory, is_small_reply}
+use Rattle.private_store.specs.laws.NodeInputs.{JobInput, Before, own_here, notes_here, only_of, inputs_to}
+use Rattle.private_store.specs.rules.Private.{view_step, view_from, view_of, no_store}
+use Rattle.private_store.specs.rules.Replay.{Line as Replayed, replayed, brief_after, brief_step, brief_of}
 use Rattle.store_facts.proofs.AnswersAre.{view_never_wants, answers_whole}
 use Rattle.store_facts.proofs.Tests.{none_some}
 use Rattle.store_facts.proofs.StepsKept.{no_store_kept, view_keeps}
 use Rattle.job_admission.specs.Admissions.{Admissions, live_at}
-use Rattle.spill_work.specs.Line.{WorkLine, taken_by}
+use Rattle.spill_work.specs.Line.{WorkLine, works_taken_by}
 use Rattle.node_core.specs.Hosted.{Hosted, Shows, ShowsAll}
-use Rattle.node_core.specs.Steps.{Given, JobJudged, Steps, StepsFrom, IsStepOf, IsGiven, before_of, job_of_event, job_at, judged_notes, answered, stale_unless}
-use Rattle.node_core.specs.OneJob.{input_of}
+use Rattle.node_core.specs.Steps.{NodeGiven, JobJudged, NodeStep, NodeStepFrom, IsStepOf, IsGiven, before_of, job_of_event, job_at, judged_notes, answer_of_check, stale_unless}
+use Rattle.node_core.specs.OneJob.{event_input_of}
 use Rattle.node_core.specs.Judged.{IsJudged, arrived, IsArrivalJudged, IsSmall, IsSmallCall}
 use Rattle.node_journal.specs.declared.entries.Entry.{Entry}
 use Rattle.node_journal.specs.declared.entries.EventName.{EventName}
 use Rattle.node_journal.specs.declared.entries.Line.{Line}
 use Rattle.node_journal.specs.declared.entries.Line.TheVariants as line
 use Rattle.node_journal.specs.Replies.{unlisted, kept_reply}
-use Rattle.node_journal.specs.Journals.{Journal, fresh, entry_for, event_name, notes_for, lines_made, line_of, lines_of, store_of, AreDue, GivesDue, IsTold, IsWorkDue, Tells, gives_work, taken_of, taken_come_first, folded_if, with_lines, is_call}
+use Rattle.node_journal.specs.Journals.{Journal, fresh, entry_for, event_name, notes_for, lines_made, journal_line_of, lines_of, store_of, AreDue, GivesDue, IsTold, IsWorkDue, Tells, gives_work, taken_of, taken_come_first, folded_if, with_lines, is_call}
 use Rattle.node_core.proofs.ForCallers.{own_of, IsFinishAnswer, finish_answer, own_due_is, is_note, AreJobNotes, here_notes}
 use Rattle.node_journal.proofs.OwnInputs.{of_job, here_is, if_own, own_inputs}
 use Rattle.node_journal.proofs.Lists.{lines_of-snoc, replayed-snoc, due-snoc}
@@ -50,7 +50,7 @@ module _ (node : ℕ) (view : View) (x : Input) (j : Journal) (l : Line) (told :
   abbrev next : Replayed
   next = record { input = judge node view x; reply = told }
 
-  pub line_told : line_of l ≡ Some next → told ≡ unlisted (brief_step (brief_of view) next.input).reply → IsTold (view_step node view x).view (with_lines j (l ∷ []))
+  pub line_told : journal_line_of l ≡ Some next → told ≡ unlisted (brief_step (brief_of view) next.input).reply → IsTold (view_step node view x).view (with_lines j (l ∷ []))
   line_told is due =
       let ls : List Line = j.list in
       let lines : lines_of (ls ++ l ∷ []) ≡ lines_of ls ++ next ∷ [] = lines_of-snoc ls l ∙ ap (λ o. lines_of ls ++ option_to_list o) is in
@@ -64,8 +64,8 @@ module _ (node : ℕ) (view : View) (x : Input) (j : Journal) (l : Line) (told :
 
 -- no view judges a note
 judged_alike : (node : ℕ) (v w : View) (x : Input) → is_note x ≡ true → judge node v x ≡ judge node w x
-judged_alike node v w (input.Received id bytes giver depth) q = refl
-judged_alike node v w (input.Withdrawn id giver depth) q = refl
+judged_alike node v w (input.Received id bytes grantor depth) q = refl
+judged_alike node v w (input.Withdrawn id grantor depth) q = refl
 judged_alike node v w (input.Begin quota) q = absurd cc
 judged_alike node v w (input.Requota quota) q = absurd cc
 judged_alike node v w (input.Call session c) q = absurd cc
@@ -75,8 +75,8 @@ judged_alike node v w input.End q = absurd cc
 
 -- and it is answered Ok
 note_due : (node : ℕ) (view : View) (x : Input) → is_note x ≡ true → reply.Ok ≡ unlisted (brief_step (brief_of view) (judge node view x)).reply
-note_due node view (input.Received id bytes giver depth) q = refl
-note_due node view (input.Withdrawn id giver depth) q = refl
+note_due node view (input.Received id bytes grantor depth) q = refl
+note_due node view (input.Withdrawn id grantor depth) q = refl
 note_due node view (input.Begin quota) q = absurd cc
 note_due node view (input.Requota quota) q = absurd cc
 note_due node view (input.Call session c) q = absurd cc
@@ -156,7 +156,7 @@ from-append node view (x ∷ xs) ys = from-append node (view_step node view x).v
 
 -- ---- one entry more, and its notes
 
-module _ (old new : Hosted) (e : Event) (given : Given) (number : ℕ) (steps : Steps old (Own e) given new) (was : Option Judged) (is_judged : IsJudged old e given.reply was) where
+module _ (old new : Hosted) (e : Event) (given : NodeGiven) (number : ℕ) (steps : NodeStep old (Own e) given new) (was : Option Judged) (is_judged : IsJudged old e given.reply was) where
   abbrev named : EventName
   named = event_name (Own e)
 
@@ -167,7 +167,7 @@ module _ (old new : Hosted) (e : Event) (given : Given) (number : ℕ) (steps : 
   abbrev own : ℕ
   own = job_at old.works.works (Own e)
 
-  own_at : (g : Event) (told : Reply (List ℕ)) (x : Input) → input_of g told ≡ Some x → job_at old.works.works (Own g) ≡ job_of_event g
+  own_at : (g : Event) (told : Reply (List ℕ)) (x : Input) → event_input_of g told ≡ Some x → job_at old.works.works (Own g) ≡ job_of_event g
   own_at (event.Admit job quota key) told x is = refl
   own_at (event.Requota job quota) told x is = refl
   own_at (event.JobEnd job) told x is = refl
@@ -182,35 +182,35 @@ module _ (old new : Hosted) (e : Event) (given : Given) (number : ℕ) (steps : 
     abbrev noted : List JobInput
     noted = notes_here before (Own e) given.reply
 
-    from : StepsFrom old v (Own e) given new
+    from : NodeStepFrom old v (Own e) given new
     from = steps.each v shows
 
     answer : IsFinishAnswer before e given.reply
     answer = finish_answer old v e given.reply from.operator
 
-    told_is : (x : Input) → input_of e given.reply ≡ Some x → IsStepOf old.number (v (job_of_event e)) x given
+    told_is : (x : Input) → event_input_of e given.reply ≡ Some x → IsStepOf old.number (v (job_of_event e)) x given
     told_is x is =
         subst (λ o. IsGiven old.number v (of_job (job_of_event e) o) given) is
         (subst (λ o. IsGiven old.number v o given) (own_due_is before e given.reply answer) from.told)
 
     -- the answer to an input is never that there is no memory
-    never : (x : Input) → input_of e given.reply ≡ Some x → wants_memory given.reply ≡ false
+    never : (x : Input) → event_input_of e given.reply ≡ Some x → wants_memory given.reply ≡ false
     never x is = ap wants_memory (told_is x is).reply ∙ view_never_wants old.number (v (job_of_event e)) x
 
-    inputs_are : (job : ℕ) → inputs_to before (Own e) given.reply job ≡ if_own (job_of_event e == job) (input_of e given.reply) ++ only_of job noted
+    inputs_are : (job : ℕ) → inputs_to before (Own e) given.reply job ≡ if_own (job_of_event e == job) (event_input_of e given.reply) ++ only_of job noted
     inputs_are job =
         only-append job (option_to_list (own_here before (Own e) given.reply)) noted
         ∙ ap (λ o. only_of job (option_to_list o) ++ only_of job noted) (here_is before e given.reply answer never_here)
-        ∙ ap (λ xs. xs ++ only_of job noted) (own_inputs (job_of_event e) job (input_of e given.reply))
+        ∙ ap (λ xs. xs ++ only_of job noted) (own_inputs (job_of_event e) job (event_input_of e given.reply))
       where
         never_here : (job : ℕ) (x : Input) → own_of e given.reply ≡ Some (record { job = job; input = x }) → wants_memory given.reply ≡ false
-        never_here job x is = by (input_of e given.reply) refl is
+        never_here job x is = by (event_input_of e given.reply) refl is
           where
-            by : (o : Option Input) → input_of e given.reply ≡ o → of_job (job_of_event e) o ≡ Some (record { job = job; input = x }) → wants_memory given.reply ≡ false
+            by : (o : Option Input) → event_input_of e given.reply ≡ o → of_job (job_of_event e) o ≡ Some (record { job = job; input = x }) → wants_memory given.reply ≡ false
             by None is f = none_some _ f
             by (Some y) is f = never y is
 
-    judged_is : (o : Option Input) → input_of e given.reply ≡ o → was ≡ option_map (judge old.number (v (job_of_event e))) o
+    judged_is : (o : Option Input) → event_input_of e given.reply ≡ o → was ≡ option_map (judge old.number (v (job_of_event e))) o
     judged_is o is = sym (is_judged.by_view (v (job_of_event e)) (shows (job_of_event e))) ∙ ap (option_map (judge old.number (v (job_of_event e)))) is
 
     module _ (job : ℕ) (j : Journal) (h : IsTold (v job) j) where
@@ -218,7 +218,7 @@ module _ (old new : Hosted) (e : Event) (given : Given) (number : ℕ) (steps : 
       ls = j.list
 
       -- an event that is no input of its job
-      none_told : input_of e given.reply ≡ None → IsTold (v job) (with_lines j (line.Entry entry ∷ []))
+      none_told : event_input_of e given.reply ≡ None → IsTold (v job) (with_lines j (line.Entry entry ∷ []))
       none_told is =
           let lines : lines_of (ls ++ line.Entry entry ∷ []) ≡ lines_of ls =
           lines_of-snoc ls (line.Entry entry) ∙ ap (λ o. lines_of ls ++ option_to_list (option_map (λ x. record { input = x; reply = entry.reply }) o)) (judged_is None is) ∙ append-nil (lines_of ls) in
@@ -230,14 +230,14 @@ module _ (old new : Hosted) (e : Event) (given : Given) (number : ℕ) (steps : 
 
     -- one that is
     module _ (job : ℕ) (its : job_of_event e ≡ job) (j : Journal) (h : IsTold (v job) j) where
-      some_told : (x : Input) → input_of e given.reply ≡ Some x → IsTold (view_step old.number (v job) x).view (with_lines j (line.Entry entry ∷ []))
+      some_told : (x : Input) → event_input_of e given.reply ≡ Some x → IsTold (view_step old.number (v job) x).view (with_lines j (line.Entry entry ∷ []))
       some_told x is =
           line_told old.number (v job) x j (line.Entry entry) (kept_reply given.reply) h
           (ap (option_map (λ y. record { input = y; reply = entry.reply })) (judged_is (Some x) is ∙ ap (λ k. Some (judge old.number (v k) x)) its))
           (ap kept_reply ((told_is x is).reply ∙ ap (λ k. (view_step old.number (v k) x).reply) its) ∙ ap unlisted (answers_whole old.number (v job) x h.kept))
 
     -- the job that the entry stands under is that of the event, if it is an input
-    input_at : (o : Option Input) → input_of e given.reply ≡ o → (job : ℕ) → if_own (job_of_event e == job) o ≡ if_own (own == job) o
+    input_at : (o : Option Input) → event_input_of e given.reply ≡ o → (job : ℕ) → if_own (job_of_event e == job) o ≡ if_own (own == job) o
     input_at None is job = by (job_of_event e == job) (own == job)
       where
         by : (a b : Bool) → if_own a None ≡ if_own b None
@@ -248,13 +248,13 @@ module _ (old new : Hosted) (e : Event) (given : Given) (number : ℕ) (steps : 
     input_at (Some x) is job = ap (λ k. if_own (k == job) (Some x)) (sym (own_at e given.reply x is))
 
     own_told : (job : ℕ) (j : Journal) → IsTold (v job) j
-        → IsTold (view_from old.number (v job) (if_own (own == job) (input_of e given.reply))) (with_lines j (if own == job then line.Entry entry ∷ [] else []))
-    own_told job j h = by (own == job) (input_of e given.reply) refl refl
+        → IsTold (view_from old.number (v job) (if_own (own == job) (event_input_of e given.reply))) (with_lines j (if own == job then line.Entry entry ∷ [] else []))
+    own_told job j h = by (own == job) (event_input_of e given.reply) refl refl
       where
         own_is : (own == job) ≡ true → own ≡ job
         own_is t = grind (arith, nat_tests)
 
-        by : (b : Bool) (o : Option Input) → (own == job) ≡ b → input_of e given.reply ≡ o
+        by : (b : Bool) (o : Option Input) → (own == job) ≡ b → event_input_of e given.reply ≡ o
             → IsTold (view_from old.number (v job) (if_own b o)) (with_lines j (cond b (line.Entry entry ∷ []) []))
         by true None t is = none_told job j h is
         by true (Some x) t is = some_told job (sym (own_at e given.reply x is) ∙ own_is t) j h x is
@@ -264,8 +264,8 @@ module _ (old new : Hosted) (e : Event) (given : Given) (number : ℕ) (steps : 
         → IsTold (view_from old.number (v job) (inputs_to before (Own e) given.reply job)) (with_lines j (lines_made number named own was given job))
     one_told job j h =
         let entered : List Line = if own == job then line.Entry entry ∷ [] else [] in
-        let mine : List Input = if_own (own == job) (input_of e given.reply) in
-        let inputs = inputs_are job ∙ ap (λ xs. xs ++ only_of job noted) (input_at (input_of e given.reply) refl job) in
+        let mine : List Input = if_own (own == job) (event_input_of e given.reply) in
+        let inputs = inputs_are job ∙ ap (λ xs. xs ++ only_of job noted) (input_at (event_input_of e given.reply) refl job) in
         subst (λ xs. IsTold (view_from old.number (v job) xs) (with_lines j (lines_made number named own was given job))) (sym inputs)
         (subst (λ w. IsTold w (with_lines j (lines_made number named own was given job))) (sym (from-append old.number (v job) mine (only_of job noted)))
         (subst (λ notes. IsTold (view_from old.number (view_from old.number (v job) mine) (only_of job noted)) (with_lines j (entered ++ notes_for number notes job))) (sym from.notes)
@@ -289,12 +289,12 @@ module _ (old new : Hosted) (e : Event) (given : Given) (number : ℕ) (steps : 
       due job its =
           subst (λ b. IsWorkDue b (taken_of (before job)) (line.Entry entry)) (sym (h.told job).replays)
           (subst (λ n. IsWorkDue (brief_of (h.views job)) n (line.Entry entry)) (sym (h.taken job))
-          (subst (λ k. IsWorkDue (brief_of (h.views k)) (taken_by old.works (numbered k)) (line.Entry entry)) its
+          (subst (λ k. IsWorkDue (brief_of (h.views k)) (works_taken_by old.works (numbered k)) (line.Entry entry)) its
           (event_due old h.views h.shown (λ k. (h.told k).kept) h.first number given.reply e was (from h.views h.shown).operator (judged_is h.views h.shown None)
           (λ x is. ap (λ t. gives_work (kept_reply t)) (told_is h.views h.shown x is).reply ∙ step_gives_none old.number (h.views (job_of_event e)) x))))
 
       keeps : KeepsTaken old.works.works new.works.works own (line.Entry entry)
-      keeps = step_keeps old h.views h.shown number named e given new (steps.each h.views h.shown) was (judged_is h.views h.shown (input_of e given.reply) refl)
+      keeps = step_keeps old h.views h.shown number named e given new (steps.each h.views h.shown) was (judged_is h.views h.shown (event_input_of e given.reply) refl)
 
   -- also where lists are folded first
   pub all_told : (before after : ℕ → Journal) (full : ℕ → Bool) → ((job : ℕ) → after job ≡ with_lines (folded_if (full job) (before job)) (lines_made number named own was given job)) → ∥ Tells old before ∥₁ → ∥ Tells new after ∥₁
@@ -302,11 +302,11 @@ module _ (old new : Hosted) (e : Event) (given : Given) (number : ℕ) (steps : 
 
   -- what a session is answered
   module _ (before : ℕ → Journal) (call : is_call e ≡ true) where
-    by_call : {A : Type 0} → ((x : Input) → input_of e given.reply ≡ Some x → A) → A
+    by_call : {A : Type 0} → ((x : Input) → event_input_of e given.reply ≡ Some x → A) → A
     by_call {A} f = by e call refl
       where
         by : (g : Event) → is_call g ≡ true → e ≡ g → A
-        by (event.Call job session c) call is = f (input.Call session c) (ap (λ g. input_of g given.reply) is)
+        by (event.Call job session c) call is = f (input.Call session c) (ap (λ g. event_input_of g given.reply) is)
         by (event.Admit job quota key) call is = absurd cc
         by (event.Requota job quota) call is = absurd cc
         by (event.JobEnd job) call is = absurd cc
@@ -329,7 +329,7 @@ call_small old e told before small call h = ∥∥₁_elim h (Bool-set _ _) (λ 
 
 -- ---- a message
 
-module _ (old new : Hosted) (to : JobNo) (a : Arrival) (given : Given) (number : ℕ) (steps : Steps old (Arrive to a) given new) (was : Option Judged) (is_judged : IsArrivalJudged old to a given.reply was)
+module _ (old new : Hosted) (to : JobNo) (a : Arrival) (given : NodeGiven) (number : ℕ) (steps : NodeStep old (Arrive to a) given new) (was : Option Judged) (is_judged : IsArrivalJudged old to a given.reply was)
     (stale : given.reply ≡ reply.Refused Stale → new ≡ old) (silent : given.notes ≡ []) where
   abbrev x : Input
   x = input.Arrive a
@@ -359,7 +359,7 @@ module _ (old new : Hosted) (to : JobNo) (a : Arrival) (given : Given) (number :
     abbrev before_it : Before
     before_it = before_of old v
 
-    came_from : StepsFrom old v (Arrive to a) given new
+    came_from : NodeStepFrom old v (Arrive to a) given new
     came_from = steps.each v shows
 
     word_is : (told : Reply (List ℕ)) → given.reply ≡ told → was ≡ option_map (judge old.number (v to.0)) (arrived a told)
@@ -418,11 +418,11 @@ module _ (old new : Hosted) (to : JobNo) (a : Arrival) (given : Given) (number :
       same : given.reply ≡ reply.Refused Stale → KeepsTaken old.works.works old.works.works to.0 came
       same late = stale_keeps old.works.works to.0 number brought was given.reply Stale (word_is h.views h.shown (reply.Refused Stale) late) late
 
-      next_due : (live : Bool) → given.reply ≡ answered (stale_unless live) → (job : ℕ) → GivesDue (after job)
+      next_due : (live : Bool) → given.reply ≡ answer_of_check (stale_unless live) → (job : ℕ) → GivesDue (after job)
       next_due live op job =
           next_works number to.0 job brought was given (before job) (after job) (λ _. arrival_due (store_of (before job)) (taken_of (before job)) number a was given.reply (stale_unless live) op) (is job) (h.works job)
 
-      by : (live : Bool) → given.reply ≡ answered (stale_unless live) → Tells new after
+      by : (live : Bool) → given.reply ≡ answer_of_check (stale_unless live) → Tells new after
       by true ok = record {
         views = λ job. view_from old.number (h.views job) (inputs_to (before_of old h.views) (Arrive to a) given.reply job);
         shown = (came_from h.views h.shown).views;
@@ -453,7 +453,7 @@ told_at_first node journals empty shows none = ∣ record {
   views = λ job. view_of (no_store job);
   shown = shows;
   told = λ job. subst (IsTold (view_of (no_store job))) (sym (none job)) (record { kept = no_store_kept job; replays = refl; due = refl });
-  taken = λ job. ap taken_of (none job) ∙ sym (ap (λ (works : WorkLine). taken_by works (numbered job)) empty);
+  taken = λ job. ap taken_of (none job) ∙ sym (ap (λ (works : WorkLine). works_taken_by works (numbered job)) empty);
   first = ap (λ (works : WorkLine). taken_come_first works.works) empty;
   works = λ job. subst GivesDue (sym (none job)) tt;
 } ∣₁
@@ -465,7 +465,7 @@ told_entered old new journals same views h = ∥∥₁_map h (λ t. record {
   views = t.views;
   shown = λ job. (views job (t.views job)).1 (t.shown job);
   told = t.told;
-  taken = λ job. t.taken job ∙ sym (ap (λ works. taken_by works (numbered job)) same);
+  taken = λ job. t.taken job ∙ sym (ap (λ works. works_taken_by works (numbered job)) same);
   first = ap (λ (works : WorkLine). taken_come_first works.works) same ∙ t.first;
   works = t.works;
 })

@@ -21,28 +21,28 @@ use Rattle.private_store.specs.declared.inputs.Judged.{Judged}
 use Rattle.private_store.specs.declared.schedules.Event.{Event}
 use Rattle.private_store.specs.declared.schedules.Event.TheVariants as event
 use Rattle.private_store.specs.declared.schedules.NodeEvent.TheVariants.{Own}
-use Rattle.private_store.specs.Contents.{View, bytes_at, judge, whole_reply}
-use Rattle.private_store.specs.Copies.{is_sealed}
-use Rattle.private_store.specs.Kept.{IsViewKept, has_extent}
-use Rattle.private_store.specs.Private.{key_of, view_step}
-use Rattle.private_store.specs.Replay.{Brief, brief_of, replayed}
-use Rattle.private_store.specs.Shape.{Copy, Fetch, WorkInFlight}
-use Rattle.private_store.specs.Step.{step}
-use Rattle.private_store.specs.Tables.{at}
+use Rattle.private_store.specs.rules.Contents.{View, bytes_at, judge, whole_reply}
+use Rattle.private_store.specs.rules.Copies.{is_sealed}
+use Rattle.private_store.specs.laws.Invariants.{IsViewKept, has_extent}
+use Rattle.private_store.specs.rules.Private.{key_of, view_step}
+use Rattle.private_store.specs.rules.Replay.{Brief, brief_of, replayed}
+use Rattle.private_store.specs.rules.Shape.{Copy, Fetch, WorkInFlight}
+use Rattle.private_store.specs.rules.Step.{step}
+use Rattle.private_store.specs.rules.Tables.{at}
 use Rattle.store_facts.proofs.KeptLists.{count-yes, count-no, some_counted, find-any}
 use Rattle.store_facts.proofs.Tests.{true_false, false_true, none_some, some_value}
-use Rattle.spill_work.specs.declared.queue.Asked.{Asked}
+use Rattle.spill_work.specs.declared.queue.IoRequest.{IoRequest}
 use Rattle.spill_work.specs.declared.queue.Queued.{Queued}
 use Rattle.spill_work.specs.Line.{front_of, shown}
 use Rattle.node_core.specs.Hosted.{Hosted, IsViewBy, Shows, ShowsAll, beside_at, row_at}
-use Rattle.node_core.specs.Steps.{Given, JobJudged, IsEventAnswer, answered, job_at, take_told, work_given, work_of}
-use Rattle.node_core.specs.OneJob.{input_of}
+use Rattle.node_core.specs.Steps.{NodeGiven, JobJudged, IsEventAnswer, answer_of_check, job_at, take_told, row_work_given, row_work_of}
+use Rattle.node_core.specs.OneJob.{event_input_of}
 use Rattle.node_core.proofs.ForCallers.{works_shown}
 use Rattle.node_journal.specs.declared.entries.EventName.{EventName}
 use Rattle.node_journal.specs.declared.entries.Line.{Line}
 use Rattle.node_journal.specs.declared.entries.Line.TheVariants as line
 use Rattle.node_journal.specs.Replies.{kept_reply}
-use Rattle.node_journal.specs.Journals.{Journal, AreWorksDue, GivesDue, IsWorkDue, arrival_name, brief_given, entry_for, event_name, folded_if, gives_work, is_take, line_of, lines_made, lines_of, notes_for, store_of, take_due, taken_after, taken_come_first, taken_from, taken_of, with_lines}
+use Rattle.node_journal.specs.Journals.{Journal, AreWorksDue, GivesDue, IsWorkDue, arrival_name, brief_given, entry_for, event_name, folded_if, gives_work, is_take, journal_line_of, lines_made, lines_of, notes_for, store_of, take_due, taken_after, taken_come_first, taken_from, taken_of, with_lines}
 use Rattle.node_journal.proofs.Lists.{replayed_one}
 use Rattle.node_journal.proofs.TakenLine.{count, front_at, none_at}
 use Rattle.node_journal.proofs.TakenWorks.{numbered}
@@ -53,8 +53,8 @@ pub works-append : (brief : Brief) (n : ℕ) (xs ys : List Line) → AreWorksDue
 works-append brief n [] ys h more = more
 works-append brief n (x ∷ xs) ys h more = (
   h.0,
-  works-append (replayed brief (option_to_list (line_of x))) (taken_after n x) xs ys h.1
-      (subst (λ b. AreWorksDue b (taken_from (taken_after n x) xs) ys) (replayed_one brief (line_of x) (lines_of xs)) more),
+  works-append (replayed brief (option_to_list (journal_line_of x))) (taken_after n x) xs ys h.1
+      (subst (λ b. AreWorksDue b (taken_from (taken_after n x) xs) ys) (replayed_one brief (journal_line_of x) (lines_of xs)) more),
 )
 
 -- notes give none
@@ -63,10 +63,10 @@ notes_due brief n number job notes = by brief (filter (λ (note : JobJudged). no
   where
     by : (b : Brief) (xs : List JobJudged) → AreWorksDue b n (map (λ (note : JobJudged). line.Note number note.input) xs)
     by b [] = tt
-    by b (x ∷ xs) = (tt, by (replayed b (option_to_list (line_of (line.Note number x.input)))) xs)
+    by b (x ∷ xs) = (tt, by (replayed b (option_to_list (journal_line_of (line.Note number x.input)))) xs)
 
 -- the journals say so after a step, if its entry does where it stands
-pub next_works : (number own job : ℕ) (named : EventName) (was : Option Judged) (given : Given) (j next : Journal)
+pub next_works : (number own job : ℕ) (named : EventName) (was : Option Judged) (given : NodeGiven) (j next : Journal)
     → (own ≡ job → IsWorkDue (store_of j) (taken_of j) (line.Entry (entry_for number named was given.reply)))
     → next ≡ with_lines j (lines_made number named own was given job) → GivesDue j → GivesDue next
 next_works number own job named was given j next due is h =
@@ -80,7 +80,7 @@ next_works number own job named was given j next due is h =
     same t = grind (arith, nat_tests)
 
     by : (b : Bool) → (own == job) ≡ b → AreWorksDue (store_of j) (taken_of j) (cond b (line.Entry (entry_for number named was given.reply) ∷ []) [] ++ notes_for number given.notes job)
-    by true t = (due (same t), notes_due (replayed (store_of j) (option_to_list (line_of made))) (taken_after (taken_of j) made) number job given.notes)
+    by true t = (due (same t), notes_due (replayed (store_of j) (option_to_list (journal_line_of made))) (taken_after (taken_of j) made) number job given.notes)
     by false t = notes_due (store_of j) (taken_of j) number job given.notes
 
 -- folding keeps that
@@ -90,10 +90,10 @@ folded_works false j h = h
 
 -- ---- answers that give no work
 
-gives_none : (told : Reply (List ℕ)) (o : Option Refusal) → told ≡ answered o → gives_work (kept_reply told) ≡ false
+gives_none : (told : Reply (List ℕ)) (o : Option Refusal) → told ≡ answer_of_check o → gives_work (kept_reply told) ≡ false
 gives_none told o is = ap (λ t. gives_work (kept_reply t)) is ∙ by o
   where
-    by : (o : Option Refusal) → gives_work (kept_reply (answered o)) ≡ false
+    by : (o : Option Refusal) → gives_work (kept_reply (answer_of_check o)) ≡ false
     by None = refl
     by (Some r) = refl
 
@@ -153,7 +153,7 @@ module _ (job : ℕ) (view : View) (h : IsViewKept view) (own : view.shape.job �
       (h.kept.filled.each w.id copy found).bytes (k.resident ∙ sealed_extent copy.state copy.fetch spilled.0)
 
   -- without its bytes
-  brief_is : (copy : Copy) → at view.shape.copies w.id ≡ Some copy → kept_reply (reply.Work (work_given job view w copy)) ≡ reply.Work (brief_given view.shape.job w copy)
+  brief_is : (copy : Copy) → at view.shape.copies w.id ≡ Some copy → kept_reply (reply.Work (row_work_given job view w copy)) ≡ reply.Work (brief_given view.shape.job w copy)
   brief_is copy found = λ i. reply.Work (record {
     job = record { 0 = sym own i };
     number = w.number;
@@ -168,7 +168,7 @@ module _ (job : ℕ) (view : View) (h : IsViewKept view) (own : view.shape.job �
       payload_is false is = refl
 
   given_is : (o : Option Copy) → at view.shape.copies w.id ≡ o
-      → kept_reply (option_map_or reply.Work (option_map (work_given job view w) o) reply.NoWork) ≡ option_map_or reply.Work (option_map (brief_given view.shape.job w) o) reply.NoWork
+      → kept_reply (option_map_or reply.Work (option_map (row_work_given job view w) o) reply.NoWork) ≡ option_map_or reply.Work (option_map (brief_given view.shape.job w) o) reply.NoWork
   given_is None is = refl
   given_is (Some copy) is = brief_is copy is
 
@@ -185,7 +185,7 @@ module _ (old : Hosted) (v : ℕ → View) (shows : ShowsAll old v) (kept : (job
   works = old.works.works
 
   -- the job whose turn it is, by the front of the line
-  abbrev turn : Option Asked → ℕ
+  abbrev turn : Option IoRequest → ℕ
   turn o = option_map_or (λ asked. asked.job.0) o 0
 
   abbrev due : ℕ → Reply ℕ
@@ -195,14 +195,14 @@ module _ (old : Hosted) (v : ℕ → View) (shows : ShowsAll old v) (kept : (job
       → due job ≡ option_map_or reply.Work (option_and_then (λ w. option_map (brief_given (v job).shape.job w) (at (v job).shape.copies w.id)) o) reply.NoWork
   due_by job o is = ap (λ o. option_map_or reply.Work (option_and_then (λ (w : WorkInFlight). option_map (brief_given (v job).shape.job w) (at (v job).shape.copies w.id)) o) reply.NoWork) is
 
-  front_due : (asked : Asked) → front_of works ≡ Some asked → kept_reply (option_map_or reply.Work (work_of asked.job.0 asked.number (v asked.job.0)) reply.NoWork) ≡ due asked.job.0
+  front_due : (asked : IoRequest) → front_of works ≡ Some asked → kept_reply (option_map_or reply.Work (row_work_of asked.job.0 asked.number (v asked.job.0)) reply.NoWork) ≡ due asked.job.0
   front_due asked front =
       let job : ℕ = asked.job.0 in
       let view : View = v job in
       let w : WorkInFlight = shown asked in
       let here : slice_get view.shape.works (count asked.job works) ≡ Some w = ap (λ ws. slice_get ws (count asked.job works)) (works_shown old job view (shows job)).works ∙ front_at asked works front first in
       let flying = found_at w view.shape.works (count asked.job works) here ((kept job).kept.shape.one_number asked.number) in
-      ap (λ o. kept_reply (option_map_or reply.Work (option_and_then (λ (w : WorkInFlight). option_map (work_given job view w) (at view.shape.copies w.id)) o) reply.NoWork)) flying
+      ap (λ o. kept_reply (option_map_or reply.Work (option_and_then (λ (w : WorkInFlight). option_map (row_work_given job view w) (at view.shape.copies w.id)) o) reply.NoWork)) flying
       ∙ given_is job view (kept job) (job_shown old job view (shows job)) asked.number w flying (at view.shape.copies w.id) refl
       ∙ sym (due_by job (Some w) here)
 
@@ -212,8 +212,8 @@ module _ (old : Hosted) (v : ℕ → View) (shows : ShowsAll old v) (kept : (job
   take_is : kept_reply (take_told works v) ≡ due (job_at works (Own event.Take))
   take_is = by (front_of works) refl
     where
-      by : (o : Option Asked) → front_of works ≡ o
-          → kept_reply (option_map_or (λ asked. option_map_or reply.Work (work_of asked.job.0 asked.number (v asked.job.0)) reply.NoWork) o reply.NoWork) ≡ due (turn o)
+      by : (o : Option IoRequest) → front_of works ≡ o
+          → kept_reply (option_map_or (λ asked. option_map_or reply.Work (row_work_of asked.job.0 asked.number (v asked.job.0)) reply.NoWork) o reply.NoWork) ≡ due (turn o)
       by None front = none_due 0 front
       by (Some asked) front = front_due asked front
 
@@ -223,8 +223,8 @@ module _ (old : Hosted) (v : ℕ → View) (shows : ShowsAll old v) (kept : (job
     abbrev Due : Event → Option Judged → Type 0
     Due e was = IsWorkDue (brief_of (v (job_at works (Own e)))) (count (numbered (job_at works (Own e))) works) (line.Entry (entry_for number (event_name (Own e)) was told))
 
-    pub event_due : (e : Event) (was : Option Judged) → IsEventAnswer old v e told → (input_of e told ≡ None → was ≡ None)
-        → ((x : Input) → input_of e told ≡ Some x → gives_work (kept_reply told) ≡ false) → Due e was
+    pub event_due : (e : Event) (was : Option Judged) → IsEventAnswer old v e told → (event_input_of e told ≡ None → was ≡ None)
+        → ((x : Input) → event_input_of e told ≡ Some x → gives_work (kept_reply told) ≡ false) → Due e was
     event_due (event.Admit job quota key) was is none some = (λ t. true_false t, λ _. gives_none told _ is)
     event_due (event.Requota job quota) was is none some = (λ t. true_false t, λ _. gives_none told _ is)
     event_due (event.JobEnd job) was is none some = (λ t. true_false t, λ _. gives_none told _ is)
@@ -234,7 +234,7 @@ module _ (old : Hosted) (v : ℕ → View) (shows : ShowsAll old v) (kept : (job
 
 -- ---- the entry of a message
 
-pub arrival_due : (brief : Brief) (n number : ℕ) (a : Arrival) (was : Option Judged) (told : Reply (List ℕ)) (o : Option Refusal) → told ≡ answered o → IsWorkDue brief n (line.Entry (entry_for number (arrival_name a) was told))
+pub arrival_due : (brief : Brief) (n number : ℕ) (a : Arrival) (was : Option Judged) (told : Reply (List ℕ)) (o : Option Refusal) → told ≡ answer_of_check o → IsWorkDue brief n (line.Entry (entry_for number (arrival_name a) was told))
 arrival_due brief n number a was told o is = (by a, λ _. gives_none told o is)
   where
     by : {B : Type 0} (a : Arrival) → is_take (arrival_name a) ≡ true → B

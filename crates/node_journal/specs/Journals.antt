@@ -16,20 +16,20 @@ use Rattle.private_store.specs.declared.schedules.Event.{Event}
 use Rattle.private_store.specs.declared.schedules.Event.TheVariants as event
 use Rattle.private_store.specs.declared.schedules.NodeEvent.{NodeEvent}
 use Rattle.private_store.specs.declared.schedules.NodeEvent.TheVariants.{Own, Arrive}
-use Rattle.private_store.specs.Tables.{at}
-use Rattle.private_store.specs.Shape.{Copy, WorkInFlight}
-use Rattle.private_store.specs.Contents.{View}
-use Rattle.private_store.specs.Private.{key_of}
-use Rattle.private_store.specs.Hands.{Hand}
+use Rattle.private_store.specs.rules.Tables.{at}
+use Rattle.private_store.specs.rules.Shape.{Copy, WorkInFlight}
+use Rattle.private_store.specs.rules.Contents.{View}
+use Rattle.private_store.specs.rules.Private.{key_of}
+use Rattle.private_store.specs.rules.Hands.{Hand}
 use Rattle.plain_store.specs.Parts.{has_begun}
 use Rattle.job_admission.specs.Admissions.{live_at}
 use Rattle.spill_work.specs.declared.queue.Queued.{Queued}
-use Rattle.spill_work.specs.Line.{taken_by}
-use Rattle.private_store.specs.Kept.{IsViewKept}
-use Rattle.private_store.specs.Replay.{Brief, Line as Replayed, unbegun_brief, replayed, answers_due, brief_of}
+use Rattle.spill_work.specs.Line.{works_taken_by}
+use Rattle.private_store.specs.laws.Invariants.{IsViewKept}
+use Rattle.private_store.specs.rules.Replay.{Brief, Line as Replayed, unbegun_brief, replayed, answers_due, brief_of}
 use Rattle.node_core.specs.Hosted.{Hosted, ShowsAll}
-use Rattle.node_core.specs.Foreseen.{takers_of}
-use Rattle.node_core.specs.Steps.{Given, JobJudged, job_at}
+use Rattle.node_core.specs.Foreseen.{grantees_of}
+use Rattle.node_core.specs.Steps.{NodeGiven, JobJudged, job_at}
 use Rattle.node_journal.specs.declared.folding.Base.{Base}
 use Rattle.node_journal.specs.declared.entries.Entry.{Entry}
 use Rattle.node_journal.specs.declared.entries.EventName.{EventName}
@@ -82,26 +82,26 @@ event_name (Arrive job a) = arrival_name a
 abbrev pub entry_for : ℕ → EventName → Option Judged → Reply (List ℕ) → Entry
 entry_for number named was told = record { number = number; event = named; input = was; reply = kept_reply told }
 
--- what a step of this number tells the job as the taker of hands
+-- what a step of this number tells the job as the grantee of hands
 abbrev pub notes_for : ℕ → List JobJudged → ℕ → List Line
 notes_for number notes job = map (λ note. line.Note number note.input) (filter (λ note. note.job == job) notes)
 
 -- the lines of a job that an event makes whose entry stands under the job of this number: the entry, if the job is that one, and
 -- then what it was told
-abbrev pub lines_made : ℕ → EventName → ℕ → Option Judged → Given → ℕ → List Line
+abbrev pub lines_made : ℕ → EventName → ℕ → Option Judged → NodeGiven → ℕ → List Line
 lines_made number named own was given job =
     (if own == job then line.Entry (entry_for number named was given.reply) ∷ [] else []) ++ notes_for number given.notes job
 
 -- ---- the replay
 
 -- what a line is to the replay of its job: an entry is nothing, if its event was no input; a note is answered Ok
-abbrev pub line_of : Line → Option Replayed
-line_of (line.Entry entry) = option_map (λ x. record { input = x; reply = entry.reply }) entry.input
-line_of (line.Note number x) = Some (record { input = x; reply = reply.Ok })
+abbrev pub journal_line_of : Line → Option Replayed
+journal_line_of (line.Entry entry) = option_map (λ x. record { input = x; reply = entry.reply }) entry.input
+journal_line_of (line.Note number x) = Some (record { input = x; reply = reply.Ok })
 
 abbrev pub lines_of : List Line → List Replayed
 lines_of [] = []
-lines_of (l ∷ ls) = option_to_list (line_of l) ++ lines_of ls
+lines_of (l ∷ ls) = option_to_list (journal_line_of l) ++ lines_of ls
 
 -- the store that the journal tells of
 abbrev pub store_of : Journal → Brief
@@ -181,7 +181,7 @@ IsWorkDue brief taken (line.Note number x) = Unit {0}
 -- so is each line, where it stands
 abbrev pub AreWorksDue : Brief → ℕ → List Line → Type 0
 AreWorksDue brief taken [] = Unit {0}
-AreWorksDue brief taken (l ∷ ls) = IsWorkDue brief taken l × AreWorksDue (replayed brief (option_to_list (line_of l))) (taken_after taken l) ls
+AreWorksDue brief taken (l ∷ ls) = IsWorkDue brief taken l × AreWorksDue (replayed brief (option_to_list (journal_line_of l))) (taken_after taken l) ls
 
 abbrev pub GivesDue : Journal → Type 0
 GivesDue journal = AreWorksDue journal.base.store journal.base.taken journal.list
@@ -203,7 +203,7 @@ pub record Tells (node : Hosted) (journals : ℕ → Journal) : Type 0 where
   pub shown : ShowsAll node views
   pub told : (job : ℕ) → IsTold (views job) (journals job)
   -- of each job's works, in the order asked, those that were taken are as many as its journal tells, and the first
-  pub taken : (job : ℕ) → taken_of (journals job) ≡ taken_by node.works (record { 0 = job })
+  pub taken : (job : ℕ) → taken_of (journals job) ≡ works_taken_by node.works (record { 0 = job })
   pub first : taken_come_first node.works.works ≡ true
   -- and each Take gave the first of them that wasn't, with its number, kind, key and length
   pub works : (job : ℕ) → GivesDue (journals job)
@@ -230,7 +230,7 @@ rise_above low [] = true
 rise_above low (l ∷ ls) = follows low l && rise_above (step_of l) ls
 
 -- the numbers rise, all are above what is covered, and none is above the count of all jobs' entries
-pub record AreNumbered (count : ℕ) (journal : Journal) : Type 0 where
+pub record AreEntriesNumbered (count : ℕ) (journal : Journal) : Type 0 where
   pub covered : nat_le journal.covered count ≡ true
   pub rise : rise_above journal.covered journal.list ≡ true
   pub above : list_all (λ l. nat_lt journal.covered (step_of l)) journal.list ≡ true
@@ -251,23 +251,23 @@ with_lines journal ls = record journal { list = journal.list ++ ls }
 -- the lines of a job that a step makes at most: the entry, if the step is of this job, and a note for each hand that it tells
 -- the job of
 abbrev pub lines_due : ℕ → List JobNo → ℕ → ℕ
-lines_due own takers job = count_by (λ taker. taker.0 == job) takers + (if own == job then 1 else 0)
+lines_due own grantees job = count_by (λ grantee. grantee.0 == job) grantees + (if own == job then 1 else 0)
 
 -- whether a list of so many lines has no room for them
-abbrev pub has_no_room : ℕ → List JobNo → ℕ → ℕ → Bool
-has_no_room own takers job lines = nat_lt most_lines (lines + lines_due own takers job)
+abbrev pub list_is_full : ℕ → List JobNo → ℕ → ℕ → Bool
+list_is_full own grantees job lines = nat_lt most_lines (lines + lines_due own grantees job)
 
 -- the jobs that it tells of hands if it is accepted, one for each note: a message tells nobody
-abbrev pub takers_at : List Hand → NodeEvent → List JobNo
-takers_at hands (Own e) = takers_of hands e
-takers_at hands (Arrive job a) = []
+abbrev pub grantees_at : List Hand → NodeEvent → List JobNo
+grantees_at hands (Own e) = grantees_of hands e
+grantees_at hands (Arrive job a) = []
 
 -- whether the job's list is folded before the event is taken: it might have no room for what the event makes
 abbrev pub is_folded_by : Hosted → NodeEvent → ℕ → List Line → Bool
-is_folded_by node e job ls = has_no_room (job_at node.works.works e) (takers_at node.hands e) job (length ls)
+is_folded_by node e job ls = list_is_full (job_at node.works.works e) (grantees_at node.hands e) job (length ls)
 
 -- a job's journal after a step of this number that the node took: folded first if there might be no room, with its lines
-abbrev pub journal_after : Hosted → ℕ → NodeEvent → Option Judged → Given → ℕ → Journal → Journal
+abbrev pub journal_after : Hosted → ℕ → NodeEvent → Option Judged → NodeGiven → ℕ → Journal → Journal
 journal_after node number e was given job journal =
     with_lines (folded_if (is_folded_by node e job journal.list) journal) (lines_made number (event_name e) (job_at node.works.works e) was given job)
 
@@ -286,15 +286,15 @@ abbrev pub has_entries : Journal → Bool
 has_entries journal = list_any is_some_entry journal.list
 
 -- notes are part of the base, and nothing more is covered: no receipt is of a note
-abbrev pub settled : Journal → Journal
-settled journal = record { base = base_after journal; covered = journal.covered; list = [] }
+abbrev pub with_notes_absorbed : Journal → Journal
+with_notes_absorbed journal = record { base = base_after journal; covered = journal.covered; list = [] }
 
-abbrev pub settled_if : Bool → Journal → Journal
-settled_if some journal = if some then settled journal else journal
+abbrev pub with_notes_absorbed_if : Bool → Journal → Journal
+with_notes_absorbed_if some journal = if some then with_notes_absorbed journal else journal
 
 -- what a sweep makes of the journal of a job that isn't live: notes alone are settled, and a long list with entries is folded
 abbrev pub swept : Journal → Journal
-swept journal = if has_entries journal then folded_if (nat_le many_lines (length journal.list)) journal else settled journal
+swept journal = if has_entries journal then folded_if (nat_le many_lines (length journal.list)) journal else with_notes_absorbed journal
 
 abbrev pub swept_if : Bool → Journal → Journal
 swept_if dead journal = if dead then swept journal else journal
@@ -303,8 +303,8 @@ swept_if dead journal = if dead then swept journal else journal
 abbrev pub IsSwept : Bool → Journal → Journal → Type 0
 IsSwept live before after = (after ≡ before) ⊎ ((live ≡ false) × (after ≡ swept before))
 
-abbrev pub is_live_at : Hosted → ℕ → Bool
-is_live_at node job = is_some (live_at node.admissions (record { 0 = job }))
+abbrev pub is_live_in : Hosted → ℕ → Bool
+is_live_in node job = is_some (live_at node.admissions (record { 0 = job }))
 
 -- whether the base has a hand to the job that stood
 abbrev pub has_hands : Base → Bool
@@ -326,7 +326,7 @@ is_begin _ = false
 
 -- whether the line is of the job's admission
 abbrev pub begins : Line → Bool
-begins l = option_map_or (λ (told : Replayed). is_begin told.input && is_ok told.reply) (line_of l) false
+begins l = option_map_or (λ (told : Replayed). is_begin told.input && is_ok told.reply) (journal_line_of l) false
 
 -- ---- receipts
 

@@ -12,13 +12,13 @@ use Rattle.obj_id.specs.declared.messages.PeerMessage.TheVariants as peer
 use Rattle.obj_id.specs.declared.messages.Message.{Message}
 use Rattle.obj_id.specs.declared.messages.Message.TheVariants as message
 use Rattle.obj_id.specs.declared.messages.DirectoryMessage.{DirectoryMessage}
-use Rattle.obj_id.specs.declared.messages.Place.TheVariants as place
+use Rattle.obj_id.specs.declared.messages.Endpoint.TheVariants as place
 use Rattle.private_store.specs.declared.inputs.Judged.{Judged}
 use Rattle.private_store.specs.declared.inputs.Judged.TheVariants as judged
-use Rattle.private_store.specs.Private.{Post}
-use Rattle.private_store.specs.Cluster.{arrival_of}
-use Rattle.private_store.specs.Directory.{directory_posts}
-use Rattle.owner_directory.specs.Locations.{Rows, Applies, locations_of}
+use Rattle.private_store.specs.rules.Private.{Post}
+use Rattle.private_store.specs.rules.Cluster.{arrival_of}
+use Rattle.private_store.specs.rules.Directory.{directory_posts}
+use Rattle.owner_directory.specs.Locations.{DirectoryRows, Applies, locations_of}
 use Rattle.node_journal.specs.declared.posts.Mail.{Mail}
 use Rattle.node_journal.specs.declared.posts.Posted.{Posted}
 
@@ -31,35 +31,35 @@ abbrev pub post_of : {L : Type 0} → Posted L → Post
 post_of posted = (posted.to, posted.message)
 
 -- a mail gives its next message, as its sender's, or none is left
-pub record Delivers {L : Type 0} (old : Mail L) (told : Option (Posted L)) (new : Mail L) : Type 0 where
+pub record DeliversPost {L : Type 0} (old : Mail L) (told : Option (Posted L)) (new : Mail L) : Type 0 where
   pub posts : posts_left old ≡ option_to_list (option_map post_of told) ++ posts_left new
   pub sender : IfSome told (λ p. (p.job ≡ old.job) × (p.from ≡ place.Node old.node) × (p.entry ≡ old.entry))
   pub same : (new.job ≡ old.job) × (new.node ≡ old.node) × (new.entry ≡ old.entry)
 
 -- what a message tells the directory
-abbrev pub told_directory : Message → Option DirectoryMessage
-told_directory (message.ToDirectory m) = Some m
-told_directory (message.Located id number entries) = None
-told_directory (message.ToPeer m) = None
+abbrev pub directory_told_by : Message → Option DirectoryMessage
+directory_told_by (message.ToDirectory m) = Some m
+directory_told_by (message.Located id number entries) = None
+directory_told_by (message.ToPeer m) = None
 
 -- a message that isn't for the node of this number
 abbrev pub IsAstray : {L : Type 0} → ℕ → Posted L → Type 0
 IsAstray node posted = (posted.to ≢ place.Node node) ⊎ (arrival_of posted.from posted.message ≡ None)
 
 -- whether a journal's word is of this message: of the same fetch, chunk and sender
-abbrev pub is_of : Arrival → Judged → Bool
-is_of (arrival.Located id number entries) (judged.Located i n source) = same_id id i && number == n
-is_of (arrival.FromPeer from (peer.Pull id number size digest indexes)) (judged.Pull i n fits) = same_id id i && number == n
-is_of (arrival.FromPeer from (peer.Chunk id number index bytes)) (judged.Chunk i n k f verdict) = same_id id i && (number == n && (index == k && from == f))
-is_of (arrival.FromPeer from (peer.NotHere id number)) (judged.NotHere i n f) = same_id id i && (number == n && from == f)
-is_of _ _ = false
+abbrev pub is_post_of : Arrival → Judged → Bool
+is_post_of (arrival.Located id number entries) (judged.Located i n source) = same_id id i && number == n
+is_post_of (arrival.FromPeer from (peer.Pull id number size digest indexes)) (judged.Pull i n fits) = same_id id i && number == n
+is_post_of (arrival.FromPeer from (peer.Chunk id number index bytes)) (judged.Chunk i n k f verdict) = same_id id i && (number == n && (index == k && from == f))
+is_post_of (arrival.FromPeer from (peer.NotHere id number)) (judged.NotHere i n f) = same_id id i && (number == n && from == f)
+is_post_of _ _ = false
 
 -- whether the entry of a message with this answer has that word, or none if it is stale
 abbrev pub is_entered : Arrival → Reply (List ℕ) → Option Judged → Bool
-is_entered a reply.Ok was = option_map_or (is_of a) was false
+is_entered a reply.Ok was = option_map_or (is_post_of a) was false
 is_entered a _ was = is_none was
 
 -- a job's message passes through the directory, which answers it; one that isn't for it changes nothing
-abbrev pub Passes : Rows → Rows → JobNo → Option DirectoryMessage → List Post → Type 0
-Passes old new job (Some m) answers = Applies old new job m × (answers ≡ directory_posts (locations_of old job) m)
-Passes old new job None answers = (new ≡ old) × (answers ≡ [])
+abbrev pub PassesOn : DirectoryRows → DirectoryRows → JobNo → Option DirectoryMessage → List Post → Type 0
+PassesOn old new job (Some m) answers = Applies old new job m × (answers ≡ directory_posts (locations_of old job) m)
+PassesOn old new job None answers = (new ≡ old) × (answers ≡ [])

@@ -1,7 +1,7 @@
 -- What a receipt is worth: the journal has an entry like its own, whose answer is the one that is due.
 use Rattle.std.specs.Prelude.{◌≡◌, true, List, ◌∷◌, ◌++◌, map, Some}
 use Rattle.private_store.specs.declared.inputs.Judged.{Judged}
-use Rattle.private_store.specs.Replay.{Line as Replayed, brief_step, replayed}
+use Rattle.private_store.specs.rules.Replay.{Line as Replayed, brief_step, replayed}
 use Rattle.node_journal.specs.declared.entries.Entry.{Entry}
 use Rattle.node_journal.specs.declared.entries.Line.{Line}
 use Rattle.node_journal.specs.declared.entries.Line.TheVariants as line

@@ -2,7 +2,7 @@
 use Rattle.std.specs.Prelude.{ℕ, List, []}
 use Rattle.obj_id.specs.declared.commands.Reply.{Reply}
 use Rattle.obj_id.specs.declared.commands.Reply.TheVariants as reply
-use Rattle.private_store.specs.Answers.{brief_reply}
+use Rattle.private_store.specs.laws.Answers.{brief_reply}
 
 -- a list without its items: they are contents here
 abbrev pub unlisted : Reply ℕ → Reply ℕ

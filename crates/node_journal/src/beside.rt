@@ -53,7 +53,7 @@ fn beside_from<L: Ledger, K: Keeper<L>, R: Wait>(
     }
     let mut locked = nodes[next].kept(Access(())).lock(rt);
     let kept = &mut *locked;
-    kept.seat.give(seen, 1, 0);
+    kept.ledger_share.give(seen, 1, 0);
     beside_from(rt, nodes, next + 1, seen, other);
-    seen.give(&mut kept.seat, 1, 0);
+    seen.give(&mut kept.ledger_share, 1, 0);
 }

@@ -6,7 +6,7 @@ ghost use Rattle.node_journal.specs.Journals.{arrival_name, begins, entry_for, e
 ghost use Rattle.node_journal.specs.Replies.{kept_reply};
 
 use bytes::Bytes;
-use node_core::{Node, Outcome};
+use node_core::{Node, NodeOutcome};
 use obj_id::{Arrival, Items, JobNo, ObjectId, PeerMessage, Quota, Reply};
 use private_store::{Event, Judged, brief_work};
 use std::alloc::Global;
@@ -66,7 +66,7 @@ pub struct Entry {
 pub enum Line {
     /// A step that was an event of the job.
     Entry(Entry),
-    /// What the step with this entry's number was to the job as the taker of a hand, without contents. It is always answered
+    /// What the step with this entry's number was to the job as the grantee of a hand, without contents. It is always answered
     /// Ok, and a job's own step may be followed by notes of its own.
     Note(u64, Judged),
 }
@@ -188,7 +188,7 @@ impl<L: Ledger> Receipt<L> {
 }
 
 /// The entry of this number, of a step of this event that gave this. Takes no memory.
-pub(crate) fn entry_of(alloc: Global, number: u64, event: EventName, outcome: &Outcome) -> Entry
+pub(crate) fn entry_of(alloc: Global, number: u64, event: EventName, outcome: &NodeOutcome) -> Entry
     ensures { result ≡ entry_for number event outcome.now.judged outcome.now.reply }
 {
     Entry {

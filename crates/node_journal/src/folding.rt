@@ -1,6 +1,6 @@
 //! Which lists a step folds, and the bases that they are folded into.
 ghost use Rattle.std.specs.Prelude.{◌≡◌, ℕ, ◌+◌, ◌<◌, ◌≤◌, ◌==◌, ◌&&◌, ◌||◌, length, IfOk, OnOk};
-ghost use Rattle.node_journal.specs.Journals.{Tells, most_lines, has_no_room as has_no_room_lem, lines_due as lines_due_lem, base_after, has_hands as has_hands_lem, is_blank as is_blank_lem};
+ghost use Rattle.node_journal.specs.Journals.{Tells, most_lines, list_is_full as has_no_room_lem, lines_due as lines_due_lem, base_after, has_hands as has_hands_lem, is_blank as is_blank_lem};
 ghost use Rattle.node_journal.specs.Logs.{journal_of, list_of, AreBases, has_base as has_base_lem};
 
 use crate::logs::Logs;
@@ -54,25 +54,25 @@ pub(crate) fn base_of(
     })
 }
 
-/// The bases of those lists that might have no room for what a step makes of this job that tells these takers of hands, one
+/// The bases of those lists that might have no room for what a step makes of this job that tells these grantees of hands, one
 /// for each.
 pub(crate) fn bases_of(
     alloc: Global,
     node: &Node,
     logs: &Logs,
     own: JobNo,
-    takers: &[JobNo],
+    grantees: &[JobNo],
 ) -> Result<Vec<(JobNo, Base)>, AllocError>
     requires told { ∥ Tells node.now (journal_of logs.now) ∥₁ }
     requires few { (job : ℕ) → length (list_of logs.now job) ≤ most_lines }
-    requires some { length takers.now < most_lines }
+    requires some { length grantees.now < most_lines }
     ensures stores { IfOk result (λ bases. AreBases bases.items (journal_of logs.now)) }
-    ensures full { IfOk result (λ bases. (job : ℕ) → has_base_lem job bases.items ≡ has_no_room_lem own.0 takers.now job (length (list_of logs.now job))) }
+    ensures full { IfOk result (λ bases. (job : ℕ) → has_base_lem job bases.items ≡ has_no_room_lem own.0 grantees.now job (length (list_of logs.now job))) }
 {
     let mut bases = Vec::new(alloc);
-    add_base(alloc, node, logs, own, takers, own, &mut bases)?;
-    for taker in takers {
-        add_base(alloc, node, logs, own, takers, *taker, &mut bases)?;
+    add_base(alloc, node, logs, own, grantees, own, &mut bases)?;
+    for grantee in grantees {
+        add_base(alloc, node, logs, own, grantees, *grantee, &mut bases)?;
     }
     Ok(bases)
 }
@@ -83,18 +83,18 @@ fn add_base(
     node: &Node,
     logs: &Logs,
     own: JobNo,
-    takers: &[JobNo],
+    grantees: &[JobNo],
     job: JobNo,
     bases: &mut Vec<(JobNo, Base)>,
 ) -> Result<(), AllocError>
     requires told { ∥ Tells node.now (journal_of logs.now) ∥₁ }
     requires few { (job : ℕ) → length (list_of logs.now job) ≤ most_lines }
-    requires some { length takers.now < most_lines }
+    requires some { length grantees.now < most_lines }
     requires stores { AreBases bases.old.items (journal_of logs.now) }
     ensures stores { OnOk result (AreBases bases.new.items (journal_of logs.now)) }
-    ensures full { OnOk result ((other : ℕ) → has_base_lem other bases.new.items ≡ (has_base_lem other bases.old.items || (job.0 == other && has_no_room_lem own.0 takers.now other (length (list_of logs.now other))))) }
+    ensures full { OnOk result ((other : ℕ) → has_base_lem other bases.new.items ≡ (has_base_lem other bases.old.items || (job.0 == other && has_no_room_lem own.0 grantees.now other (length (list_of logs.now other))))) }
 {
-    if has_base(bases, job) || !has_no_room(own, takers, job, logs.list(job).len()) {
+    if has_base(bases, job) || !has_no_room(own, grantees, job, logs.list(job).len()) {
         return Ok(());
     }
     let base = base_of(alloc, node, logs, job)?;
@@ -110,20 +110,20 @@ fn has_base(bases: &[(JobNo, Base)], job: JobNo) -> bool
 }
 
 /// Whether a list of the job with so many lines might have no room for what the step makes.
-fn has_no_room(own: JobNo, takers: &[JobNo], job: JobNo, lines: usize) -> bool
+fn has_no_room(own: JobNo, grantees: &[JobNo], job: JobNo, lines: usize) -> bool
     requires few { lines ≤ most_lines }
-    requires some { length takers.now < most_lines }
-    ensures { result ≡ has_no_room_lem own.0 takers.now job.0 lines }
+    requires some { length grantees.now < most_lines }
+    ensures { result ≡ has_no_room_lem own.0 grantees.now job.0 lines }
 {
-    lines + lines_due(own, takers, job) > MOST_LINES
+    lines + lines_due(own, grantees, job) > MOST_LINES
 }
 
 /// How many lines of the job the step makes at most.
-fn lines_due(own: JobNo, takers: &[JobNo], job: JobNo) -> usize
-    requires { length takers.now < most_lines }
-    ensures due { result ≡ lines_due_lem own.0 takers.now job.0 }
-    ensures few { result ≤ length takers.now + 1 }
+fn lines_due(own: JobNo, grantees: &[JobNo], job: JobNo) -> usize
+    requires { length grantees.now < most_lines }
+    ensures due { result ≡ lines_due_lem own.0 grantees.now job.0 }
+    ensures few { result ≤ length grantees.now + 1 }
 {
-    let notes = takers.iter().filter(|taker| taker.0 == job.0).count();
+    let notes = grantees.iter().filter(|grantee| grantee.0 == job.0).count();
     if own.0 == job.0 { notes + 1 } else { notes }
 }

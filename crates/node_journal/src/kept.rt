@@ -8,20 +8,20 @@ ghost use Rattle.obj_id.specs.declared.commands.Reply.TheVariants as reply;
 ghost use Rattle.obj_id.specs.declared.refusals.Refusal.{Refusal};
 ghost use Rattle.obj_id.specs.declared.refusals.Refusal.TheVariants.{NoMemory, NotAdmitted, TooMany, Stale};
 ghost use Rattle.private_store.specs.declared.schedules.NodeEvent.TheVariants as node_event;
-ghost use Rattle.private_store.specs.Answers.{wants_memory, is_small_reply};
+ghost use Rattle.private_store.specs.laws.Answers.{wants_memory, is_small_reply};
 ghost use Rattle.job_admission.specs.Admissions.{largest_memory, sessions_entered, enter_check, entered};
 ghost use Rattle.spill_work.specs.Line.{front_of};
-ghost use Rattle.node_core.specs.Steps.{job_at, Steps};
+ghost use Rattle.node_core.specs.Steps.{job_at, NodeStep};
 ghost use Rattle.node_core.specs.Judged.{IsJudged, IsArrivalJudged, IsSmall};
-ghost use Rattle.node_core.specs.Outcomes.{given_of};
+ghost use Rattle.node_core.specs.Outcomes.{node_given_of};
 ghost use Rattle.node_journal.specs.declared.entries.Agreement.TheVariants.{No};
 ghost use Rattle.node_journal.specs.declared.entries.Entry.{Entry};
 ghost use Rattle.node_journal.specs.Logs.{journal_of, list_of, was_kept};
 ghost use Rattle.node_journal.specs.Posts.{IsAstray, is_entered};
-ghost use Rattle.private_store.specs.Cluster.{arrival_of};
-ghost use Rattle.private_store.specs.Jobs.{same_job};
+ghost use Rattle.private_store.specs.rules.Cluster.{arrival_of};
+ghost use Rattle.private_store.specs.rules.Jobs.{same_job};
 ghost use Rattle.obj_id.specs.declared.messages.Arrival.{Arrival};
-ghost use Rattle.node_journal.specs.Journals.{entry_for, event_name, is_this, rise_above, Tells, AreNumbered, agreement, folded_if, journal_after, most_lines, is_call, IsSwept, StillAgrees, fresh, has_entries, is_live_at, settled, swept_if};
+ghost use Rattle.node_journal.specs.Journals.{entry_for, event_name, is_this, rise_above, Tells, AreEntriesNumbered, agreement, folded_if, journal_after, most_lines, is_call, IsSwept, StillAgrees, fresh, has_entries, is_live_in, with_notes_absorbed, swept_if};
 
 use crate::entered::Entered;
 use crate::entries::{Agreement, Entry, Line, Receipt, entry_of, job_of, name_of, name_of_arrival};
@@ -31,8 +31,8 @@ use crate::posts::{Made, Posted, arrival};
 use crate::sweeping::sweep_job;
 use bytes::Bytes;
 use hashed_bytes::Hashed;
-use node_core::{JobRow, Node, Outcome, Prepared};
-use obj_id::{Arrival, Items, JobKey, JobNo, ObjectId, Place, Refusal};
+use node_core::{JobRow, Node, NodeOutcome, Prepared};
+use obj_id::{Arrival, Endpoint, Items, JobKey, JobNo, ObjectId, Refusal};
 use private_store::Event;
 use std::alloc::{AllocError, Global};
 use std::marker::PhantomData;
@@ -60,20 +60,20 @@ pub struct Kept<L: Ledger> {
     logs: Logs,
     // of all jobs' entries
     count: u64,
-    pub(crate) seat: Share<L>,
-    pub ghost seated: { seat.parts ≡ 1 },
-    pub ghost blank: { seat.amount ≡ 0 },
+    pub(crate) ledger_share: Share<L>,
+    pub ghost seated: { ledger_share.parts ≡ 1 },
+    pub ghost blank: { ledger_share.amount ≡ 0 },
     pub ghost named: { node.number ≡ number },
-    pub ghost numbered: { (job : ℕ) → AreNumbered count (journal_of logs job) },
+    pub ghost numbered: { (job : ℕ) → AreEntriesNumbered count (journal_of logs job) },
     pub ghost few: { (job : ℕ) → length (list_of logs job) ≤ most_lines },
     pub ghost told: { ∥ Tells node (journal_of logs) ∥₁ },
 }
 
 impl<L: Ledger> Kept<L> {
     /// A node of this number, with so many bytes of memory, no job and no entry, on one part of the name.
-    pub fn new(alloc: Global, number: u32, memory: u64, seat: Share<L>) -> Kept<L>
+    pub fn new(alloc: Global, number: u32, memory: u64, ledger_share: Share<L>) -> Kept<L>
         requires memory { memory ≤ largest_memory }
-        requires seat { (seat.parts ≡ 1) × (seat.amount ≡ 0) }
+        requires ledger_share { (ledger_share.parts ≡ 1) × (ledger_share.amount ≡ 0) }
         ensures number { result.number ≡ number }
         ensures admissions { result.node.admissions ≡ record { memory = memory; greatest = 0; live = [] } }
         ensures count { result.count ≡ 0 }
@@ -85,7 +85,7 @@ impl<L: Ledger> Kept<L> {
             number,
             logs: Logs::new(alloc),
             count: 0,
-            seat,
+            ledger_share,
         }
     }
 
@@ -97,9 +97,9 @@ impl<L: Ledger> Kept<L> {
     /// The error is out of memory: for the event, its entry or a fold, or since 1,152,921,504,606,846,975 entries were made or
     /// the event tells 65,536 hands or more. Then nothing has changed.
     pub fn step(&mut self, event: &Event) -> Result<Made<L>, AllocError>
-        ensures node { IfOk result (λ r. Steps self.old.node (node_event.Own event.now) (given_of r.outcome) self.new.node) }
+        ensures node { IfOk result (λ r. NodeStep self.old.node (node_event.Own event.now) (node_given_of r.outcome) self.new.node) }
         ensures journal { IfOk result (λ r. (job : ℕ) → journal_of self.new.logs job
-            ≡ journal_after self.old.node (self.old.count + 1) (node_event.Own event.now) r.outcome.judged (given_of r.outcome) job (journal_of self.old.logs job)) }
+            ≡ journal_after self.old.node (self.old.count + 1) (node_event.Own event.now) r.outcome.judged (node_given_of r.outcome) job (journal_of self.old.logs job)) }
         ensures receipt { IfOk result (λ r. (r.receipt.node ≡ self.old.number) × (r.receipt.job.0 ≡ job_at self.old.node.works.works (node_event.Own event.now)) × (r.receipt.entry ≡ entry_for (self.old.count + 1) (event_name (node_event.Own event.now)) r.outcome.judged r.outcome.reply)) }
         ensures judged { IfOk result (λ r. IsJudged self.old.node event.now r.outcome.reply r.outcome.judged) }
         ensures count { OnOk result (self.new.count ≡ self.old.count + 1) }
@@ -118,7 +118,7 @@ impl<L: Ledger> Kept<L> {
             number,
             logs,
             count,
-            seat: _,
+            ledger_share: _,
         } = self;
         let next = *count + 1;
         let job = job_of(node, event);
@@ -141,9 +141,9 @@ impl<L: Ledger> Kept<L> {
     /// finds no memory, or if 1,152,921,504,606,846,975 entries were made. Then nothing has changed.
     pub fn arrive(&mut self, posted: Posted<L>) -> Result<Made<L>, Refusal>
         ensures stale { IsErrOf result Stale ↔ IsAstray self.old.number posted }
-        ensures node { IfOk result (λ r. (a : Arrival) → arrival_of posted.from posted.message ≡ Some a → Steps self.old.node (node_event.Arrive posted.job a) (given_of r.outcome) self.new.node) }
+        ensures node { IfOk result (λ r. (a : Arrival) → arrival_of posted.from posted.message ≡ Some a → NodeStep self.old.node (node_event.Arrive posted.job a) (node_given_of r.outcome) self.new.node) }
         ensures journal { IfOk result (λ r. (a : Arrival) → arrival_of posted.from posted.message ≡ Some a → (other : ℕ) → journal_of self.new.logs other
-            ≡ journal_after self.old.node (self.old.count + 1) (node_event.Arrive posted.job a) r.outcome.judged (given_of r.outcome) other (journal_of self.old.logs other)) }
+            ≡ journal_after self.old.node (self.old.count + 1) (node_event.Arrive posted.job a) r.outcome.judged (node_given_of r.outcome) other (journal_of self.old.logs other)) }
         ensures receipt { IfOk result (λ r. (r.receipt.node ≡ self.old.number) × (r.receipt.job.0 ≡ posted.job.0) × ((a : Arrival) → arrival_of posted.from posted.message ≡ Some a → r.receipt.entry ≡ entry_for (self.old.count + 1) (event_name (node_event.Arrive posted.job a)) r.outcome.judged r.outcome.reply)) }
         ensures judged { IfOk result (λ r. (a : Arrival) → arrival_of posted.from posted.message ≡ Some a → IsArrivalJudged self.old.node posted.job a r.outcome.reply r.outcome.judged) }
         ensures entered { IfOk result (λ r. (a : Arrival) → arrival_of posted.from posted.message ≡ Some a → is_entered a r.outcome.reply r.outcome.judged ≡ true) }
@@ -161,7 +161,7 @@ impl<L: Ledger> Kept<L> {
             message,
             ..
         } = posted;
-        if to != Place::Node(self.number) {
+        if to != Endpoint::Node(self.number) {
             return Err(Refusal::Stale);
         }
         match arrival(from, message) {
@@ -172,9 +172,9 @@ impl<L: Ledger> Kept<L> {
 
     /// The message arrives, and its entry is added. The error is out of memory, and then nothing has changed.
     fn take_in(&mut self, job: JobNo, arrival: &Arrival) -> Result<Made<L>, AllocError>
-        ensures node { IfOk result (λ r. Steps self.old.node (node_event.Arrive job arrival.now) (given_of r.outcome) self.new.node) }
+        ensures node { IfOk result (λ r. NodeStep self.old.node (node_event.Arrive job arrival.now) (node_given_of r.outcome) self.new.node) }
         ensures journal { IfOk result (λ r. (other : ℕ) → journal_of self.new.logs other
-            ≡ journal_after self.old.node (self.old.count + 1) (node_event.Arrive job arrival.now) r.outcome.judged (given_of r.outcome) other (journal_of self.old.logs other)) }
+            ≡ journal_after self.old.node (self.old.count + 1) (node_event.Arrive job arrival.now) r.outcome.judged (node_given_of r.outcome) other (journal_of self.old.logs other)) }
         ensures receipt { IfOk result (λ r. (r.receipt.node ≡ self.old.number) × (r.receipt.job.0 ≡ job.0) × (r.receipt.entry ≡ entry_for (self.old.count + 1) (event_name (node_event.Arrive job arrival.now)) r.outcome.judged r.outcome.reply)) }
         ensures judged { IfOk result (λ r. IsArrivalJudged self.old.node job arrival.now r.outcome.reply r.outcome.judged) }
         ensures entered { IfOk result (λ r. is_entered arrival.now r.outcome.reply r.outcome.judged ≡ true) }
@@ -193,7 +193,7 @@ impl<L: Ledger> Kept<L> {
             number,
             logs,
             count,
-            seat: _,
+            ledger_share: _,
         } = self;
         let next = *count + 1;
         let outcome = record_arrival(*alloc, node, logs, next, job, arrival)?;
@@ -214,9 +214,9 @@ impl<L: Ledger> Kept<L> {
     pub fn step_after(&mut self, receipt: &Receipt<L>, event: &Event) -> Result<Made<L>, Refusal>
         ensures stale { IsErrOf result Stale ↔ (agreement (receipt.now.node == self.old.number) receipt.now.entry (journal_of self.old.logs receipt.now.job.0) ≡ No) }
         ensures later { IfOk result (λ r. (r.receipt.node ≡ receipt.now.node) × (receipt.now.entry.number < r.receipt.entry.number)) }
-        ensures node { IfOk result (λ r. Steps self.old.node (node_event.Own event.now) (given_of r.outcome) self.new.node) }
+        ensures node { IfOk result (λ r. NodeStep self.old.node (node_event.Own event.now) (node_given_of r.outcome) self.new.node) }
         ensures journal { IfOk result (λ r. (job : ℕ) → journal_of self.new.logs job
-            ≡ journal_after self.old.node (self.old.count + 1) (node_event.Own event.now) r.outcome.judged (given_of r.outcome) job (journal_of self.old.logs job)) }
+            ≡ journal_after self.old.node (self.old.count + 1) (node_event.Own event.now) r.outcome.judged (node_given_of r.outcome) job (journal_of self.old.logs job)) }
         ensures receipt { IfOk result (λ r. (r.receipt.node ≡ self.old.number) × (r.receipt.job.0 ≡ job_at self.old.node.works.works (node_event.Own event.now)) × (r.receipt.entry ≡ entry_for (self.old.count + 1) (event_name (node_event.Own event.now)) r.outcome.judged r.outcome.reply)) }
         ensures judged { IfOk result (λ r. IsJudged self.old.node event.now r.outcome.reply r.outcome.judged) }
         ensures count { OnOk result (self.new.count ≡ self.old.count + 1) }
@@ -247,7 +247,7 @@ impl<L: Ledger> Kept<L> {
             number: _,
             logs,
             count: _,
-            seat: _,
+            ledger_share: _,
         } = self;
         let base = base_of(*alloc, node, logs, job)?;
         logs.fold_away(job, base);
@@ -260,7 +260,7 @@ impl<L: Ledger> Kept<L> {
     /// makes up for it. No event.
     pub fn sweep(&mut self)
         ensures same { (self.new.node ≡ self.old.node) × (self.new.count ≡ self.old.count) × (self.new.number ≡ self.old.number) }
-        ensures journals { (job : ℕ) → IsSwept (is_live_at self.old.node job) (journal_of self.old.logs job) (journal_of self.new.logs job) }
+        ensures journals { (job : ℕ) → IsSwept (is_live_in self.old.node job) (journal_of self.old.logs job) (journal_of self.new.logs job) }
         ensures agreed { (here : Bool) (entry : Entry) (job : ℕ) → StillAgrees here entry (journal_of self.old.logs job) (journal_of self.new.logs job) }
     {
         for _ in 0..LISTS_SWEPT {
@@ -281,7 +281,7 @@ impl<L: Ledger> Kept<L> {
             number: _,
             logs,
             count: _,
-            seat: _,
+            ledger_share: _,
         } = self;
         logs.in_turn()
     }
@@ -290,8 +290,8 @@ impl<L: Ledger> Kept<L> {
     /// if then it is as that of a job that no step was of, nothing is kept of it. If it has entries and 64 lines or more, it is folded
     /// as by `checkpoint`. All else stays. The error is out of memory, and then nothing has changed.
     pub fn sweep_job(&mut self, job: JobNo) -> Result<(), AllocError>
-        ensures journal { OnOk result ((other : ℕ) → journal_of self.new.logs other ≡ swept_if (job.0 == other && not (is_live_at self.old.node other)) (journal_of self.old.logs other)) }
-        ensures forgotten { OnOk result (is_live_at self.old.node job.0 ≡ false → has_entries (journal_of self.old.logs job.0) ≡ false → settled (journal_of self.old.logs job.0) ≡ fresh job.0 → lookup (same_job job) self.new.logs ≡ None) }
+        ensures journal { OnOk result ((other : ℕ) → journal_of self.new.logs other ≡ swept_if (job.0 == other && not (is_live_in self.old.node other)) (journal_of self.old.logs other)) }
+        ensures forgotten { OnOk result (is_live_in self.old.node job.0 ≡ false → has_entries (journal_of self.old.logs job.0) ≡ false → with_notes_absorbed (journal_of self.old.logs job.0) ≡ fresh job.0 → lookup (same_job job) self.new.logs ≡ None) }
         ensures same { (self.new.node ≡ self.old.node) × (self.new.count ≡ self.old.count) × (self.new.number ≡ self.old.number) }
         ensures unchanged { OnErr result (self.new.logs ≡ self.old.logs) }
     {
@@ -301,7 +301,7 @@ impl<L: Ledger> Kept<L> {
             number: _,
             logs,
             count: _,
-            seat: _,
+            ledger_share: _,
         } = self;
         sweep_job(*alloc, node, logs, job)?;
         Ok(())
@@ -324,7 +324,7 @@ impl<L: Ledger> Kept<L> {
             number,
             logs: _,
             count: _,
-            seat: _,
+            ledger_share: _,
         } = self;
         let session = node.enter(job, key)?;
         Ok(Entered {
@@ -347,7 +347,7 @@ impl<L: Ledger> Kept<L> {
             number: _,
             logs: _,
             count: _,
-            seat: _,
+            ledger_share: _,
         } = self;
         node.prepare(job, prepared)
     }
@@ -363,7 +363,7 @@ impl<L: Ledger> Kept<L> {
             number: _,
             logs: _,
             count: _,
-            seat: _,
+            ledger_share: _,
         } = self;
         node.share_copy(job, id)
     }
@@ -380,7 +380,7 @@ impl<L: Ledger> Kept<L> {
             number: _,
             logs: _,
             count: _,
-            seat: _,
+            ledger_share: _,
         } = self;
         node.expect(job, id, hashed);
     }
@@ -396,7 +396,7 @@ impl<L: Ledger> Kept<L> {
             number: _,
             logs: _,
             count: _,
-            seat: _,
+            ledger_share: _,
         } = self;
         node.compare(job, id)
     }
@@ -412,7 +412,7 @@ impl<L: Ledger> Kept<L> {
             number: _,
             logs: _,
             count: _,
-            seat: _,
+            ledger_share: _,
         } = self;
         node.take_gone()
     }
@@ -510,7 +510,7 @@ fn has_entry(lines: &[Line], entry: &Entry) -> bool
 }
 
 /// Steps the node, and writes the entry of this number, under the job that the event is of or whose work a Take gives, and what the
-/// step told the takers of hands; lists that might have no room are folded before. An error changes neither.
+/// step told the grantees of hands; lists that might have no room are folded before. An error changes neither.
 fn record(
     alloc: Global,
     node: &mut Node,
@@ -518,27 +518,27 @@ fn record(
     number: u64,
     job: JobNo,
     event: &Event,
-) -> Result<Outcome, AllocError>
+) -> Result<NodeOutcome, AllocError>
     requires job { job.0 ≡ job_at node.old.works.works (node_event.Own event.now) }
     requires told { ∥ Tells node.old (journal_of logs.old) ∥₁ }
     requires few { (job : ℕ) → length (list_of logs.old job) ≤ most_lines }
-    ensures node { IfOk result (λ o. Steps node.old (node_event.Own event.now) (given_of o) node.new) }
+    ensures node { IfOk result (λ o. NodeStep node.old (node_event.Own event.now) (node_given_of o) node.new) }
     ensures judged { IfOk result (λ o. IsJudged node.old event.now o.reply o.judged) }
     ensures small { IfOk result (λ o. IsSmall node.old event.now o.reply) }
     ensures logs { IfOk result (λ o. (job : ℕ) → journal_of logs.new job
-        ≡ journal_after node.old number (node_event.Own event.now) o.judged (given_of o) job (journal_of logs.old job)) }
+        ≡ journal_after node.old number (node_event.Own event.now) o.judged (node_given_of o) job (journal_of logs.old job)) }
     ensures few { IfOk result (λ o. (job : ℕ) → length (list_of logs.new job) ≤ most_lines) }
     ensures err { OnErr result (node.new ≡ node.old) }
     ensures unchanged { OnErr result ((job : ℕ) → journal_of logs.new job ≡ journal_of logs.old job) }
 {
     // all growth comes before the node's step
-    let takers = node.takers(event)?;
-    if takers.as_slice().len() >= MOST_LINES {
+    let grantees = node.grantees(event)?;
+    if grantees.as_slice().len() >= MOST_LINES {
         return Err(AllocError);
     }
-    logs.reserve(job, takers.as_slice())?;
+    logs.reserve(job, grantees.as_slice())?;
     // the bases are those before the step
-    let bases = bases_of(alloc, node, logs, job, takers.as_slice())?;
+    let bases = bases_of(alloc, node, logs, job, grantees.as_slice())?;
     let outcome = node.apply(event)?;
     let entry = entry_of(alloc, number, name_of(event), &outcome);
     logs.fold_all(bases);
@@ -556,15 +556,15 @@ fn record_arrival(
     number: u64,
     job: JobNo,
     arrival: &Arrival,
-) -> Result<Outcome, AllocError>
+) -> Result<NodeOutcome, AllocError>
     requires told { ∥ Tells node.old (journal_of logs.old) ∥₁ }
     requires few { (other : ℕ) → length (list_of logs.old other) ≤ most_lines }
-    ensures node { IfOk result (λ o. Steps node.old (node_event.Arrive job arrival.now) (given_of o) node.new) }
+    ensures node { IfOk result (λ o. NodeStep node.old (node_event.Arrive job arrival.now) (node_given_of o) node.new) }
     ensures judged { IfOk result (λ o. IsArrivalJudged node.old job arrival.now o.reply o.judged) }
     ensures silent { IfOk result (λ o. o.notes ≡ []) }
     ensures stale { IfOk result (λ o. o.reply ≡ reply.Refused Stale → node.new ≡ node.old) }
     ensures logs { IfOk result (λ o. (other : ℕ) → journal_of logs.new other
-        ≡ journal_after node.old number (node_event.Arrive job arrival.now) o.judged (given_of o) other (journal_of logs.old other)) }
+        ≡ journal_after node.old number (node_event.Arrive job arrival.now) o.judged (node_given_of o) other (journal_of logs.old other)) }
     ensures few { IfOk result (λ o. (other : ℕ) → length (list_of logs.new other) ≤ most_lines) }
     ensures err { OnErr result (node.new ≡ node.old) }
     ensures unchanged { OnErr result ((other : ℕ) → journal_of logs.new other ≡ journal_of logs.old other) }

@@ -5,10 +5,10 @@ ghost use Rattle.std.specs.Map.{lookup};
 ghost use Rattle.std.specs.List.{list_any, IsDistinct};
 ghost use Rattle.std.specs.List.Sorted.{IsPermutation, IsNonDecreasingBy};
 ghost use Rattle.obj_id.specs.declared.ids.JobNo.{JobNo};
-ghost use Rattle.private_store.specs.Jobs.{same_job};
+ghost use Rattle.private_store.specs.rules.Jobs.{same_job};
 ghost use Rattle.plain_store.specs.Parts.{has_begun as has_begun_lem};
 ghost use Rattle.node_core.specs.Outcomes.{inputs_noted};
-ghost use Rattle.node_journal.specs.Journals.{notes_for, begins, fresh, folded_if, last_of, base_after, with_lines, settled_if, seems_fresh as seems_fresh_lem};
+ghost use Rattle.node_journal.specs.Journals.{notes_for, begins, fresh, folded_if, last_of, base_after, with_lines, with_notes_absorbed_if, seems_fresh as seems_fresh_lem};
 ghost use Rattle.node_journal.specs.Logs.{journal_of, list_of, spare_of, AreBases, has_base, was_kept as was_kept_lem};
 
 use crate::entries::Line;
@@ -101,7 +101,7 @@ impl Log {
     }
 
     /// The notes go, and this is the base from now on: nothing more is covered. Gives the memory of the lines back.
-    fn settle(&mut self, alloc: Global, base: Base)
+    fn absorb_notes(&mut self, alloc: Global, base: Base)
         ensures { self.new.journal ≡ record { base = base; covered = self.old.journal.covered; list = [] } }
     {
         self.lines = Vec::new(alloc);
@@ -192,14 +192,14 @@ impl Logs {
 
     /// Makes room for a line of the job, and a line more for each of these jobs, whichever they are. The journals stay as
     /// they are, whatever the result.
-    pub fn reserve(&mut self, job: JobNo, takers: &[JobNo]) -> Result<(), AllocError>
+    pub fn reserve(&mut self, job: JobNo, grantees: &[JobNo]) -> Result<(), AllocError>
         ensures journals { (other : ℕ) → journal_of self.new other ≡ journal_of self.old other }
-        ensures own { OnOk result (length takers.now + 1 ≤ spare_of self.new job.0) }
-        ensures room { OnOk result ((taker : JobNo) → list_any (same_job taker) takers.now ≡ true → length takers.now + 1 ≤ spare_of self.new taker.0) }
+        ensures own { OnOk result (length grantees.now + 1 ≤ spare_of self.new job.0) }
+        ensures room { OnOk result ((grantee : JobNo) → list_any (same_job grantee) grantees.now ≡ true → length grantees.now + 1 ≤ spare_of self.new grantee.0) }
     {
-        let most = takers.len() + 1;
-        for taker in takers {
-            self.grow(*taker, most)?;
+        let most = grantees.len() + 1;
+        for grantee in grantees {
+            self.grow(*grantee, most)?;
         }
         self.grow(job, most)
     }
@@ -233,9 +233,9 @@ impl Logs {
         log.add(line);
     }
 
-    /// Adds what the step of this number told the takers of hands. There is room for it: this takes no memory.
+    /// Adds what the step of this number told the grantees of hands. There is room for it: this takes no memory.
     pub fn add_notes(&mut self, number: u64, notes: &[Note])
-        requires { (taker : JobNo) → list_any (λ note. same_job taker note.job) notes.now ≡ true → length notes.now ≤ spare_of self.old taker.0 }
+        requires { (grantee : JobNo) → list_any (λ note. same_job grantee note.job) notes.now ≡ true → length notes.now ≤ spare_of self.old grantee.0 }
         ensures { (other : ℕ) → journal_of self.new other ≡ with_lines (journal_of self.old other) (notes_for number (inputs_noted notes.now) other) }
     {
         for note in notes {
@@ -279,14 +279,14 @@ impl Logs {
 
     /// The notes of a job are part of its base, which is then this one, and nothing more is covered. Gives the memory of the lines
     /// back, and takes none.
-    pub(crate) fn settle(&mut self, job: JobNo, base: Base)
+    pub(crate) fn absorb_notes(&mut self, job: JobNo, base: Base)
         requires { base ≡ base_after (journal_of self.old job.0) }
-        ensures { (other : ℕ) → journal_of self.new other ≡ settled_if (job.0 == other) (journal_of self.old other) }
+        ensures { (other : ℕ) → journal_of self.new other ≡ with_notes_absorbed_if (job.0 == other) (journal_of self.old other) }
     {
         let Some(log) = self.logs.get_mut(&job) else {
             return;
         };
-        log.settle(self.alloc, base);
+        log.absorb_notes(self.alloc, base);
     }
 
     /// Lets go what is kept of a job that no step was of. Takes no memory.

@@ -1,14 +1,14 @@
 //! What a step gives: its answer, its receipt, and the messages that it sends.
 ghost use Rattle.std.specs.Prelude.{◌≡◌, IfOk, IfSome, OnErr, option_map};
 ghost use Rattle.std.specs.Option.{option_to_list};
-ghost use Rattle.obj_id.specs.declared.messages.Place.TheVariants as place;
-ghost use Rattle.private_store.specs.Cluster.{arrival_of};
-ghost use Rattle.node_journal.specs.Posts.{posts_left, post_of, told_directory, Passes};
+ghost use Rattle.obj_id.specs.declared.messages.Endpoint.TheVariants as place;
+ghost use Rattle.private_store.specs.rules.Cluster.{arrival_of};
+ghost use Rattle.node_journal.specs.Posts.{posts_left, post_of, directory_told_by, PassesOn};
 
 use crate::entries::Receipt;
 use bytes::Bytes;
-use node_core::{Erase, Outcome};
-use obj_id::{Arrival, JobNo, Message, Place, Reply};
+use node_core::{Erase, NodeOutcome};
+use obj_id::{Arrival, Endpoint, JobNo, Message, Reply};
 use owner_directory::{Directory, DirectoryReply};
 use std::alloc::AllocError;
 use std::marker::PhantomData;
@@ -18,7 +18,7 @@ use std::vec::IntoIter;
 /// A step that was made: what it gave, with the receipt of its entry.
 #[derive(Drop)]
 pub struct Made<L: Ledger> {
-    pub(crate) outcome: Outcome,
+    pub(crate) outcome: NodeOutcome,
     pub(crate) receipt: Receipt<L>,
 }
 
@@ -42,7 +42,7 @@ impl<L: Ledger> Made<L> {
         ensures receipt { result.receipt ≡ self.receipt }
     {
         let Made { outcome, receipt } = self;
-        let Outcome {
+        let NodeOutcome {
             reply,
             messages,
             erase,
@@ -71,7 +71,7 @@ pub struct Mail<L: Ledger> {
     pub(crate) job: JobNo,
     pub(crate) node: u32,
     pub(crate) entry: u64,
-    pub(crate) rest: IntoIter<(Place, Message)>,
+    pub(crate) rest: IntoIter<(Endpoint, Message)>,
     pub(crate) name: PhantomData<L>,
 }
 
@@ -79,11 +79,11 @@ pub struct Mail<L: Ledger> {
 impl<L: Ledger> Iterator for Mail<L> {
     ghost use Rattle.std.specs.Iterator.{at_most};
     ghost use Rattle.std.specs.Vec.Iter.{into_iter_len};
-    ghost use Rattle.node_journal.specs.Posts.{Delivers};
+    ghost use Rattle.node_journal.specs.Posts.{DeliversPost};
 
     type Item = Posted<L>;
 
-    ghost next_gives = { Delivers };
+    ghost next_gives = { DeliversPost };
 
     ghost remaining = { λ mail. at_most (into_iter_len mail.rest) };
 
@@ -92,7 +92,7 @@ impl<L: Ledger> Iterator for Mail<L> {
             None => None,
             Some((to, message)) => Some(Posted {
                 job: self.job,
-                from: Place::Node(self.node),
+                from: Endpoint::Node(self.node),
                 to,
                 entry: self.entry,
                 message,
@@ -107,8 +107,8 @@ impl<L: Ledger> Iterator for Mail<L> {
 #[derive(Drop)]
 pub struct Posted<L: Ledger> {
     pub(crate) job: JobNo,
-    pub(crate) from: Place,
-    pub(crate) to: Place,
+    pub(crate) from: Endpoint,
+    pub(crate) to: Endpoint,
     pub(crate) entry: u64,
     pub(crate) message: Message,
     pub(crate) name: PhantomData<L>,
@@ -123,14 +123,14 @@ impl<L: Ledger> Posted<L> {
     }
 
     /// The place that sent it.
-    pub fn from(&self) -> Place
+    pub fn from(&self) -> Endpoint
         ensures { result ≡ self.now.from }
     {
         self.from
     }
 
     /// The place that it is for.
-    pub fn to(&self) -> Place
+    pub fn to(&self) -> Endpoint
         ensures { result ≡ self.now.to }
     {
         self.to
@@ -155,7 +155,7 @@ impl<L: Ledger> Posted<L> {
     ///
     /// The error is out of memory, and then the directory is as it was.
     pub fn through(self, directory: &mut Directory) -> Result<Option<Posted<L>>, AllocError>
-        ensures passes { IfOk result (λ answer. Passes directory.old directory.new self.job (told_directory self.message) (option_to_list (option_map post_of answer))) }
+        ensures passes { IfOk result (λ answer. PassesOn directory.old directory.new self.job (directory_told_by self.message) (option_to_list (option_map post_of answer))) }
         ensures sender { IfOk result (λ answer. IfSome answer (λ p. (p.job ≡ self.job) × (p.from ≡ place.Directory) × (p.entry ≡ self.entry))) }
         ensures err { OnErr result (directory.new ≡ directory.old) }
     {
@@ -178,8 +178,8 @@ impl<L: Ledger> Posted<L> {
                 entries,
             } => Ok(Some(Posted {
                 job,
-                from: Place::Directory,
-                to: Place::Node(to),
+                from: Endpoint::Directory,
+                to: Endpoint::Node(to),
                 entry,
                 message: Message::Located {
                     id,
@@ -193,12 +193,12 @@ impl<L: Ledger> Posted<L> {
 }
 
 /// What a node makes of a message from this place, if it is one for a node. Takes no memory.
-pub(crate) fn arrival(from: Place, message: Message) -> Option<Arrival>
+pub(crate) fn arrival(from: Endpoint, message: Message) -> Option<Arrival>
     ensures { result ≡ arrival_of from message }
 {
     match (from, message) {
         (
-            Place::Directory,
+            Endpoint::Directory,
             Message::Located {
                 id,
                 number,
@@ -211,7 +211,7 @@ pub(crate) fn arrival(from: Place, message: Message) -> Option<Arrival>
                 entries,
             })
         }
-        (Place::Node(node), Message::ToPeer(told)) => Some(Arrival::FromPeer(node, told)),
+        (Endpoint::Node(node), Message::ToPeer(told)) => Some(Arrival::FromPeer(node, told)),
         _ => None,
     }
 }

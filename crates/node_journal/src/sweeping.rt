@@ -2,8 +2,8 @@
 ghost use Rattle.std.specs.Prelude.{◌≡◌, ℕ, ◌==◌, ◌&&◌, nat_le, not, false, length, None, OnOk, OnErr};
 ghost use Rattle.std.specs.List.{list_any};
 ghost use Rattle.std.specs.Map.{lookup};
-ghost use Rattle.private_store.specs.Jobs.{same_job};
-ghost use Rattle.node_journal.specs.Journals.{Tells, fresh, has_entries as has_entries_lem, is_live_at, is_some_entry, folded_if, many_lines, settled, settled_if, swept_if};
+ghost use Rattle.private_store.specs.rules.Jobs.{same_job};
+ghost use Rattle.node_journal.specs.Journals.{Tells, fresh, has_entries as has_entries_lem, is_live_in, is_some_entry, folded_if, many_lines, with_notes_absorbed, with_notes_absorbed_if, swept_if};
 ghost use Rattle.node_journal.specs.Logs.{journal_of, list_of};
 
 use crate::entries::Line;
@@ -26,8 +26,8 @@ pub(crate) fn sweep_job(
     job: JobNo,
 ) -> Result<(), AllocError>
     requires { ∥ Tells node.now (journal_of logs.old) ∥₁ }
-    ensures swept { OnOk result ((other : ℕ) → journal_of logs.new other ≡ swept_if (job.0 == other && not (is_live_at node.now other)) (journal_of logs.old other)) }
-    ensures forgotten { OnOk result (is_live_at node.now job.0 ≡ false → has_entries_lem (journal_of logs.old job.0) ≡ false → settled (journal_of logs.old job.0) ≡ fresh job.0 → lookup (same_job job) logs.new ≡ None) }
+    ensures swept { OnOk result ((other : ℕ) → journal_of logs.new other ≡ swept_if (job.0 == other && not (is_live_in node.now other)) (journal_of logs.old other)) }
+    ensures forgotten { OnOk result (is_live_in node.now job.0 ≡ false → has_entries_lem (journal_of logs.old job.0) ≡ false → with_notes_absorbed (journal_of logs.old job.0) ≡ fresh job.0 → lookup (same_job job) logs.new ≡ None) }
     ensures unchanged { OnErr result (logs.new ≡ logs.old) }
 {
     if node.usage(job).is_ok() {
@@ -62,11 +62,11 @@ fn settle_or_forget(
     job: JobNo,
 ) -> Result<(), AllocError>
     requires { ∥ Tells node.now (journal_of logs.old) ∥₁ }
-    ensures settled { OnOk result ((other : ℕ) → journal_of logs.new other ≡ settled_if (job.0 == other) (journal_of logs.old other)) }
-    ensures forgotten { OnOk result (settled (journal_of logs.old job.0) ≡ fresh job.0 → lookup (same_job job) logs.new ≡ None) }
+    ensures absorbed { OnOk result ((other : ℕ) → journal_of logs.new other ≡ with_notes_absorbed_if (job.0 == other) (journal_of logs.old other)) }
+    ensures forgotten { OnOk result (with_notes_absorbed (journal_of logs.old job.0) ≡ fresh job.0 → lookup (same_job job) logs.new ≡ None) }
     ensures unchanged { OnErr result (logs.new ≡ logs.old) }
 {
-    settle(alloc, node, logs, job)?;
+    absorb_notes(alloc, node, logs, job)?;
     if logs.seems_fresh(job) {
         logs.forget(job);
     }
@@ -74,16 +74,16 @@ fn settle_or_forget(
 }
 
 /// The job's notes, if there are some, become part of its base. If there is no memory for that nothing changes.
-fn settle(alloc: Global, node: &Node, logs: &mut Logs, job: JobNo) -> Result<(), AllocError>
+fn absorb_notes(alloc: Global, node: &Node, logs: &mut Logs, job: JobNo) -> Result<(), AllocError>
     requires { ∥ Tells node.now (journal_of logs.old) ∥₁ }
-    ensures settled { OnOk result ((other : ℕ) → journal_of logs.new other ≡ settled_if (job.0 == other) (journal_of logs.old other)) }
+    ensures absorbed { OnOk result ((other : ℕ) → journal_of logs.new other ≡ with_notes_absorbed_if (job.0 == other) (journal_of logs.old other)) }
     ensures unchanged { OnErr result (logs.new ≡ logs.old) }
 {
     if logs.list(job).is_empty() {
         return Ok(());
     }
     let base = base_of(alloc, node, logs, job)?;
-    logs.settle(job, base);
+    logs.absorb_notes(job, base);
     Ok(())
 }
 

@@ -2,32 +2,32 @@
 use Rattle.std.proofs.Common.{◌≡◌, ℕ, Bool, false, cond, List, [], Some, None, sym, ap, subst, ◌∙◌}
 use Rattle.obj_id.specs.declared.ids.JobNo.{JobNo}
 use Rattle.obj_id.specs.declared.ids.ObjectId.{ObjectId}
-use Rattle.private_store.specs.Tables.{ById}
-use Rattle.private_store.specs.Shape.{Life, not_begun, live, ended, unbegun, HandGiven, Seen}
-use Rattle.private_store.specs.Events.{is_live}
-use Rattle.private_store.specs.Contents.{View}
-use Rattle.private_store.specs.Replay.{Brief, brief_of}
-use Rattle.private_store.specs.Hands.{Hand}
+use Rattle.private_store.specs.rules.Tables.{ById}
+use Rattle.private_store.specs.rules.Shape.{Life, not_begun, live, ended, unbegun, HandGiven, Seen}
+use Rattle.private_store.specs.rules.Events.{is_live}
+use Rattle.private_store.specs.rules.Contents.{View}
+use Rattle.private_store.specs.rules.Replay.{Brief, brief_of}
+use Rattle.private_store.specs.rules.Hands.{Hand}
 use Rattle.store_facts.proofs.Tests.{true_false}
 use Rattle.plain_store.specs.Parts.{has_begun}
-use Rattle.node_table.specs.Row.{Row, Beside, beside_of, shape_of, given_by, received_by}
-use Rattle.node_core.specs.Hosted.{Hosted, IsBare, IsRowView, IsViewBy, Shows, row_at, bytes_here, beside_at, bare_shape}
+use Rattle.node_table.specs.Row.{Row, SharedTables, beside_of, shape_of, row_given_by, received_by}
+use Rattle.node_core.specs.Hosted.{Hosted, IsBare, IsRowView, IsViewBy, Shows, row_at, bytes_here, beside_at, empty_shape}
 
 -- how far a job is that isn't live
-ended_if : (life : Life) (begun : Bool) (beside : Beside) (job : ℕ) → is_live (bare_shape job life beside) ≡ false → has_begun life ≡ begun → cond begun ended not_begun ≡ life
+ended_if : (life : Life) (begun : Bool) (beside : SharedTables) (job : ℕ) → is_live (empty_shape job life beside) ≡ false → has_begun life ≡ begun → cond begun ended not_begun ≡ life
 ended_if not_begun begun beside job dead is = ap (λ b. cond b ended not_begun) (sym is)
 ended_if live begun beside job dead is = true_false (sym dead)
 ended_if ended begun beside job dead is = ap (λ b. cond b ended not_begun) (sym is)
 
 module _ (node : Hosted) (job : JobNo) (view : View) (h : Shows node job.0 view) where
   pub row_told : (row : Row) → row_at node job ≡ Some row → (plain : Brief) (given : List HandGiven) (received : ById Seen)
-      → given ≡ given_by node.hands job.0 → received ≡ received_by (bytes_here node.rows) node.hands job.0
-      → ((hands : List Hand) (bytes : ObjectId → List ℕ) → given ≡ given_by hands row.job → received ≡ received_by bytes hands row.job
+      → given ≡ row_given_by node.hands job.0 → received ≡ received_by (bytes_here node.rows) node.hands job.0
+      → ((hands : List Hand) (bytes : ObjectId → List ℕ) → given ≡ row_given_by hands row.job → received ≡ received_by bytes hands row.job
       → plain ≡ record { shape = shape_of row (beside_of node.works hands bytes row.job); order = row.order })
       → plain ≡ brief_of view
   row_told row found plain given received gave got is =
       let shown : IsRowView row (beside_at node job.0) job.0 view = subst (IsViewBy node.admissions.greatest (beside_at node job.0) job.0 view) found h.by_row in
-      is node.hands (bytes_here node.rows) (gave ∙ ap (given_by node.hands) (sym shown.own)) (got ∙ ap (received_by (bytes_here node.rows) node.hands) (sym shown.own))
+      is node.hands (bytes_here node.rows) (gave ∙ ap (row_given_by node.hands) (sym shown.own)) (got ∙ ap (received_by (bytes_here node.rows) node.hands) (sym shown.own))
       ∙ ap (λ n. record { shape = shape_of row (beside_at node n); order = row.order }) shown.own
       ∙ (λ i. record { shape = sym shown.shape i; order = sym shown.order i })
 

@@ -1,8 +1,8 @@
 //! The copies of a row without their bytes.
 ghost use Rattle.std.specs.Prelude.{◌≡◌, IfOk, option_map};
 ghost use Rattle.std.specs.Option.{option_copied};
-ghost use Rattle.plain_store.specs.Parts.{phase_of};
-ghost use Rattle.node_table.specs.Kept.{fetch_of};
+ghost use Rattle.plain_store.specs.Parts.{plain_phase_of};
+ghost use Rattle.node_table.specs.CopyViews.{store_fetch_of};
 ghost use Rattle.node_table.specs.Row.{copies_of};
 
 use fetch_core::{FetchIn, Stage};
@@ -54,7 +54,7 @@ fn plain_copy(alloc: Global, copy: &RowCopy) -> Result<PlainCopy, AllocError>
 
 /// How far the fetch is, if there is one.
 fn plain_fetch(alloc: Global, fetch: Option<&FetchIn>) -> Result<Option<PlainFetch>, AllocError>
-    ensures { IfOk result (λ plain. plain ≡ option_map fetch_of (option_copied fetch.entry)) }
+    ensures { IfOk result (λ plain. plain ≡ option_map store_fetch_of (option_copied fetch.entry)) }
 {
     let Some(fetch) = fetch else {
         return Ok(None);
@@ -68,7 +68,7 @@ fn plain_fetch(alloc: Global, fetch: Option<&FetchIn>) -> Result<Option<PlainFet
 
 /// The fetch's phase.
 fn phase(alloc: Global, fetch: &FetchIn) -> Result<FetchPhase, AllocError>
-    ensures { IfOk result (λ phase. phase_of phase ≡ fetch.now.phase) }
+    ensures { IfOk result (λ phase. plain_phase_of phase ≡ fetch.now.phase) }
 {
     match fetch.stage() {
         Stage::Locating => Ok(FetchPhase::Locating),

@@ -11,7 +11,7 @@ use plain_store::{GivenHand, SeenObject, TakenHand};
 use std::alloc::{AllocError, Global};
 use std::collections::BTreeMap;
 
-/// These hands, as their giver's store has them.
+/// These hands, as their grantor's store has them.
 pub(crate) fn plain_given(alloc: Global, hands: &[Hand]) -> Result<Items<GivenHand>, AllocError>
     ensures { IfOk result (λ given. given ≡ map as_given hands.now) }
 {
@@ -19,8 +19,8 @@ pub(crate) fn plain_given(alloc: Global, hands: &[Hand]) -> Result<Items<GivenHa
     for hand in hands {
         given.push(GivenHand {
             id: hand.id(),
-            target: hand.taker(),
-            hangs_on: hand.hangs_on(),
+            target: hand.grantee(),
+            parent: hand.parent(),
         })?;
     }
     Ok(Items::from_vec(given))
@@ -53,7 +53,7 @@ fn add_taken(
 {
     let id = hand.id();
     let taken = TakenHand {
-        giver: hand.giver(),
+        grantor: hand.grantor(),
         depth: hand.depth(),
     };
     if let Some(object) = seen.get_mut(&id) {

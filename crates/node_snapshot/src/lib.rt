@@ -2,9 +2,9 @@
 #![tactic(auto)]
 
 ghost use Rattle.std.specs.Prelude.{◌≡◌, IfOk, [], if◌then◌else◌};
-ghost use Rattle.private_store.specs.Shape.{not_begun, ended, unbegun};
-ghost use Rattle.private_store.specs.Contents.{View};
-ghost use Rattle.private_store.specs.Replay.{brief_of};
+ghost use Rattle.private_store.specs.rules.Shape.{not_begun, ended, unbegun};
+ghost use Rattle.private_store.specs.rules.Contents.{View};
+ghost use Rattle.private_store.specs.rules.Replay.{brief_of};
 ghost use Rattle.plain_store.specs.Parts.{has_begun};
 ghost use Rattle.node_core.specs.Hosted.{Shows};
 

@@ -1,9 +1,9 @@
 //! The store without contents that a row is.
 ghost use Rattle.std.specs.Prelude.{◌≡◌, ℕ, List, IfOk};
 ghost use Rattle.obj_id.specs.declared.ids.ObjectId.{ObjectId};
-ghost use Rattle.private_store.specs.Hands.{Hand as StandingHand};
+ghost use Rattle.private_store.specs.rules.Hands.{Hand as StandingHand};
 ghost use Rattle.spill_work.specs.Line.{works_of};
-ghost use Rattle.node_table.specs.Row.{beside_of, shape_of, given_by, received_by};
+ghost use Rattle.node_table.specs.Row.{beside_of, shape_of, row_given_by, received_by};
 
 use crate::copies::plain_copies;
 use lru_evictor::Order;
@@ -24,7 +24,7 @@ pub(crate) fn plain_row(
     received: BTreeMap<ObjectId, SeenObject>,
 ) -> Result<PlainStore, AllocError>
     ensures { IfOk result (λ plain. (hands : List StandingHand) (bytes : ObjectId → List ℕ)
-        → given ≡ given_by hands row.now.job → received.entries ≡ received_by bytes hands row.now.job
+        → given ≡ row_given_by hands row.now.job → received.entries ≡ received_by bytes hands row.now.job
         → plain ≡ record { shape = shape_of row.now (beside_of works.now hands bytes row.now.job); order = row.now.order }) }
 {
     let job = row.job();

@@ -24,20 +24,20 @@ use Rattle.private_store.specs.declared.inputs.Input.TheVariants as input
 use Rattle.private_store.specs.declared.inputs.Judged.TheVariants as judged
 use Rattle.private_store.specs.declared.inputs.WorkVerdict.{WorkVerdict}
 use Rattle.private_store.specs.declared.inputs.WorkVerdict.TheVariants as work
-use Rattle.private_store.specs.Tables.{ById, at, with_entry}
-use Rattle.private_store.specs.Extents.{rounded}
-use Rattle.private_store.specs.Shape.{Copy, Shape, Change, WorkInFlight}
-use Rattle.private_store.specs.Copies.{extent_of, is_sealed, is_held, is_granted, is_working, is_idle}
-use Rattle.private_store.specs.Room.{set_copy, drop_copy}
-use Rattle.private_store.specs.Change.{refused, done, needing, erasing, settled, keys_gone}
-use Rattle.private_store.specs.Events.{work_of, without_work, read_back}
-use Rattle.private_store.specs.Events as events
-use Rattle.private_store.specs.Contents.{Contents, View, judge, digest_at, keeps_digest, no_digest, has_digest, overwritten, bytes_brought, brought, write_verdict, work_verdict, is_read_back}
-use Rattle.private_store.specs.Contents as contents_of
-use Rattle.private_store.specs.Hands.{Hand}
-use Rattle.private_store.specs.Kept.{IsCopyKept, has_extent, has_hand, is_restoring}
-use Rattle.private_store.specs.Private.{key_of}
-use Rattle.private_store.specs.Step.{step}
+use Rattle.private_store.specs.rules.Tables.{ById, at, with_entry}
+use Rattle.private_store.specs.rules.Extents.{rounded}
+use Rattle.private_store.specs.rules.Shape.{Copy, Shape, Change, WorkInFlight}
+use Rattle.private_store.specs.rules.Copies.{extent_of, is_sealed, is_held, is_granted, is_working, is_idle}
+use Rattle.private_store.specs.rules.Room.{set_copy, drop_copy}
+use Rattle.private_store.specs.rules.Change.{refused, done, needing, erasing, settled, keys_gone}
+use Rattle.private_store.specs.rules.Events.{work_of, without_work, read_back}
+use Rattle.private_store.specs.rules.Events as events
+use Rattle.private_store.specs.rules.Contents.{Contents, View, judge, digest_at, keeps_digest, no_digest, has_digest, overwritten, bytes_brought, brought, write_verdict, work_verdict, is_read_back}
+use Rattle.private_store.specs.rules.Contents as contents_of
+use Rattle.private_store.specs.rules.Hands.{Hand}
+use Rattle.private_store.specs.laws.Invariants.{IsCopyKept, has_extent, has_hand, is_restoring}
+use Rattle.private_store.specs.rules.Private.{key_of}
+use Rattle.private_store.specs.rules.Step.{step}
 use Rattle.store_facts.proofs.Filling.{filled}
 use Rattle.store_facts.proofs.KeptCopy.{restoring_is}
 use Rattle.store_facts.proofs.KeptLists.{count-yes, count-no, none_counted, some_counted, find-any, filter_none}
@@ -47,17 +47,17 @@ use Rattle.store_facts.proofs.ErasedKeys.{keys_none, all_found}
 use Rattle.store_facts.proofs.RowContents.{length-overwritten}
 use Rattle.store_facts.proofs.Rows.{at-put, at-put_here}
 use Rattle.store_facts.proofs.Tests.{T_true, true_false, none_here, none_some, some_value, both_left}
-use Rattle.job_region.specs.Region.{without, bytes_at as placed_bytes}
+use Rattle.job_region.specs.Region.{without, region_bytes_at as placed_bytes}
 use Rattle.lru_evictor.specs.Orders.{AreThere}
 use Rattle.lru_evictor.proofs.ForCallers.{reordered-unused}
-use Rattle.spill_work.specs.declared.queue.Asked.{Asked}
-use Rattle.spill_work.specs.Line.{WorkLine, shown, is_write, used_by, Finishes}
-use Rattle.node_table.specs.Answering.{is_in_work, has_bytes, has_failed, read_verdict, verdict_of, written_row, refilled, lost_row, read_row, ended_row}
+use Rattle.spill_work.specs.declared.queue.IoRequest.{IoRequest}
+use Rattle.spill_work.specs.Line.{WorkLine, shown, is_write_work, used_by, Finishes}
+use Rattle.node_table.specs.Answering.{is_in_work, has_bytes, has_failed, view_read_verdict, work_verdict_of, written_row, refilled, lost_row, read_row, ended_row}
 use Rattle.node_table.specs.Dropping.{dropped, is_over, settled_row, keys_settled}
 use Rattle.node_table.specs.Entries.{changed}
-use Rattle.node_table.specs.Kept.{Kept, written, restored, lost}
-use Rattle.node_table.specs.Row.{Row, Beside, beside_of, copies_of, shape_of, place_of, ArePlaced}
-use Rattle.node_table.specs.Shown.{seen, work_on, IsShown, Given, only, TakesStep}
+use Rattle.node_table.specs.CopyViews.{CopyView, after_write, after_restore, after_failed_restore}
+use Rattle.node_table.specs.Row.{Row, SharedTables, beside_of, copies_of, shape_of, place_of, ArePlaced}
+use Rattle.node_table.specs.Shown.{seen, work_on, IsShown, RowGiven, only, RowStep}
 use Rattle.node_table.specs.Usages.{is_spilling}
 use Rattle.node_table.proofs.ByChecks.{needing-by}
 use Rattle.node_table.proofs.Changes.{changed-found}
@@ -68,7 +68,7 @@ use Rattle.node_table.proofs.Dropping.{change_left, moves_left, key_dropped, key
 use Rattle.node_table.proofs.Passed.{placed_at, place_found, at_most_rounded, sealed_resides}
 use Rattle.node_table.proofs.Places.{bytes-written, bytes-other, long_at, written_placed, changed_placed}
 use Rattle.node_table.proofs.Settling.{one_key}
-use Rattle.node_table.proofs.Stepping.{Moves, moved, same_bytes, received_stays}
+use Rattle.node_table.proofs.Stepping.{TakesChange, moved, same_bytes, received_stays}
 
 -- ---- works
 
@@ -135,17 +135,17 @@ with-same es id x sorted found =
 
 -- ---- the copy that a work is in flight for
 
-module _ (row : Row) (beside : Beside) (contents : Contents) (h : IsShown row beside contents) (number : ℕ) (w : WorkInFlight) (flying : work_of (shape_of row beside) number ≡ Some w) where
-  pub copy_at_work : (k : Kept) × (at row.copies w.id ≡ Some k)
+module _ (row : Row) (beside : SharedTables) (contents : Contents) (h : IsShown row beside contents) (number : ℕ) (w : WorkInFlight) (flying : work_of (shape_of row beside) number ≡ Some w) where
+  pub copy_at_work : (k : CopyView) × (at row.copies w.id ≡ Some k)
   copy_at_work = by (at row.copies w.id) refl
     where
-      by : (o : Option Kept) → at row.copies w.id ≡ o → (k : Kept) × (at row.copies w.id ≡ Some k)
+      by : (o : Option CopyView) → at row.copies w.id ≡ o → (k : CopyView) × (at row.copies w.id ≡ Some k)
       by None none =
           true_false (sym (h.kept.kept.shape.works_of_copies w.id (at-copies_none row.copies w.id none))
           ∙ find-any (λ v. v.number == number) (λ v. same_id w.id v.id) beside.works w flying (same_id-itself w.id))
       by (Some k) found = (k, found)
 
-  module _ (k : Kept) (found : at row.copies w.id ≡ Some k) where
+  module _ (k : CopyView) (found : at row.copies w.id ≡ Some k) where
     kept_at_work : IsCopyKept row.job beside.works beside.given row.ended_tasks w.id k.copy
     kept_at_work = h.kept.kept.shape.each w.id k.copy (at-copies_found row.copies w.id k found)
 
@@ -156,7 +156,7 @@ module _ (row : Row) (beside : Beside) (contents : Contents) (h : IsShown row be
 
     pub spilling : w.writes ≡ true → is_spilling k ≡ true
     spilling writes =
-        ap (λ o. option_map_or is_write o false)
+        ap (λ o. option_map_or is_write_work o false)
         (h.working w.id k found ∙ work_found number beside.works w flying (h.kept.kept.shape.one_work w.id) ∙ ap (λ b. Some (cond b Write Read)) writes)
 
     pub restoring : w.writes ≡ false → is_restoring k.copy.state ≡ true
@@ -173,8 +173,8 @@ module _ (row : Row) (beside : Beside) (contents : Contents) (h : IsShown row be
 
 -- ---- a work of a copy ends
 
-module _ (node : ℕ) (row : Row) (beside : Beside) (contents : Contents) (h : IsShown row beside contents) (number : ℕ) (answer : DeviceAnswer)
-    (w : WorkInFlight) (flying : work_of (shape_of row beside) number ≡ Some w) (k : Kept) (found : at row.copies w.id ≡ Some k) where
+module _ (node : ℕ) (row : Row) (beside : SharedTables) (contents : Contents) (h : IsShown row beside contents) (number : ℕ) (answer : DeviceAnswer)
+    (w : WorkInFlight) (flying : work_of (shape_of row beside) number ≡ Some w) (k : CopyView) (found : at row.copies w.id ≡ Some k) where
   abbrev s : Shape
   s = shape_of row beside
 
@@ -188,7 +188,7 @@ module _ (node : ℕ) (row : Row) (beside : Beside) (contents : Contents) (h : I
   view = seen row beside contents
 
   -- what stands beside the row then
-  abbrev pub after : Beside
+  abbrev pub after : SharedTables
   after = record beside { works = filter (λ v. not (v.number == number)) beside.works }
 
   abbrev rest : Shape
@@ -225,7 +225,7 @@ module _ (node : ℕ) (row : Row) (beside : Beside) (contents : Contents) (h : I
 
   -- ---- the copy changed, and removed if nothing keeps it then
 
-  module _ (f : Kept → Kept) (flag : Bool) (placed_now : List (ℕ × List ℕ)) where
+  module _ (f : CopyView → CopyView) (flag : Bool) (placed_now : List (ℕ × List ℕ)) where
     abbrev base : Shape
     base = set_copy (record rest { spill_failed = flag }) id (f k).copy
 
@@ -238,7 +238,7 @@ module _ (node : ℕ) (row : Row) (beside : Beside) (contents : Contents) (h : I
       granted : (f k).granted ≡ k.granted
       digest : (f k).digest ≡ k.digest
       keeps : keeps_digest (f k).copy ≡ true → keeps_digest k.copy ≡ true
-      bytes : (q : ObjectId) (y : Kept) (e : Extent) → at (changed f row.copies id) q ≡ Some y → extent_of y.copy ≡ Some e
+      bytes : (q : ObjectId) (y : CopyView) (e : Extent) → at (changed f row.copies id) q ≡ Some y → extent_of y.copy ≡ Some e
           → filled (at (brought contents.bytes (bytes_brought view x (judge node view x) reply.Ok)) q) y.copy ≡ take y.copy.length (placed_bytes e placed_now)
       -- where keys are looked for, and what is found
       looked : Shape
@@ -248,7 +248,7 @@ module _ (node : ℕ) (row : Row) (beside : Beside) (contents : Contents) (h : I
       placed : ArePlaced placed_now (place_of (changed f row.copies id))
 
     module _ (ends : Ends) where
-      was : (q : ObjectId) (y : Kept) → at row_now.copies q ≡ Some y → (z : Kept) × (at row.copies q ≡ Some z) × From f row.copies id q y z
+      was : (q : ObjectId) (y : CopyView) → at row_now.copies q ≡ Some y → (z : CopyView) × (at row.copies q ≡ Some z) × From f row.copies id q y z
       was = from_changed f row.copies id k found
 
       copies_is : copies_of row_now.copies ≡ with_entry s.copies id (f k).copy
@@ -258,20 +258,20 @@ module _ (node : ℕ) (row : Row) (beside : Beside) (contents : Contents) (h : I
       there_now = subst (λ t. AreThere t row.order) (sym copies_is) (there_with s.copies id (f k).copy row.order h.there)
 
       -- of the copy itself, and of any other
-      of_each : (P : ObjectId → Kept → Type 0) → P id (f k) → ((q : ObjectId) (z : Kept) → same_id q id ≡ false → at row.copies q ≡ Some z → P q z) → (q : ObjectId) (y : Kept) → at row_now.copies q ≡ Some y → P q y
+      of_each : (P : ObjectId → CopyView → Type 0) → P id (f k) → ((q : ObjectId) (z : CopyView) → same_id q id ≡ false → at row.copies q ≡ Some z → P q z) → (q : ObjectId) (y : CopyView) → at row_now.copies q ≡ Some y → P q y
       of_each P here others q y is = by (was q y is).0 (was q y is).1 (was q y is).2
         where
-          by : (z : Kept) → at row.copies q ≡ Some z → From f row.copies id q y z → P q y
+          by : (z : CopyView) → at row.copies q ≡ Some z → From f row.copies id q y z → P q y
           by z e (inl t) =
               let same : q ≡ id = same_id-equal q id t.0 in
               let z_is : z ≡ k = some_value z k (sym e ∙ ap (at row.copies) same ∙ found) in
               subst (λ p. P p y) (sym same) (subst (λ y. P id y) (sym (t.1 ∙ ap f z_is)) here)
           by z e (inr t) = subst (λ y. P q y) (sym t.1) (others q z t.0 e)
 
-      abbrev told : Given
+      abbrev told : RowGiven
       told = only reply.Ok
 
-      m : Moves node row beside contents h x (done base) told row_now after
+      m : TakesChange node row beside contents h x (done base) told row_now after
       m = record {
         shape = ap (λ t. record rest { copies = t; spill_failed = flag }) (sym copies_is);
         order = sym (reordered-unused row.order (copies_of row_now.copies) there_now);
@@ -314,7 +314,7 @@ module _ (node : ℕ) (row : Row) (beside : Beside) (contents : Contents) (h : I
       abbrev row_if : Bool → Row
       row_if b = cond b (dropped row_now id) row_now
 
-      abbrev gives : Bool → Given
+      abbrev gives : Bool → RowGiven
       gives b = record { reply = reply.Ok; posts = []; erased = cond b (option_to_list (option_map (key_of row.job) (f k).copy.backed)) [] }
 
       found_now : at row_now.copies id ≡ Some (f k)
@@ -326,7 +326,7 @@ module _ (node : ℕ) (row : Row) (beside : Beside) (contents : Contents) (h : I
       keys_are : keys_settled row_now id ≡ (gives goes).erased
       keys_are = ap (λ o. option_map_or (λ kept. cond (is_over kept) (option_to_list (option_map (key_of row.job) kept.copy.backed)) []) o []) found_now
 
-      by_goes : (b : Bool) → goes ≡ b → TakesStep node row beside contents x (gives b) (row_if b) after
+      by_goes : (b : Bool) → goes ≡ b → RowStep node row beside contents x (gives b) (row_if b) after
       by_goes false stays =
           moved node row beside contents h x (done base)
           (ends.is ∙ ap (λ t. erasing ends.looked (done t)) (settled_is ∙ ap shape_if stays) ∙ ap (λ ks. record (done base) { erased = ks }) ends.none_gone)
@@ -337,10 +337,10 @@ module _ (node : ℕ) (row : Row) (beside : Beside) (contents : Contents) (h : I
           (gives true) (dropped row_now id) after
           (moves_left node row beside contents h x (done base) told row_now after m refl ends.placed id keys (gives true) refl (one_key row.job (f k).copy.backed)) refl
 
-      pub ended_so : TakesStep node row beside contents x (record { reply = reply.Ok; posts = []; erased = keys_settled row_now id }) (settled_row row_now id) after
+      pub ended_so : RowStep node row beside contents x (record { reply = reply.Ok; posts = []; erased = keys_settled row_now id }) (settled_row row_now id) after
       ended_so =
-          subst (λ ks. TakesStep node row beside contents x (record { reply = reply.Ok; posts = []; erased = ks }) (settled_row row_now id) after) (sym keys_are)
-          (subst (λ r. TakesStep node row beside contents x (gives goes) r after) (sym row_is) (by_goes goes refl))
+          subst (λ ks. RowStep node row beside contents x (record { reply = reply.Ok; posts = []; erased = ks }) (settled_row row_now id) after) (sym keys_are)
+          (subst (λ r. RowStep node row beside contents x (gives goes) r after) (sym row_is) (by_goes goes refl))
 
   -- ---- a write
 
@@ -358,10 +358,10 @@ module _ (node : ℕ) (row : Row) (beside : Beside) (contents : Contents) (h : I
     nothing (device.Bytes bytes) work.Damaged = refl
     nothing device.Failed v = refl
 
-    abbrev g : Bool → Kept → Kept
-    g failed = written w.number failed
+    abbrev g : Bool → CopyView → CopyView
+    g failed = after_write w.number failed
 
-    write_bytes : (failed : Bool) (q : ObjectId) (y : Kept) (e : Extent) → at (changed (g failed) row.copies id) q ≡ Some y → extent_of y.copy ≡ Some e
+    write_bytes : (failed : Bool) (q : ObjectId) (y : CopyView) (e : Extent) → at (changed (g failed) row.copies id) q ≡ Some y → extent_of y.copy ≡ Some e
         → filled (at (brought contents.bytes (bytes_brought view x (judge node view x) reply.Ok)) q) y.copy ≡ take y.copy.length (placed_bytes e row.window.placed)
     write_bytes failed = bytes_stay node row beside contents h x id k found (g failed) (λ z. (refl, refl)) (done s) (nothing answer (work_verdict view number answer))
 
@@ -407,12 +407,12 @@ module _ (node : ℕ) (row : Row) (beside : Beside) (contents : Contents) (h : I
       row_written v = written_row w.number (has_failed v) row id
 
       by_verdict : (v : WorkVerdict) → write_verdict answer ≡ v
-          → TakesStep node row beside contents x (record { reply = reply.Ok; posts = []; erased = keys_settled (row_written v) id }) (settled_row (row_written v) id) after
+          → RowStep node row beside contents x (record { reply = reply.Ok; posts = []; erased = keys_settled (row_written v) id }) (settled_row (row_written v) id) after
       by_verdict work.Fine is = ended_so (g false) row.spill_failed row.window.placed (wrote work.Fine is refl)
       by_verdict work.Damaged is = ended_so (g false) row.spill_failed row.window.placed (wrote work.Damaged is refl)
       by_verdict work.Failed is = ended_so (g true) true row.window.placed (unwritten is)
 
-      pub write_done : TakesStep node row beside contents x (record { reply = reply.Ok; posts = []; erased = keys_settled (row_written (write_verdict answer)) id }) (settled_row (row_written (write_verdict answer)) id) after
+      pub write_done : RowStep node row beside contents x (record { reply = reply.Ok; posts = []; erased = keys_settled (row_written (write_verdict answer)) id }) (settled_row (row_written (write_verdict answer)) id) after
       write_done = by_verdict (write_verdict answer) refl
 
   -- ---- a read
@@ -428,20 +428,20 @@ module _ (node : ℕ) (row : Row) (beside : Beside) (contents : Contents) (h : I
     lies = (place_at_work row beside contents h number w flying k found).1
 
     -- what is read is judged as the row does
-    read_is : (a : DeviceAnswer) → contents_of.read_verdict view id a ≡ read_verdict k a
+    read_is : (a : DeviceAnswer) → contents_of.read_verdict view id a ≡ view_read_verdict k a
     read_is device.Done = refl
     read_is (device.Bytes bytes) =
         ap (λ o. cond (option_map_or (λ (copy : Copy). (length bytes == copy.length) && has_digest bytes (digest_at contents.digests id)) o false) work.Fine work.Damaged) found_copy
         ∙ ap (λ d. cond ((length bytes == k.copy.length) && has_digest bytes d) work.Fine work.Damaged) (h.digests id k found keeps)
     read_is device.Failed = refl
 
-    pub read_judged : work_verdict view number answer ≡ read_verdict k answer
+    pub read_judged : work_verdict view number answer ≡ view_read_verdict k answer
     read_judged =
         ap (λ o. option_map_or (λ (u : WorkInFlight). cond u.writes (write_verdict answer) (contents_of.read_verdict view u.id answer)) o work.Failed) flying
         ∙ ap (λ b. cond b (write_verdict answer) (contents_of.read_verdict view id answer)) reads
         ∙ read_is answer
 
-    read_change : (v : WorkVerdict) → read_verdict k answer ≡ v → step row.order s (judge node view x) ≡ erasing rest (done (settled (set_copy rest id (read_back k.copy v)) id))
+    read_change : (v : WorkVerdict) → view_read_verdict k answer ≡ v → step row.order s (judge node view x) ≡ erasing rest (done (settled (set_copy rest id (read_back k.copy v)) id))
     read_change v is =
         change_is v (read_judged ∙ is) ∙ ap (λ b. cond b (events.written rest w k.copy v) (erasing rest (done (settled (set_copy rest id (read_back k.copy v)) id)))) reads
 
@@ -454,30 +454,30 @@ module _ (node : ℕ) (row : Row) (beside : Beside) (contents : Contents) (h : I
       abbrev placed_left : List (ℕ × List ℕ)
       placed_left = without (option_to_list (place_of row.copies id)) row.window.placed
 
-      module _ (fault : Fault) (v : WorkVerdict) (is : read_verdict k answer ≡ v) (back : read_back k.copy v ≡ (lost fault k).copy) (nothing : bytes_brought view x (judged.Answer number v) reply.Ok ≡ None) where
-        lost_bytes : (q : ObjectId) (y : Kept) (f : Extent) → at (changed (lost fault) row.copies id) q ≡ Some y → extent_of y.copy ≡ Some f
+      module _ (fault : Fault) (v : WorkVerdict) (is : view_read_verdict k answer ≡ v) (back : read_back k.copy v ≡ (after_failed_restore fault k).copy) (nothing : bytes_brought view x (judged.Answer number v) reply.Ok ≡ None) where
+        lost_bytes : (q : ObjectId) (y : CopyView) (f : Extent) → at (changed (after_failed_restore fault) row.copies id) q ≡ Some y → extent_of y.copy ≡ Some f
             → filled (at (brought contents.bytes (bytes_brought view x (judge node view x) reply.Ok)) q) y.copy ≡ take y.copy.length (placed_bytes f placed_left)
         lost_bytes q y f there in_f = by (was_one q y there).0 (was_one q y there).1 (was_one q y there).2
           where
-            was_one : (q : ObjectId) (y : Kept) → at (changed (lost fault) row.copies id) q ≡ Some y → (z : Kept) × (at row.copies q ≡ Some z) × From (lost fault) row.copies id q y z
-            was_one = from_changed (lost fault) row.copies id k found
+            was_one : (q : ObjectId) (y : CopyView) → at (changed (after_failed_restore fault) row.copies id) q ≡ Some y → (z : CopyView) × (at row.copies q ≡ Some z) × From (after_failed_restore fault) row.copies id q y z
+            was_one = from_changed (after_failed_restore fault) row.copies id k found
 
-            by : (z : Kept) → at row.copies q ≡ Some z → From (lost fault) row.copies id q y z
+            by : (z : CopyView) → at row.copies q ≡ Some z → From (after_failed_restore fault) row.copies id q y z
                 → filled (at (brought contents.bytes (bytes_brought view x (judge node view x) reply.Ok)) q) y.copy ≡ take y.copy.length (placed_bytes f placed_left)
-            by z e (inl t) = none_some f (sym (ap (λ (y : Kept). extent_of y.copy) t.1) ∙ in_f)
+            by z e (inl t) = none_some f (sym (ap (λ (y : CopyView). extent_of y.copy) t.1) ∙ in_f)
             by z e (inr t) =
-                let at_f : extent_of z.copy ≡ Some f = ap (λ (y : Kept). extent_of y.copy) (sym t.1) ∙ in_f in
+                let at_f : extent_of z.copy ≡ Some f = ap (λ (y : CopyView). extent_of y.copy) (sym t.1) ∙ in_f in
                 ap (λ v. filled (at (brought contents.bytes (bytes_brought view x (judged.Answer number v) reply.Ok)) q) y.copy) (read_judged ∙ is)
                 ∙ ap (λ b. filled (at (brought contents.bytes b) q) y.copy) nothing
-                ∙ ap (λ (y : Kept). filled (at contents.bytes q) y.copy) t.1
+                ∙ ap (λ (y : CopyView). filled (at contents.bytes q) y.copy) t.1
                 ∙ same_bytes node row beside contents h x q z f e at_f
                 ∙ ap (λ o. take z.copy.length (unwrap_or o [])) (sym (found_left row.window.placed row.copies placed id q f (same_flip t.0) (place_found row.copies q z e ∙ at_f)))
-                ∙ ap (λ (y : Kept). take y.copy.length (placed_bytes f placed_left)) (sym t.1)
+                ∙ ap (λ (y : CopyView). take y.copy.length (placed_bytes f placed_left)) (sym t.1)
               where
                 same_flip : same_id q id ≡ false → same_id id q ≡ false
                 same_flip other = same_id-flip id q ∙ other
 
-        lost_ends : Ends (lost fault) row.spill_failed placed_left
+        lost_ends : Ends (after_failed_restore fault) row.spill_failed placed_left
         lost_ends = record {
           free = refl;
           granted = refl;
@@ -486,13 +486,13 @@ module _ (node : ℕ) (row : Row) (beside : Beside) (contents : Contents) (h : I
           bytes = lost_bytes;
           looked = rest;
           is = read_change v is ∙ ap (λ copy. erasing rest (done (settled (set_copy rest id copy) id))) back;
-          none_gone = keys_with s.copies id (lost fault k).copy;
-          one_gone = key_removed s.copies id k.copy (lost fault k).copy sorted found_copy;
+          none_gone = keys_with s.copies id (after_failed_restore fault k).copy;
+          one_gone = key_removed s.copies id k.copy (after_failed_restore fault k).copy sorted found_copy;
           placed = lost_placed row.window.placed row.copies placed id fault;
         }
 
-        pub lost_done : TakesStep node row beside contents x (record { reply = reply.Ok; posts = []; erased = keys_settled (lost_row fault row id) id }) (settled_row (lost_row fault row id) id) after
-        lost_done = ended_so (lost fault) row.spill_failed placed_left lost_ends
+        pub lost_done : RowStep node row beside contents x (record { reply = reply.Ok; posts = []; erased = keys_settled (lost_row fault row id) id }) (settled_row (lost_row fault row id) id) after
+        lost_done = ended_so (after_failed_restore fault) row.spill_failed placed_left lost_ends
 
       -- ---- that brought its bytes
 
@@ -509,8 +509,8 @@ module _ (node : ℕ) (row : Row) (beside : Beside) (contents : Contents) (h : I
         abbrev placed_full : List (ℕ × List ℕ)
         placed_full = set_value (nat_eq e.offset) row.window.placed (overwritten old_bytes 0 bytes)
 
-        fine : read_verdict k answer ≡ work.Fine
-        fine = ap (read_verdict k) brought_are ∙ ap (λ b. cond b work.Fine work.Damaged) own
+        fine : view_read_verdict k answer ≡ work.Fine
+        fine = ap (view_read_verdict k) brought_are ∙ ap (λ b. cond b work.Fine work.Damaged) own
 
         brings : bytes_brought view x (judge node view x) reply.Ok ≡ Some (id, bytes)
         brings =
@@ -525,37 +525,37 @@ module _ (node : ℕ) (row : Row) (beside : Beside) (contents : Contents) (h : I
         here : take k.copy.length (overwritten old_bytes 0 bytes) ≡ bytes
         here = ap (λ n. take n (overwritten old_bytes 0 bytes)) (sym long) ∙ take-append_seam bytes (drop (0 + length bytes) old_bytes)
 
-        full_bytes : (q : ObjectId) (y : Kept) (f : Extent) → at (changed restored row.copies id) q ≡ Some y → extent_of y.copy ≡ Some f
+        full_bytes : (q : ObjectId) (y : CopyView) (f : Extent) → at (changed after_restore row.copies id) q ≡ Some y → extent_of y.copy ≡ Some f
             → filled (at (brought contents.bytes (bytes_brought view x (judge node view x) reply.Ok)) q) y.copy ≡ take y.copy.length (placed_bytes f placed_full)
         full_bytes q y f there in_f =
             ap (λ b. filled (at (brought contents.bytes b) q) y.copy) brings
             ∙ ap (λ o. filled o y.copy) (at-put contents.bytes id bytes q)
             ∙ by (was_one q y there).0 (was_one q y there).1 (was_one q y there).2
           where
-            was_one : (q : ObjectId) (y : Kept) → at (changed restored row.copies id) q ≡ Some y → (z : Kept) × (at row.copies q ≡ Some z) × From restored row.copies id q y z
-            was_one = from_changed restored row.copies id k found
+            was_one : (q : ObjectId) (y : CopyView) → at (changed after_restore row.copies id) q ≡ Some y → (z : CopyView) × (at row.copies q ≡ Some z) × From after_restore row.copies id q y z
+            was_one = from_changed after_restore row.copies id k found
 
-            by : (z : Kept) → at row.copies q ≡ Some z → From restored row.copies id q y z
+            by : (z : CopyView) → at row.copies q ≡ Some z → From after_restore row.copies id q y z
                 → filled (cond (same_id q id) (Some bytes) (at contents.bytes q)) y.copy ≡ take y.copy.length (placed_bytes f placed_full)
             by z is (inl t) =
                 let z_is : z ≡ k = some_value z k (sym is ∙ ap (at row.copies) (same_id-equal q id t.0) ∙ found) in
-                let y_is : y ≡ restored k = t.1 ∙ ap restored z_is in
-                let f_is : f ≡ e = some_value f e (sym in_f ∙ ap (λ (y : Kept). extent_of y.copy) y_is ∙ lies) in
+                let y_is : y ≡ after_restore k = t.1 ∙ ap after_restore z_is in
+                let f_is : f ≡ e = some_value f e (sym in_f ∙ ap (λ (y : CopyView). extent_of y.copy) y_is ∙ lies) in
                 ap (λ b. filled (cond b (Some bytes) (at contents.bytes q)) y.copy) t.0
-                ∙ sym (ap (λ (y : Kept). take y.copy.length (placed_bytes f placed_full)) y_is
+                ∙ sym (ap (λ (y : CopyView). take y.copy.length (placed_bytes f placed_full)) y_is
                 ∙ ap (λ g. take k.copy.length (placed_bytes g placed_full)) f_is
                 ∙ ap (take k.copy.length) (bytes-written row.window.placed e (placed.there id e is_place) (overwritten old_bytes 0 bytes))
                 ∙ here)
             by z is (inr t) =
-                let at_f : extent_of z.copy ≡ Some f = ap (λ (y : Kept). extent_of y.copy) (sym t.1) ∙ in_f in
+                let at_f : extent_of z.copy ≡ Some f = ap (λ (y : CopyView). extent_of y.copy) (sym t.1) ∙ in_f in
                 ap (λ b. filled (cond b (Some bytes) (at contents.bytes q)) y.copy) t.0
-                ∙ ap (λ (y : Kept). filled (at contents.bytes q) y.copy) t.1
+                ∙ ap (λ (y : CopyView). filled (at contents.bytes q) y.copy) t.1
                 ∙ same_bytes node row beside contents h x q z f is at_f
                 ∙ ap (take z.copy.length) (sym (bytes-other row.window.placed e (placed.there id e is_place) (overwritten old_bytes 0 bytes) f (λ same.
                 true_false (sym t.0 ∙ ap (λ p. same_id p id) (sym (placed.apart id q e f is_place (place_found row.copies q z is ∙ at_f) same)) ∙ same_id-itself id))))
-                ∙ ap (λ (y : Kept). take y.copy.length (placed_bytes f placed_full)) (sym t.1)
+                ∙ ap (λ (y : CopyView). take y.copy.length (placed_bytes f placed_full)) (sym t.1)
 
-        full_ends : Ends restored row.spill_failed placed_full
+        full_ends : Ends after_restore row.spill_failed placed_full
         full_ends = record {
           free = refl;
           granted = refl;
@@ -564,32 +564,32 @@ module _ (node : ℕ) (row : Row) (beside : Beside) (contents : Contents) (h : I
           bytes = full_bytes;
           looked = rest;
           is = read_change work.Fine fine;
-          none_gone = keys_with s.copies id (restored k).copy;
-          one_gone = key_removed s.copies id k.copy (restored k).copy sorted found_copy;
+          none_gone = keys_with s.copies id (after_restore k).copy;
+          one_gone = key_removed s.copies id k.copy (after_restore k).copy sorted found_copy;
           placed = changed_placed placed_full row.copies
               (written_placed row.window.placed (place_of row.copies) placed id e is_place (overwritten old_bytes 0 bytes) (length-overwritten old_bytes 0 bytes (omega (arith, long_old, within)) ∙ long_old))
-              restored (λ z. refl) id;
+              after_restore (λ z. refl) id;
         }
 
-        full_done : TakesStep node row beside contents x (record { reply = reply.Ok; posts = []; erased = keys_settled (refilled e bytes row id) id }) (settled_row (refilled e bytes row id) id) after
-        full_done = ended_so restored row.spill_failed placed_full full_ends
+        full_done : RowStep node row beside contents x (record { reply = reply.Ok; posts = []; erased = keys_settled (refilled e bytes row id) id }) (settled_row (refilled e bytes row id) id) after
+        full_done = ended_so after_restore row.spill_failed placed_full full_ends
 
       abbrev Taken : Row → Type 0
-      Taken r = TakesStep node row beside contents x (record { reply = reply.Ok; posts = []; erased = keys_settled r id }) (settled_row r id) after
+      Taken r = RowStep node row beside contents x (record { reply = reply.Ok; posts = []; erased = keys_settled r id }) (settled_row r id) after
 
       -- the verdict brings nothing
       brings_none : (a : DeviceAnswer) (v : WorkVerdict) → answer ≡ a → bytes_brought view (input.Answer number a) (judged.Answer number v) reply.Ok ≡ None → bytes_brought view x (judged.Answer number v) reply.Ok ≡ None
       brings_none a v is none = ap (λ a. bytes_brought view (input.Answer number a) (judged.Answer number v) reply.Ok) is ∙ none
 
       by_answer : (a : DeviceAnswer) → answer ≡ a → Taken (read_row e k a row id)
-      by_answer device.Done is = lost_done DeviceFailed work.Failed (ap (read_verdict k) is) refl (brings_none device.Done work.Failed is refl)
-      by_answer device.Failed is = lost_done DeviceFailed work.Failed (ap (read_verdict k) is) refl (brings_none device.Failed work.Failed is refl)
+      by_answer device.Done is = lost_done DeviceFailed work.Failed (ap (view_read_verdict k) is) refl (brings_none device.Done work.Failed is refl)
+      by_answer device.Failed is = lost_done DeviceFailed work.Failed (ap (view_read_verdict k) is) refl (brings_none device.Failed work.Failed is refl)
       by_answer (device.Bytes bytes) is = by_own (has_bytes k bytes) refl
         where
           by_own : (b : Bool) → has_bytes k bytes ≡ b → Taken (cond b (refilled e bytes row id) (lost_row Damaged row id))
           by_own true own = full_done bytes is own
           by_own false other =
-              lost_done Damaged work.Damaged (ap (read_verdict k) is ∙ ap (λ b. cond b work.Fine work.Damaged) other) refl (brings_none (device.Bytes bytes) work.Damaged is refl)
+              lost_done Damaged work.Damaged (ap (view_read_verdict k) is ∙ ap (λ b. cond b work.Fine work.Damaged) other) refl (brings_none (device.Bytes bytes) work.Damaged is refl)
 
       pub read_done : Taken (read_row e k answer row id)
       read_done = by_answer answer refl
@@ -597,17 +597,17 @@ module _ (node : ℕ) (row : Row) (beside : Beside) (contents : Contents) (h : I
 -- ---- the work that left the line
 
 module _ (node : ℕ) (row : Row) (line after : WorkLine) (hands : List Hand) (bytes : ObjectId → List ℕ) (contents : Contents) (h : IsShown row (beside_of line hands bytes row.job) contents)
-    (number : ℕ) (answer : DeviceAnswer) (asked : Asked) (over : Finishes line (record { 0 = row.job }) number asked after) where
-  abbrev beside : Beside
+    (number : ℕ) (answer : DeviceAnswer) (asked : IoRequest) (over : Finishes line (record { 0 = row.job }) number asked after) where
+  abbrev beside : SharedTables
   beside = beside_of line hands bytes row.job
 
   flying : work_of (shape_of row beside) number ≡ Some (shown asked)
   flying = over.own_work
 
-  has : (k : Kept) × (at row.copies asked.id ≡ Some k)
+  has : (k : CopyView) × (at row.copies asked.id ≡ Some k)
   has = copy_at_work row beside contents h number (shown asked) flying
 
-  abbrev k : Kept
+  abbrev k : CopyView
   k = has.0
 
   after_is : record beside { works = filter (λ v. not (v.number == number)) beside.works } ≡ beside_of after hands bytes row.job
@@ -618,7 +618,7 @@ module _ (node : ℕ) (row : Row) (line after : WorkLine) (hands : List Hand) (b
       used = ap (λ (l : WorkLine). used_by l (record { 0 = row.job })) (sym over.line)
 
   abbrev Finished : Row → Type 0
-  Finished r = TakesStep node row beside contents (input.Answer number answer) (record { reply = reply.Ok; posts = []; erased = keys_settled r asked.id }) (settled_row r asked.id) (beside_of after hands bytes row.job)
+  Finished r = RowStep node row beside contents (input.Answer number answer) (record { reply = reply.Ok; posts = []; erased = keys_settled r asked.id }) (settled_row r asked.id) (beside_of after hands bytes row.job)
 
   abbrev place : Extent
   place = (place_at_work row beside contents h number (shown asked) flying k has.1).0
@@ -627,32 +627,32 @@ module _ (node : ℕ) (row : Row) (line after : WorkLine) (hands : List Hand) (b
   lies_there = (place_at_work row beside contents h number (shown asked) flying k has.1).1
 
   in_work : (kind : WorkKind) → asked.kind ≡ kind → is_in_work asked.kind k ≡ true
-  in_work Write is = ap (λ kind. is_in_work kind k) is ∙ spilling row beside contents h number (shown asked) flying k has.1 (ap is_write is)
-  in_work Read is = ap (λ kind. is_in_work kind k) is ∙ restoring row beside contents h number (shown asked) flying k has.1 (ap is_write is)
+  in_work Write is = ap (λ kind. is_in_work kind k) is ∙ spilling row beside contents h number (shown asked) flying k has.1 (ap is_write_work is)
+  in_work Read is = ap (λ kind. is_in_work kind k) is ∙ restoring row beside contents h number (shown asked) flying k has.1 (ap is_write_work is)
 
   module _ (placed : ArePlaced row.window.placed (place_of row.copies)) (new : Row)
-      (ended : (k : Kept) (e : Extent) → at row.copies asked.id ≡ Some k → extent_of k.copy ≡ Some e → is_in_work asked.kind k ≡ true → new ≡ ended_row asked e k answer row) where
+      (ended : (k : CopyView) (e : Extent) → at row.copies asked.id ≡ Some k → extent_of k.copy ≡ Some e → is_in_work asked.kind k ≡ true → new ≡ ended_row asked e k answer row) where
     new_is : new ≡ ended_row asked place k answer row
     new_is = ended k place has.1 lies_there (in_work asked.kind refl)
 
-    abbrev Ended : Beside → Row → Type 0
-    Ended b r = TakesStep node row beside contents (input.Answer number answer) (record { reply = reply.Ok; posts = []; erased = keys_settled r asked.id }) (settled_row r asked.id) b
+    abbrev Ended : SharedTables → Row → Type 0
+    Ended b r = RowStep node row beside contents (input.Answer number answer) (record { reply = reply.Ok; posts = []; erased = keys_settled r asked.id }) (settled_row r asked.id) b
 
     by_kind : (kind : WorkKind) → asked.kind ≡ kind → Finished (ended_row (record asked { kind = kind }) place k answer row)
     by_kind Write is =
         subst (λ b. Ended b (written_row asked.number (has_failed (write_verdict answer)) row asked.id)) after_is
-        (write_done node row beside contents h number answer (shown asked) flying k has.1 (ap is_write is) placed)
+        (write_done node row beside contents h number answer (shown asked) flying k has.1 (ap is_write_work is) placed)
     by_kind Read is =
         subst (λ b. Ended b (read_row place k answer row asked.id)) after_is
-        (read_done node row beside contents h number answer (shown asked) flying k has.1 (ap is_write is) placed)
+        (read_done node row beside contents h number answer (shown asked) flying k has.1 (ap is_write_work is) placed)
 
     pub finish_done : Finished new
     finish_done = subst Finished (sym new_is) (by_kind asked.kind refl)
 
   -- what the answer is to the work
-  pub finish_judged : (v : WorkVerdict) → ((k : Kept) → at row.copies asked.id ≡ Some k → is_in_work asked.kind k ≡ true → v ≡ verdict_of asked.kind k answer) → v ≡ work_verdict (seen row beside contents) number answer
+  pub finish_judged : (v : WorkVerdict) → ((k : CopyView) → at row.copies asked.id ≡ Some k → is_in_work asked.kind k ≡ true → v ≡ work_verdict_of asked.kind k answer) → v ≡ work_verdict (seen row beside contents) number answer
   finish_judged v judged = judged k has.1 (in_work asked.kind refl) ∙ by asked.kind refl
     where
-      by : (kind : WorkKind) → asked.kind ≡ kind → verdict_of kind k answer ≡ work_verdict (seen row beside contents) number answer
-      by Write is = sym (write_judged node row beside contents h number answer (shown asked) flying k has.1 (ap is_write is))
-      by Read is = sym (read_judged node row beside contents h number answer (shown asked) flying k has.1 (ap is_write is))
+      by : (kind : WorkKind) → asked.kind ≡ kind → work_verdict_of kind k answer ≡ work_verdict (seen row beside contents) number answer
+      by Write is = sym (write_judged node row beside contents h number answer (shown asked) flying k has.1 (ap is_write_work is))
+      by Read is = sym (read_judged node row beside contents h number answer (shown asked) flying k has.1 (ap is_write_work is))

@@ -18,35 +18,35 @@ use Rattle.obj_id.specs.Ids.{id_cmp, same_id}
 use Rattle.store_facts.proofs.Ids.{id_cmp-IsTotalOrder, id_cmp-IsAntisymmetric, same_id-equal}
 use Rattle.private_store.specs.declared.inputs.Input.{Input}
 use Rattle.private_store.specs.declared.inputs.Input.TheVariants as input
-use Rattle.private_store.specs.Tables.{ById, at, with_entry, is_among}
-use Rattle.private_store.specs.Shape.{Copy, Shape, Change, Fetch, Phase, locating, sized, pulling, failed, Sending}
-use Rattle.private_store.specs.Copies.{extent_of}
-use Rattle.private_store.specs.Room.{set_copy}
-use Rattle.private_store.specs.Change.{done, erasing}
-use Rattle.private_store.specs.Step.{if_live}
-use Rattle.private_store.specs.Events.{is_live, fetch_of, located_copy}
-use Rattle.private_store.specs.Events as events
-use Rattle.private_store.specs.Contents.{Contents, View, judge, source_in, entry_elsewhere, is_locating, is_sized, keeps_digest, no_digest, bytes_brought, digest_brought, brought, bytes_received}
-use Rattle.private_store.specs.Private.{Post, posts_of, view_after}
-use Rattle.private_store.specs.Kept.{has_hand, is_fetching, is_pulling, has_extent}
+use Rattle.private_store.specs.rules.Tables.{ById, at, with_entry, is_among}
+use Rattle.private_store.specs.rules.Shape.{Copy, Shape, Change, Fetch, Phase, locating, sized, pulling, failed, Sending}
+use Rattle.private_store.specs.rules.Copies.{extent_of}
+use Rattle.private_store.specs.rules.Room.{set_copy}
+use Rattle.private_store.specs.rules.Change.{done, erasing}
+use Rattle.private_store.specs.rules.Step.{if_live}
+use Rattle.private_store.specs.rules.Events.{is_live, fetch_of, located_copy}
+use Rattle.private_store.specs.rules.Events as events
+use Rattle.private_store.specs.rules.Contents.{Contents, View, judge, source_in, entry_elsewhere, is_locating, is_sized, keeps_digest, no_digest, bytes_brought, digest_brought, brought, bytes_received}
+use Rattle.private_store.specs.rules.Private.{Post, posts_of, view_after}
+use Rattle.private_store.specs.laws.Invariants.{has_hand, is_fetching, is_pulling, has_extent}
 use Rattle.store_facts.proofs.Checks.{checked-false, checked-nil}
 use Rattle.store_facts.proofs.Filling.{filled}
 use Rattle.store_facts.proofs.ErasedKeys.{keys_none, all_found}
 use Rattle.store_facts.proofs.Rows.{at-put, at-put_here}
 use Rattle.store_facts.proofs.Tests.{none_some, some_value, true_false, false_true, T_true, both_left, both_right, none_here}
-use Rattle.job_region.specs.Region.{bytes_at as placed_bytes}
+use Rattle.job_region.specs.Region.{region_bytes_at as placed_bytes}
 use Rattle.lru_evictor.specs.Orders.{AreThere}
 use Rattle.lru_evictor.proofs.ForCallers.{reordered-unused}
-use Rattle.node_table.specs.Arriving.{awaits_source, in_phase, located, sourced}
+use Rattle.node_table.specs.Arriving.{awaits_source, in_phase, after_located, after_source}
 use Rattle.node_table.specs.Entries.{changed}
-use Rattle.node_table.specs.Kept.{Kept}
-use Rattle.node_table.specs.Row.{Row, Beside, copies_of, shape_of}
+use Rattle.node_table.specs.CopyViews.{CopyView}
+use Rattle.node_table.specs.Row.{Row, SharedTables, copies_of, shape_of}
 use Rattle.node_table.specs.Scope.{with_copy}
-use Rattle.node_table.specs.Shown.{seen, work_on, IsShown, Given, only, TakesStep}
+use Rattle.node_table.specs.Shown.{seen, work_on, IsShown, RowGiven, only, RowStep}
 use Rattle.node_table.proofs.Changes.{changed-found, changed-absent}
 use Rattle.node_table.proofs.Changing.{there_with}
 use Rattle.node_table.proofs.CopyTables.{at-copies_none, at-copies_found, copies-changed, sorted-copies}
-use Rattle.node_table.proofs.Stepping.{Moves, moved, change, stays, same_bytes, bytes_now, digests_now, received_stays}
+use Rattle.node_table.proofs.Stepping.{TakesChange, moved, change, stays, same_bytes, bytes_now, digests_now, received_stays}
 
 -- a table with an entry that it has
 pub put_same : {X : Type 0} (es : ById X) (id : ObjectId) (x : X) → T (is_sorted id_cmp es) → at es id ≡ Some x → with_entry es id x ≡ es
@@ -62,13 +62,13 @@ put_same es id x sorted found =
 
 -- the row has a fetch of this number for the object
 pub record IsOf (row : Row) (id : ObjectId) (number : ℕ) : Type 0 where
-  pub k : Kept
+  pub k : CopyView
   pub fetch : Fetch
   pub found : at row.copies id ≡ Some k
   pub fetched : k.copy.fetch ≡ Some fetch
   pub numbered : (fetch.number == number) ≡ true
 
-module _ (row : Row) (beside : Beside) (id : ObjectId) (number : ℕ) where
+module _ (row : Row) (beside : SharedTables) (id : ObjectId) (number : ℕ) where
   abbrev by_number : Copy → Option Fetch → Option (Copy × Fetch)
   by_number copy o = option_and_then (λ (fetch : Fetch). cond (fetch.number == number) (Some (copy, fetch)) None) o
 
@@ -83,17 +83,17 @@ module _ (row : Row) (beside : Beside) (id : ObjectId) (number : ℕ) where
   pub fetch_case : (fetch_of (shape_of row beside) id number ≡ None) ⊎ IsOf row id number
   fetch_case = of_copy (at row.copies id) refl
     where
-      of_number : (k : Kept) → at row.copies id ≡ Some k → (fetch : Fetch) → k.copy.fetch ≡ Some fetch → (b : Bool) → (fetch.number == number) ≡ b
+      of_number : (k : CopyView) → at row.copies id ≡ Some k → (fetch : Fetch) → k.copy.fetch ≡ Some fetch → (b : Bool) → (fetch.number == number) ≡ b
           → (fetch_of (shape_of row beside) id number ≡ None) ⊎ IsOf row id number
       of_number k found fetch fetched true n = inr (record { k = k; fetch = fetch; found = found; fetched = fetched; numbered = n })
       of_number k found fetch fetched false n =
           inl (ap by_copy (at-copies_found row.copies id k found) ∙ ap (by_number k.copy) fetched ∙ ap (λ b. cond b (Some (k.copy, fetch)) None) n)
 
-      of_fetch : (k : Kept) → at row.copies id ≡ Some k → (o : Option Fetch) → k.copy.fetch ≡ o → (fetch_of (shape_of row beside) id number ≡ None) ⊎ IsOf row id number
+      of_fetch : (k : CopyView) → at row.copies id ≡ Some k → (o : Option Fetch) → k.copy.fetch ≡ o → (fetch_of (shape_of row beside) id number ≡ None) ⊎ IsOf row id number
       of_fetch k found None none = inl (ap by_copy (at-copies_found row.copies id k found) ∙ ap (by_number k.copy) none)
       of_fetch k found (Some fetch) fetched = of_number k found fetch fetched (fetch.number == number) refl
 
-      of_copy : (o : Option Kept) → at row.copies id ≡ o → (fetch_of (shape_of row beside) id number ≡ None) ⊎ IsOf row id number
+      of_copy : (o : Option CopyView) → at row.copies id ≡ o → (fetch_of (shape_of row beside) id number ≡ None) ⊎ IsOf row id number
       of_copy None none = inl (ap by_copy (at-copies_none row.copies id none))
       of_copy (Some k) found = of_fetch k found k.copy.fetch refl
 
@@ -101,7 +101,7 @@ pub numbers_turn : (a b : ℕ) → (a == b) ≡ true → (b == a) ≡ true
 numbers_turn a b e = grind (arith, nat_tests, e)
 
 -- what is in a fetch is Fetching
-module _ (row : Row) (beside : Beside) (contents : Contents) (h : IsShown row beside contents) (id : ObjectId) (k : Kept) (found : at row.copies id ≡ Some k) (fetch : Fetch) (fetched : k.copy.fetch ≡ Some fetch) where
+module _ (row : Row) (beside : SharedTables) (contents : Contents) (h : IsShown row beside contents) (id : ObjectId) (k : CopyView) (found : at row.copies id ≡ Some k) (fetch : Fetch) (fetched : k.copy.fetch ≡ Some fetch) where
   pub is_on_way : is_fetching k.copy.state ≡ true
   is_on_way = sym (h.kept.kept.shape.each id k.copy (at-copies_found row.copies id k found)).in_fetch ∙ ap is_some fetched
 
@@ -118,7 +118,7 @@ module _ (row : Row) (beside : Beside) (contents : Contents) (h : IsShown row be
 
 -- ---- the step
 
-module _ (node : ℕ) (row : Row) (beside : Beside) (contents : Contents) (h : IsShown row beside contents) (x : Input) (none : bytes_received x ≡ None) where
+module _ (node : ℕ) (row : Row) (beside : SharedTables) (contents : Contents) (h : IsShown row beside contents) (x : Input) (none : bytes_received x ≡ None) where
   abbrev s : Shape
   s = shape_of row beside
 
@@ -130,12 +130,12 @@ module _ (node : ℕ) (row : Row) (beside : Beside) (contents : Contents) (h : I
 
   -- the message changes nothing
   pub ignored : change node row beside contents h x ≡ done s → bytes_brought (seen row beside contents) x (judge node (seen row beside contents) x) reply.Ok ≡ None → digest_brought node (seen row beside contents) x reply.Ok ≡ None
-      → TakesStep node row beside contents x (only reply.Ok) row beside
+      → RowStep node row beside contents x (only reply.Ok) row beside
   ignored is bytes digests = stays node row beside contents h x reply.Ok (is ∙ done_is) bytes digests none
 
   -- one copy is changed, and perhaps what lies in the window
-  module _ (id : ObjectId) (k : Kept) (found : at row.copies id ≡ Some k) (f : Kept → Kept) (placed : List (ℕ × List ℕ)) (sent : List Sending) (posts : List Post) where
-    abbrev now : Kept
+  module _ (id : ObjectId) (k : CopyView) (found : at row.copies id ≡ Some k) (f : CopyView → CopyView) (placed : List (ℕ × List ℕ)) (sent : List Sending) (posts : List Post) where
+    abbrev now : CopyView
     now = f k
 
     abbrev pub row_now : Row
@@ -144,12 +144,12 @@ module _ (node : ℕ) (row : Row) (beside : Beside) (contents : Contents) (h : I
     abbrev pub c : Change
     c = record (done (set_copy s id now.copy)) { sent = sent }
 
-    abbrev pub told : Given
+    abbrev pub told : RowGiven
     told = record { reply = reply.Ok; posts = posts; erased = [] }
 
     -- what is so of the changed copy, and of the others, is so of each
-    each_now : (P : ObjectId → Kept → Type 0) → P id now → ((q : ObjectId) (z : Kept) → same_id q id ≡ false → at row.copies q ≡ Some z → P q z)
-        → (q : ObjectId) (y : Kept) → at row_now.copies q ≡ Some y → P q y
+    each_now : (P : ObjectId → CopyView → Type 0) → P id now → ((q : ObjectId) (z : CopyView) → same_id q id ≡ false → at row.copies q ≡ Some z → P q z)
+        → (q : ObjectId) (y : CopyView) → at row_now.copies q ≡ Some y → P q y
     each_now P here others q y is = by (same_id q id) refl (sym (at-put row.copies id now q) ∙ ap (λ t. at t q) (sym (changed-found f id row.copies k found)) ∙ is)
       where
         by : (b : Bool) → same_id q id ≡ b → cond b (Some now) (at row.copies q) ≡ Some y → P q y
@@ -161,10 +161,10 @@ module _ (node : ℕ) (row : Row) (beside : Beside) (contents : Contents) (h : I
 
     module _ (working : now.working ≡ k.working) (granted : now.granted ≡ k.granted)
         (here : (e : Extent) → extent_of now.copy ≡ Some e → filled (at (bytes_now node row beside contents h x c) id) now.copy ≡ take now.copy.length (placed_bytes e placed))
-        (elsewhere : (q : ObjectId) (z : Kept) (e : Extent) → same_id q id ≡ false → at row.copies q ≡ Some z → extent_of z.copy ≡ Some e → filled (at (bytes_now node row beside contents h x c) q) z.copy ≡ take z.copy.length (placed_bytes e placed))
+        (elsewhere : (q : ObjectId) (z : CopyView) (e : Extent) → same_id q id ≡ false → at row.copies q ≡ Some z → extent_of z.copy ≡ Some e → filled (at (bytes_now node row beside contents h x c) q) z.copy ≡ take z.copy.length (placed_bytes e placed))
         (digest : keeps_digest now.copy ≡ true → unwrap_or (at (digests_now node row beside contents h x c) id) no_digest ≡ unwrap_or now.digest no_digest)
         (digests : (q : ObjectId) → same_id q id ≡ false → at (digests_now node row beside contents h x c) q ≡ at contents.digests q) where
-      pub arrives : Moves node row beside contents h x c told row_now beside
+      pub arrives : TakesChange node row beside contents h x c told row_now beside
       arrives = record {
         shape = ap (λ t. record s { copies = t }) (sym (copies-changed f row.copies id k found));
         order = sym (reordered-unused row.order (copies_of row_now.copies) there_now);
@@ -182,7 +182,7 @@ module _ (node : ℕ) (row : Row) (beside : Beside) (contents : Contents) (h : I
         erased = refl;
       }
 
-      pub arrived : change node row beside contents h x ≡ c → ((o : View) → posts ≡ flat_map (posts_of node o x) sent) → TakesStep node row beside contents x told row_now beside
+      pub arrived : change node row beside contents h x ≡ c → ((o : View) → posts ≡ flat_map (posts_of node o x) sent) → RowStep node row beside contents x told row_now beside
       arrived is posted = moved node row beside contents h x c is told row_now beside arrives (posted (view_after node (seen row beside contents) x (judge node (seen row beside contents) x) c))
 
 -- ---- the directory's answer
@@ -202,7 +202,7 @@ none_is : {A : Type 0} (o : Option A) → is_none o ≡ true → o ≡ None
 none_is None e = refl
 none_is (Some a) e = true_false e
 
-awaits_parts : (number : ℕ) (k : Kept) → awaits_source number k ≡ true
+awaits_parts : (number : ℕ) (k : CopyView) → awaits_source number k ≡ true
     → (is_none k.copy.offset ≡ true) × (option_map_or (λ (fetch : Fetch). fetch.number == number && is_locating fetch.phase) k.copy.fetch false ≡ true)
 awaits_parts number k e = (both_right (is_fetching k.copy.state) (is_none k.copy.offset) (both_left waits begun e), both_right waits begun e)
   where
@@ -212,7 +212,7 @@ awaits_parts number k e = (both_right (is_fetching k.copy.state) (is_none k.copy
     waits : Bool
     waits = is_fetching k.copy.state && is_none k.copy.offset
 
-pub awaited : (row : Row) (id : ObjectId) (number : ℕ) (k : Kept) → at row.copies id ≡ Some k → awaits_source number k ≡ true → IsAwaited row id number
+pub awaited : (row : Row) (id : ObjectId) (number : ℕ) (k : CopyView) → at row.copies id ≡ Some k → awaits_source number k ≡ true → IsAwaited row id number
 awaited row id number k found e = by k.copy.fetch refl (awaits_parts number k e).1
   where
     by : (o : Option Fetch) → k.copy.fetch ≡ o → option_map_or (λ (fetch : Fetch). fetch.number == number && is_locating fetch.phase) o false ≡ true → IsAwaited row id number
@@ -224,22 +224,22 @@ awaited row id number k found e = by k.copy.fetch refl (awaits_parts number k e)
     }
 
 -- where it lies doesn't change
-pub located-place : (node number : ℕ) (entries : List Location) (z : Kept) → extent_of (located node number entries z).copy ≡ extent_of z.copy
+pub located-place : (node number : ℕ) (entries : List Location) (z : CopyView) → extent_of (after_located node number entries z).copy ≡ extent_of z.copy
 located-place node number entries z = by (awaits_source number z) refl
   where
     of_none : (o : Option ℕ) (n : ℕ) → is_none o ≡ true → extent_of (record z.copy { offset = o; length = n }) ≡ extent_of (record z.copy { offset = o })
     of_none None n e = refl
     of_none (Some offset) n e = true_false e
 
-    by_entry : (o : Option Location) → is_none z.copy.offset ≡ true → extent_of (sourced o z).copy ≡ extent_of z.copy
+    by_entry : (o : Option Location) → is_none z.copy.offset ≡ true → extent_of (after_source o z).copy ≡ extent_of z.copy
     by_entry None e = refl
     by_entry (Some entry) e = of_none z.copy.offset entry.length e
 
-    by : (b : Bool) → awaits_source number z ≡ b → extent_of (cond b (sourced (entry_elsewhere node entries) z) z).copy ≡ extent_of z.copy
+    by : (b : Bool) → awaits_source number z ≡ b → extent_of (cond b (after_source (entry_elsewhere node entries) z) z).copy ≡ extent_of z.copy
     by true e = by_entry (entry_elsewhere node entries) (awaits_parts number z e).0
     by false e = refl
 
-module _ (node : ℕ) (row : Row) (beside : Beside) (contents : Contents) (h : IsShown row beside contents) (id : ObjectId) (number : ℕ) (entries : List Location) where
+module _ (node : ℕ) (row : Row) (beside : SharedTables) (contents : Contents) (h : IsShown row beside contents) (id : ObjectId) (number : ℕ) (entries : List Location) where
   abbrev y : Input
   y = input.Arrive (arrival.Located id number entries)
 
@@ -262,7 +262,7 @@ module _ (node : ℕ) (row : Row) (beside : Beside) (contents : Contents) (h : I
   step_is o e = live_is node row beside contents h y refl (events.located t id number (source_in node entries)) ∙ ap of_fetch e
 
   -- of no fetch, or of one whose source is known
-  late : (o : Option (Copy × Fetch)) → fetch_of t id number ≡ o → of_fetch o ≡ done t → digest_of_fetch o ≡ None → TakesStep node row beside contents y (only reply.Ok) row beside
+  late : (o : Option (Copy × Fetch)) → fetch_of t id number ≡ o → of_fetch o ≡ done t → digest_of_fetch o ≡ None → RowStep node row beside contents y (only reply.Ok) row beside
   late o e same none = ignored node row beside contents h y refl (step_is o e ∙ same) refl (ap digest_of_fetch e ∙ none)
 
   awaits_is : (of : IsOf row id number) → of.fetch.phase ≡ locating → awaits_source number of.k ≡ true
@@ -273,29 +273,29 @@ module _ (node : ℕ) (row : Row) (beside : Beside) (contents : Contents) (h : I
       none_so : is_none of.k.copy.offset ≡ true
       none_so = ap is_none (none_here of.k.copy.offset (resides row beside contents h id of.k of.found of.fetch of.fetched ∙ ap is_pulling at_begin))
 
-  not_awaited : option_map_or (awaits_source number) (at row.copies id) false ≡ false → TakesStep node row beside contents y (only reply.Ok) row beside
+  not_awaited : option_map_or (awaits_source number) (at row.copies id) false ≡ false → RowStep node row beside contents y (only reply.Ok) row beside
   not_awaited e = elim (fetch_case row beside id number) [ inl none ↦ late None none refl refl | inr of ↦ by of of.fetch.phase refl ]
     where
-      by : (of : IsOf row id number) (p : Phase) → of.fetch.phase ≡ p → TakesStep node row beside contents y (only reply.Ok) row beside
+      by : (of : IsOf row id number) (p : Phase) → of.fetch.phase ≡ p → RowStep node row beside contents y (only reply.Ok) row beside
       by of locating is = false_true (sym (awaits_is of is) ∙ sym (ap (λ o. option_map_or (awaits_source number) o false) of.found) ∙ e)
       by of (sized source) is = late (Some (of.k.copy, of.fetch)) (fetch_is row beside id number of) (ap (by_phase of.k.copy of.fetch) is) (ap (λ p. cond (is_locating p) (option_map (λ (entry : Location). (id, entry.digest)) entry) None) is)
       by of (pulling source missing) is = late (Some (of.k.copy, of.fetch)) (fetch_is row beside id number of) (ap (by_phase of.k.copy of.fetch) is) (ap (λ p. cond (is_locating p) (option_map (λ (entry : Location). (id, entry.digest)) entry) None) is)
       by of (failed fault) is = late (Some (of.k.copy, of.fetch)) (fetch_is row beside id number of) (ap (by_phase of.k.copy of.fetch) is) (ap (λ p. cond (is_locating p) (option_map (λ (entry : Location). (id, entry.digest)) entry) None) is)
 
   module _ (a : IsAwaited row id number) (awaits : awaits_source number a.of.k ≡ true) where
-    abbrev k : Kept
+    abbrev k : CopyView
     k = a.of.k
 
-    abbrev f : Kept → Kept
-    f z = located node number entries z
+    abbrev f : CopyView → CopyView
+    f z = after_located node number entries z
 
-    now_is : f k ≡ sourced entry k
-    now_is = ap (λ b. cond b (sourced entry k) k) awaits
+    now_is : f k ≡ after_source entry k
+    now_is = ap (λ b. cond b (after_source entry k) k) awaits
 
     abbrev moved_to : Change
     moved_to = done (set_copy t id (f k).copy)
 
-    copy_is : (o : Option Location) → located_copy k.copy a.of.fetch (option_map (λ (e : Location). record { node = e.node; length = e.length }) o) ≡ (sourced o k).copy
+    copy_is : (o : Option Location) → located_copy k.copy a.of.fetch (option_map (λ (e : Location). record { node = e.node; length = e.length }) o) ≡ (after_source o k).copy
     copy_is None = ap (λ p. record k.copy { fetch = in_phase (failed Absent) p }) (sym a.of.fetched)
     copy_is (Some e) = ap (λ p. record k.copy { length = e.length; fetch = in_phase (sized e.node) p }) (sym a.of.fetched)
 
@@ -310,17 +310,17 @@ module _ (node : ℕ) (row : Row) (beside : Beside) (contents : Contents) (h : I
     digest_is : digest_brought node (seen row beside contents) y reply.Ok ≡ brings entry
     digest_is = ap digest_of_fetch (fetch_is row beside id number a.of) ∙ ap (λ p. cond (is_locating p) (brings entry) None) a.at_begin
 
-    nowhere_now : (o : Option Location) → (sourced o k).copy.offset ≡ None
+    nowhere_now : (o : Option Location) → (after_source o k).copy.offset ≡ None
     nowhere_now None = a.nowhere
     nowhere_now (Some e) = a.nowhere
 
     no_extent : (copy : Copy) (e : Extent) → copy.offset ≡ None → extent_of copy ≡ Some e → ◌≡◌ {A = Option Extent} None (Some e)
     no_extent copy e none lies = sym (ap (λ p. extent_of (record copy { offset = p })) none) ∙ lies
 
-    digest_now : (o : Option Location) → keeps_digest (sourced o k).copy ≡ true → unwrap_or (at (brought contents.digests (brings o)) id) no_digest ≡ unwrap_or (sourced o k).digest no_digest
+    digest_now : (o : Option Location) → keeps_digest (after_source o k).copy ≡ true → unwrap_or (at (brought contents.digests (brings o)) id) no_digest ≡ unwrap_or (after_source o k).digest no_digest
     digest_now None keeps = true_false (sym (gone k.copy.state (is_on_way row beside contents h id k a.of.found a.of.fetch a.of.fetched)) ∙ keeps)
       where
-        gone : (st : CopyState) → is_fetching st ≡ true → keeps_digest (record (sourced None k).copy { state = st }) ≡ false
+        gone : (st : CopyState) → is_fetching st ≡ true → keeps_digest (record (after_source None k).copy { state = st }) ≡ false
         gone Fetching e = ap (λ p. option_map_or (λ (fetch : Fetch). is_sized fetch.phase) (in_phase (failed Absent) p) false) a.of.fetched
         gone Created e = true_false e
         gone Sealed e = true_false e
@@ -332,11 +332,11 @@ module _ (node : ℕ) (row : Row) (beside : Beside) (contents : Contents) (h : I
     digests_other None q differs = refl
     digests_other (Some e) q differs = at-put contents.digests id e.digest q ∙ ap (λ b. cond b (Some e.digest) (at contents.digests q)) differs
 
-    same_marks : (o : Option Location) → ((sourced o k).working ≡ k.working) × ((sourced o k).granted ≡ k.granted)
+    same_marks : (o : Option Location) → ((after_source o k).working ≡ k.working) × ((after_source o k).granted ≡ k.granted)
     same_marks None = (refl, refl)
     same_marks (Some e) = (refl, refl)
 
-    takes : TakesStep node row beside contents y (only reply.Ok) (with_copy f row id) beside
+    takes : RowStep node row beside contents y (only reply.Ok) (with_copy f row id) beside
     takes =
         arrived node row beside contents h y refl id k a.of.found f row.window.placed [] []
         (ap (λ z. z.working) now_is ∙ (same_marks entry).0) (ap (λ z. z.granted) now_is ∙ (same_marks entry).1)
@@ -349,26 +349,26 @@ module _ (node : ℕ) (row : Row) (beside : Beside) (contents : Contents) (h : I
         (λ q differs. ap (λ d. at (brought contents.digests d) q) digest_is ∙ digests_other entry q differs)
         change_is (λ o. refl)
 
-  pub located_done : TakesStep node row beside contents y (only reply.Ok) (with_copy (located node number entries) row id) beside
+  pub located_done : RowStep node row beside contents y (only reply.Ok) (with_copy (after_located node number entries) row id) beside
   located_done = by (at row.copies id) refl
     where
-      unchanged : (k : Kept) → at row.copies id ≡ Some k → awaits_source number k ≡ false → with_copy (located node number entries) row id ≡ row
+      unchanged : (k : CopyView) → at row.copies id ≡ Some k → awaits_source number k ≡ false → with_copy (after_located node number entries) row id ≡ row
       unchanged k found e =
           ap (λ t. record row { copies = t })
-          (changed-found (located node number entries) id row.copies k found
-          ∙ ap (λ b. with_entry row.copies id (cond b (sourced entry k) k)) e
+          (changed-found (after_located node number entries) id row.copies k found
+          ∙ ap (λ b. with_entry row.copies id (cond b (after_source entry k) k)) e
           ∙ put_same row.copies id k (subst T (sorted-copies row.copies) (T_true _ h.kept.kept.shape.by_id)) found)
 
-      by_test : (k : Kept) → at row.copies id ≡ Some k → (b : Bool) → awaits_source number k ≡ b → TakesStep node row beside contents y (only reply.Ok) (with_copy (located node number entries) row id) beside
+      by_test : (k : CopyView) → at row.copies id ≡ Some k → (b : Bool) → awaits_source number k ≡ b → RowStep node row beside contents y (only reply.Ok) (with_copy (after_located node number entries) row id) beside
       by_test k found true e =
           let a = awaited row id number k found e in
           takes a (ap (awaits_source number) (some_value a.of.k k (sym a.of.found ∙ found)) ∙ e)
       by_test k found false e =
-          subst (λ r. TakesStep node row beside contents y (only reply.Ok) r beside) (sym (unchanged k found e))
+          subst (λ r. RowStep node row beside contents y (only reply.Ok) r beside) (sym (unchanged k found e))
           (not_awaited (ap (λ o. option_map_or (awaits_source number) o false) found ∙ e))
 
-      by : (o : Option Kept) → at row.copies id ≡ o → TakesStep node row beside contents y (only reply.Ok) (with_copy (located node number entries) row id) beside
+      by : (o : Option CopyView) → at row.copies id ≡ o → RowStep node row beside contents y (only reply.Ok) (with_copy (after_located node number entries) row id) beside
       by None none =
-          subst (λ r. TakesStep node row beside contents y (only reply.Ok) r beside) (sym (ap (λ t. record row { copies = t }) (changed-absent (located node number entries) id row.copies none)))
+          subst (λ r. RowStep node row beside contents y (only reply.Ok) r beside) (sym (ap (λ t. record row { copies = t }) (changed-absent (after_located node number entries) id row.copies none)))
           (not_awaited (ap (λ o. option_map_or (awaits_source number) o false) none))
       by (Some k) found = by_test k found (awaits_source number k) refl

@@ -11,89 +11,89 @@ use Rattle.obj_id.specs.declared.commands.Reply.TheVariants as reply
 use Rattle.obj_id.specs.declared.refusals.Refusal.TheVariants.{Pending}
 use Rattle.obj_id.specs.Ids.{id_cmp, same_id}
 use Rattle.store_facts.proofs.Ids.{id_cmp-IsTotalOrder, id_cmp-IsAntisymmetric, same_id-equal}
-use Rattle.private_store.specs.Limits.{most_works, has_numbers}
-use Rattle.private_store.specs.Tables.{ById, at, with_entry, is_among}
-use Rattle.private_store.specs.Hands.{Hand}
-use Rattle.private_store.specs.Shape.{Copy, Shape, Change, WorkInFlight}
+use Rattle.private_store.specs.rules.Limits.{most_works, has_numbers}
+use Rattle.private_store.specs.rules.Tables.{ById, at, with_entry, is_among}
+use Rattle.private_store.specs.rules.Hands.{Hand}
+use Rattle.private_store.specs.rules.Shape.{Copy, Shape, Change, WorkInFlight}
 use Rattle.private_store.specs.declared.inputs.Input.{Input}
-use Rattle.private_store.specs.Copies.{extent_of, is_working, is_idle, is_spillable}
-use Rattle.private_store.specs.Room.{Room, make_room, no_room, asked}
-use Rattle.private_store.specs.Change.{refused, erasing, in_room}
-use Rattle.private_store.specs.Contents.{Contents, judge, keeps_digest, no_digest, brought}
-use Rattle.private_store.specs.Private.{key_of}
-use Rattle.private_store.specs.Step.{step}
+use Rattle.private_store.specs.rules.Copies.{extent_of, is_working, is_idle, is_spillable}
+use Rattle.private_store.specs.rules.Room.{Room, make_room, no_room, asked}
+use Rattle.private_store.specs.rules.Change.{refused, erasing, in_room}
+use Rattle.private_store.specs.rules.Contents.{Contents, judge, keeps_digest, no_digest, brought}
+use Rattle.private_store.specs.rules.Private.{key_of}
+use Rattle.private_store.specs.rules.Step.{step}
 use Rattle.store_facts.proofs.Filling.{filled}
 use Rattle.store_facts.proofs.ErasedKeys.{keys_none, all_found}
 use Rattle.store_facts.proofs.Rows.{at-put}
 use Rattle.store_facts.proofs.Tests.{T_true, both, both_left, both_right, some_value, none_some, none_here, not_true}
-use Rattle.job_region.specs.Region.{bytes_at as placed_bytes}
+use Rattle.job_region.specs.Region.{region_bytes_at as placed_bytes}
 use Rattle.lru_evictor.specs.Orders.{AreThere}
 use Rattle.lru_evictor.proofs.ForCallers.{reordered-unused}
 use Rattle.spill_work.specs.Line.{WorkLine, numbered_works, in_flight, used_by, room_for, AsksAll}
 use Rattle.node_table.specs.Entries.{changed, each_changed}
-use Rattle.node_table.specs.Kept.{Kept, can_spill, spilling, spilling_if}
-use Rattle.node_table.specs.Row.{Row, Beside, beside_of, copies_of, shape_of}
+use Rattle.node_table.specs.CopyViews.{CopyView, can_spill, after_spill_begun, spill_begun_if}
+use Rattle.node_table.specs.Row.{Row, SharedTables, beside_of, copies_of, shape_of}
 use Rattle.node_table.specs.RoomPlans.{AsksWrites}
-use Rattle.node_table.specs.Shown.{seen, work_on, IsShown, only, TakesStep}
+use Rattle.node_table.specs.Shown.{seen, work_on, IsShown, only, RowStep}
 use Rattle.node_table.proofs.ByChecks.{sending-is}
 use Rattle.node_table.proofs.Changes.{changed-found, changed-absent}
 use Rattle.node_table.proofs.CopyTables.{sorted-copies, at-copies_found, copies-changed}
 use Rattle.node_table.specs.MadeRooms.{BringsNothing, TellsRoom}
 use Rattle.node_table.proofs.Rooms.{room_is, each_among}
 use Rattle.node_table.proofs.Described.{working-on}
-use Rattle.node_table.proofs.Stepping.{Moves, moved, same_bytes, received_stays}
+use Rattle.node_table.proofs.Stepping.{TakesChange, moved, same_bytes, received_stays}
 
 -- ---- copies whose writes are in flight
 
-pub same_copy : (k : Kept) → (spilling_if k).copy ≡ k.copy
+pub same_copy : (k : CopyView) → (spill_begun_if k).copy ≡ k.copy
 same_copy k = by (can_spill k)
   where
-    by : (b : Bool) → (cond b (spilling k) k).copy ≡ k.copy
+    by : (b : Bool) → (cond b (after_spill_begun k) k).copy ≡ k.copy
     by true = refl
     by false = refl
 
-same_digest : (k : Kept) → (spilling_if k).digest ≡ k.digest
+same_digest : (k : CopyView) → (spill_begun_if k).digest ≡ k.digest
 same_digest k = by (can_spill k)
   where
-    by : (b : Bool) → (cond b (spilling k) k).digest ≡ k.digest
+    by : (b : Bool) → (cond b (after_spill_begun k) k).digest ≡ k.digest
     by true = refl
     by false = refl
 
 -- what writes already can't be asked for again
-once_more : (k : Kept) → spilling_if (spilling_if k) ≡ spilling_if k
+once_more : (k : CopyView) → spill_begun_if (spill_begun_if k) ≡ spill_begun_if k
 once_more k = by (can_spill k) refl
   where
     none_left : (b : Bool) → b && false ≡ false
     none_left true = refl
     none_left false = refl
 
-    by : (b : Bool) → can_spill k ≡ b → spilling_if (cond b (spilling k) k) ≡ cond b (spilling k) k
-    by true t = ap (λ b. cond b (spilling k) (spilling k)) (none_left _)
-    by false t = ap (λ b. cond b (spilling k) k) t
+    by : (b : Bool) → can_spill k ≡ b → spill_begun_if (cond b (after_spill_begun k) k) ≡ cond b (after_spill_begun k) k
+    by true t = ap (λ b. cond b (after_spill_begun k) (after_spill_begun k)) (none_left _)
+    by false t = ap (λ b. cond b (after_spill_begun k) k) t
 
-at-changed : (es : ById Kept) (id q : ObjectId) → at (changed spilling_if es id) q ≡ cond (same_id q id) (option_map spilling_if (at es q)) (at es q)
+at-changed : (es : ById CopyView) (id q : ObjectId) → at (changed spill_begun_if es id) q ≡ cond (same_id q id) (option_map spill_begun_if (at es q)) (at es q)
 at-changed es id q = by (at es id) refl
   where
-    by : (o : Option Kept) → at es id ≡ o → at (changed spilling_if es id) q ≡ cond (same_id q id) (option_map spilling_if (at es q)) (at es q)
-    by None none = ap (λ t. at t q) (changed-absent spilling_if id es none) ∙ here (same_id q id) refl
+    by : (o : Option CopyView) → at es id ≡ o → at (changed spill_begun_if es id) q ≡ cond (same_id q id) (option_map spill_begun_if (at es q)) (at es q)
+    by None none = ap (λ t. at t q) (changed-absent spill_begun_if id es none) ∙ here (same_id q id) refl
       where
-        here : (b : Bool) → same_id q id ≡ b → at es q ≡ cond b (option_map spilling_if (at es q)) (at es q)
-        here true t = let nothing = ap (at es) (same_id-equal q id t) ∙ none in nothing ∙ sym (ap (option_map spilling_if) nothing)
+        here : (b : Bool) → same_id q id ≡ b → at es q ≡ cond b (option_map spill_begun_if (at es q)) (at es q)
+        here true t = let nothing = ap (at es) (same_id-equal q id t) ∙ none in nothing ∙ sym (ap (option_map spill_begun_if) nothing)
         here false t = refl
-    by (Some k) found = ap (λ t. at t q) (changed-found spilling_if id es k found) ∙ at-put es id (spilling_if k) q ∙ here (same_id q id) refl
+    by (Some k) found = ap (λ t. at t q) (changed-found spill_begun_if id es k found) ∙ at-put es id (spill_begun_if k) q ∙ here (same_id q id) refl
       where
-        here : (b : Bool) → same_id q id ≡ b → cond b (Some (spilling_if k)) (at es q) ≡ cond b (option_map spilling_if (at es q)) (at es q)
-        here true t = sym (ap (option_map spilling_if) (ap (at es) (same_id-equal q id t) ∙ found))
+        here : (b : Bool) → same_id q id ≡ b → cond b (Some (spill_begun_if k)) (at es q) ≡ cond b (option_map spill_begun_if (at es q)) (at es q)
+        here true t = sym (ap (option_map spill_begun_if) (ap (at es) (same_id-equal q id t) ∙ found))
         here false t = refl
 
-at-each : (ids : List ObjectId) (es : ById Kept) (q : ObjectId) → at (each_changed spilling_if es ids) q ≡ cond (is_among ids q) (option_map spilling_if (at es q)) (at es q)
+at-each : (ids : List ObjectId) (es : ById CopyView) (q : ObjectId) → at (each_changed spill_begun_if es ids) q ≡ cond (is_among ids q) (option_map spill_begun_if (at es q)) (at es q)
 at-each [] es q = refl
 at-each (id ∷ ids) es q =
-    at-each ids (changed spilling_if es id) q
-    ∙ ap (λ o. cond (is_among ids q) (option_map spilling_if o) o) (at-changed es id q)
+    at-each ids (changed spill_begun_if es id) q
+    ∙ ap (λ o. cond (is_among ids q) (option_map spill_begun_if o) o) (at-changed es id q)
     ∙ by (same_id q id) (is_among ids q) (at es q)
   where
-    by : (s a : Bool) (o : Option Kept) → cond a (option_map spilling_if (cond s (option_map spilling_if o) o)) (cond s (option_map spilling_if o) o) ≡ cond (s || a) (option_map spilling_if o) o
+    by : (s a : Bool) (o : Option CopyView) → cond a (option_map spill_begun_if (cond s (option_map spill_begun_if o) o)) (cond s (option_map spill_begun_if o) o) ≡ cond (s || a) (option_map spill_begun_if o) o
     by true true None = refl
     by true true (Some k) = ap Some (once_more k)
     by true false o = refl
@@ -101,13 +101,13 @@ at-each (id ∷ ids) es q =
     by false false o = refl
 
 -- the store's copies are the same
-one_same : (es : ById Kept) (id : ObjectId) → T (is_sorted id_cmp es) → copies_of (changed spilling_if es id) ≡ copies_of es
+one_same : (es : ById CopyView) (id : ObjectId) → T (is_sorted id_cmp es) → copies_of (changed spill_begun_if es id) ≡ copies_of es
 one_same es id sorted = by (at es id) refl
   where
-    by : (o : Option Kept) → at es id ≡ o → copies_of (changed spilling_if es id) ≡ copies_of es
-    by None none = ap copies_of (changed-absent spilling_if id es none)
+    by : (o : Option CopyView) → at es id ≡ o → copies_of (changed spill_begun_if es id) ≡ copies_of es
+    by None none = ap copies_of (changed-absent spill_begun_if id es none)
     by (Some k) found =
-        copies-changed spilling_if es id k found ∙ ap (with_entry (copies_of es) id) (same_copy k)
+        copies-changed spill_begun_if es id k found ∙ ap (with_entry (copies_of es) id) (same_copy k)
         ∙ same_entries id_cmp id_cmp-IsTotalOrder id_cmp-IsAntisymmetric (with_entry (copies_of es) id k.copy) (copies_of es)
         (is_sorted-put id_cmp id_cmp-IsTotalOrder id k.copy (copies_of es) (subst T (sym (sorted-copies es)) sorted)) (subst T (sym (sorted-copies es)) sorted)
         (λ q. at-put (copies_of es) id k.copy q ∙ here q (same_id q id) refl)
@@ -116,11 +116,11 @@ one_same es id sorted = by (at es id) refl
         here q true t = sym (ap (at (copies_of es)) (same_id-equal q id t) ∙ at-copies_found es id k found)
         here q false t = refl
 
-all_same : (ids : List ObjectId) (es : ById Kept) → T (is_sorted id_cmp es) → copies_of (each_changed spilling_if es ids) ≡ copies_of es
+all_same : (ids : List ObjectId) (es : ById CopyView) → T (is_sorted id_cmp es) → copies_of (each_changed spill_begun_if es ids) ≡ copies_of es
 all_same [] es sorted = refl
 all_same (id ∷ ids) es sorted =
     let one = one_same es id sorted in
-    all_same ids (changed spilling_if es id) (subst T (sym (sym (sorted-copies (changed spilling_if es id)) ∙ ap (λ t. is_sorted id_cmp t) one ∙ sorted-copies es)) sorted) ∙ one
+    all_same ids (changed spill_begun_if es id) (subst T (sym (sym (sorted-copies (changed spill_begun_if es id)) ∙ ap (λ t. is_sorted id_cmp t) one ∙ sorted-copies es)) sorted) ∙ one
 
 -- ---- works
 
@@ -186,17 +186,17 @@ module _ (node : ℕ) (row : Row) (line : WorkLine) (hands : List Hand) (bytes :
     (by_room : step row.order (shape_of row (beside_of line hands bytes row.job)) (judge node (seen row (beside_of line hands bytes row.job) contents) x) ≡ erasing (shape_of row (beside_of line hands bytes row.job)) (in_room (make_room row.order (shape_of row (beside_of line hands bytes row.job)) n) f))
     (ids : List ObjectId) (asks : AsksWrites (make_room row.order (shape_of row (beside_of line hands bytes row.job)) n) (shape_of row (beside_of line hands bytes row.job)) ids)
     (line_after : WorkLine) (in_line : AsksAll line (record { 0 = row.job }) Write ids line_after) where
-  abbrev beside : Beside
+  abbrev beside : SharedTables
   beside = beside_of line hands bytes row.job
 
-  abbrev after : Beside
+  abbrev after : SharedTables
   after = beside_of line_after hands bytes row.job
 
   abbrev s : Shape
   s = shape_of row beside
 
   abbrev new : Row
-  new = record row { copies = each_changed spilling_if row.copies ids }
+  new = record row { copies = each_changed spill_begun_if row.copies ids }
 
   abbrev now : Shape
   now = record s { works = s.works ++ numbered_works Write s.works_asked ids; works_asked = s.works_asked + length ids }
@@ -216,36 +216,36 @@ module _ (node : ℕ) (row : Row) (line : WorkLine) (hands : List Hand) (bytes :
   shape_now = λ i. record s { copies = sym copies_same i; works = sym in_line.own_works i; works_asked = sym in_line.own_used i }
 
   -- what a copy was
-  was : (q : ObjectId) (k : Kept) → at new.copies q ≡ Some k → (z : Kept) × (at row.copies q ≡ Some z) × (k ≡ cond (is_among ids q) (spilling_if z) z)
+  was : (q : ObjectId) (k : CopyView) → at new.copies q ≡ Some k → (z : CopyView) × (at row.copies q ≡ Some z) × (k ≡ cond (is_among ids q) (spill_begun_if z) z)
   was q k found = by (at row.copies q) refl (is_among ids q) (sym (at-each ids row.copies q) ∙ found)
     where
-      by : (o : Option Kept) → at row.copies q ≡ o → (b : Bool) → cond b (option_map spilling_if o) o ≡ Some k → (z : Kept) × (o ≡ Some z) × (k ≡ cond b (spilling_if z) z)
+      by : (o : Option CopyView) → at row.copies q ≡ o → (b : Bool) → cond b (option_map spill_begun_if o) o ≡ Some k → (z : CopyView) × (o ≡ Some z) × (k ≡ cond b (spill_begun_if z) z)
       by None e true t = none_some k t
       by None e false t = none_some k t
-      by (Some z) e true t = (z, refl, sym (some_value (spilling_if z) k t))
+      by (Some z) e true t = (z, refl, sym (some_value (spill_begun_if z) k t))
       by (Some z) e false t = (z, refl, sym (some_value z k t))
 
-  copy_was : (q : ObjectId) (k z : Kept) → k ≡ cond (is_among ids q) (spilling_if z) z → (k.copy ≡ z.copy) × (k.digest ≡ z.digest)
-  copy_was q k z is = (ap (λ (k : Kept). k.copy) is ∙ by (is_among ids q), ap (λ (k : Kept). k.digest) is ∙ digest (is_among ids q))
+  copy_was : (q : ObjectId) (k z : CopyView) → k ≡ cond (is_among ids q) (spill_begun_if z) z → (k.copy ≡ z.copy) × (k.digest ≡ z.digest)
+  copy_was q k z is = (ap (λ (k : CopyView). k.copy) is ∙ by (is_among ids q), ap (λ (k : CopyView). k.digest) is ∙ digest (is_among ids q))
     where
-      by : (b : Bool) → (cond b (spilling_if z) z).copy ≡ z.copy
+      by : (b : Bool) → (cond b (spill_begun_if z) z).copy ≡ z.copy
       by true = same_copy z
       by false = refl
 
-      digest : (b : Bool) → (cond b (spilling_if z) z).digest ≡ z.digest
+      digest : (b : Bool) → (cond b (spill_begun_if z) z).digest ≡ z.digest
       digest true = same_digest z
       digest false = refl
 
-  granted_was : (q : ObjectId) (k z : Kept) → k ≡ cond (is_among ids q) (spilling_if z) z → k.granted ≡ z.granted
-  granted_was q k z is = ap (λ (k : Kept). k.granted) is ∙ by (is_among ids q) (can_spill z)
+  granted_was : (q : ObjectId) (k z : CopyView) → k ≡ cond (is_among ids q) (spill_begun_if z) z → k.granted ≡ z.granted
+  granted_was q k z is = ap (λ (k : CopyView). k.granted) is ∙ by (is_among ids q) (can_spill z)
     where
-      by : (b may : Bool) → (cond b (cond may (spilling z) z) z).granted ≡ z.granted
+      by : (b may : Bool) → (cond b (cond may (after_spill_begun z) z) z).granted ≡ z.granted
       by true true = refl
       by true false = refl
       by false may = refl
 
   -- what is asked for can be written
-  may : (q : ObjectId) (z : Kept) → at row.copies q ≡ Some z → is_among ids q ≡ true → (z.working ≡ None) × (can_spill z ≡ true)
+  may : (q : ObjectId) (z : CopyView) → at row.copies q ≡ Some z → is_among ids q ≡ true → (z.working ≡ None) × (can_spill z ≡ true)
   may q z found among =
       let all : is_spillable s q z.copy ≡ true =
       sym (ap (λ c. option_map_or (is_spillable s q) c false) (at-copies_found row.copies q z found))
@@ -255,15 +255,15 @@ module _ (node : ℕ) (row : Row) (line : WorkLine) (hands : List Hand) (bytes :
       let none = h.working q z found ∙ none_here (work_on s.works q) (working-on s.works q ∙ still) in
       (none, both _ _ (both_left _ (is_idle s q z.copy) (both_left _ (not z.copy.doomed) all)) (ap is_none none))
 
-  working_now : (q : ObjectId) (k : Kept) → at new.copies q ≡ Some k → k.working ≡ work_on after.works q
+  working_now : (q : ObjectId) (k : CopyView) → at new.copies q ≡ Some k → k.working ≡ work_on after.works q
   working_now q k found =
       let z = was q k found in
-      ap (λ (k : Kept). k.working) z.2 ∙ by z.0 z.1 (is_among ids q) refl ∙ ap (λ ws. work_on ws q) (sym in_line.own_works)
+      ap (λ (k : CopyView). k.working) z.2 ∙ by z.0 z.1 (is_among ids q) refl ∙ ap (λ ws. work_on ws q) (sym in_line.own_works)
     where
-      by : (z : Kept) → at row.copies q ≡ Some z → (b : Bool) → is_among ids q ≡ b → (cond b (spilling_if z) z).working ≡ work_on (s.works ++ numbered_works Write s.works_asked ids) q
+      by : (z : CopyView) → at row.copies q ≡ Some z → (b : Bool) → is_among ids q ≡ b → (cond b (spill_begun_if z) z).working ≡ work_on (s.works ++ numbered_works Write s.works_asked ids) q
       by z found true among =
           let m = may q z found among in
-          ap (λ b. (cond b (spilling z) z).working) m.1
+          ap (λ b. (cond b (after_spill_begun z) z).working) m.1
           ∙ sym (work_before s.works (numbered_works Write s.works_asked ids) q (sym (h.working q z found) ∙ m.0) ∙ work_asked s.works_asked ids q ∙ ap (λ b. cond b (Some Write) None) among)
       by z found false among =
           h.working q z found ∙ sym (work_after s.works (numbered_works Write s.works_asked ids) q (work_asked s.works_asked ids q ∙ ap (λ b. cond b (Some Write) None) among))
@@ -271,7 +271,7 @@ module _ (node : ℕ) (row : Row) (line : WorkLine) (hands : List Hand) (bytes :
   there_now : AreThere (copies_of new.copies) row.order
   there_now = subst (λ t. AreThere t row.order) (sym copies_same) h.there
 
-  m : Moves node row beside contents h x (erasing s (refused now Pending)) (only (reply.Refused Pending)) new after
+  m : TakesChange node row beside contents h x (erasing s (refused now Pending)) (only (reply.Refused Pending)) new after
   m = record {
     shape = shape_now;
     order = sym (reordered-unused row.order (copies_of new.copies) there_now);
@@ -293,16 +293,16 @@ module _ (node : ℕ) (row : Row) (line : WorkLine) (hands : List Hand) (bytes :
     erased = sym (ap (map (key_of row.job)) (keys_none (copies_of row.copies) (copies_of row.copies) (all_found (copies_of row.copies))));
   }
 
-  pub asked_done : TakesStep node row beside contents x (only (reply.Refused Pending)) new after
+  pub asked_done : RowStep node row beside contents x (only (reply.Refused Pending)) new after
   asked_done = moved node row beside contents h x (erasing s (refused now Pending)) change_is (only (reply.Refused Pending)) new after m refl
 
 -- whatever waited for the room
 pub asked_told : (row : Row) (line : WorkLine) (hands : List Hand) (bytes : ObjectId → List ℕ) (contents : Contents) → IsShown row (beside_of line hands bytes row.job) contents → (n : ℕ)
     (ids : List ObjectId) → AsksWrites (make_room row.order (shape_of row (beside_of line hands bytes row.job)) n) (shape_of row (beside_of line hands bytes row.job)) ids
-    → (line_after : WorkLine) → AsksAll line (record { 0 = row.job }) Write ids line_after → (after : Row) → after ≡ record row { copies = each_changed spilling_if row.copies ids }
+    → (line_after : WorkLine) → AsksAll line (record { 0 = row.job }) Write ids line_after → (after : Row) → after ≡ record row { copies = each_changed spill_begun_if row.copies ids }
     → TellsRoom row (beside_of line hands bytes row.job) contents n Pending after (beside_of line_after hands bytes row.job)
 asked_told row line hands bytes contents h n ids asks line_after in_line then is = record {
   tells = λ node x f quiet by_room.
-      subst (λ r. TakesStep node row (beside_of line hands bytes row.job) contents x (only (reply.Refused Pending)) r (beside_of line_after hands bytes row.job)) (sym is)
+      subst (λ r. RowStep node row (beside_of line hands bytes row.job) contents x (only (reply.Refused Pending)) r (beside_of line_after hands bytes row.job)) (sym is)
       (asked_done node row line hands bytes contents h x quiet n f (by_room (ap (λ (r : Room). is_ok r.offset) asks.room_is)) ids asks line_after in_line);
 }

@@ -6,28 +6,28 @@ use Rattle.std.specs.Option.{option_map_or}
 use Rattle.obj_id.specs.declared.ids.ObjectId.{ObjectId}
 use Rattle.obj_id.specs.Ids.{same_id}
 use Rattle.store_facts.proofs.Ids.{same_id-itself}
-use Rattle.private_store.specs.Contents.{Contents, bytes_at}
-use Rattle.private_store.specs.Hands.{Hand}
-use Rattle.private_store.specs.Kept.{IsViewKept, has_hand}
-use Rattle.private_store.specs.Shape.{Seen}
-use Rattle.private_store.specs.Tables.{ById, at, with_entry}
+use Rattle.private_store.specs.rules.Contents.{Contents, bytes_at}
+use Rattle.private_store.specs.rules.Hands.{Hand}
+use Rattle.private_store.specs.laws.Invariants.{IsViewKept, has_hand}
+use Rattle.private_store.specs.rules.Shape.{Seen}
+use Rattle.private_store.specs.rules.Tables.{ById, at, with_entry}
 use Rattle.store_facts.proofs.Rows.{at-put, put_rows}
 use Rattle.store_facts.proofs.Tests.{some_value, none_some, both_left, both_right, or_left, or_right}
 use Rattle.store_facts.proofs.KeptLists.{any-filter-only}
 use Rattle.grants.specs.Private.{with_taken}
 use Rattle.spill_work.specs.Line.{WorkLine, IsSameFor}
-use Rattle.node_table.specs.Row.{Row, Beside, received_by, beside_of, received_bytes, shape_of}
+use Rattle.node_table.specs.Row.{Row, SharedTables, received_by, beside_of, received_bytes, shape_of}
 use Rattle.node_table.specs.Shown.{work_on, IsShown}
 use Rattle.node_table.proofs.Received.{filled, filled_at, all_there}
 
-pub record IsAlike (a b : Beside) : Type 0 where
+pub record IsAlike (a b : SharedTables) : Type 0 where
   pub works : a.works ≡ b.works
   pub used : a.used ≡ b.used
   pub given : a.given ≡ b.given
   pub received : a.received ≡ b.received
   pub bytes : received_bytes a ≡ received_bytes b
 
-module _ (a b : Beside) (same : IsAlike a b) where
+module _ (a b : SharedTables) (same : IsAlike a b) where
   pub alike_shape : (row : Row) → shape_of row a ≡ shape_of row b
   alike_shape row = λ i. record (shape_of row a) { works = same.works i; works_asked = same.used i; given = same.given i; received = same.received i }
 
@@ -56,7 +56,7 @@ found_of bytes (h ∷ hs) table id none there = by (same_id id h.id) refl (found
     more : Seen
     more = record {
       length = length (bytes h.id);
-      hands = option_map_or (λ seen. seen.hands) (at table h.id) [] ++ record { giver = h.giver; depth = h.depth } ∷ [];
+      hands = option_map_or (λ seen. seen.hands) (at table h.id) [] ++ record { grantor = h.grantor; depth = h.depth } ∷ [];
     }
 
     by : (b : Bool) → same_id id h.id ≡ b → (is_some (at (with_taken (λ id. length (bytes id)) table h) id) ≡ false → is_some (at (fold (with_taken (λ id. length (bytes id))) (with_taken (λ id. length (bytes id)) table h) hs) id) ≡ true → list_any (is_of id) hs ≡ true) → (b || list_any (is_of id) hs) ≡ true
@@ -69,7 +69,7 @@ module _ (a b : ObjectId → List ℕ) where
   same_fold (h ∷ hs) table agree =
       ap (λ bs. fold (with_taken (λ id. length (a id))) (with_entry table h.id (record {
         length = length bs;
-        hands = option_map_or (λ seen. seen.hands) (at table h.id) [] ++ record { giver = h.giver; depth = h.depth } ∷ [];
+        hands = option_map_or (λ seen. seen.hands) (at table h.id) [] ++ record { grantor = h.grantor; depth = h.depth } ∷ [];
       })) hs) (agree h.id (or_left (same_id h.id h.id) (list_any (is_of h.id) hs) (same_id-itself h.id)))
       ∙ same_fold hs (with_taken (λ id. length (b id)) table h) (λ id later. agree id (or_right (same_id id h.id) (list_any (is_of id) hs) later))
 
@@ -89,10 +89,10 @@ module _ (a b : ObjectId → List ℕ) where
   }
     where
       to_job : List Hand
-      to_job = filter (λ hand. hand.taker == q) hands
+      to_job = filter (λ hand. hand.grantee == q) hands
 
       agree_to : (id : ObjectId) → list_any (is_of id) to_job ≡ true → a id ≡ b id
-      agree_to id there = agree id (any-filter-only (is_of id) (λ hand. hand.taker == q) hands there)
+      agree_to id there = agree id (any-filter-only (is_of id) (λ hand. hand.grantee == q) hands there)
 
       received : received_by a hands q ≡ received_by b hands q
       received = same_fold to_job [] agree_to
@@ -108,11 +108,11 @@ length_of bytes [] table before = before
 length_of bytes (h ∷ hs) table before =
     let more : Seen = record {
       length = length (bytes h.id);
-      hands = option_map_or (λ seen. seen.hands) (at table h.id) [] ++ record { giver = h.giver; depth = h.depth } ∷ [];
+      hands = option_map_or (λ seen. seen.hands) (at table h.id) [] ++ record { grantor = h.grantor; depth = h.depth } ∷ [];
     } in
     length_of bytes hs (with_taken (λ id. length (bytes id)) table h) (put_rows (λ id o. (x : Seen) → o ≡ Some x → length (bytes id) ≡ x.length) table h.id more (λ x is. ap (λ (s : Seen). s.length) (some_value more x is)) (λ q other. before q))
 
 pub granted_length : (bytes : ObjectId → List ℕ) (hands : List Hand) (q : ℕ) (id : ObjectId) (x : Seen) → at (received_by bytes hands q) id ≡ Some x → length (bytes_at (filled bytes (received_by bytes hands q)) id) ≡ x.length
 granted_length bytes hands q id x found =
     ap (λ o. length (unwrap_or o [])) (filled_at bytes (received_by bytes hands q) id (ap is_some found))
-    ∙ length_of bytes (filter (λ hand. hand.taker == q) hands) [] (λ id x none. none_some x none) id x found
+    ∙ length_of bytes (filter (λ hand. hand.grantee == q) hands) [] (λ id x none. none_some x none) id x found

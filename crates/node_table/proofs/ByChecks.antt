@@ -8,17 +8,17 @@ use Rattle.obj_id.specs.declared.commands.CopyState.TheVariants.{Sealed}
 use Rattle.obj_id.specs.declared.commands.Command.{Command}
 use Rattle.obj_id.specs.declared.commands.Reply.TheVariants as reply
 use Rattle.private_store.specs.declared.inputs.Judged.TheVariants as judged
-use Rattle.private_store.specs.Limits.{most_bytes}
-use Rattle.private_store.specs.Tables.{at}
-use Rattle.private_store.specs.Shape.{Copy, Shape, Change, Sending, add_location}
-use Rattle.private_store.specs.Copies.{is_created, visible}
-use Rattle.private_store.specs.Room.{set_copy}
-use Rattle.private_store.specs.Change.{replied, refused, done, checked, needing, sending, erasing}
-use Rattle.private_store.specs.Commands.{write, seal, read, holds_of, is_unsealed}
-use Rattle.private_store.specs.Step.{step, owned, commanded}
+use Rattle.private_store.specs.rules.Limits.{most_bytes}
+use Rattle.private_store.specs.rules.Tables.{at}
+use Rattle.private_store.specs.rules.Shape.{Copy, Shape, Change, Sending, add_location}
+use Rattle.private_store.specs.rules.Copies.{is_created, visible}
+use Rattle.private_store.specs.rules.Room.{set_copy}
+use Rattle.private_store.specs.rules.Change.{replied, refused, done, checked, needing, sending, erasing}
+use Rattle.private_store.specs.rules.Commands.{write, seal, read, holds_of, is_unsealed}
+use Rattle.private_store.specs.rules.Step.{step, owned, commanded}
 use Rattle.store_facts.proofs.Checks.{checked-nil, checked-false}
-use Rattle.node_table.specs.Kept.{Kept}
-use Rattle.node_table.specs.Row.{Row, Beside, shape_of}
+use Rattle.node_table.specs.CopyViews.{CopyView}
+use Rattle.node_table.specs.Row.{Row, SharedTables, shape_of}
 use Rattle.node_table.specs.Checks.{write_check, seal_check, read_check, read_check_of}
 use Rattle.node_table.proofs.CopyTables.{at-copies}
 
@@ -43,33 +43,33 @@ first-check store b r cs c rest d h = checked-if store b r cs c ∙ ap (cond b (
     by false = refl
 
 -- a live job's command of a session
-pub called : (row : Row) (beside : Beside) (session : ℕ) (c : Command ℕ) → step row.order (shape_of row beside) (judged.Call session c) ≡ erasing (shape_of row beside) (commanded row.order (shape_of row beside) session c)
+pub called : (row : Row) (beside : SharedTables) (session : ℕ) (c : Command ℕ) → step row.order (shape_of row beside) (judged.Call session c) ≡ erasing (shape_of row beside) (commanded row.order (shape_of row beside) session c)
 called row beside session c =
     checked-false (shape_of row beside) false NotAdmitted [] (erasing (shape_of row beside) (commanded row.order (shape_of row beside) session c)) refl
     ∙ checked-nil (shape_of row beside) (erasing (shape_of row beside) (commanded row.order (shape_of row beside) session c))
 
 -- a command on the job's own object
-pub own : (row : Row) (beside : Beside) (id : ObjectId) (c : Change) → (id.job.0 == row.job) ≡ true → owned (shape_of row beside) id c ≡ c
+pub own : (row : Row) (beside : SharedTables) (id : ObjectId) (c : Change) → (id.job.0 == row.job) ≡ true → owned (shape_of row beside) id c ≡ c
 own row beside id c mine = checked-false (shape_of row beside) (not (id.job.0 == row.job)) NotGranted [] c (ap not mine) ∙ checked-nil (shape_of row beside) c
 
 -- one on another job's
-pub foreign : (row : Row) (beside : Beside) (id : ObjectId) (c : Change) → (id.job.0 == row.job) ≡ false → owned (shape_of row beside) id c ≡ refused (shape_of row beside) NotGranted
+pub foreign : (row : Row) (beside : SharedTables) (id : ObjectId) (c : Change) → (id.job.0 == row.job) ≡ false → owned (shape_of row beside) id c ≡ refused (shape_of row beside) NotGranted
 foreign row beside id c other = checked-if (shape_of row beside) (not (id.job.0 == row.job)) NotGranted [] c ∙ ap (λ b. cond (not b) (refused (shape_of row beside) NotGranted) (checked (shape_of row beside) [] c)) other
 
-module _ (row : Row) (beside : Beside) (id : ObjectId) where
+module _ (row : Row) (beside : SharedTables) (id : ObjectId) where
   abbrev s : Shape
   s = shape_of row beside
 
   -- of a copy that isn't doomed
-  pub in_sight : (f : Copy → Change) (check : Kept → Option Refusal) (d : Change)
-      → ((k : Kept) → at row.copies id ≡ Some k → k.copy.doomed ≡ false → f k.copy ≡ unless_refused s (check k) d)
+  pub in_sight : (f : Copy → Change) (check : CopyView → Option Refusal) (d : Change)
+      → ((k : CopyView) → at row.copies id ≡ Some k → k.copy.doomed ≡ false → f k.copy ≡ unless_refused s (check k) d)
       → needing s (visible s id) Absent f ≡ unless_refused s (elim (at row.copies id) [ None ↦ Some Absent | Some k ↦ cond k.copy.doomed (Some Absent) (check k) ]) d
   in_sight f check d h =
       needing-by s (visible s id) Absent f
       ∙ ap (λ o. option_map_or f (option_and_then (λ copy. cond copy.doomed None (Some copy)) o) (refused s Absent)) (at-copies row.copies id)
       ∙ by (at row.copies id) h
     where
-      by : (o : Option Kept) → ((k : Kept) → o ≡ Some k → k.copy.doomed ≡ false → f k.copy ≡ unless_refused s (check k) d)
+      by : (o : Option CopyView) → ((k : CopyView) → o ≡ Some k → k.copy.doomed ≡ false → f k.copy ≡ unless_refused s (check k) d)
           → option_map_or f (option_and_then (λ copy. cond copy.doomed None (Some copy)) (option_map (λ k. k.copy) o)) (refused s Absent)
           ≡ unless_refused s (elim o [ None ↦ Some Absent | Some k ↦ cond k.copy.doomed (Some Absent) (check k) ]) d
       by None h = refl
@@ -80,13 +80,13 @@ module _ (row : Row) (beside : Beside) (id : ObjectId) where
           doomed false g = g refl
 
   -- of any copy
-  pub in_table : (f : Copy → Change) (check : Kept → Option Refusal) (d : Change)
-      → ((k : Kept) → at row.copies id ≡ Some k → f k.copy ≡ unless_refused s (check k) d)
+  pub in_table : (f : Copy → Change) (check : CopyView → Option Refusal) (d : Change)
+      → ((k : CopyView) → at row.copies id ≡ Some k → f k.copy ≡ unless_refused s (check k) d)
       → needing s (at s.copies id) Absent f ≡ unless_refused s (elim (at row.copies id) [ None ↦ Some Absent | Some k ↦ check k ]) d
   in_table f check d h =
       needing-by s (at s.copies id) Absent f ∙ ap (λ o. option_map_or f o (refused s Absent)) (at-copies row.copies id) ∙ by (at row.copies id) h
     where
-      by : (o : Option Kept) → ((k : Kept) → o ≡ Some k → f k.copy ≡ unless_refused s (check k) d)
+      by : (o : Option CopyView) → ((k : CopyView) → o ≡ Some k → f k.copy ≡ unless_refused s (check k) d)
           → option_map_or f (option_map (λ k. k.copy) o) (refused s Absent) ≡ unless_refused s (elim o [ None ↦ Some Absent | Some k ↦ check k ]) d
       by None h = refl
       by (Some k) h = h k refl

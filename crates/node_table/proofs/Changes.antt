@@ -12,7 +12,7 @@ use Rattle.std.specs.declared.cmp.Ordering.{Ordering}
 use Rattle.std.specs.declared.cmp.Ordering.TheVariants.{Less, Equal, Greater}
 use Rattle.std.specs.FinMap.Entries.{by_order}
 use Rattle.store_facts.proofs.Ids.{same_id-itself}
-use Rattle.private_store.specs.Tables.{ById, at, with_entry, without_entry}
+use Rattle.private_store.specs.rules.Tables.{ById, at, with_entry, without_entry}
 use Rattle.store_facts.proofs.ObjectMaps.{at-lookup, without_entry-absent}
 use Rattle.store_facts.proofs.Rows.{at-put_here}
 use Rattle.node_table.specs.Entries.{by_rising_id, changed}

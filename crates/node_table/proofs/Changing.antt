@@ -5,22 +5,22 @@ use Rattle.obj_id.specs.declared.works.Extent.{Extent}
 use Rattle.obj_id.specs.Ids.{same_id}
 use Rattle.store_facts.proofs.Ids.{same_id-equal}
 use Rattle.private_store.specs.declared.inputs.Input.{Input}
-use Rattle.private_store.specs.Tables.{ById, at, with_entry, is_among}
-use Rattle.private_store.specs.Kept.{has_hand}
-use Rattle.private_store.specs.Shape.{Copy, Change}
-use Rattle.private_store.specs.Copies.{extent_of}
-use Rattle.private_store.specs.Change.{keys_gone}
-use Rattle.private_store.specs.Contents.{Contents, judge, bytes_brought, digest_brought, brought, keeps_digest, no_digest}
+use Rattle.private_store.specs.rules.Tables.{ById, at, with_entry, is_among}
+use Rattle.private_store.specs.laws.Invariants.{has_hand}
+use Rattle.private_store.specs.rules.Shape.{Copy, Change}
+use Rattle.private_store.specs.rules.Copies.{extent_of}
+use Rattle.private_store.specs.rules.Change.{keys_gone}
+use Rattle.private_store.specs.rules.Contents.{Contents, judge, bytes_brought, digest_brought, brought, keeps_digest, no_digest}
 use Rattle.store_facts.proofs.Filling.{filled}
 use Rattle.store_facts.proofs.ErasedKeys.{keys_none, all_found}
 use Rattle.store_facts.proofs.KeptLists.{all_weaker}
 use Rattle.store_facts.proofs.Rows.{at-put}
 use Rattle.store_facts.proofs.Tests.{some_value, true_T}
-use Rattle.job_region.specs.Region.{bytes_at as placed_bytes}
+use Rattle.job_region.specs.Region.{region_bytes_at as placed_bytes}
 use Rattle.lru_evictor.specs.Orders.{AreThere}
 use Rattle.node_table.specs.Entries.{changed}
-use Rattle.node_table.specs.Kept.{Kept}
-use Rattle.node_table.specs.Row.{Row, Beside, copies_of}
+use Rattle.node_table.specs.CopyViews.{CopyView}
+use Rattle.node_table.specs.Row.{Row, SharedTables, copies_of}
 use Rattle.node_table.specs.Shown.{seen, work_on, IsShown}
 use Rattle.node_table.proofs.Changes.{changed-found}
 use Rattle.node_table.proofs.CopyTables.{copies-changed}
@@ -57,28 +57,28 @@ keys_with es id copy = keys_none es (with_entry es id copy) (subst T (sym (all_w
 
 -- ---- the step
 
-module _ (node : ℕ) (row : Row) (beside : Beside) (contents : Contents) (h : IsShown row beside contents) (x : Input)
-    (id : ObjectId) (k : Kept) (found : at row.copies id ≡ Some k) (f : Kept → Kept)
-    (keeps : (z : Kept) → ((f z).copy.offset ≡ z.copy.offset) × ((f z).copy.length ≡ z.copy.length)) where
+module _ (node : ℕ) (row : Row) (beside : SharedTables) (contents : Contents) (h : IsShown row beside contents) (x : Input)
+    (id : ObjectId) (k : CopyView) (found : at row.copies id ≡ Some k) (f : CopyView → CopyView)
+    (keeps : (z : CopyView) → ((f z).copy.offset ≡ z.copy.offset) × ((f z).copy.length ≡ z.copy.length)) where
   copies_is : copies_of (changed f row.copies id) ≡ with_entry (copies_of row.copies) id (f k).copy
   copies_is = copies-changed f row.copies id k found
 
   pub there_still : (order : List ObjectId) → AreThere (copies_of row.copies) order → AreThere (copies_of (changed f row.copies id)) order
   there_still order h = subst (λ t. AreThere t order) (sym copies_is) (there_with (copies_of row.copies) id (f k).copy order h)
 
-  one : (q : ObjectId) (y : Kept) → at (changed f row.copies id) q ≡ Some y → (z : Kept) × (at row.copies q ≡ Some z) × From f row.copies id q y z
+  one : (q : ObjectId) (y : CopyView) → at (changed f row.copies id) q ≡ Some y → (z : CopyView) × (at row.copies q ≡ Some z) × From f row.copies id q y z
   one = from_changed f row.copies id k found
 
-  lies_still : (q : ObjectId) (y z : Kept) → From f row.copies id q y z → (y.copy.offset ≡ z.copy.offset) × (y.copy.length ≡ z.copy.length)
+  lies_still : (q : ObjectId) (y z : CopyView) → From f row.copies id q y z → (y.copy.offset ≡ z.copy.offset) × (y.copy.length ≡ z.copy.length)
   lies_still q y z (inl t) = (ap (λ y. y.copy.offset) t.1 ∙ (keeps z).0, ap (λ y. y.copy.length) t.1 ∙ (keeps z).1)
   lies_still q y z (inr t) = (ap (λ y. y.copy.offset) t.1, ap (λ y. y.copy.length) t.1)
 
-  same_extent : (y z : Kept) → y.copy.offset ≡ z.copy.offset → y.copy.length ≡ z.copy.length → extent_of y.copy ≡ extent_of z.copy
+  same_extent : (y z : CopyView) → y.copy.offset ≡ z.copy.offset → y.copy.length ≡ z.copy.length → extent_of y.copy ≡ extent_of z.copy
   same_extent y z o l = ap (λ p. extent_of (record y.copy { offset = p })) o ∙ ap (λ n. extent_of (record z.copy { length = n })) l
 
   -- where no bytes are brought
   pub bytes_stay : (c : Change) → bytes_brought (seen row beside contents) x (judge node (seen row beside contents) x) c.reply ≡ None
-      → (q : ObjectId) (y : Kept) (e : Extent) → at (changed f row.copies id) q ≡ Some y → extent_of y.copy ≡ Some e → filled (at (bytes_now node row beside contents h x c) q) y.copy ≡ take y.copy.length (placed_bytes e row.window.placed)
+      → (q : ObjectId) (y : CopyView) (e : Extent) → at (changed f row.copies id) q ≡ Some y → extent_of y.copy ≡ Some e → filled (at (bytes_now node row beside contents h x c) q) y.copy ≡ take y.copy.length (placed_bytes e row.window.placed)
   bytes_stay c none q y e is lies =
       let z = one q y is in
       let same = lies_still q y z.0 z.2 in
@@ -89,11 +89,11 @@ module _ (node : ℕ) (row : Row) (beside : Beside) (contents : Contents) (h : I
 
   -- where no digest is brought, and the change keeps it
   pub digests_stay : (c : Change) → digest_brought node (seen row beside contents) x c.reply ≡ None → ((f k).digest ≡ k.digest) → (keeps_digest (f k).copy ≡ true → keeps_digest k.copy ≡ true)
-      → (q : ObjectId) (y : Kept) → at (changed f row.copies id) q ≡ Some y → keeps_digest y.copy ≡ true → unwrap_or (at (digests_now node row beside contents h x c) q) no_digest ≡ unwrap_or y.digest no_digest
+      → (q : ObjectId) (y : CopyView) → at (changed f row.copies id) q ≡ Some y → keeps_digest y.copy ≡ true → unwrap_or (at (digests_now node row beside contents h x c) q) no_digest ≡ unwrap_or y.digest no_digest
   digests_stay c none digest still q y is keep =
       ap (λ d. unwrap_or (at (brought contents.digests d) q) no_digest) none ∙ by (one q y is).0 (one q y is).1 (one q y is).2
     where
-      by : (z : Kept) → at row.copies q ≡ Some z → From f row.copies id q y z → unwrap_or (at contents.digests q) no_digest ≡ unwrap_or y.digest no_digest
+      by : (z : CopyView) → at row.copies q ≡ Some z → From f row.copies id q y z → unwrap_or (at contents.digests q) no_digest ≡ unwrap_or y.digest no_digest
       by z e (inr t) = h.digests q z e (ap (λ y. keeps_digest y.copy) (sym t.1) ∙ keep) ∙ ap (λ y. unwrap_or y.digest no_digest) (sym t.1)
       by z e (inl t) =
           let is : z ≡ k = some_value z k (sym e ∙ ap (at row.copies) (same_id-equal q id t.0) ∙ found) in
@@ -102,25 +102,25 @@ module _ (node : ℕ) (row : Row) (beside : Beside) (contents : Contents) (h : I
           ∙ ap (λ z. unwrap_or z.digest no_digest) is ∙ ap (λ d. unwrap_or d no_digest) (sym digest) ∙ ap (λ y. unwrap_or y.digest no_digest) (sym now)
 
   -- where the works are the same
-  pub works_stay : ((f k).working ≡ k.working) → (q : ObjectId) (y : Kept) → at (changed f row.copies id) q ≡ Some y → y.working ≡ work_on beside.works q
+  pub works_stay : ((f k).working ≡ k.working) → (q : ObjectId) (y : CopyView) → at (changed f row.copies id) q ≡ Some y → y.working ≡ work_on beside.works q
   works_stay same q y is = by (one q y is).0 (one q y is).1 (one q y is).2
     where
-      by : (z : Kept) → at row.copies q ≡ Some z → From f row.copies id q y z → y.working ≡ work_on beside.works q
+      by : (z : CopyView) → at row.copies q ≡ Some z → From f row.copies id q y z → y.working ≡ work_on beside.works q
       by z e (inr t) = ap (λ y. y.working) t.1 ∙ h.working q z e
       by z e (inl t) =
           let is : z ≡ k = some_value z k (sym e ∙ ap (at row.copies) (same_id-equal q id t.0) ∙ found) in
           ap (λ y. y.working) (t.1 ∙ ap f is) ∙ same ∙ ap (λ z. z.working) (sym is) ∙ h.working q z e
 
   -- where the copy is granted or not, as before
-  pub granted_stay : ((f k).granted ≡ k.granted) → (q : ObjectId) (y : Kept) → at (changed f row.copies id) q ≡ Some y → y.granted ≡ has_hand beside.given q
+  pub granted_stay : ((f k).granted ≡ k.granted) → (q : ObjectId) (y : CopyView) → at (changed f row.copies id) q ≡ Some y → y.granted ≡ has_hand beside.given q
   granted_stay same q y is = by (one q y is).0 (one q y is).1 (one q y is).2
     where
-      by : (z : Kept) → at row.copies q ≡ Some z → From f row.copies id q y z → y.granted ≡ has_hand beside.given q
+      by : (z : CopyView) → at row.copies q ≡ Some z → From f row.copies id q y z → y.granted ≡ has_hand beside.given q
       by z e (inr t) = ap (λ y. y.granted) t.1 ∙ h.granted q z e
       by z e (inl t) =
           let is : z ≡ k = some_value z k (sym e ∙ ap (at row.copies) (same_id-equal q id t.0) ∙ found) in
           ap (λ y. y.granted) (t.1 ∙ ap f is) ∙ same ∙ ap (λ z. z.granted) (sym is) ∙ h.granted q z e
 
   -- the same ids are in the order
-  pub listed_stay : (order : List ObjectId) → ((q : ObjectId) (z : Kept) → at row.copies q ≡ Some z → is_among order q ≡ true) → (q : ObjectId) (y : Kept) → at (changed f row.copies id) q ≡ Some y → is_among order q ≡ true
+  pub listed_stay : (order : List ObjectId) → ((q : ObjectId) (z : CopyView) → at row.copies q ≡ Some z → is_among order q ≡ true) → (q : ObjectId) (y : CopyView) → at (changed f row.copies id) q ≡ Some y → is_among order q ≡ true
   listed_stay order listed q y is = listed q (one q y is).0 (one q y is).1

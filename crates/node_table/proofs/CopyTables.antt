@@ -9,9 +9,9 @@ use Rattle.obj_id.specs.Ids.{id_cmp, same_id}
 use Rattle.store_facts.proofs.Ids.{same_id-equal, same_id-itself}
 use Rattle.store_facts.proofs.Filling.{below_none}
 use Rattle.store_facts.proofs.Tests.{and_left, none_some}
-use Rattle.private_store.specs.Tables.{ById, at, with_entry, without_entry}
+use Rattle.private_store.specs.rules.Tables.{ById, at, with_entry, without_entry}
 use Rattle.node_table.specs.Entries.{changed}
-use Rattle.node_table.specs.Kept.{Kept}
+use Rattle.node_table.specs.CopyViews.{CopyView}
 use Rattle.node_table.specs.Row.{copies_of}
 use Rattle.node_table.proofs.Changes.{changed-found}
 
@@ -28,17 +28,17 @@ module _ {X : Type 0} where
         | false ↦ λ _. found
       ] refl
 
-below-copies : (q : ObjectId) (es : ById Kept) → below_all id_cmp q (copies_of es) ≡ below_all id_cmp q es
+below-copies : (q : ObjectId) (es : ById CopyView) → below_all id_cmp q (copies_of es) ≡ below_all id_cmp q es
 below-copies q [] = refl
 below-copies q (e ∷ es) = ap (λ b. is_lt (id_cmp q e.0) && b) (below-copies q es)
 
-pub sorted-copies : (es : ById Kept) → is_sorted id_cmp (copies_of es) ≡ is_sorted id_cmp es
+pub sorted-copies : (es : ById CopyView) → is_sorted id_cmp (copies_of es) ≡ is_sorted id_cmp es
 sorted-copies [] = refl
 sorted-copies (e ∷ es) = λ i. below-copies e.0 es i && sorted-copies es i
 
 -- ---- the copies
 
-pub at-copies : (es : ById Kept) (id : ObjectId) → at (copies_of es) id ≡ option_map (λ k. k.copy) (at es id)
+pub at-copies : (es : ById CopyView) (id : ObjectId) → at (copies_of es) id ≡ option_map (λ k. k.copy) (at es id)
 at-copies [] id = refl
 at-copies (e ∷ es) id = by (same_id id e.0) (at-copies es id)
   where
@@ -46,7 +46,7 @@ at-copies (e ∷ es) id = by (same_id id e.0) (at-copies es id)
     by true h = refl
     by false h = h
 
-pub copies-with : (es : ById Kept) (id : ObjectId) (k : Kept) → copies_of (with_entry es id k) ≡ with_entry (copies_of es) id k.copy
+pub copies-with : (es : ById CopyView) (id : ObjectId) (k : CopyView) → copies_of (with_entry es id k) ≡ with_entry (copies_of es) id k.copy
 copies-with [] id k = refl
 copies-with (e ∷ es) id k = by (id_cmp id e.0) (copies-with es id k)
   where
@@ -56,7 +56,7 @@ copies-with (e ∷ es) id k = by (id_cmp id e.0) (copies-with es id k)
     by Equal h = refl
     by Greater h = ap (λ t. (e.0, e.1.copy) ∷ t) h
 
-pub copies-without : (es : ById Kept) (id : ObjectId) → copies_of (without_entry es id) ≡ without_entry (copies_of es) id
+pub copies-without : (es : ById CopyView) (id : ObjectId) → copies_of (without_entry es id) ≡ without_entry (copies_of es) id
 copies-without [] id = refl
 copies-without (e ∷ es) id = by (same_id id e.0) (copies-without es id)
   where
@@ -65,11 +65,11 @@ copies-without (e ∷ es) id = by (same_id id e.0) (copies-without es id)
     by false h = ap (λ t. (e.0, e.1.copy) ∷ t) h
 
 -- a copy that is there changed
-pub copies-changed : (f : Kept → Kept) (es : ById Kept) (id : ObjectId) (k : Kept) → at es id ≡ Some k → copies_of (changed f es id) ≡ with_entry (copies_of es) id (f k).copy
+pub copies-changed : (f : CopyView → CopyView) (es : ById CopyView) (id : ObjectId) (k : CopyView) → at es id ≡ Some k → copies_of (changed f es id) ≡ with_entry (copies_of es) id (f k).copy
 copies-changed f es id k found = ap copies_of (changed-found f id es k found) ∙ copies-with es id (f k)
 
-pub at-copies_found : (es : ById Kept) (id : ObjectId) (k : Kept) → at es id ≡ Some k → at (copies_of es) id ≡ Some k.copy
+pub at-copies_found : (es : ById CopyView) (id : ObjectId) (k : CopyView) → at es id ≡ Some k → at (copies_of es) id ≡ Some k.copy
 at-copies_found es id k found = at-copies es id ∙ ap (option_map (λ k. k.copy)) found
 
-pub at-copies_none : (es : ById Kept) (id : ObjectId) → at es id ≡ None → at (copies_of es) id ≡ None
+pub at-copies_none : (es : ById CopyView) (id : ObjectId) → at es id ≡ None → at (copies_of es) id ≡ None
 at-copies_none es id none = at-copies es id ∙ ap (option_map (λ k. k.copy)) none

@@ -4,8 +4,8 @@ use Rattle.std.specs.List.{list_all, count_by}
 use Rattle.obj_id.specs.declared.ids.ObjectId.{ObjectId}
 use Rattle.obj_id.specs.Ids.{same_id}
 use Rattle.store_facts.proofs.Ids.{same_id-itself}
-use Rattle.private_store.specs.Tables.{ById, at, without_entry}
-use Rattle.private_store.specs.Kept.{IsOrderOfUse}
+use Rattle.private_store.specs.rules.Tables.{ById, at, without_entry}
+use Rattle.private_store.specs.laws.Invariants.{IsOrderOfUse}
 use Rattle.store_facts.proofs.Rows.{at-drop}
 use Rattle.store_facts.proofs.KeptLists.{length-filter-le, count-cons, count-yes}
 use Rattle.store_facts.proofs.Tests.{both, both_left, both_right, true_false}

@@ -15,29 +15,29 @@ use Rattle.obj_id.specs.Ids.{id_eq, same_id}
 use Rattle.store_facts.proofs.Ids.{same_id-flip, same_id-id_eq}
 use Rattle.private_store.specs.declared.inputs.Input.{Input}
 use Rattle.private_store.specs.declared.inputs.Input.TheVariants as input
-use Rattle.private_store.specs.Limits.{most_copies}
-use Rattle.private_store.specs.Tables.{at, is_among}
-use Rattle.private_store.specs.Extents.{rounded, first, is_size}
-use Rattle.private_store.specs.Shape.{Copy, Shape, Change}
-use Rattle.private_store.specs.Copies.{extent_of}
-use Rattle.private_store.specs.Room.{make_room}
-use Rattle.private_store.specs.Change.{erasing, in_room, has_ended}
-use Rattle.private_store.specs.Kept.{has_hand, is_remembered}
+use Rattle.private_store.specs.rules.Limits.{most_copies}
+use Rattle.private_store.specs.rules.Tables.{at, is_among}
+use Rattle.private_store.specs.rules.Extents.{rounded, first, is_size}
+use Rattle.private_store.specs.rules.Shape.{Copy, Shape, Change}
+use Rattle.private_store.specs.rules.Copies.{extent_of}
+use Rattle.private_store.specs.rules.Room.{make_room}
+use Rattle.private_store.specs.rules.Change.{erasing, in_room, has_ended}
+use Rattle.private_store.specs.laws.Invariants.{has_hand, is_remembered}
 use Rattle.std.proofs.lemmas.Bool.{eqb-true}
-use Rattle.private_store.specs.Commands.{create, created, is_length}
-use Rattle.private_store.specs.Contents.{Contents, judge}
-use Rattle.private_store.specs.Step.{step}
+use Rattle.private_store.specs.rules.Commands.{create, created, is_length}
+use Rattle.private_store.specs.rules.Contents.{Contents, judge}
+use Rattle.private_store.specs.rules.Step.{step}
 use Rattle.store_facts.proofs.Checks.{checked-nil}
 use Rattle.store_facts.proofs.Tests.{some_value, none_some, true_false}
 use Rattle.job_region.specs.Region.{extents_of}
-use Rattle.node_table.specs.Kept.{Kept, new_kept}
-use Rattle.node_table.specs.Row.{Row, Beside, copies_of, shape_of, place_of, ArePlaced}
+use Rattle.node_table.specs.CopyViews.{CopyView, new_copy_view}
+use Rattle.node_table.specs.Row.{Row, SharedTables, copies_of, shape_of, place_of, ArePlaced}
 use Rattle.node_table.specs.Checks.{create_check}
 use Rattle.node_table.specs.Evicting.{placed_without, replaced, removals}
 use Rattle.node_table.specs.MadeRooms.{BringsNothing}
 use Rattle.node_table.proofs.Rooms.{each_among, placed_done}
 use Rattle.node_table.specs.RoomPlans.{MakesPlace}
-use Rattle.node_table.specs.Shown.{seen, work_on, IsShown, only, TakesStep}
+use Rattle.node_table.specs.Shown.{seen, work_on, IsShown, only, RowStep}
 use Rattle.node_table.proofs.ByChecks.{unless_refused, first-check, called, own}
 use Rattle.node_table.proofs.CopyTables.{at-copies, at-copies_none}
 use Rattle.node_table.proofs.Fetching.{length-map, nothing_found}
@@ -63,11 +63,11 @@ absent_of row id n passed = by (at row.copies id) passed
     stays_on true o e = none_some Gone (sym e)
     stays_on false o e = e
 
-    by : (o : Option Kept) → cond (not (is_size row.window.quota n)) (Some BadSize) (cond (is_remembered row.ended_tasks id.task) (Some Gone) (cond (is_some o) (Some Exists) (cond (nat_le most_copies (length row.copies)) (Some TooMany) None))) ≡ None → o ≡ None
+    by : (o : Option CopyView) → cond (not (is_size row.window.quota n)) (Some BadSize) (cond (is_remembered row.ended_tasks id.task) (Some Gone) (cond (is_some o) (Some Exists) (cond (nat_le most_copies (length row.copies)) (Some TooMany) None))) ≡ None → o ≡ None
     by None e = refl
     by (Some k) e = none_some Exists (sym (stays_on (is_remembered row.ended_tasks id.task) (Some Exists) (sized (not (is_size row.window.quota n)) _ e)))
 
-module _ (node : ℕ) (row : Row) (beside : Beside) (contents : Contents) (session : ℕ) (id : ObjectId) (kind : Kind) (n : ℕ) (mine : (id.job.0 == row.job) ≡ true) (h : IsShown row beside contents) where
+module _ (node : ℕ) (row : Row) (beside : SharedTables) (contents : Contents) (session : ℕ) (id : ObjectId) (kind : Kind) (n : ℕ) (mine : (id.job.0 == row.job) ≡ true) (h : IsShown row beside contents) where
   abbrev s : Shape
   s = shape_of row beside
 
@@ -80,7 +80,7 @@ module _ (node : ℕ) (row : Row) (beside : Beside) (contents : Contents) (sessi
   same_presence : is_some (at s.copies id) ≡ is_some (at row.copies id)
   same_presence = ap is_some (at-copies row.copies id) ∙ by (at row.copies id)
     where
-      by : (o : Option Kept) → is_some (option_map (λ (k : Kept). k.copy) o) ≡ is_some o
+      by : (o : Option CopyView) → is_some (option_map (λ (k : CopyView). k.copy) o) ≡ is_some o
       by None = refl
       by (Some k) = refl
 
@@ -97,7 +97,7 @@ module _ (node : ℕ) (row : Row) (beside : Beside) (contents : Contents) (sessi
   pub quiet : BringsNothing node (seen row beside contents) x
   quiet = record { bytes = λ r. refl; digests = λ r. refl; received = refl }
 
-  pub create_refused : (r : Refusal) → create_check row id n ≡ Some r → TakesStep node row beside contents x (only (reply.Refused r)) row beside
+  pub create_refused : (r : Refusal) → create_check row id n ≡ Some r → RowStep node row beside contents x (only (reply.Refused r)) row beside
   create_refused r e = stays node row beside contents h x (reply.Refused r) (create_is ∙ ap (λ o. erasing s (unless_refused s o room_change)) e) refl refl refl
 
   module _ (passed : create_check row id n ≡ None) where
@@ -127,11 +127,11 @@ module _ (node : ℕ) (row : Row) (beside : Beside) (contents : Contents) (sessi
         append_nil [] = refl
         append_nil (y ∷ ys) = ap (λ zs. y ∷ zs) (append_nil ys)
 
-        pub create_done : TakesStep node row beside contents x (record { reply = reply.Placed offset (rounded n); posts = removals node row.copies victims; erased = [] }) (replaced row (Some id) id (new_kept kind n offset) n offset victims) beside
+        pub create_done : RowStep node row beside contents x (record { reply = reply.Placed offset (rounded n); posts = removals node row.copies victims; erased = [] }) (replaced row (Some id) id (new_copy_view kind n offset) n offset victims) beside
         create_done =
-            subst (λ ps. TakesStep node row beside contents x (record { reply = reply.Placed offset (rounded n); posts = ps; erased = [] }) (replaced row (Some id) id (new_kept kind n offset) n offset victims) beside) (append_nil (removals node row.copies victims))
-            (placed_done node row beside contents h x quiet n (created id kind n) by_room victims makes placed id (new_kept kind n offset)
-            (ap (option_and_then (λ (k : Kept). extent_of k.copy)) absent) stays offset refl refl least free beside.works beside.used (Some id)
+            subst (λ ps. RowStep node row beside contents x (record { reply = reply.Placed offset (rounded n); posts = ps; erased = [] }) (replaced row (Some id) id (new_copy_view kind n offset) n offset victims) beside) (append_nil (removals node row.copies victims))
+            (placed_done node row beside contents h x quiet n (created id kind n) by_room victims makes placed id (new_copy_view kind n offset)
+            (ap (option_and_then (λ (k : CopyView). extent_of k.copy)) absent) stays offset refl refl least free beside.works beside.used (Some id)
             refl refl (λ u is. some_value u id (sym is)) (λ none. none_some id (sym none)) (λ keeps. true_false keeps) (sym no_work) (λ q differs. refl) (sym no_hand) [] refl)
 
 -- whether an id is among others, by the `==` of ids

@@ -12,31 +12,31 @@ use Rattle.obj_id.specs.declared.works.Extent.{Extent}
 use Rattle.obj_id.specs.declared.works.WorkKind.{WorkKind}
 use Rattle.obj_id.specs.declared.works.WorkKind.TheVariants.{Write, Read}
 use Rattle.obj_id.specs.Ids.{id_cmp, same_id}
-use Rattle.private_store.specs.Tables.{ById, at}
-use Rattle.private_store.specs.Extents.{rounded}
-use Rattle.private_store.specs.Shape.{Copy, Shape, WorkInFlight}
-use Rattle.private_store.specs.Kept.{has_hand}
+use Rattle.private_store.specs.rules.Tables.{ById, at}
+use Rattle.private_store.specs.rules.Extents.{rounded}
+use Rattle.private_store.specs.rules.Shape.{Copy, Shape, WorkInFlight}
+use Rattle.private_store.specs.laws.Invariants.{has_hand}
 use Rattle.obj_id.specs.Kinds.{is_primary}
-use Rattle.private_store.specs.Copies.{extent_of, is_held, is_sealed, is_working, device_used}
-use Rattle.private_store.specs.Contents.{Contents}
+use Rattle.private_store.specs.rules.Copies.{extent_of, is_held, is_sealed, is_working, device_used}
+use Rattle.private_store.specs.rules.Contents.{Contents}
 use Rattle.store_facts.proofs.Tests.{T_true, and_right, none_some, some_value}
 use Rattle.job_region.specs.Region.{extents_of, IsAt}
 use Rattle.lru_evictor.specs.declared.facts.DeviceRoom.{DeviceRoom}
 use Rattle.lru_evictor.specs.Facts.{Looked}
 use Rattle.lru_evictor.specs.Plans.{IsDescribed, extents_in, facts_of as store_facts}
-use Rattle.node_table.specs.Kept.{Kept}
-use Rattle.node_table.specs.Row.{Row, Beside, copies_of, shape_of, place_of, ArePlaced}
+use Rattle.node_table.specs.CopyViews.{CopyView}
+use Rattle.node_table.specs.Row.{Row, SharedTables, copies_of, shape_of, place_of, ArePlaced}
 use Rattle.node_table.specs.Shown.{IsShown, work_on}
-use Rattle.node_table.specs.Followed.{facts_in}
-use Rattle.node_table.specs.RoomPlans.{facts_of}
+use Rattle.node_table.specs.InSync.{facts_in}
+use Rattle.node_table.specs.RoomPlans.{row_facts_of}
 use Rattle.node_table.proofs.CopyTables.{at-first, at-rest, at-copies, at-copies_found}
 use Rattle.node_table.proofs.Passed.{place_found}
 
 -- the row's own copy
-kept_found : (es : ById Kept) (id : ObjectId) (copy : Copy) → at (copies_of es) id ≡ Some copy → (k : Kept) × (at es id ≡ Some k) × (k.copy ≡ copy)
+kept_found : (es : ById CopyView) (id : ObjectId) (copy : Copy) → at (copies_of es) id ≡ Some copy → (k : CopyView) × (at es id ≡ Some k) × (k.copy ≡ copy)
 kept_found es id copy found = by (at es id) refl
   where
-    by : (o : Option Kept) → at es id ≡ o → (k : Kept) × (at es id ≡ Some k) × (k.copy ≡ copy)
+    by : (o : Option CopyView) → at es id ≡ o → (k : CopyView) × (at es id ≡ Some k) × (k.copy ≡ copy)
     by None e = none_some copy (ap (option_map (λ k. k.copy)) (sym e) ∙ sym (at-copies es id) ∙ found)
     by (Some k) e = (k, e, some_value k.copy copy (ap (option_map (λ k. k.copy)) (sym e) ∙ sym (at-copies es id) ∙ found))
 
@@ -60,12 +60,12 @@ idle_same held kept granted working o g e = (λ i. not held && not (g i) && is_n
     none_is None = refl
     none_is (Some kind) = refl
 
-facts_same : (row : Row) (beside : Beside) (id : ObjectId) (k : Kept) → k.granted ≡ has_hand beside.given id → is_some k.working ≡ is_working (shape_of row beside) id → facts_of k ≡ store_facts (shape_of row beside) id k.copy
+facts_same : (row : Row) (beside : SharedTables) (id : ObjectId) (k : CopyView) → k.granted ≡ has_hand beside.given id → is_some k.working ≡ is_working (shape_of row beside) id → row_facts_of k ≡ store_facts (shape_of row beside) id k.copy
 facts_same row beside id k g e = λ i. record {
   extent = extent_of k.copy;
   bytes = rounded k.copy.length;
   evictable = is_sealed k.copy.state && idle_same (is_held k.copy) k.granted (has_hand beside.given id) (is_working (shape_of row beside) id) k.working g e i && (not (is_primary k.copy.kind) || is_some k.copy.backed);
-  passing = (e i) && is_some k.copy.offset && not (is_held k.copy) && not (g i);
+  draining = (e i) && is_some k.copy.offset && not (is_held k.copy) && not (g i);
   spillable = is_sealed k.copy.state && is_primary k.copy.kind && is_none k.copy.backed && idle_same (is_held k.copy) k.granted (has_hand beside.given id) (is_working (shape_of row beside) id) k.working g e i && not k.copy.doomed;
 }
 
@@ -132,10 +132,10 @@ placed_in (p ∷ placed) x h = by (nat_eq x.offset p.0) refl (placed_in placed x
 
 -- ---- all of it
 
-abbrev pub facts_at : ById Kept → Looked
+abbrev pub facts_at : ById CopyView → Looked
 facts_at = facts_in
 
-module _ (row : Row) (beside : Beside) (contents : Contents) (h : IsShown row beside contents) (placed : ArePlaced row.window.placed (place_of row.copies)) where
+module _ (row : Row) (beside : SharedTables) (contents : Contents) (h : IsShown row beside contents) (placed : ArePlaced row.window.placed (place_of row.copies)) where
   abbrev s : Shape
   s = shape_of row beside
 
@@ -145,7 +145,7 @@ module _ (row : Row) (beside : Beside) (contents : Contents) (h : IsShown row be
   looked_at : (id : ObjectId) → facts_at row.copies id ≡ option_map (store_facts s id) (at s.copies id)
   looked_at id = by (at row.copies id) refl ∙ ap (option_map (store_facts s id)) (sym (at-copies row.copies id))
     where
-      by : (o : Option Kept) → at row.copies id ≡ o → option_map facts_of o ≡ option_map (store_facts s id) (option_map (λ k. k.copy) o)
+      by : (o : Option CopyView) → at row.copies id ≡ o → option_map row_facts_of o ≡ option_map (store_facts s id) (option_map (λ k. k.copy) o)
       by None e = refl
       by (Some k) e = ap Some (facts_same row beside id k (h.granted id k e) (ap is_some (h.working id k e) ∙ working-on s.works id))
 
@@ -158,7 +158,7 @@ module _ (row : Row) (beside : Beside) (contents : Contents) (h : IsShown row be
       there : Contains (extents_of row.window.placed) x → Contains (extents_in s) x
       there c =
           let o = placed.owned x c in
-          (elim (at row.copies o.0) as (λ k. at row.copies o.0 ≡ k → option_and_then (λ (kept : Kept). extent_of kept.copy) k ≡ Some x → Contains (extents_in s) x) [
+          (elim (at row.copies o.0) as (λ k. at row.copies o.0 ≡ k → option_and_then (λ (kept : CopyView). extent_of kept.copy) k ≡ Some x → Contains (extents_in s) x) [
             | None ↦ λ e lies. none_some x lies
             | Some k ↦ λ e lies. extent_in s.copies o.0 k.copy x (at-copies_found row.copies o.0 k e) lies
           ]) refl o.1

@@ -12,32 +12,32 @@ use Rattle.obj_id.specs.Ids.{id_cmp, same_id}
 use Rattle.store_facts.proofs.Ids.{same_id-itself, same_id-equal, same_id-flip}
 use Rattle.private_store.specs.declared.faults.Fault.{Fault}
 use Rattle.private_store.specs.declared.inputs.Input.{Input}
-use Rattle.private_store.specs.Tables.{ById, at, with_entry, without_entry, is_among}
-use Rattle.private_store.specs.Shape.{Copy, Change}
-use Rattle.private_store.specs.Room.{drop_copy}
-use Rattle.private_store.specs.Change.{keys_gone}
+use Rattle.private_store.specs.rules.Tables.{ById, at, with_entry, without_entry, is_among}
+use Rattle.private_store.specs.rules.Shape.{Copy, Change}
+use Rattle.private_store.specs.rules.Room.{drop_copy}
+use Rattle.private_store.specs.rules.Change.{keys_gone}
 use Rattle.store_facts.proofs.Filling.{below_none}
 use Rattle.store_facts.proofs.ErasedKeys.{all_found}
-use Rattle.private_store.specs.Copies.{extent_of}
-use Rattle.private_store.specs.Step.{reordered}
-use Rattle.private_store.specs.Contents.{Contents}
-use Rattle.private_store.specs.Private.{key_of}
+use Rattle.private_store.specs.rules.Copies.{extent_of}
+use Rattle.private_store.specs.rules.Step.{reordered}
+use Rattle.private_store.specs.rules.Contents.{Contents}
+use Rattle.private_store.specs.rules.Private.{key_of}
 use Rattle.store_facts.proofs.KeptLists.{any-filter}
 use Rattle.store_facts.proofs.Rows.{at-drop, at-put}
 use Rattle.store_facts.proofs.Tests.{none_some, some_value, true_false, false_true, true_T, and_left, and_right, both, both_left, both_right}
 use Rattle.job_region.specs.Region.{without}
 use Rattle.lru_evictor.specs.Orders.{AreThere, without_id}
 use Rattle.node_table.specs.Entries.{changed}
-use Rattle.node_table.specs.Kept.{Kept, lost}
-use Rattle.node_table.specs.Row.{Row, Beside, copies_of, shape_of, place_of, ArePlaced}
-use Rattle.node_table.specs.Shown.{IsShown, Given}
+use Rattle.node_table.specs.CopyViews.{CopyView, after_failed_restore}
+use Rattle.node_table.specs.Row.{Row, SharedTables, copies_of, shape_of, place_of, ArePlaced}
+use Rattle.node_table.specs.Shown.{IsShown, RowGiven}
 use Rattle.node_table.specs.Dropping.{dropped}
 use Rattle.lru_evictor.proofs.ForCallers.{goes}
 use Rattle.std.proofs.lemmas.List.{append-nil}
 use Rattle.node_table.proofs.Changes.{changed-found, changed-absent}
 use Rattle.node_table.proofs.Places.{same_places}
 use Rattle.node_table.proofs.Replacing.{lookup-without, left_in}
-use Rattle.node_table.proofs.Stepping.{Moves}
+use Rattle.node_table.proofs.Stepping.{TakesChange}
 
 -- ---- tables and orders
 
@@ -49,7 +49,7 @@ left_at es id q x found = by (same_id id q) refl (sym (at-drop es id q) ∙ foun
     by true same e = none_some x e
     by false same e = (same, e)
 
-pub copies-without : (id : ObjectId) (es : ById Kept) → copies_of (without_entry es id) ≡ without_entry (copies_of es) id
+pub copies-without : (id : ObjectId) (es : ById CopyView) → copies_of (without_entry es id) ≡ without_entry (copies_of es) id
 copies-without id [] = refl
 copies-without id (e ∷ es) = by (same_id id e.0) (copies-without id es)
   where
@@ -100,14 +100,14 @@ among_left order id q other h =
 
 -- ---- places
 
-module _ (placed : List (ℕ × List ℕ)) (es : ById Kept) (h : ArePlaced placed (place_of es)) (id : ObjectId) where
+module _ (placed : List (ℕ × List ℕ)) (es : ById CopyView) (h : ArePlaced placed (place_of es)) (id : ObjectId) where
   abbrev pub gone : List Extent
   gone = option_to_list (place_of es id)
 
   pub place_left : (q : ObjectId) → place_of (without_entry es id) q ≡ cond (not (same_id id q)) (place_of es q) None
-  place_left q = ap (λ o. option_and_then (λ (kept : Kept). extent_of kept.copy) o) (at-drop es id q) ∙ by (same_id id q)
+  place_left q = ap (λ o. option_and_then (λ (kept : CopyView). extent_of kept.copy) o) (at-drop es id q) ∙ by (same_id id q)
     where
-      by : (b : Bool) → option_and_then (λ (kept : Kept). extent_of kept.copy) (cond (not b) (at es q) None) ≡ cond (not b) (place_of es q) None
+      by : (b : Bool) → option_and_then (λ (kept : CopyView). extent_of kept.copy) (cond (not b) (at es q) None) ≡ cond (not b) (place_of es q) None
       by true = refl
       by false = refl
 
@@ -158,21 +158,21 @@ module _ (placed : List (ℕ × List ℕ)) (es : ById Kept) (h : ArePlaced place
       other q e lies stays true s = false_true (sym (goes_here e (ap (place_of es) (same_id-equal id q s) ∙ lies)) ∙ stays)
 
   -- the same where the copy gives its place up, and stays
-  pub lost_placed : (fault : Fault) → ArePlaced (without gone placed) (place_of (changed (lost fault) es id))
-  lost_placed fault = same_places (without gone placed) (place_of (without_entry es id)) (place_of (changed (lost fault) es id)) (λ q. now q (at es id) refl ∙ sym (place_left q)) left_placed
+  pub lost_placed : (fault : Fault) → ArePlaced (without gone placed) (place_of (changed (after_failed_restore fault) es id))
+  lost_placed fault = same_places (without gone placed) (place_of (without_entry es id)) (place_of (changed (after_failed_restore fault) es id)) (λ q. now q (at es id) refl ∙ sym (place_left q)) left_placed
     where
-      now : (q : ObjectId) (o : Option Kept) → at es id ≡ o → place_of (changed (lost fault) es id) q ≡ cond (not (same_id id q)) (place_of es q) None
-      now q None none = ap (λ t. place_of t q) (changed-absent (lost fault) id es none) ∙ here (same_id id q) refl
+      now : (q : ObjectId) (o : Option CopyView) → at es id ≡ o → place_of (changed (after_failed_restore fault) es id) q ≡ cond (not (same_id id q)) (place_of es q) None
+      now q None none = ap (λ t. place_of t q) (changed-absent (after_failed_restore fault) id es none) ∙ here (same_id id q) refl
         where
           here : (b : Bool) → same_id id q ≡ b → place_of es q ≡ cond (not b) (place_of es q) None
-          here true t = ap (λ o. option_and_then (λ (kept : Kept). extent_of kept.copy) o) (ap (at es) (sym (same_id-equal id q t)) ∙ none)
+          here true t = ap (λ o. option_and_then (λ (kept : CopyView). extent_of kept.copy) o) (ap (at es) (sym (same_id-equal id q t)) ∙ none)
           here false t = refl
       now q (Some k) is =
-          ap (λ t. place_of t q) (changed-found (lost fault) id es k is)
-          ∙ ap (λ o. option_and_then (λ (kept : Kept). extent_of kept.copy) o) (at-put es id (lost fault k) q ∙ ap (λ b. cond b (Some (lost fault k)) (at es q)) (same_id-flip q id))
+          ap (λ t. place_of t q) (changed-found (after_failed_restore fault) id es k is)
+          ∙ ap (λ o. option_and_then (λ (kept : CopyView). extent_of kept.copy) o) (at-put es id (after_failed_restore fault k) q ∙ ap (λ b. cond b (Some (after_failed_restore fault k)) (at es q)) (same_id-flip q id))
           ∙ here (same_id id q)
         where
-          here : (b : Bool) → option_and_then (λ (kept : Kept). extent_of kept.copy) (cond b (Some (lost fault k)) (at es q)) ≡ cond (not b) (place_of es q) None
+          here : (b : Bool) → option_and_then (λ (kept : CopyView). extent_of kept.copy) (cond b (Some (after_failed_restore fault k)) (at es q)) ≡ cond (not b) (place_of es q) None
           here true = refl
           here false = refl
 
@@ -243,13 +243,13 @@ key_dropped es id copy sorted found = keys_one es (without_entry es id) id left 
 -- ---- the step
 
 -- what was shown of a row before its copy was removed is so of it afterwards
-module _ (node : ℕ) (row : Row) (beside : Beside) (contents : Contents) (h : IsShown row beside contents) (x : Input)
-    (c : Change) (told : Given) (r : Row) (after : Beside) (m : Moves node row beside contents h x c told r after) (unused : c.used ≡ None)
+module _ (node : ℕ) (row : Row) (beside : SharedTables) (contents : Contents) (h : IsShown row beside contents) (x : Input)
+    (c : Change) (told : RowGiven) (r : Row) (after : SharedTables) (m : TakesChange node row beside contents h x c told r after) (unused : c.used ≡ None)
     (placed : ArePlaced r.window.placed (place_of r.copies)) (id : ObjectId) where
   abbrev pub change_left : List ℕ → Change
   change_left erased = record c { shape = drop_copy c.shape id; erased = erased }
 
-  pub moves_left : (erased : List ℕ) (given : Given) → given.reply ≡ told.reply → given.erased ≡ map (key_of row.job) erased → Moves node row beside contents h x (change_left erased) given (dropped r id) after
+  pub moves_left : (erased : List ℕ) (given : RowGiven) → given.reply ≡ told.reply → given.erased ≡ map (key_of row.job) erased → TakesChange node row beside contents h x (change_left erased) given (dropped r id) after
   moves_left erased given same keys = record {
     shape = ap (λ s. drop_copy s id) m.shape ∙ ap (λ t. record (shape_of r after) { copies = t }) (sym (copies-without id r.copies));
     order =
@@ -262,7 +262,7 @@ module _ (node : ℕ) (row : Row) (beside : Beside) (contents : Contents) (h : I
     bytes = λ q k e found lies.
         let l = left_at r.copies id q k found in
         m.bytes q k e l.1 lies
-        ∙ ap (λ o. take k.copy.length (unwrap_or o [])) (sym (found_left r.window.placed r.copies placed id q e l.0 (ap (λ o. option_and_then (λ (z : Kept). extent_of z.copy) o) l.1 ∙ lies)));
+        ∙ ap (λ o. take k.copy.length (unwrap_or o [])) (sym (found_left r.window.placed r.copies placed id q e l.0 (ap (λ o. option_and_then (λ (z : CopyView). extent_of z.copy) o) l.1 ∙ lies)));
     digests = λ q k found keeps. m.digests q k (left_at r.copies id q k found).1 keeps;
     working = λ q k found. m.working q k (left_at r.copies id q k found).1;
     granted = λ q k found. m.granted q k (left_at r.copies id q k found).1;

@@ -6,19 +6,19 @@ use Rattle.std.specs.Option.{option_and_then}
 use Rattle.std.specs.FinMap.Entries.{is_sorted, below_all}
 use Rattle.obj_id.specs.declared.ids.ObjectId.{ObjectId}
 use Rattle.obj_id.specs.Ids.{id_cmp}
-use Rattle.private_store.specs.Tables.{ById, at, ids_of}
-use Rattle.private_store.specs.Change.{keys_gone}
-use Rattle.private_store.specs.Private.{key_of}
+use Rattle.private_store.specs.rules.Tables.{ById, at, ids_of}
+use Rattle.private_store.specs.rules.Change.{keys_gone}
+use Rattle.private_store.specs.rules.Private.{key_of}
 use Rattle.store_facts.proofs.Tests.{and_right}
 use Rattle.node_table.specs.Ending.{keys_backed}
-use Rattle.node_table.specs.Kept.{Kept}
+use Rattle.node_table.specs.CopyViews.{CopyView}
 use Rattle.node_table.specs.Row.{Row, copies_of}
 use Rattle.node_table.proofs.CopyTables.{at-first, at-rest}
 
-pub keys-backed : (row : Row) (es : ById Kept) → T (is_sorted id_cmp es) → ((q : ObjectId) (k : Kept) → at es q ≡ Some k → at row.copies q ≡ Some k) → keys_backed row (ids_of es) ≡ map (key_of row.job) (keys_gone (copies_of es) [])
+pub keys-backed : (row : Row) (es : ById CopyView) → T (is_sorted id_cmp es) → ((q : ObjectId) (k : CopyView) → at es q ≡ Some k → at row.copies q ≡ Some k) → keys_backed row (ids_of es) ≡ map (key_of row.job) (keys_gone (copies_of es) [])
 keys-backed row [] sorted are = refl
 keys-backed row (e ∷ es) sorted are =
-    ap (λ o. option_to_list (option_and_then (λ (kept : Kept). option_map (key_of row.job) kept.copy.backed) o) ++ keys_backed row (ids_of es)) (are e.0 e.1 (at-first e es))
+    ap (λ o. option_to_list (option_and_then (λ (kept : CopyView). option_map (key_of row.job) kept.copy.backed) o) ++ keys_backed row (ids_of es)) (are e.0 e.1 (at-first e es))
     ∙ ap (λ ks. option_to_list (option_map (key_of row.job) e.1.copy.backed) ++ ks) (keys-backed row es (and_right (below_all id_cmp e.0 es) _ sorted) (λ q k found. are q k (at-rest e es sorted q k found)))
     ∙ by e.1.copy.backed
   where

@@ -20,33 +20,33 @@ use Rattle.obj_id.specs.Kinds.{is_primary}
 use Rattle.store_facts.proofs.Ids.{same_id-equal, id_cmp-IsTotalOrder}
 use Rattle.private_store.specs.declared.inputs.Input.{Input}
 use Rattle.private_store.specs.declared.inputs.Input.TheVariants as input
-use Rattle.private_store.specs.Limits.{most_ended_tasks}
-use Rattle.private_store.specs.Tables.{ById, at, with_entry, ids_of, is_among}
-use Rattle.private_store.specs.Shape.{Copy, Shape, Change, Sending, HandGiven, free, remove_location}
-use Rattle.private_store.specs.Copies.{extent_of, is_held, is_granted, is_working, is_idle, in_scope, was_sealed}
-use Rattle.private_store.specs.Room.{set_copy, drop_copy}
-use Rattle.private_store.specs.Change.{done, sending, erasing, settled, keys_gone, doom, doom_notice, has_ended}
-use Rattle.private_store.specs.Change as changes
-use Rattle.private_store.specs.Commands.{at_each, give_up_one, of_task, task_ended, end_task, has_borrower, without_borrower}
-use Rattle.private_store.specs.Commands as commands
-use Rattle.private_store.specs.Contents.{Contents, View, judge, keeps_digest, no_digest}
-use Rattle.private_store.specs.Kept.{has_hand}
-use Rattle.private_store.specs.Private.{Post, key_of, posts_of, view_after}
-use Rattle.private_store.specs.Step.{reordered}
+use Rattle.private_store.specs.rules.Limits.{most_ended_tasks}
+use Rattle.private_store.specs.rules.Tables.{ById, at, with_entry, ids_of, is_among}
+use Rattle.private_store.specs.rules.Shape.{Copy, Shape, Change, Sending, HandGiven, free, remove_location}
+use Rattle.private_store.specs.rules.Copies.{extent_of, is_held, is_granted, is_working, is_idle, in_scope, was_sealed}
+use Rattle.private_store.specs.rules.Room.{set_copy, drop_copy}
+use Rattle.private_store.specs.rules.Change.{done, sending, erasing, settled, keys_gone, doom, doom_notice, has_ended}
+use Rattle.private_store.specs.rules.Change as changes
+use Rattle.private_store.specs.rules.Commands.{at_each, give_up_one, of_task, task_ended, end_task, has_borrower, without_borrower}
+use Rattle.private_store.specs.rules.Commands as commands
+use Rattle.private_store.specs.rules.Contents.{Contents, View, judge, keeps_digest, no_digest}
+use Rattle.private_store.specs.laws.Invariants.{has_hand}
+use Rattle.private_store.specs.rules.Private.{Post, key_of, posts_of, view_after}
+use Rattle.private_store.specs.rules.Step.{reordered}
 use Rattle.store_facts.proofs.Checks.{checked-nil}
 use Rattle.store_facts.proofs.Filling.{filled}
 use Rattle.store_facts.proofs.Tests.{T_true, and_right, none_some, some_value}
-use Rattle.job_region.specs.Region.{bytes_at as placed_bytes}
+use Rattle.job_region.specs.Region.{region_bytes_at as placed_bytes}
 use Rattle.lru_evictor.specs.Orders.{AreThere}
 use Rattle.lru_evictor.proofs.ForCallers.{reordered-unused}
 use Rattle.node_table.specs.Checks.{end_task_check}
 use Rattle.node_table.specs.Dropping.{dropped, is_over, settled_row}
 use Rattle.node_table.specs.Entries.{by_rising_id}
-use Rattle.node_table.specs.EndingTasks.{hands_ended, beside_ended, beside_after, task_row, doomed_row, doom_posts, given_up_row, give_up_posts, told_each, keys_of_copies, gone_keys, gone_key}
-use Rattle.node_table.specs.Kept.{Kept, doomed, given_up, ungranted}
-use Rattle.node_table.specs.Row.{Row, Beside, copies_of, shape_of, place_of, ArePlaced}
-use Rattle.node_table.specs.Scope.{farewell, farewell_at, posted, with_copy}
-use Rattle.node_table.specs.Shown.{seen, work_on, IsShown, Given, only, TakesStep}
+use Rattle.node_table.specs.EndingTasks.{copies_ungranted, beside_ended, beside_after, task_row, doomed_row, doom_posts, given_up_row, give_up_posts, told_each, keys_of_copies, gone_keys, gone_key}
+use Rattle.node_table.specs.CopyViews.{CopyView, after_doom, after_give_up, after_grants_ended}
+use Rattle.node_table.specs.Row.{Row, SharedTables, copies_of, shape_of, place_of, ArePlaced}
+use Rattle.node_table.specs.Scope.{removal_notice, removal_notice_at, notice_posts, with_copy}
+use Rattle.node_table.specs.Shown.{seen, work_on, IsShown, RowGiven, only, RowStep}
 use Rattle.node_table.proofs.ByChecks.{called, first-check, unless_refused, sending-is}
 use Rattle.node_table.proofs.Changes.{changed-absent}
 use Rattle.node_table.proofs.Changing.{From, from_changed, there_with}
@@ -58,7 +58,7 @@ use Rattle.node_table.proofs.Places.{changed_placed, same_places}
 use Rattle.node_table.proofs.Rising.{each-rising}
 use Rattle.node_table.proofs.Scoping.{doom-is, scoped-is, scoped-copy, scoped_copy, scoped_told, scoped-minor, doomed-minor, notice_of}
 use Rattle.node_table.proofs.Settling.{IsMinor}
-use Rattle.node_table.proofs.Stepping.{Moves, moved, change, bytes_now, digests_now, same_bytes, received_stays, stays}
+use Rattle.node_table.proofs.Stepping.{TakesChange, moved, change, bytes_now, digests_now, same_bytes, received_stays, stays}
 
 -- ---- the hands that end
 
@@ -95,43 +95,43 @@ module _ (job : ℕ) (task : TaskNo) where
 
 -- the table of which the hands of the task's objects have ended
 module _ (task : TaskNo) where
-  abbrev pub ended : ObjectId → Kept → Kept
-  ended id k = cond (same_task task id.task) (ungranted k) k
+  abbrev pub ended : ObjectId → CopyView → CopyView
+  ended id k = cond (same_task task id.task) (after_grants_ended k) k
 
-  pub same_part : {X : Type 0} (part : Kept → X) → ((z : Kept) → part (ungranted z) ≡ part z) → (b : Bool) (z : Kept) → part (cond b (ungranted z) z) ≡ part z
+  pub same_part : {X : Type 0} (part : CopyView → X) → ((z : CopyView) → part (after_grants_ended z) ≡ part z) → (b : Bool) (z : CopyView) → part (cond b (after_grants_ended z) z) ≡ part z
   same_part part same true z = same z
   same_part part same false z = refl
 
-  pub ended-rising : (es : List (ObjectId × Kept)) → by_rising_id (map (λ e. (e.0, ended e.0 e.1)) es) ≡ hands_ended task (by_rising_id es)
+  pub ended-rising : (es : List (ObjectId × CopyView)) → by_rising_id (map (λ e. (e.0, ended e.0 e.1)) es) ≡ copies_ungranted task (by_rising_id es)
   ended-rising es = each-rising ended es
 
-  pub at-ended : (es : ById Kept) (q : ObjectId) → at (hands_ended task es) q ≡ option_map (ended q) (at es q)
+  pub at-ended : (es : ById CopyView) (q : ObjectId) → at (copies_ungranted task es) q ≡ option_map (ended q) (at es q)
   at-ended [] q = refl
   at-ended (e ∷ es) q = by (same_id q e.0) refl (at-ended es q)
     where
-      by : (b : Bool) → same_id q e.0 ≡ b → at (hands_ended task es) q ≡ option_map (ended q) (at es q)
-          → cond b (Some (ended e.0 e.1)) (at (hands_ended task es) q) ≡ option_map (ended q) (cond b (Some e.1) (at es q))
+      by : (b : Bool) → same_id q e.0 ≡ b → at (copies_ungranted task es) q ≡ option_map (ended q) (at es q)
+          → cond b (Some (ended e.0 e.1)) (at (copies_ungranted task es) q) ≡ option_map (ended q) (cond b (Some e.1) (at es q))
       by true s later = ap (λ i. Some (ended i e.1)) (sym (same_id-equal q e.0 s))
       by false s later = later
 
-  pub copies-ended : (es : ById Kept) → copies_of (hands_ended task es) ≡ copies_of es
+  pub copies-ended : (es : ById CopyView) → copies_of (copies_ungranted task es) ≡ copies_of es
   copies-ended [] = refl
   copies-ended (e ∷ es) = λ i. (e.0, same_part (λ k. k.copy) (λ z. refl) (same_task task e.0.task) e.1 i) ∷ copies-ended es i
 
-  from_ended : (es : ById Kept) (q : ObjectId) (y : Kept) → at (hands_ended task es) q ≡ Some y → (k : Kept) × (at es q ≡ Some k) × (y ≡ ended q k)
+  from_ended : (es : ById CopyView) (q : ObjectId) (y : CopyView) → at (copies_ungranted task es) q ≡ Some y → (k : CopyView) × (at es q ≡ Some k) × (y ≡ ended q k)
   from_ended es q y found = by (at es q) refl (sym (at-ended es q) ∙ found)
     where
-      by : (o : Option Kept) → at es q ≡ o → option_map (ended q) o ≡ Some y → (k : Kept) × (at es q ≡ Some k) × (y ≡ ended q k)
+      by : (o : Option CopyView) → at es q ≡ o → option_map (ended q) o ≡ Some y → (k : CopyView) × (at es q ≡ Some k) × (y ≡ ended q k)
       by None e f = none_some y f
       by (Some k) e f = (k, e, sym (some_value (ended q k) y f))
 
-  pub ended-place : (id : ObjectId) (k : Kept) → extent_of (ended id k).copy ≡ extent_of k.copy
+  pub ended-place : (id : ObjectId) (k : CopyView) → extent_of (ended id k).copy ≡ extent_of k.copy
   ended-place id k = same_part (λ z. extent_of z.copy) (λ z. refl) (same_task task id.task) k
 
-  pub ended_placed : (placed : List (ℕ × List ℕ)) (es : ById Kept) → ArePlaced placed (place_of es) → ArePlaced placed (place_of (hands_ended task es))
-  ended_placed placed es h = same_places placed (place_of es) (place_of (hands_ended task es)) (λ q. ap (λ o. option_and_then (λ (k : Kept). extent_of k.copy) o) (at-ended es q) ∙ by q (at es q)) h
+  pub ended_placed : (placed : List (ℕ × List ℕ)) (es : ById CopyView) → ArePlaced placed (place_of es) → ArePlaced placed (place_of (copies_ungranted task es))
+  ended_placed placed es h = same_places placed (place_of es) (place_of (copies_ungranted task es)) (λ q. ap (λ o. option_and_then (λ (k : CopyView). extent_of k.copy) o) (at-ended es q) ∙ by q (at es q)) h
     where
-      by : (q : ObjectId) (o : Option Kept) → option_and_then (λ (k : Kept). extent_of k.copy) (option_map (ended q) o) ≡ option_and_then (λ (k : Kept). extent_of k.copy) o
+      by : (q : ObjectId) (o : Option CopyView) → option_and_then (λ (k : CopyView). extent_of k.copy) (option_map (ended q) o) ≡ option_and_then (λ (k : CopyView). extent_of k.copy) o
       by q None = refl
       by q (Some k) = ended-place q k
 
@@ -198,10 +198,10 @@ flat_map-append f (x ∷ xs) ys = ap (λ t. f x ++ t) (flat_map-append f xs ys) 
 
 -- ---- what is told of one copy that is doomed
 
-doom_told : (node : ℕ) (id : ObjectId) (o : View) (x : Input) (k : Kept) → posted (cond (not k.copy.doomed) (farewell node id k) None) ≡ flat_map (posts_of node o x) (option_to_list (notice_of id k.copy))
+doom_told : (node : ℕ) (id : ObjectId) (o : View) (x : Input) (k : CopyView) → notice_posts (cond (not k.copy.doomed) (removal_notice node id k) None) ≡ flat_map (posts_of node o x) (option_to_list (notice_of id k.copy))
 doom_told node id o x k = by (was_sealed k.copy.state) (is_primary k.copy.kind) k.copy.doomed
   where
-    by : (b p d : Bool) → posted (cond (not d) (cond b (Some (cond p (Free id) (RemoveLocation id node))) None) None)
+    by : (b p d : Bool) → notice_posts (cond (not d) (cond b (Some (cond p (Free id) (RemoveLocation id node))) None) None)
         ≡ flat_map (posts_of node o x) (option_to_list (cond (b && not d) (cond p (Some (free id)) (Some (remove_location id))) None))
     by true true true = refl
     by true true false = refl
@@ -212,17 +212,17 @@ doom_told node id o x k = by (was_sealed k.copy.state) (is_primary k.copy.kind) 
 
 -- ---- a row on its way
 
-module _ (node : ℕ) (row : Row) (beside : Beside) (contents : Contents) (h : IsShown row beside contents) (x : Input) (after : Beside) where
+module _ (node : ℕ) (row : Row) (beside : SharedTables) (contents : Contents) (h : IsShown row beside contents) (x : Input) (after : SharedTables) where
   abbrev s_of : Row → Shape
   s_of r = shape_of r after
 
   record Good (r : Row) : Type 0 where
-    pub moves : Moves node row beside contents h x (done (s_of r)) (only reply.Ok) r after
+    pub moves : TakesChange node row beside contents h x (done (s_of r)) (only reply.Ok) r after
     pub placed : ArePlaced r.window.placed (place_of r.copies)
     pub sorted : T (is_sorted id_cmp (copies_of r.copies))
 
   -- one copy is changed where it lies
-  module _ (r : Row) (g : Good r) (id : ObjectId) (k : Kept) (found : at r.copies id ≡ Some k) (f : Kept → Kept) (minor : (z : Kept) → IsMinor f z) where
+  module _ (r : Row) (g : Good r) (id : ObjectId) (k : CopyView) (found : at r.copies id ≡ Some k) (f : CopyView → CopyView) (minor : (z : CopyView) → IsMinor f z) where
     abbrev r_now : Row
     r_now = with_copy f r id
 
@@ -232,14 +232,14 @@ module _ (node : ℕ) (row : Row) (beside : Beside) (contents : Contents) (h : I
     touched-shape : s_of r_now ≡ set_copy (s_of r) id (f k).copy
     touched-shape = ap (λ t. record (s_of r) { copies = t }) copies_is
 
-    carried : (P : Kept → Type 0) → ((z : Kept) → P z → P (f z)) → (q : ObjectId) (y : Kept) → at r_now.copies q ≡ Some y → ((z : Kept) → at r.copies q ≡ Some z → P z) → P y
+    carried : (P : CopyView → Type 0) → ((z : CopyView) → P z → P (f z)) → (q : ObjectId) (y : CopyView) → at r_now.copies q ≡ Some y → ((z : CopyView) → at r.copies q ≡ Some z → P z) → P y
     carried P still q y e was = by (from_changed f r.copies id k found q y e)
       where
-        by : (z : Kept) × (at r.copies q ≡ Some z) × From f r.copies id q y z → P y
+        by : (z : CopyView) × (at r.copies q ≡ Some z) × From f r.copies id q y z → P y
         by (z, there, inl t) = subst P (sym t.1) (still z (was z there))
         by (z, there, inr t) = subst P (sym t.1) (was z there)
 
-    same_extent : (z : Kept) → extent_of (f z).copy ≡ extent_of z.copy
+    same_extent : (z : CopyView) → extent_of (f z).copy ≡ extent_of z.copy
     same_extent z = ap (λ p. extent_of (record (f z).copy { offset = p })) ((minor z).lies z).0 ∙ ap (λ n. extent_of (record z.copy { length = n })) ((minor z).lies z).1
 
     touched : Good r_now
@@ -272,17 +272,17 @@ module _ (node : ℕ) (row : Row) (beside : Beside) (contents : Contents) (h : I
 
   -- and removed if nothing keeps it
   module _ (r : Row) (g : Good r) (id : ObjectId) where
-    over_is : (k : Kept) → at r.copies id ≡ Some k → is_over k ≡ k.copy.doomed && is_idle (s_of r) id k.copy
+    over_is : (k : CopyView) → at r.copies id ≡ Some k → is_over k ≡ k.copy.doomed && is_idle (s_of r) id k.copy
     over_is k found =
         ap (λ b. k.copy.doomed && b)
         (idle_same (is_held k.copy) k.granted (is_granted (s_of r) id) (is_working (s_of r) id) k.working (g.moves.granted id k found) (ap is_some (g.moves.working id k found) ∙ working-on after.works id))
 
-    left : Moves node row beside contents h x (done (drop_copy (s_of r) id)) (only reply.Ok) (dropped r id) after
+    left : TakesChange node row beside contents h x (done (drop_copy (s_of r) id)) (only reply.Ok) (dropped r id) after
     left = moves_left node row beside contents h x (done (s_of r)) (only reply.Ok) r after g.moves refl g.placed id [] (only reply.Ok) refl refl
 
     dropped_good : Good (dropped r id)
     dropped_good = record {
-      moves = subst (λ s. Moves node row beside contents h x (done s) (only reply.Ok) (dropped r id) after) left.shape left;
+      moves = subst (λ s. TakesChange node row beside contents h x (done s) (only reply.Ok) (dropped r id) after) left.shape left;
       placed = left_placed r.window.placed r.copies g.placed id;
       sorted = subst (λ t. T (is_sorted id_cmp t)) (sym (copies-without r.copies id)) (is_sorted-where_key id_cmp (λ k. not (same_id id k)) (copies_of r.copies) g.sorted);
     }
@@ -294,7 +294,7 @@ module _ (node : ℕ) (row : Row) (beside : Beside) (contents : Contents) (h : I
         last true = left.shape
         last false = refl
 
-        by : (o : Option Kept) → at r.copies id ≡ o → settled (s_of r) id ≡ s_of (option_map_or (λ kept. cond (is_over kept) (dropped r id) r) o r)
+        by : (o : Option CopyView) → at r.copies id ≡ o → settled (s_of r) id ≡ s_of (option_map_or (λ kept. cond (is_over kept) (dropped r id) r) o r)
         by None none = ap (λ o. option_map_or (λ (copy : Copy). cond (copy.doomed && is_idle (s_of r) id copy) (drop_copy (s_of r) id) (s_of r)) o (s_of r)) (at-copies_none r.copies id none)
         by (Some k) found =
             ap (λ o. option_map_or (λ (copy : Copy). cond (copy.doomed && is_idle (s_of r) id copy) (drop_copy (s_of r) id) (s_of r)) o (s_of r)) (at-copies_found r.copies id k found)
@@ -307,11 +307,11 @@ module _ (node : ℕ) (row : Row) (beside : Beside) (contents : Contents) (h : I
         over true = dropped_good
         over false = g
 
-        by : (o : Option Kept) → Good (option_map_or (λ kept. cond (is_over kept) (dropped r id) r) o r)
+        by : (o : Option CopyView) → Good (option_map_or (λ kept. cond (is_over kept) (dropped r id) r) o r)
         by None = g
         by (Some k) = over (is_over k)
 
-  untouched : (r : Row) (id : ObjectId) (f : Kept → Kept) → at r.copies id ≡ None → settled_row (with_copy f r id) id ≡ r
+  untouched : (r : Row) (id : ObjectId) (f : CopyView → CopyView) → at r.copies id ≡ None → settled_row (with_copy f r id) id ≡ r
   untouched r id f none =
       ap (λ t. settled_row (record r { copies = t }) id) (changed-absent f id r.copies none)
       ∙ ap (λ o. option_map_or (λ kept. cond (is_over kept) (dropped r id) r) o r) none
@@ -349,28 +349,28 @@ module _ (node : ℕ) (row : Row) (beside : Beside) (contents : Contents) (h : I
 
   module _ (task : TaskNo) (r : Row) (g : Good r) (id : ObjectId) where
     abbrev row_doomed : Row
-    row_doomed = settled_row (with_copy doomed r id) id
+    row_doomed = settled_row (with_copy after_doom r id) id
 
-    abbrev doomed_said : Option Kept → List Post
-    doomed_said o = posted (cond (not (option_map_or (λ (k : Kept). k.copy.doomed) o false)) (option_and_then (farewell node id) o) None)
+    abbrev doomed_said : Option CopyView → List Post
+    doomed_said o = notice_posts (cond (not (option_map_or (λ (k : CopyView). k.copy.doomed) o false)) (option_and_then (removal_notice node id) o) None)
 
     doom_fits : Fits (doom (s_of r) id) row_doomed (doomed_said (at r.copies id))
     doom_fits = by (at r.copies id) refl
       where
-        by : (o : Option Kept) → at r.copies id ≡ o → Fits (doom (s_of r) id) row_doomed (doomed_said (at r.copies id))
+        by : (o : Option CopyView) → at r.copies id ≡ o → Fits (doom (s_of r) id) row_doomed (doomed_said (at r.copies id))
         by None none =
             fits_as (doom (s_of r) id) (done (s_of r)) row_doomed r (doomed_said (at r.copies id)) []
             (sending-is (option_to_list (doom_notice (s_of r) id)) (done (changes.doomed (s_of r) id))
             ∙ ap (λ (o : Option Copy). record (done (option_map_or (λ copy. settled (set_copy (s_of r) id (record copy { doomed = true })) id) o (s_of r))) { sent = option_to_list (option_map_or (notice_of id) o None) ++ [] }) (at-copies_none r.copies id none))
-            (untouched r id doomed none) (ap doomed_said none)
+            (untouched r id after_doom none) (ap doomed_said none)
             (record { good = g; shape = refl; told = λ o. refl })
         by (Some k) found =
-            let again = touched r g id k found doomed doomed-minor in
+            let again = touched r g id k found after_doom doomed-minor in
             fits_as (doom (s_of r) id) (record (done (settled (set_copy (s_of r) id (record k.copy { doomed = true })) id)) { sent = option_to_list (notice_of id k.copy) }) row_doomed row_doomed (doomed_said (at r.copies id)) (doomed_said (Some k))
             (doom-is (s_of r) id k.copy (at-copies_found r.copies id k found)) refl (ap doomed_said found)
             (record {
-              good = settled_good (with_copy doomed r id) again id;
-              shape = ap (λ t. settled t id) (sym (touched-shape r g id k found doomed doomed-minor)) ∙ settled_shape (with_copy doomed r id) again id;
+              good = settled_good (with_copy after_doom r id) again id;
+              shape = ap (λ t. settled t id) (sym (touched-shape r g id k found after_doom doomed-minor)) ∙ settled_shape (with_copy after_doom r id) again id;
               told = λ o. doom_told node id o x k;
             })
 
@@ -378,31 +378,31 @@ module _ (node : ℕ) (row : Row) (beside : Beside) (contents : Contents) (h : I
     first_fits = by (same_task task id.task)
       where
         by : (b : Bool) → Fits (cond b (doom (s_of r) id) (done (s_of r))) (cond b row_doomed r)
-            (posted (farewell_at node r.copies id (b && not (option_map_or (λ (k : Kept). k.copy.doomed) (at r.copies id) false))))
+            (notice_posts (removal_notice_at node r.copies id (b && not (option_map_or (λ (k : CopyView). k.copy.doomed) (at r.copies id) false))))
         by true = doom_fits
         by false = record { good = g; shape = refl; told = λ o. refl }
 
     -- ---- the second walk: its borrows are given up
 
     abbrev row_given_up : Row
-    row_given_up = with_copy (given_up task) r id
+    row_given_up = with_copy (after_give_up task) r id
 
     abbrev given_up_said : Bool → Bool → Bool → List Post
-    given_up_said d b i = posted (farewell_at node r.copies id (not d && (b && not i)))
+    given_up_said d b i = notice_posts (removal_notice_at node r.copies id (not d && (b && not i)))
 
-    module _ (k : Kept) (found : at r.copies id ≡ Some k) where
-      abbrev without : Kept
+    module _ (k : CopyView) (found : at r.copies id ≡ Some k) where
+      abbrev without : CopyView
       without = record k { copy = without_borrower k.copy task }
 
-      minor : (z : Kept) → IsMinor (given_up task) z
+      minor : (z : CopyView) → IsMinor (after_give_up task) z
       minor z = scoped-minor (λ y. record y { copy = without_borrower y.copy task }) z
           (record { lies = λ y. (refl, refl); digest = refl; keeps = λ keep. keep; working = refl; granted = refl; backed = refl })
 
       again : Good row_given_up
-      again = touched r g id k found (given_up task) minor
+      again = touched r g id k found (after_give_up task) minor
 
       shape_is : s_of row_given_up ≡ set_copy (s_of r) id (scoped_copy without.copy)
-      shape_is = touched-shape r g id k found (given_up task) minor ∙ ap (λ a. set_copy (s_of r) id a) (scoped-copy without)
+      shape_is = touched-shape r g id k found (after_give_up task) minor ∙ ap (λ a. set_copy (s_of r) id a) (scoped-copy without)
 
       doomed_still : k.copy.doomed ≡ true → (b : Bool) → cond b without.copy (record without.copy { doomed = true }) ≡ without.copy
       doomed_still d true = refl
@@ -429,16 +429,16 @@ module _ (node : ℕ) (row : Row) (beside : Beside) (contents : Contents) (h : I
     changed_by o = option_map_or (λ copy.
         cond copy.doomed (done (set_copy (s_of r) id (without_borrower copy task))) (cond (has_borrower copy task) (commands.scoped (s_of r) id (without_borrower copy task)) (done (s_of r)))) o (done (s_of r))
 
-    abbrev row_by : Option Kept → Row
-    row_by o = cond (option_map_or (λ (k : Kept). k.copy.doomed) o false) row_given_up (cond (option_map_or (λ (k : Kept). has_borrower k.copy task) o false) (settled_row row_given_up id) r)
+    abbrev row_by : Option CopyView → Row
+    row_by o = cond (option_map_or (λ (k : CopyView). k.copy.doomed) o false) row_given_up (cond (option_map_or (λ (k : CopyView). has_borrower k.copy task) o false) (settled_row row_given_up id) r)
 
-    abbrev said_by : Option Kept → List Post
-    said_by o = given_up_said (option_map_or (λ (k : Kept). k.copy.doomed) o false) (option_map_or (λ (k : Kept). has_borrower k.copy task) o false) (option_map_or (λ (k : Kept). in_scope (without_borrower k.copy task)) o false)
+    abbrev said_by : Option CopyView → List Post
+    said_by o = given_up_said (option_map_or (λ (k : CopyView). k.copy.doomed) o false) (option_map_or (λ (k : CopyView). has_borrower k.copy task) o false) (option_map_or (λ (k : CopyView). in_scope (without_borrower k.copy task)) o false)
 
     second_fits : Fits (give_up_one task (s_of r) id) (given_up_row task r id) (give_up_posts node task r id)
     second_fits = by (at r.copies id) refl
       where
-        by : (o : Option Kept) → at r.copies id ≡ o → Fits (give_up_one task (s_of r) id) (given_up_row task r id) (give_up_posts node task r id)
+        by : (o : Option CopyView) → at r.copies id ≡ o → Fits (give_up_one task (s_of r) id) (given_up_row task r id) (give_up_posts node task r id)
         by None none =
             fits_as (give_up_one task (s_of r) id) (done (s_of r)) (given_up_row task r id) r (give_up_posts node task r id) []
             (ap changed_by (at-copies_none r.copies id none)) (ap row_by none) (ap said_by none)
@@ -450,12 +450,12 @@ module _ (node : ℕ) (row : Row) (beside : Beside) (contents : Contents) (h : I
 
 -- ---- device keys
 
-keys-gone : (row after : Row) (es : ById Kept) → T (is_sorted id_cmp es) → ((q : ObjectId) (k : Kept) → at es q ≡ Some k → at row.copies q ≡ Some k)
+keys-gone : (row after : Row) (es : ById CopyView) → T (is_sorted id_cmp es) → ((q : ObjectId) (k : CopyView) → at es q ≡ Some k → at row.copies q ≡ Some k)
     → gone_keys after (keys_of_copies row (ids_of es)) ≡ map (key_of row.job) (keys_gone (copies_of es) (copies_of after.copies))
 keys-gone row after [] sorted are = refl
 keys-gone row after (e ∷ es) sorted are =
-    flat_map-append (gone_key after) (keyed (option_and_then (λ (kept : Kept). option_map (key_of row.job) kept.copy.backed) (at row.copies e.0))) (keys_of_copies row (ids_of es))
-    ∙ (λ i. flat_map (gone_key after) (keyed (option_and_then (λ (kept : Kept). option_map (key_of row.job) kept.copy.backed) (are e.0 e.1 (at-first e es) i)))
+    flat_map-append (gone_key after) (keyed (option_and_then (λ (kept : CopyView). option_map (key_of row.job) kept.copy.backed) (at row.copies e.0))) (keys_of_copies row (ids_of es))
+    ∙ (λ i. flat_map (gone_key after) (keyed (option_and_then (λ (kept : CopyView). option_map (key_of row.job) kept.copy.backed) (are e.0 e.1 (at-first e es) i)))
     ++ keys-gone row after es (and_right (below_all id_cmp e.0 es) _ sorted) (λ q k found. are q k (at-rest e es sorted q k found)) i)
     ∙ by e.1.copy.backed
     ∙ ap (λ o. map (key_of row.job) (cons_option (cond (is_none o) e.1.copy.backed None) rest)) (sym (at-copies after.copies e.0))
@@ -466,14 +466,14 @@ keys-gone row after (e ∷ es) sorted are =
     rest : List ℕ
     rest = keys_gone (copies_of es) (copies_of after.copies)
 
-    now : Option Kept → Option ℕ → List DeviceKey
-    now o n = map (key_of row.job) (cons_option (cond (is_none (option_map (λ (k : Kept). k.copy) o)) n None) rest)
+    now : Option CopyView → Option ℕ → List DeviceKey
+    now o n = map (key_of row.job) (cons_option (cond (is_none (option_map (λ (k : CopyView). k.copy) o)) n None) rest)
 
-    none : (o : Option Kept) → map (key_of row.job) rest ≡ now o None
+    none : (o : Option CopyView) → map (key_of row.job) rest ≡ now o None
     none None = refl
     none (Some k) = refl
 
-    some : (n : ℕ) (o : Option Kept) → (cond (is_some o) [] (key_of row.job n ∷ []) ++ []) ++ map (key_of row.job) rest ≡ now o (Some n)
+    some : (n : ℕ) (o : Option CopyView) → (cond (is_some o) [] (key_of row.job n ∷ []) ++ []) ++ map (key_of row.job) rest ≡ now o (Some n)
     some n None = refl
     some n (Some k) = refl
 
@@ -486,14 +486,14 @@ keys-gone row after (e ∷ es) sorted are =
 same_number : (n : ℕ) → (n == n) ≡ true
 same_number n = grind (arith, nat_tests)
 
-module _ (node : ℕ) (row : Row) (beside : Beside) (contents : Contents) (session : ℕ) (task : TaskNo) (h : IsShown row beside contents) where
+module _ (node : ℕ) (row : Row) (beside : SharedTables) (contents : Contents) (session : ℕ) (task : TaskNo) (h : IsShown row beside contents) where
   abbrev s : Shape
   s = shape_of row beside
 
   abbrev x : Input
   x = input.Call session (command.EndTask task)
 
-  abbrev after : Beside
+  abbrev after : SharedTables
   after = beside_ended row.job task beside
 
   abbrev pub r0 : Row
@@ -514,7 +514,7 @@ module _ (node : ℕ) (row : Row) (beside : Beside) (contents : Contents) (sessi
   abbrev second_said : List Post
   second_said = told_each (given_up_row task) (give_up_posts node task) r1 ids
 
-  abbrev pub given : Given
+  abbrev pub given : RowGiven
   given = record { reply = reply.Ok; posts = first_said ++ second_said; erased = gone_keys r2 (keys_of_copies row ids) }
 
   -- why it is refused, and else what is done
@@ -539,19 +539,19 @@ module _ (node : ℕ) (row : Row) (beside : Beside) (contents : Contents) (sessi
   pub end_task_ok : end_task_check row task ≡ None → (change node row beside contents h x).reply ≡ reply.Ok
   end_task_ok passed = ap (λ (c : Change). c.reply) (end_task-is None passed) ∙ answered_ok (ids_of s.copies)
 
-  refused_so : (r : Refusal) → end_task_check row task ≡ Some r → TakesStep node row beside contents x (only (reply.Refused r)) row beside
+  refused_so : (r : Refusal) → end_task_check row task ≡ Some r → RowStep node row beside contents x (only (reply.Refused r)) row beside
   refused_so r e = stays node row beside contents h x (reply.Refused r) (end_task-is (Some r) e) refl refl refl
 
-  pub end_task_refused : (r : Refusal) → end_task_check row task ≡ Some r → TakesStep node row beside contents x (only (reply.Refused r)) row (beside_after row task beside)
+  pub end_task_refused : (r : Refusal) → end_task_check row task ≡ Some r → RowStep node row beside contents x (only (reply.Refused r)) row (beside_after row task beside)
   end_task_refused r e =
-      subst (λ o. TakesStep node row beside contents x (only (reply.Refused r)) row (option_map_or (λ (q : Refusal). beside) o after)) (sym e) (refused_so r e)
+      subst (λ o. RowStep node row beside contents x (only (reply.Refused r)) row (option_map_or (λ (q : Refusal). beside) o after)) (sym e) (refused_so r e)
 
   -- where it isn't refused
 
-  own : (q : ObjectId) (k : Kept) → at row.copies q ≡ Some k → (q.job.0 == row.job) ≡ true
+  own : (q : ObjectId) (k : CopyView) → at row.copies q ≡ Some k → (q.job.0 == row.job) ≡ true
   own q k found = ap (λ n. n == row.job) (h.kept.kept.shape.each q k.copy (at-copies_found row.copies q k found)).own ∙ same_number row.job
 
-  granted_now : (b : Bool) (q : ObjectId) (k : Kept) → at row.copies q ≡ Some k → (cond b (ungranted k) k).granted ≡ cond b false (has_hand beside.given q)
+  granted_now : (b : Bool) (q : ObjectId) (k : CopyView) → at row.copies q ≡ Some k → (cond b (after_grants_ended k) k).granted ≡ cond b false (has_hand beside.given q)
   granted_now true q k found = refl
   granted_now false q k found = h.granted q k found
 
@@ -568,20 +568,20 @@ module _ (node : ℕ) (row : Row) (beside : Beside) (contents : Contents) (sessi
         listed = λ q y found. let z = from_ended task row.copies q y found in h.listed q z.0 z.1;
         bytes = λ q y e found lies.
             let z = from_ended task row.copies q y found in
-            let same = ap (λ (k : Kept). k.copy) z.2 ∙ same_part task (λ k. k.copy) (λ k. refl) (same_task task q.task) z.0 in
+            let same = ap (λ (k : CopyView). k.copy) z.2 ∙ same_part task (λ k. k.copy) (λ k. refl) (same_task task q.task) z.0 in
             subst (λ c. extent_of c ≡ Some e → filled (at (bytes_now node row beside contents h x (done (shape_of r0 after))) q) c ≡ take c.length (placed_bytes e row.window.placed)) (sym same)
             (λ lies. same_bytes node row beside contents h x q z.0 e z.1 lies) lies;
         digests = λ q y found keep.
             let z = from_ended task row.copies q y found in
-            let same = ap (λ (k : Kept). k.copy) z.2 ∙ same_part task (λ k. k.copy) (λ k. refl) (same_task task q.task) z.0 in
-            let digest = ap (λ (k : Kept). k.digest) z.2 ∙ same_part task (λ k. k.digest) (λ k. refl) (same_task task q.task) z.0 in
+            let same = ap (λ (k : CopyView). k.copy) z.2 ∙ same_part task (λ k. k.copy) (λ k. refl) (same_task task q.task) z.0 in
+            let digest = ap (λ (k : CopyView). k.digest) z.2 ∙ same_part task (λ k. k.digest) (λ k. refl) (same_task task q.task) z.0 in
             h.digests q z.0 z.1 (ap keeps_digest (sym same) ∙ keep) ∙ ap (λ d. unwrap_or d no_digest) (sym digest);
         working = λ q y found.
             let z = from_ended task row.copies q y found in
-            ap (λ (k : Kept). k.working) z.2 ∙ same_part task (λ k. k.working) (λ k. refl) (same_task task q.task) z.0 ∙ h.working q z.0 z.1;
+            ap (λ (k : CopyView). k.working) z.2 ∙ same_part task (λ k. k.working) (λ k. refl) (same_task task q.task) z.0 ∙ h.working q z.0 z.1;
         granted = λ q y found.
             let z = from_ended task row.copies q y found in
-            ap (λ (k : Kept). k.granted) z.2 ∙ granted_now (same_task task q.task) q z.0 z.1 ∙ sym (has_hand-ended row.job task beside.given q (own q z.0 z.1));
+            ap (λ (k : CopyView). k.granted) z.2 ∙ granted_now (same_task task q.task) q z.0 z.1 ∙ sym (has_hand-ended row.job task beside.given q (own q z.0 z.1));
         received = received_stays node row beside contents h x refl;
         reply = refl;
         erased = refl;
@@ -630,7 +630,7 @@ module _ (node : ℕ) (row : Row) (beside : Beside) (contents : Contents) (sessi
     abbrev c : Change
     c = erasing s ended_change
 
-    m : Moves node row beside contents h x c given r2 after
+    m : TakesChange node row beside contents h x c given r2 after
     m = record {
       shape = refl;
       order = g2.moves.order;
@@ -651,8 +651,8 @@ module _ (node : ℕ) (row : Row) (beside : Beside) (contents : Contents) (sessi
         ++ each_told node row beside contents h x after (give_up_one task) (λ id. true) (given_up_row task) (give_up_posts node task) one_given_up o ids r1 g1 i)
         ∙ sym (flat_map-append (posts_of node o x) first_sent second_sent)
 
-    pub end_task_done : end_task_check row task ≡ None → TakesStep node row beside contents x given r2 (beside_after row task beside)
+    pub end_task_done : end_task_check row task ≡ None → RowStep node row beside contents x given r2 (beside_after row task beside)
     end_task_done passed =
-        subst (λ o. TakesStep node row beside contents x given r2 (option_map_or (λ (q : Refusal). beside) o after)) (sym passed)
+        subst (λ o. RowStep node row beside contents x given r2 (option_map_or (λ (q : Refusal). beside) o after)) (sym passed)
         (moved node row beside contents h x c (end_task-is None passed ∙ ap (erasing s) walks-are) given r2 after m
         (said (view_after node (seen row beside contents) x (judge node (seen row beside contents) x) c)))

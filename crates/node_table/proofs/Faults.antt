@@ -7,28 +7,28 @@ use Rattle.obj_id.specs.declared.commands.Reply.TheVariants as reply
 use Rattle.private_store.specs.declared.faults.Fault.{Fault}
 use Rattle.private_store.specs.declared.inputs.Input.{Input}
 use Rattle.private_store.specs.declared.inputs.Input.TheVariants as input
-use Rattle.private_store.specs.Tables.{at}
-use Rattle.private_store.specs.Shape.{Copy, Shape, Change}
-use Rattle.private_store.specs.Copies.{is_away}
-use Rattle.private_store.specs.Room.{set_copy}
-use Rattle.private_store.specs.Change.{refused, erasing}
-use Rattle.private_store.specs.Commands.{refusal_of, restore}
-use Rattle.private_store.specs.Contents.{Contents, judge}
-use Rattle.private_store.specs.Private.{key_of}
-use Rattle.private_store.specs.Step.{step}
-use Rattle.private_store.specs.Kept.{is_remembered, is_restoring}
+use Rattle.private_store.specs.rules.Tables.{at}
+use Rattle.private_store.specs.rules.Shape.{Copy, Shape, Change}
+use Rattle.private_store.specs.rules.Copies.{is_away}
+use Rattle.private_store.specs.rules.Room.{set_copy}
+use Rattle.private_store.specs.rules.Change.{refused, erasing}
+use Rattle.private_store.specs.rules.Commands.{refusal_of, restore}
+use Rattle.private_store.specs.rules.Contents.{Contents, judge}
+use Rattle.private_store.specs.rules.Private.{key_of}
+use Rattle.private_store.specs.rules.Step.{step}
+use Rattle.private_store.specs.laws.Invariants.{is_remembered, is_restoring}
 use Rattle.lru_evictor.proofs.ForCallers.{reordered-unused}
 use Rattle.node_table.specs.Entries.{changed}
-use Rattle.node_table.specs.Kept.{Kept, fault_told}
-use Rattle.node_table.specs.Row.{Row, Beside, copies_of, shape_of}
-use Rattle.node_table.specs.Shown.{seen, IsShown, only, TakesStep}
+use Rattle.node_table.specs.CopyViews.{CopyView, after_fault_told}
+use Rattle.node_table.specs.Row.{Row, SharedTables, copies_of, shape_of}
+use Rattle.node_table.specs.Shown.{seen, IsShown, only, RowStep}
 use Rattle.node_table.proofs.CopyTables.{at-copies_found, copies-changed}
 use Rattle.node_table.proofs.Changing.{there_still, bytes_stay, digests_stay, works_stay, listed_stay, keys_with, granted_stay}
 use Rattle.node_table.proofs.Getting.{get_at}
-use Rattle.node_table.proofs.Stepping.{Moves, moved, received_stays}
+use Rattle.node_table.proofs.Stepping.{TakesChange, moved, received_stays}
 
-module _ (node : ℕ) (row : Row) (beside : Beside) (contents : Contents) (session : ℕ) (id : ObjectId) (mine : (id.job.0 == row.job) ≡ true) (alive : is_remembered row.ended_tasks id.task ≡ false) (h : IsShown row beside contents)
-    (k : Kept) (found : at row.copies id ≡ Some k) (unmarked : k.copy.doomed ≡ false) (is : k.copy.state ≡ Away) where
+module _ (node : ℕ) (row : Row) (beside : SharedTables) (contents : Contents) (session : ℕ) (id : ObjectId) (mine : (id.job.0 == row.job) ≡ true) (alive : is_remembered row.ended_tasks id.task ≡ false) (h : IsShown row beside contents)
+    (k : CopyView) (found : at row.copies id ≡ Some k) (unmarked : k.copy.doomed ≡ false) (is : k.copy.state ≡ Away) where
   abbrev s : Shape
   s = shape_of row beside
 
@@ -51,32 +51,32 @@ module _ (node : ℕ) (row : Row) (beside : Beside) (contents : Contents) (sessi
 
   module _ (fault : Fault) (faulty : k.copy.fault ≡ Some fault) where
     abbrev now : Copy
-    now = (fault_told k).copy
+    now = (after_fault_told k).copy
 
     abbrev c : Change
     c = erasing s (refused (set_copy s id now) (refusal_of fault))
 
-    keeps : (z : Kept) → ((fault_told z).copy.offset ≡ z.copy.offset) × ((fault_told z).copy.length ≡ z.copy.length)
+    keeps : (z : CopyView) → ((after_fault_told z).copy.offset ≡ z.copy.offset) × ((after_fault_told z).copy.length ≡ z.copy.length)
     keeps z = (refl, refl)
 
     abbrev row_told : Row
-    row_told = record row { copies = changed fault_told row.copies id }
+    row_told = record row { copies = changed after_fault_told row.copies id }
 
-    m : Moves node row beside contents h x c (only (reply.Refused (refusal_of fault))) row_told beside
+    m : TakesChange node row beside contents h x c (only (reply.Refused (refusal_of fault))) row_told beside
     m = record {
-      shape = ap (λ t. record s { copies = t }) (sym (copies-changed fault_told row.copies id k found));
-      order = sym (reordered-unused row.order (copies_of row_told.copies) (there_still node row beside contents h x id k found fault_told keeps row.order h.there));
-      there = there_still node row beside contents h x id k found fault_told keeps row.order h.there;
-      listed = listed_stay node row beside contents h x id k found fault_told keeps row.order h.listed;
-      bytes = bytes_stay node row beside contents h x id k found fault_told keeps c refl;
-      digests = digests_stay node row beside contents h x id k found fault_told keeps c refl refl (λ keep. keep);
-      working = works_stay node row beside contents h x id k found fault_told keeps refl;
-      granted = granted_stay node row beside contents h x id k found fault_told keeps refl;
+      shape = ap (λ t. record s { copies = t }) (sym (copies-changed after_fault_told row.copies id k found));
+      order = sym (reordered-unused row.order (copies_of row_told.copies) (there_still node row beside contents h x id k found after_fault_told keeps row.order h.there));
+      there = there_still node row beside contents h x id k found after_fault_told keeps row.order h.there;
+      listed = listed_stay node row beside contents h x id k found after_fault_told keeps row.order h.listed;
+      bytes = bytes_stay node row beside contents h x id k found after_fault_told keeps c refl;
+      digests = digests_stay node row beside contents h x id k found after_fault_told keeps c refl refl (λ keep. keep);
+      working = works_stay node row beside contents h x id k found after_fault_told keeps refl;
+      granted = granted_stay node row beside contents h x id k found after_fault_told keeps refl;
       received = received_stays node row beside contents h x refl;
       reply = refl;
       erased = sym (ap (map (key_of row.job)) (keys_with (copies_of row.copies) id now));
     }
 
-    -- the fault is told, and forgotten
-    pub told_once : TakesStep node row beside contents x (only (reply.Refused (refusal_of fault))) row_told beside
+    -- the fault is answered, and forgotten
+    pub told_once : RowStep node row beside contents x (only (reply.Refused (refusal_of fault))) row_told beside
     told_once = moved node row beside contents h x c (fault_is (Some fault) faulty) (only (reply.Refused (refusal_of fault))) row_told beside m refl

@@ -17,38 +17,38 @@ use Rattle.private_store.specs.declared.faults.FetchFault.{FetchFault}
 use Rattle.private_store.specs.declared.inputs.Input.{Input}
 use Rattle.private_store.specs.declared.inputs.Input.TheVariants as input
 use Rattle.obj_id.specs.declared.messages.PeerMessage.TheVariants.{Pull}
-use Rattle.private_store.specs.Limits.{most_copies, has_numbers}
-use Rattle.private_store.specs.Tables.{at, with_entry, is_among}
-use Rattle.private_store.specs.Kept.{has_hand}
-use Rattle.private_store.specs.Shape.{Copy, Shape, Change, Fetch, Phase, locating, sized, pulling, failed, locate, pull}
-use Rattle.private_store.specs.Copies.{extent_of, was_sealed}
-use Rattle.private_store.specs.Room.{drop_copy}
-use Rattle.private_store.specs.Extents.{is_size}
-use Rattle.private_store.specs.Step.{step}
-use Rattle.private_store.specs.Change.{refused, erasing, sending, keys_gone}
-use Rattle.private_store.specs.Commands.{is_length, fetch_refusal, fetched_copy, fetch_begun, get_fetching}
-use Rattle.private_store.specs.Contents.{Contents, View, judge, is_sized, keeps_digest, no_digest}
-use Rattle.private_store.specs.Private.{Post, key_of, to_directory, to_peer, pull_of, pull_posts}
+use Rattle.private_store.specs.rules.Limits.{most_copies, has_numbers}
+use Rattle.private_store.specs.rules.Tables.{at, with_entry, is_among}
+use Rattle.private_store.specs.laws.Invariants.{has_hand}
+use Rattle.private_store.specs.rules.Shape.{Copy, Shape, Change, Fetch, Phase, locating, sized, pulling, failed, locate, pull}
+use Rattle.private_store.specs.rules.Copies.{extent_of, was_sealed}
+use Rattle.private_store.specs.rules.Room.{drop_copy}
+use Rattle.private_store.specs.rules.Extents.{is_size}
+use Rattle.private_store.specs.rules.Step.{step}
+use Rattle.private_store.specs.rules.Change.{refused, erasing, sending, keys_gone}
+use Rattle.private_store.specs.rules.Commands.{is_length, fetch_refusal, fetched_copy, fetch_begun, get_fetching}
+use Rattle.private_store.specs.rules.Contents.{Contents, View, judge, is_sized, keeps_digest, no_digest}
+use Rattle.private_store.specs.rules.Private.{Post, key_of, to_directory, to_peer, pull_of, pull_posts}
 use Rattle.store_facts.proofs.Checks.{checked-true, checked-nil}
 use Rattle.obj_id.specs.declared.commands.CopyState.TheVariants.{Fetching}
-use Rattle.private_store.specs.Kept.{is_fetching, is_remembered}
+use Rattle.private_store.specs.laws.Invariants.{is_fetching, is_remembered}
 use Rattle.store_facts.proofs.Filling.{filled}
 use Rattle.store_facts.proofs.Rows.{at-put, at-put_here}
 use Rattle.store_facts.proofs.Tests.{some_value, none_some, true_false, false_true, T_true}
-use Rattle.job_region.specs.Region.{bytes_at as placed_bytes}
+use Rattle.job_region.specs.Region.{region_bytes_at as placed_bytes}
 use Rattle.lru_evictor.specs.Orders.{AreThere, last_used}
 use Rattle.lru_evictor.proofs.ForCallers.{reordered-used}
-use Rattle.node_table.specs.Kept.{Kept, fetched_kept}
-use Rattle.node_table.specs.Row.{Row, Beside, copies_of, shape_of, place_of, ArePlaced}
+use Rattle.node_table.specs.CopyViews.{CopyView, fetched_copy_view}
+use Rattle.node_table.specs.Row.{Row, SharedTables, copies_of, shape_of, place_of, ArePlaced}
 use Rattle.node_table.specs.Dropping.{dropped}
 use Rattle.node_table.specs.Checks.{fetch_check}
-use Rattle.node_table.specs.Shown.{seen, work_on, IsShown, Given, only, TakesStep}
+use Rattle.node_table.specs.Shown.{seen, work_on, IsShown, RowGiven, only, RowStep}
 use Rattle.node_table.proofs.ByChecks.{unless_refused, first-check, needing-by, sending-is}
 use Rattle.node_table.proofs.CopyTables.{at-copies_none, at-copies_found, copies-with}
 use Rattle.node_table.proofs.Changing.{there_with, keys_with}
 use Rattle.node_table.proofs.Orders.{there_last, listed_last, last_listed}
 use Rattle.node_table.proofs.Getting.{by_copy, get_is, get_at}
-use Rattle.node_table.proofs.Stepping.{Moves, moved, shown_now, o, stays, telling, tells, same_moves, same_bytes, received_stays}
+use Rattle.node_table.proofs.Stepping.{TakesChange, moved, shown_now, o, stays, telling, tells, same_moves, same_bytes, received_stays}
 use Rattle.node_table.proofs.Dropping.{key_dropped, change_left, moves_left}
 
 pub length-map : {A B : Type 0} (f : A → B) (xs : List A) → length (map f xs) ≡ length xs
@@ -63,7 +63,7 @@ nothing_found p (a ∷ xs) e = by (p a) (nothing_found p xs) e
     by true rest e = false_true e
     by false rest e = rest e
 
-module _ (node : ℕ) (row : Row) (beside : Beside) (contents : Contents) (session : ℕ) (id : ObjectId) (mine : (id.job.0 == row.job) ≡ true) (alive : is_remembered row.ended_tasks id.task ≡ false) (h : IsShown row beside contents) (none : at row.copies id ≡ None) where
+module _ (node : ℕ) (row : Row) (beside : SharedTables) (contents : Contents) (session : ℕ) (id : ObjectId) (mine : (id.job.0 == row.job) ≡ true) (alive : is_remembered row.ended_tasks id.task ≡ false) (h : IsShown row beside contents) (none : at row.copies id ≡ None) where
   abbrev store : Shape
   store = shape_of row beside
 
@@ -88,19 +88,19 @@ module _ (node : ℕ) (row : Row) (beside : Beside) (contents : Contents) (sessi
       ∙ ap (λ n. unless_refused store (cond (nat_le most_copies n) (Some TooMany) (cond (not (has_numbers row.fetches_begun 1)) (Some TooMany) None)) c) (length-map (λ e. (e.0, e.1.copy)) row.copies)
       ∙ ap (λ o. unless_refused store (cond (nat_le most_copies (length row.copies)) (Some TooMany) o) c) (flip (has_numbers row.fetches_begun 1) (Some TooMany) None)
 
-  pub fetch_refused : (r : Refusal) → fetch_check row.copies row.fetches_begun ≡ Some r → TakesStep node row beside contents (input.Call session (command.Get id)) (only (reply.Refused r)) row beside
+  pub fetch_refused : (r : Refusal) → fetch_check row.copies row.fetches_begun ≡ Some r → RowStep node row beside contents (input.Call session (command.Get id)) (only (reply.Refused r)) row beside
   fetch_refused r e =
       stays node row beside contents h (input.Call session (command.Get id)) (reply.Refused r)
       (get_is node row beside contents session id mine alive h ∙ ap (erasing store) (change_is ∙ ap (λ o. unless_refused store o c) e)) refl refl refl
 
   abbrev pub row_begun : Row
-  row_begun = record row { copies = with_entry row.copies id (fetched_kept number); order = last_used id row.order; fetches_begun = number }
+  row_begun = record row { copies = with_entry row.copies id (fetched_copy_view number); order = last_used id row.order; fetches_begun = number }
 
-  abbrev pub told : Given
+  abbrev pub told : RowGiven
   told = record { reply = reply.Refused Pending; posts = to_directory (Locate id node number); erased = [] }
 
   copies_is : with_entry (copies_of row.copies) id (fetched_copy number) ≡ copies_of row_begun.copies
-  copies_is = sym (copies-with row.copies id (fetched_kept number))
+  copies_is = sym (copies-with row.copies id (fetched_copy_view number))
 
   there_now : AreThere (copies_of row_begun.copies) row.order
   there_now = subst (λ t. AreThere t row.order) copies_is (there_with (copies_of row.copies) id (fetched_copy number) row.order h.there)
@@ -109,15 +109,15 @@ module _ (node : ℕ) (row : Row) (beside : Beside) (contents : Contents) (sessi
   here = ap (λ t. is_some (at t id)) (sym copies_is) ∙ ap is_some (at-put_here (copies_of row.copies) id (fetched_copy number))
 
   -- the new copy, or one that was there
-  module _ (q : ObjectId) (y : Kept) (e : at row_begun.copies q ≡ Some y) where
-    looked : cond (same_id q id) (Some (fetched_kept number)) (at row.copies q) ≡ Some y
-    looked = sym (at-put row.copies id (fetched_kept number) q) ∙ e
+  module _ (q : ObjectId) (y : CopyView) (e : at row_begun.copies q ≡ Some y) where
+    looked : cond (same_id q id) (Some (fetched_copy_view number)) (at row.copies q) ≡ Some y
+    looked = sym (at-put row.copies id (fetched_copy_view number) q) ∙ e
 
-    pub of_each : (P : Kept → Type 0) → (same_id q id ≡ true → P (fetched_kept number)) → (at row.copies q ≡ Some y → P y) → P y
+    pub of_each : (P : CopyView → Type 0) → (same_id q id ≡ true → P (fetched_copy_view number)) → (at row.copies q ≡ Some y → P y) → P y
     of_each P new old = by (same_id q id) refl looked
       where
-        by : (b : Bool) → same_id q id ≡ b → cond b (Some (fetched_kept number)) (at row.copies q) ≡ Some y → P y
-        by true t is = subst P (some_value (fetched_kept number) y is) (new t)
+        by : (b : Bool) → same_id q id ≡ b → cond b (Some (fetched_copy_view number)) (at row.copies q) ≡ Some y → P y
+        by true t is = subst P (some_value (fetched_copy_view number) y is) (new t)
         by false t is = old is
 
   no_hand : has_hand beside.given id ≡ false
@@ -126,7 +126,7 @@ module _ (node : ℕ) (row : Row) (beside : Beside) (contents : Contents) (sessi
   no_work : work_on beside.works id ≡ None
   no_work = ap (option_map (λ w. if w.writes then Write else Read)) (nothing_found (λ w. same_id id w.id) beside.works (h.kept.kept.shape.works_of_copies id (at-copies_none row.copies id none)))
 
-  m : Moves node row beside contents h (input.Call session (command.Get id)) (erasing store c) told row_begun beside
+  m : TakesChange node row beside contents h (input.Call session (command.Get id)) (erasing store c) told row_begun beside
   m = record {
     shape = ap (λ t. record store { copies = t; fetches_begun = number }) copies_is;
     order = sym (reordered-used row.order (copies_of row_begun.copies) id there_now);
@@ -147,15 +147,15 @@ module _ (node : ℕ) (row : Row) (beside : Beside) (contents : Contents) (sessi
     erased = sym (ap (map (key_of row.job)) (keys_with (copies_of row.copies) id (fetched_copy number)));
   }
 
-  pub fetch_done : fetch_check row.copies row.fetches_begun ≡ None → TakesStep node row beside contents (input.Call session (command.Get id)) told row_begun beside
+  pub fetch_done : fetch_check row.copies row.fetches_begun ≡ None → RowStep node row beside contents (input.Call session (command.Get id)) told row_begun beside
   fetch_done passed =
       moved node row beside contents h (input.Call session (command.Get id)) (erasing store c)
       (get_is node row beside contents session id mine alive h ∙ ap (erasing store) (change_is ∙ ap (λ o. unless_refused store o c) passed)) told row_begun beside m refl
 
 -- ---- an object that is on its way
 
-module _ (node : ℕ) (row : Row) (beside : Beside) (contents : Contents) (session : ℕ) (id : ObjectId) (mine : (id.job.0 == row.job) ≡ true) (alive : is_remembered row.ended_tasks id.task ≡ false) (h : IsShown row beside contents)
-    (k : Kept) (found : at row.copies id ≡ Some k) (unmarked : k.copy.doomed ≡ false) (is : k.copy.state ≡ Fetching) where
+module _ (node : ℕ) (row : Row) (beside : SharedTables) (contents : Contents) (session : ℕ) (id : ObjectId) (mine : (id.job.0 == row.job) ≡ true) (alive : is_remembered row.ended_tasks id.task ≡ false) (h : IsShown row beside contents)
+    (k : CopyView) (found : at row.copies id ≡ Some k) (unmarked : k.copy.doomed ≡ false) (is : k.copy.state ≡ Fetching) where
   abbrev s : Shape
   s = shape_of row beside
 
@@ -171,7 +171,7 @@ module _ (node : ℕ) (row : Row) (beside : Beside) (contents : Contents) (sessi
       get_at node row beside contents session id mine alive h k found unmarked Fetching is
       ∙ ap (erasing s) (needing-by s k.copy.fetch Absent (λ fetch. get_fetching row.order s id k.copy fetch fetch.phase) ∙ ap by_fetch e)
 
-  pub unfetched_told : k.copy.fetch ≡ None → TakesStep node row beside contents x (only (reply.Refused Absent)) row beside
+  pub unfetched_told : k.copy.fetch ≡ None → RowStep node row beside contents x (only (reply.Refused Absent)) row beside
   unfetched_told none = stays node row beside contents h x (reply.Refused Absent) (fetch_is None none) refl refl refl
 
   module _ (f : Fetch) (fetched : k.copy.fetch ≡ Some f) where
@@ -179,10 +179,10 @@ module _ (node : ℕ) (row : Row) (beside : Beside) (contents : Contents) (sessi
     phase_is phase e = fetch_is (Some f) fetched ∙ ap (λ p. erasing s (get_fetching row.order s id k.copy f p)) e
 
     -- the answer Pending, and these messages
-    abbrev pub pending : List Post → Given
+    abbrev pub pending : List Post → RowGiven
     pending posts = record { reply = reply.Refused Pending; posts = posts; erased = [] }
 
-    pub located_again : f.phase ≡ locating → (posts : List Post) → posts ≡ to_directory (Locate id node f.number) → TakesStep node row beside contents x (pending posts) row beside
+    pub located_again : f.phase ≡ locating → (posts : List Post) → posts ≡ to_directory (Locate id node f.number) → RowStep node row beside contents x (pending posts) row beside
     located_again at posts said =
         tells node row beside contents h x (reply.Refused Pending) (locate id f.number ∷ []) posts refl refl refl
         (phase_is locating at ∙ ap (erasing s) (sending-is (locate id f.number ∷ []) (refused s Pending))) said
@@ -209,17 +209,17 @@ module _ (node : ℕ) (row : Row) (beside : Beside) (contents : Contents) (sessi
           ∙ ap (pull_of now id k.copy f) at_pulling
           ∙ ap (λ d. to_peer source (Pull id f.number k.copy.length d missing) ∷ []) (shown.digests id k found keeps)
 
-      pub pulled_again : posts ≡ to_peer source (Pull id f.number k.copy.length (unwrap_or k.digest no_digest) missing) ∷ [] → TakesStep node row beside contents x (pending posts) row beside
+      pub pulled_again : posts ≡ to_peer source (Pull id f.number k.copy.length (unwrap_or k.digest no_digest) missing) ∷ [] → RowStep node row beside contents x (pending posts) row beside
       pulled_again said = tells node row beside contents h x (reply.Refused Pending) (pull id ∷ []) posts refl refl refl asks (said ∙ sym (ap (λ ps. ps ++ []) pull_is))
 
-    pub bad_size : (source : ℕ) → f.phase ≡ sized source → is_size row.window.quota k.copy.length ≡ false → TakesStep node row beside contents x (only (reply.Refused BadSize)) row beside
+    pub bad_size : (source : ℕ) → f.phase ≡ sized source → is_size row.window.quota k.copy.length ≡ false → RowStep node row beside contents x (only (reply.Refused BadSize)) row beside
     bad_size source at bad =
         stays node row beside contents h x (reply.Refused BadSize)
         (phase_is (sized source) at ∙ ap (erasing s) (checked-true s (not (is_length s k.copy.length)) BadSize [] _ (ap not bad))) refl refl refl
 
     -- a fetch that failed is told of, and its copy is removed
     module _ (fault : FetchFault) (at_end : f.phase ≡ failed fault) (placed : ArePlaced row.window.placed (place_of row.copies)) where
-      abbrev tells_of : Given
+      abbrev tells_of : RowGiven
       tells_of = only (reply.Refused (fetch_refusal fault))
 
       -- what is fetched isn't on the device
@@ -234,7 +234,7 @@ module _ (node : ℕ) (row : Row) (beside : Beside) (contents : Contents) (sessi
       no_keys : keys ≡ []
       no_keys = key_dropped s.copies id k.copy (T_true _ h.kept.kept.shape.by_id) (at-copies_found row.copies id k found) ∙ ap option_to_list unbacked
 
-      pub failed_told : TakesStep node row beside contents x tells_of (dropped row id) beside
+      pub failed_told : RowStep node row beside contents x tells_of (dropped row id) beside
       failed_told =
           let c = telling node row beside contents h x (reply.Refused (fetch_refusal fault)) [] in
           let m = same_moves node row beside contents h x (reply.Refused (fetch_refusal fault)) [] [] refl refl refl in

@@ -19,7 +19,7 @@ pub use Rattle.node_table.proofs.Granting.{give_back_done, grant_done, grant_ref
 -- what a worker is given of a work
 pub use Rattle.node_table.proofs.Handing.{work_is}
 -- which commands are due more than a refusal when memory ran out
-pub use Rattle.node_table.proofs.Late.{borrow_late, delete_late, end_task_late, give_up_late, leave_late, list_late, read_late, seal_late, unpin_late}
+pub use Rattle.node_table.proofs.MemoryLast.{borrow_late, delete_late, end_task_late, give_up_late, leave_late, list_late, read_late, seal_late, unpin_late}
 -- a sorted table has each id once
 pub use Rattle.node_table.proofs.Listed.{distinct_from_sorted}
 -- other jobs' hands as steps of a row, or of a store that isn't live

@@ -22,29 +22,29 @@ use Rattle.private_store.specs.declared.inputs.ChunkVerdict.TheVariants as verdi
 use Rattle.private_store.specs.declared.inputs.Judged.TheVariants as judged
 use Rattle.private_store.specs.declared.inputs.Input.{Input}
 use Rattle.private_store.specs.declared.inputs.Input.TheVariants as input
-use Rattle.private_store.specs.Limits.{longest_object}
-use Rattle.private_store.specs.Tables.{at}
-use Rattle.private_store.specs.Shape.{Copy, Shape, Change, Fetch, Phase, locating, sized, pulling, failed, Sending, add_location}
-use Rattle.private_store.specs.Copies.{extent_of, was_sealed}
-use Rattle.private_store.specs.Extents.{rounded}
-use Rattle.private_store.specs.Room.{set_copy}
-use Rattle.private_store.specs.Change.{done}
-use Rattle.private_store.specs.Commands.{chunk_count, set_phase}
-use Rattle.private_store.specs.Events.{fetch_of, is_missing, chunk_arrived, fetch_failed}
-use Rattle.private_store.specs.Events as events
-use Rattle.private_store.specs.Contents.{Contents, View, judge, digest_at, no_digest, has_digest, chunk_length, with_chunk, gap_verdict, pulled_verdict, chunk_verdict, bytes_brought, brought as brought_to, keeps_digest, is_sized}
-use Rattle.private_store.specs.Private.{Post, to_directory, length_at}
-use Rattle.private_store.specs.Kept.{is_fetching, is_pulling, are_gaps}
+use Rattle.private_store.specs.rules.Limits.{longest_object}
+use Rattle.private_store.specs.rules.Tables.{at}
+use Rattle.private_store.specs.rules.Shape.{Copy, Shape, Change, Fetch, Phase, locating, sized, pulling, failed, Sending, add_location}
+use Rattle.private_store.specs.rules.Copies.{extent_of, was_sealed}
+use Rattle.private_store.specs.rules.Extents.{rounded}
+use Rattle.private_store.specs.rules.Room.{set_copy}
+use Rattle.private_store.specs.rules.Change.{done}
+use Rattle.private_store.specs.rules.Commands.{chunk_count, set_phase}
+use Rattle.private_store.specs.rules.Events.{fetch_of, is_missing, chunk_arrived, fetch_failed}
+use Rattle.private_store.specs.rules.Events as events
+use Rattle.private_store.specs.rules.Contents.{Contents, View, judge, digest_at, no_digest, has_digest, chunk_length, with_chunk, gap_verdict, pulled_verdict, chunk_verdict, bytes_brought, brought as brought_to, keeps_digest, is_sized}
+use Rattle.private_store.specs.rules.Private.{Post, to_directory, length_at}
+use Rattle.private_store.specs.laws.Invariants.{is_fetching, is_pulling, are_gaps}
 use Rattle.store_facts.proofs.Filling.{filled}
 use Rattle.store_facts.proofs.Rows.{at-put, at-put_here}
 use Rattle.store_facts.proofs.Tests.{some_value, true_false, false_true, both_left, both_right}
-use Rattle.job_region.specs.Region.{without, bytes_at as placed_bytes}
-use Rattle.fetch_core.specs.Fetching.{fills_one, chunk_taken, missing_of}
-use Rattle.node_table.specs.Arriving.{of_length, fills, lacks_only, gap_closed, brought, unfetched_row, row_written}
-use Rattle.node_table.specs.Kept.{Kept, fetch_of as fetch_kept}
-use Rattle.node_table.specs.Row.{Row, Beside, copies_of, shape_of, place_of, ArePlaced}
+use Rattle.job_region.specs.Region.{without, region_bytes_at as placed_bytes}
+use Rattle.fetch_core.specs.Fetching.{fills_one, fetch_chunk_taken, missing_of}
+use Rattle.node_table.specs.Arriving.{fetch_of_length, fills, lacks_only, after_chunk, after_last_chunk, unfetched_row, row_written}
+use Rattle.node_table.specs.CopyViews.{CopyView, store_fetch_of as fetch_kept}
+use Rattle.node_table.specs.Row.{Row, SharedTables, copies_of, shape_of, place_of, ArePlaced}
 use Rattle.node_table.specs.Scope.{with_copy}
-use Rattle.node_table.specs.Shown.{seen, IsShown, Given, only, TakesStep}
+use Rattle.node_table.specs.Shown.{seen, IsShown, RowGiven, only, RowStep}
 use Rattle.node_table.proofs.Arriving.{numbers_turn, IsOf, fetch_is, fetch_case, is_on_way, resides, live_is, ignored, c, arrives, arrived}
 use Rattle.node_table.proofs.ByChecks.{sending-is}
 use Rattle.node_table.proofs.Changes.{changed-found}
@@ -52,7 +52,7 @@ use Rattle.node_table.proofs.CopyTables.{at-copies_found}
 use Rattle.node_table.proofs.Dropping.{found_left}
 use Rattle.node_table.proofs.Overwriting.{is_place, fits, written_here, written_elsewhere}
 use Rattle.node_table.proofs.Passed.{placed_at, place_found}
-use Rattle.node_table.proofs.Stepping.{Moves, change, moved, shown_now, same_bytes}
+use Rattle.node_table.proofs.Stepping.{TakesChange, change, moved, shown_now, same_bytes}
 use Rattle.node_table.proofs.Unfetching.{fails}
 
 -- ---- the gaps
@@ -108,7 +108,7 @@ pub record IsFilled (row : Row) (id : ObjectId) (number from index n : ℕ) : Ty
 pub filled_at : (row : Row) (id : ObjectId) (number from index n : ℕ) → option_map_or (fills number from index n) (at row.copies id) false ≡ true → IsFilled row id number from index n
 filled_at row id number from index n e = by (at row.copies id) refl e
   where
-    by_phase : (k : Kept) → at row.copies id ≡ Some k → (fetch : Fetch) → k.copy.fetch ≡ Some fetch → (p : Phase) → fetch.phase ≡ p → fills_one number from index n (of_length k.copy.length (record fetch { phase = p })) ≡ true → IsFilled row id number from index n
+    by_phase : (k : CopyView) → at row.copies id ≡ Some k → (fetch : Fetch) → k.copy.fetch ≡ Some fetch → (p : Phase) → fetch.phase ≡ p → fills_one number from index n (fetch_of_length k.copy.length (record fetch { phase = p })) ≡ true → IsFilled row id number from index n
     by_phase k found fetch fetched (pulling source missing) is t =
         let long = n == chunk_length k.copy.length index in
         let gap = both_left (number == fetch.number && from == source && is_missing missing index) long t in
@@ -126,17 +126,17 @@ filled_at row id number from index n e = by (at row.copies id) refl e
     by_phase k found fetch fetched (sized source) is t = true_false t
     by_phase k found fetch fetched (failed fault) is t = true_false t
 
-    by_fetch : (k : Kept) → at row.copies id ≡ Some k → (o : Option Fetch) → k.copy.fetch ≡ o → option_map_or (λ (fetch : Fetch). fills_one number from index n (of_length k.copy.length fetch)) o false ≡ true → IsFilled row id number from index n
+    by_fetch : (k : CopyView) → at row.copies id ≡ Some k → (o : Option Fetch) → k.copy.fetch ≡ o → option_map_or (λ (fetch : Fetch). fills_one number from index n (fetch_of_length k.copy.length fetch)) o false ≡ true → IsFilled row id number from index n
     by_fetch k found None fetched t = true_false t
     by_fetch k found (Some fetch) fetched t = by_phase k found fetch fetched fetch.phase refl t
 
-    by : (o : Option Kept) → at row.copies id ≡ o → option_map_or (fills number from index n) o false ≡ true → IsFilled row id number from index n
+    by : (o : Option CopyView) → at row.copies id ≡ o → option_map_or (fills number from index n) o false ≡ true → IsFilled row id number from index n
     by None found t = true_false t
-    by (Some k) found t = by_fetch k found k.copy.fetch refl (both_right (is_fetching k.copy.state) (option_map_or (λ (fetch : Fetch). fills_one number from index n (of_length k.copy.length fetch)) k.copy.fetch false) t)
+    by (Some k) found t = by_fetch k found k.copy.fetch refl (both_right (is_fetching k.copy.state) (option_map_or (λ (fetch : Fetch). fills_one number from index n (fetch_of_length k.copy.length fetch)) k.copy.fetch false) t)
 
 -- ---- the step
 
-module _ (node : ℕ) (row : Row) (beside : Beside) (contents : Contents) (h : IsShown row beside contents) (id : ObjectId) (number from index : ℕ) (bytes : List ℕ) where
+module _ (node : ℕ) (row : Row) (beside : SharedTables) (contents : Contents) (h : IsShown row beside contents) (id : ObjectId) (number from index : ℕ) (bytes : List ℕ) where
   abbrev x : Input
   x = input.Arrive (arrival.FromPeer from (peer.Chunk id number index bytes))
 
@@ -192,8 +192,8 @@ module _ (node : ℕ) (row : Row) (beside : Beside) (contents : Contents) (h : I
   fills_is : (of : IsOf row id number) (source : ℕ) (missing : List ℕ) → of.fetch.phase ≡ pulling source missing → (from == source) ≡ true → is_missing missing index ≡ true → (length bytes == chunk_length of.k.copy.length index) ≡ true
       → fills number from index (length bytes) of.k ≡ true
   fills_is of source missing is itself missed long =
-      (λ i. is_on_way row beside contents h id of.k of.found of.fetch of.fetched i && option_map_or (λ (fetch : Fetch). fills_one number from index (length bytes) (of_length of.k.copy.length fetch)) (of.fetched i) false)
-      ∙ ap (λ p. fills_one number from index (length bytes) (record (of_length of.k.copy.length of.fetch) { phase = p })) is
+      (λ i. is_on_way row beside contents h id of.k of.found of.fetch of.fetched i && option_map_or (λ (fetch : Fetch). fills_one number from index (length bytes) (fetch_of_length of.k.copy.length fetch)) (of.fetched i) false)
+      ∙ ap (λ p. fills_one number from index (length bytes) (record (fetch_of_length of.k.copy.length of.fetch) { phase = p })) is
       ∙ (λ i. numbers_turn of.fetch.number number of.numbered i && itself i && missed i && long i)
 
   pub not_filled_is : option_map_or (fills number from index (length bytes)) (at row.copies id) false ≡ false → told_verdict ≡ verdict.Ignored
@@ -212,7 +212,7 @@ module _ (node : ℕ) (row : Row) (beside : Beside) (contents : Contents) (h : I
       by of (sized source) is = refl
       by of (failed fault) is = refl
 
-  pub not_filled : option_map_or (fills number from index (length bytes)) (at row.copies id) false ≡ false → TakesStep node row beside contents x (only reply.Ok) row beside
+  pub not_filled : option_map_or (fills number from index (length bytes)) (at row.copies id) false ≡ false → RowStep node row beside contents x (only reply.Ok) row beside
   not_filled e =
       let is_ignored = not_filled_is e in
       ignored node row beside contents h x refl (step_is (fetch_of s id number) refl verdict.Ignored is_ignored ∙ ignored_all (fetch_of s id number)) (brings verdict.Ignored is_ignored) refl
@@ -220,7 +220,7 @@ module _ (node : ℕ) (row : Row) (beside : Beside) (contents : Contents) (h : I
   -- ---- one that fills a gap
 
   module _ (a : IsFilled row id number from index (length bytes)) where
-    abbrev pub k : Kept
+    abbrev pub k : CopyView
     k = a.of.k
 
     abbrev fetch : Fetch
@@ -320,12 +320,12 @@ module _ (node : ℕ) (row : Row) (beside : Beside) (contents : Contents) (h : I
           ap (λ o. filled (at (brought_to contents.bytes o) id) copy) is ∙ ap (λ o. filled o copy) (at-put_here contents.bytes id whole) ∙ sym here
           ∙ ap (λ m. take m (placed_bytes e wrote.window.placed)) (sym same) ∙ ap (λ g. take copy.length (placed_bytes g wrote.window.placed)) (sym at_e)
 
-      shows_elsewhere : (q : ObjectId) (z : Kept) (f : Extent) → same_id q id ≡ false → at row.copies q ≡ Some z → extent_of z.copy ≡ Some f → filled (at contents.bytes q) z.copy ≡ take z.copy.length (placed_bytes f wrote.window.placed)
+      shows_elsewhere : (q : ObjectId) (z : CopyView) (f : Extent) → same_id q id ≡ false → at row.copies q ≡ Some z → extent_of z.copy ≡ Some f → filled (at contents.bytes q) z.copy ≡ take z.copy.length (placed_bytes f wrote.window.placed)
       shows_elsewhere q z f differs was there =
           same_bytes node row beside contents h x q z f was there
           ∙ ap (take z.copy.length) (sym (written_elsewhere row beside contents h id k a.of.found e lies long (65536 * index) bytes within placed q z f differs was there))
 
-      shows_others : (table : Option (ObjectId × List ℕ)) → table ≡ Some (id, whole) → (q : ObjectId) (z : Kept) (f : Extent) → same_id q id ≡ false → at row.copies q ≡ Some z → extent_of z.copy ≡ Some f → filled (at (brought_to contents.bytes table) q) z.copy ≡ take z.copy.length (placed_bytes f wrote.window.placed)
+      shows_others : (table : Option (ObjectId × List ℕ)) → table ≡ Some (id, whole) → (q : ObjectId) (z : CopyView) (f : Extent) → same_id q id ≡ false → at row.copies q ≡ Some z → extent_of z.copy ≡ Some f → filled (at (brought_to contents.bytes table) q) z.copy ≡ take z.copy.length (placed_bytes f wrote.window.placed)
       shows_others table is q z f differs was there =
           ap (λ o. filled (at (brought_to contents.bytes o) q) z.copy) is
           ∙ ap (λ o. filled o z.copy) (at-put contents.bytes id whole q ∙ ap (λ b. cond b (Some whole) (at contents.bytes q)) differs)
@@ -333,22 +333,22 @@ module _ (node : ℕ) (row : Row) (beside : Beside) (contents : Contents) (h : I
 
       -- ---- others are missing still
 
-      abbrev closed : Kept → Kept
-      closed z = gap_closed number from index (length bytes) z
+      abbrev closed : CopyView → CopyView
+      closed z = after_chunk number from index (length bytes) z
 
       abbrev taken_in : Phase → Fetch
-      taken_in p = fetch_kept (chunk_taken number from index (length bytes) (record (of_length k.copy.length fetch) { phase = p }))
+      taken_in p = fetch_kept (fetch_chunk_taken number from index (length bytes) (record (fetch_of_length k.copy.length fetch) { phase = p }))
 
       closed_is : (closed k).copy ≡ record k.copy { fetch = Some (record fetch { phase = pulling a.source left }) }
       closed_is =
-          ap (λ o. record k.copy { fetch = option_map (λ (f : Fetch). fetch_kept (chunk_taken number from index (length bytes) (of_length k.copy.length f))) o }) a.of.fetched
+          ap (λ o. record k.copy { fetch = option_map (λ (f : Fetch). fetch_kept (fetch_chunk_taken number from index (length bytes) (fetch_of_length k.copy.length f))) o }) a.of.fetched
           ∙ ap (λ p. record k.copy { fetch = Some (taken_in p) }) a.pulled
           ∙ (λ i. record k.copy {
             fetch = Some (fetch_kept (cond (numbers_turn fetch.number number a.of.numbered i && a.itself i && a.missed i && a.long i)
-                (record (of_length k.copy.length fetch) { phase = pulling a.source left }) (record (of_length k.copy.length fetch) { phase = pulling a.source a.missing })));
+                (record (fetch_of_length k.copy.length fetch) { phase = pulling a.source left }) (record (fetch_of_length k.copy.length fetch) { phase = pulling a.source a.missing })));
           })
 
-      pub part_done : option_map_or (lacks_only index) (at row.copies id) false ≡ false → TakesStep node row beside contents x (only reply.Ok) (with_copy closed wrote id) beside
+      pub part_done : option_map_or (lacks_only index) (at row.copies id) false ≡ false → RowStep node row beside contents x (only reply.Ok) (with_copy closed wrote id) beside
       part_done lacks =
           let rest = rest_left lacks in
           let is = part_is lacks in
@@ -377,7 +377,7 @@ module _ (node : ℕ) (row : Row) (beside : Beside) (contents : Contents) (h : I
         last_change w is = change_is w is ∙ ap (λ l. events.chunk_taken s id k.copy fetch a.source l w) none
 
         pub damaged_done : has_digest (take k.copy.length (placed_bytes e wrote.window.placed)) digest ≡ false → ArePlaced wrote.window.placed (place_of row.copies)
-            → TakesStep node row beside contents x (only reply.Ok) (unfetched_row fault.Damaged wrote id) beside
+            → RowStep node row beside contents x (only reply.Ok) (unfetched_row fault.Damaged wrote id) beside
         damaged_done wrong now =
             let is = last_is false wrong in
             fails node row beside contents h id number a.of fault.Damaged x refl (without (option_to_list (place_of row.copies id)) wrote.window.placed) [] [] refl
@@ -391,32 +391,32 @@ module _ (node : ℕ) (row : Row) (beside : Beside) (contents : Contents) (h : I
         sent = add_location id ∷ []
 
         module _ (right : has_digest (take k.copy.length (placed_bytes e wrote.window.placed)) digest ≡ true) (entry : Location) (posts : List Post) where
-          abbrev told : Given
+          abbrev told : RowGiven
           told = record { reply = reply.Ok; posts = posts; erased = [] }
 
           abbrev c_now : Change
-          c_now = c node row beside contents h x refl id k a.of.found brought wrote.window.placed sent posts
+          c_now = c node row beside contents h x refl id k a.of.found after_last_chunk wrote.window.placed sent posts
 
           is : told_verdict ≡ verdict.Whole
           is = last_is true right
 
           change_now : change node row beside contents h x ≡ c_now
-          change_now = last_change verdict.Whole is ∙ sending-is sent (done (set_copy s id (brought k).copy))
+          change_now = last_change verdict.Whole is ∙ sending-is sent (done (set_copy s id (after_last_chunk k).copy))
 
-          m : Moves node row beside contents h x c_now told (with_copy brought wrote id) beside
+          m : TakesChange node row beside contents h x c_now told (with_copy after_last_chunk wrote id) beside
           m =
-              arrives node row beside contents h x refl id k a.of.found brought wrote.window.placed sent posts refl refl
-              (λ f there. shows_here _ (brings verdict.Whole is) (brought k).copy f refl (some_value f e (sym there ∙ lies)))
+              arrives node row beside contents h x refl id k a.of.found after_last_chunk wrote.window.placed sent posts refl refl
+              (λ f there. shows_here _ (brings verdict.Whole is) (after_last_chunk k).copy f refl (some_value f e (sym there ∙ lies)))
               (λ q z f differs was there. shows_others _ (brings verdict.Whole is) q z f differs was there)
               (λ keeps. h.digests id k a.of.found keeps_now) (λ q differs. refl)
 
-          there_now : at (with_copy brought wrote id).copies id ≡ Some (brought k)
-          there_now = ap (λ t. at t id) (changed-found brought id row.copies k a.of.found) ∙ at-put_here row.copies id (brought k)
+          there_now : at (with_copy after_last_chunk wrote id).copies id ≡ Some (after_last_chunk k)
+          there_now = ap (λ t. at t id) (changed-found after_last_chunk id row.copies k a.of.found) ∙ at-put_here row.copies id (after_last_chunk k)
 
           pub whole_done : entry ≡ record { node = node; length = k.copy.length; digest = digest } → posts ≡ to_directory (AddLocation id entry)
-              → TakesStep node row beside contents x told (with_copy brought wrote id) beside
+              → RowStep node row beside contents x told (with_copy after_last_chunk wrote id) beside
           whole_done entry_is said =
-              moved node row beside contents h x c_now change_now told (with_copy brought wrote id) beside m
+              moved node row beside contents h x c_now change_now told (with_copy after_last_chunk wrote id) beside m
               (said ∙ ap (λ en. to_directory (AddLocation id en)) (entry_is
-              ∙ ap (λ n. record { node = node; length = n; digest = digest }) (sym (ap (λ p. option_map_or (λ (copy : Copy). copy.length) p 0) (at-put_here (copies_of row.copies) id (brought k).copy)))
-              ∙ ap (λ d. record { node = node; length = length_at c_now.shape id; digest = d }) (sym ((shown_now node row beside contents h x c_now change_now told (with_copy brought wrote id) beside m).digests id (brought k) there_now refl ∙ ap (λ o. unwrap_or o no_digest) has))))
+              ∙ ap (λ n. record { node = node; length = n; digest = digest }) (sym (ap (λ p. option_map_or (λ (copy : Copy). copy.length) p 0) (at-put_here (copies_of row.copies) id (after_last_chunk k).copy)))
+              ∙ ap (λ d. record { node = node; length = length_at c_now.shape id; digest = d }) (sym ((shown_now node row beside contents h x c_now change_now told (with_copy after_last_chunk wrote id) beside m).digests id (after_last_chunk k) there_now refl ∙ ap (λ o. unwrap_or o no_digest) has))))

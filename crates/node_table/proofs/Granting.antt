@@ -14,33 +14,33 @@ use Rattle.obj_id.specs.Ids.{id_cmp, same_id}
 use Rattle.store_facts.proofs.Ids.{id_cmp-IsTotalOrder, id_cmp-IsAntisymmetric, same_id-equal, same_id-itself}
 use Rattle.private_store.specs.declared.inputs.Input.{Input}
 use Rattle.private_store.specs.declared.inputs.Input.TheVariants as input
-use Rattle.private_store.specs.Tables.{ById, at, with_entry}
-use Rattle.private_store.specs.Shape.{Copy, Shape, Change, HandGiven}
-use Rattle.private_store.specs.Copies.{is_held, is_granted, is_working, is_idle}
-use Rattle.private_store.specs.Room.{drop_copy}
-use Rattle.private_store.specs.Change.{done, erasing, settled, has_ended}
-use Rattle.private_store.specs.Commands.{is_sealed_primary, gives, grant}
-use Rattle.private_store.specs.Contents.{Contents}
-use Rattle.private_store.specs.Hands.{Hand, ground, new_hand, with_hand, hands_left, is_withdrawn, is_given_by}
-use Rattle.private_store.specs.Kept.{has_hand}
-use Rattle.private_store.specs.Private.{key_of}
+use Rattle.private_store.specs.rules.Tables.{ById, at, with_entry}
+use Rattle.private_store.specs.rules.Shape.{Copy, Shape, Change, HandGiven}
+use Rattle.private_store.specs.rules.Copies.{is_held, is_granted, is_working, is_idle}
+use Rattle.private_store.specs.rules.Room.{drop_copy}
+use Rattle.private_store.specs.rules.Change.{done, erasing, settled, has_ended}
+use Rattle.private_store.specs.rules.Commands.{is_sealed_primary, gives, grant}
+use Rattle.private_store.specs.rules.Contents.{Contents}
+use Rattle.private_store.specs.rules.Hands.{Hand, ground, new_hand, with_hand, hands_left, is_withdrawn, is_given_by}
+use Rattle.private_store.specs.laws.Invariants.{has_hand}
+use Rattle.private_store.specs.rules.Private.{key_of}
 use Rattle.store_facts.proofs.Checks.{checked-nil}
 use Rattle.store_facts.proofs.Rows.{at-put, at-put_here}
 use Rattle.store_facts.proofs.ErasedKeys.{keys_none, all_found}
 use Rattle.store_facts.proofs.Tests.{T_true, true_T, true_false, both_left, or_false, or_cases, or_left, or_right, refuted}
 use Rattle.store_facts.proofs.KeptLists.{any-filter, all-filter}
-use Rattle.grants.specs.Table.{AreHands, given_by as hands_given, given_to, is_first, is_no_taker, limits_check, hung_check, grant_check as table_check, withdraw_check}
+use Rattle.grants.specs.Table.{AreHands, given_by as hands_given, given_to, is_first, is_no_grantee, limits_check, hung_check, grant_check as table_check, withdraw_check}
 use Rattle.grants.specs.Private.{as_given, HasHands, RefusesAlike}
 use Rattle.grants.proofs.ForCallers.{numbers_equal, filter_swap, is_to, any_given, left_given, refuses_alike, grants_alike, taken_sorted, taken_is}
 use Rattle.lru_evictor.proofs.ForCallers.{reordered-unused}
 use Rattle.spill_work.specs.Line.{WorkLine}
 use Rattle.node_table.specs.Dropping.{is_over, settled_row, keys_settled}
-use Rattle.node_table.specs.Granting.{grant_check, grant_check_of, hands_granted}
-use Rattle.node_table.specs.Kept.{Kept, with_granted}
+use Rattle.node_table.specs.Granting.{row_grant_check, grant_check_of, hands_granted}
+use Rattle.node_table.specs.CopyViews.{CopyView, with_granted}
 use Rattle.node_table.specs.Notes.{beside_rest}
-use Rattle.node_table.specs.Row.{Row, Beside, beside_of, copies_of, shape_of, place_of, ArePlaced}
+use Rattle.node_table.specs.Row.{Row, SharedTables, beside_of, copies_of, shape_of, place_of, ArePlaced}
 use Rattle.node_table.specs.Scope.{with_copy}
-use Rattle.node_table.specs.Shown.{seen, IsShown, only, TakesStep}
+use Rattle.node_table.specs.Shown.{seen, IsShown, only, RowStep}
 use Rattle.node_table.proofs.ByChecks.{unless_refused, first-check, in_sight, called}
 use Rattle.node_table.proofs.Changes.{changed-found}
 use Rattle.node_table.proofs.Changing.{From, from_changed, there_still, bytes_stay, digests_stay, works_stay, listed_stay}
@@ -51,7 +51,7 @@ use Rattle.node_table.proofs.Noted.{is_well_hung}
 use Rattle.node_table.proofs.Notes.{lengths, row_has_hands, note_taken, first_left}
 use Rattle.node_table.proofs.Passed.{past, there}
 use Rattle.node_table.proofs.Settling.{BringsNothing, moved_settles}
-use Rattle.node_table.proofs.Stepping.{Moves, moved, change, received_stays, stays}
+use Rattle.node_table.proofs.Stepping.{TakesChange, moved, change, received_stays, stays}
 
 -- an entry put where it stands already
 with-same : {X : Type 0} (es : ById X) (id : ObjectId) (x : X) → T (is_sorted id_cmp es) → at es id ≡ Some x → with_entry es id x ≡ es
@@ -65,22 +65,22 @@ with-same es id x sorted found =
 
 -- ---- a copy is marked as the hands say that stand beside it then
 
-module _ (node : ℕ) (row : Row) (beside : Beside) (contents : Contents) (h : IsShown row beside contents) (x : Input) (quiet : BringsNothing node (seen row beside contents) x)
-    (id : ObjectId) (k : Kept) (found : at row.copies id ≡ Some k) (granted : Bool) (given : List HandGiven)
+module _ (node : ℕ) (row : Row) (beside : SharedTables) (contents : Contents) (h : IsShown row beside contents) (x : Input) (quiet : BringsNothing node (seen row beside contents) x)
+    (id : ObjectId) (k : CopyView) (found : at row.copies id ≡ Some k) (granted : Bool) (given : List HandGiven)
     (its : granted ≡ has_hand given id) (others : (q : ObjectId) → same_id q id ≡ false → has_hand given q ≡ has_hand beside.given q) where
-  abbrev f : Kept → Kept
+  abbrev f : CopyView → CopyView
   f = with_granted granted
 
   abbrev row_marked : Row
   row_marked = with_copy f row id
 
-  abbrev beside_given : Beside
+  abbrev beside_given : SharedTables
   beside_given = record beside { given = given }
 
   abbrev s : Shape
   s = shape_of row beside_given
 
-  lies : (z : Kept) → ((f z).copy.offset ≡ z.copy.offset) × ((f z).copy.length ≡ z.copy.length)
+  lies : (z : CopyView) → ((f z).copy.offset ≡ z.copy.offset) × ((f z).copy.length ≡ z.copy.length)
   lies z = (refl, refl)
 
   same_copies : copies_of row_marked.copies ≡ copies_of row.copies
@@ -89,7 +89,7 @@ module _ (node : ℕ) (row : Row) (beside : Beside) (contents : Contents) (h : I
   abbrev c : Change
   c = erasing (shape_of row beside) (done s)
 
-  marks : Moves node row beside contents h x c (only reply.Ok) row_marked beside_given
+  marks : TakesChange node row beside contents h x c (only reply.Ok) row_marked beside_given
   marks = record {
     shape = ap (λ t. record s { copies = t }) (sym same_copies);
     order = sym (reordered-unused row.order (copies_of row_marked.copies) (there_still node row beside contents h x id k found f lies row.order h.there));
@@ -104,11 +104,11 @@ module _ (node : ℕ) (row : Row) (beside : Beside) (contents : Contents) (h : I
     erased = sym (ap (map (key_of row.job)) (keys_none (copies_of row.copies) (copies_of row.copies) (all_found (copies_of row.copies))));
   }
     where
-      by : (q : ObjectId) (y : Kept) → (z : Kept) × (at row.copies q ≡ Some z) × From f row.copies id q y z → y.granted ≡ has_hand given q
-      by q y (z, e, inl t) = ap (λ (y : Kept). y.granted) t.1 ∙ its ∙ ap (has_hand given) (sym (same_id-equal q id t.0))
-      by q y (z, e, inr t) = ap (λ (y : Kept). y.granted) t.1 ∙ h.granted q z e ∙ sym (others q t.0)
+      by : (q : ObjectId) (y : CopyView) → (z : CopyView) × (at row.copies q ≡ Some z) × From f row.copies id q y z → y.granted ≡ has_hand given q
+      by q y (z, e, inl t) = ap (λ (y : CopyView). y.granted) t.1 ∙ its ∙ ap (has_hand given) (sym (same_id-equal q id t.0))
+      by q y (z, e, inr t) = ap (λ (y : CopyView). y.granted) t.1 ∙ h.granted q z e ∙ sym (others q t.0)
 
-  pub marked_so : change node row beside contents h x ≡ c → TakesStep node row beside contents x (only reply.Ok) row_marked beside_given
+  pub marked_so : change node row beside contents h x ≡ c → RowStep node row beside contents x (only reply.Ok) row_marked beside_given
   marked_so is = moved node row beside contents h x c is (only reply.Ok) row_marked beside_given marks refl
 
   -- and removed if nothing keeps it
@@ -118,18 +118,18 @@ module _ (node : ℕ) (row : Row) (beside : Beside) (contents : Contents) (h : I
       (idle_same (is_held k.copy) granted (is_granted s id) (is_working s id) k.working its (ap is_some (h.working id k found) ∙ working-on beside.works id))
 
   pub settles_marked : change node row beside contents h x ≡ erasing (shape_of row beside) (done (settled s id)) → ArePlaced row_marked.window.placed (place_of row_marked.copies)
-      → TakesStep node row beside contents x (record { reply = reply.Ok; posts = []; erased = keys_settled row_marked id }) (settled_row row_marked id) beside_given
+      → RowStep node row beside contents x (record { reply = reply.Ok; posts = []; erased = keys_settled row_marked id }) (settled_row row_marked id) beside_given
   settles_marked is placed =
       moved_settles node row beside contents h x row_marked beside_given s [] [] marks id (f k)
       (ap (λ t. at t id) (changed-found f id row.copies k found) ∙ at-put_here row.copies id (f k)) (at-copies_found row.copies id k found) over_is
       (key_dropped (copies_of row.copies) id k.copy (T_true _ h.kept.kept.shape.by_id) (at-copies_found row.copies id k found)) is (λ o. refl) refl placed
 
 -- where no copy changes no key is erased
-none_erased : (row : Row) (beside : Beside) (given : List HandGiven) → erasing (shape_of row beside) (done (shape_of row (record beside { given = given }))) ≡ done (shape_of row (record beside { given = given }))
+none_erased : (row : Row) (beside : SharedTables) (given : List HandGiven) → erasing (shape_of row beside) (done (shape_of row (record beside { given = given }))) ≡ done (shape_of row (record beside { given = given }))
 none_erased row beside given = ap (λ keys. record (done (shape_of row (record beside { given = given }))) { erased = keys }) (keys_none (copies_of row.copies) (copies_of row.copies) (all_found (copies_of row.copies)))
 
 -- an own copy is of no other job's object
-not_own : (row : Row) (beside : Beside) (contents : Contents) → IsShown row beside contents → (id : ObjectId) → (id.job.0 == row.job) ≡ false → (q : ObjectId) (k : Kept) → at row.copies q ≡ Some k → same_id q id ≡ false
+not_own : (row : Row) (beside : SharedTables) (contents : Contents) → IsShown row beside contents → (id : ObjectId) → (id.job.0 == row.job) ≡ false → (q : ObjectId) (k : CopyView) → at row.copies q ≡ Some k → same_id q id ≡ false
 not_own row beside contents h id foreign q k found =
     refuted (same_id q id) (λ same.
     sym foreign ∙ eq-eqb id.job.0 row.job (sym (ap (λ (i : ObjectId). i.job.0) (same_id-equal q id same)) ∙ (h.kept.kept.shape.each q k.copy (at-copies_found row.copies q k found)).own))
@@ -138,7 +138,7 @@ not_own row beside contents h id foreign q k found =
 
 module _ (node : ℕ) (line : WorkLine) (hands : List Hand) (bytes : ObjectId → List ℕ) (row : Row) (contents : Contents) (session : ℕ) (id : ObjectId) (target : JobNo)
     (h : IsShown row (beside_of line hands bytes row.job) contents) where
-  abbrev beside : Beside
+  abbrev beside : SharedTables
   beside = beside_of line hands bytes row.job
 
   abbrev store : Shape
@@ -154,15 +154,15 @@ module _ (node : ℕ) (line : WorkLine) (hands : List Hand) (bytes : ObjectId �
   asks = input.Call session (command.Grant id target)
 
   abbrev hand : HandGiven
-  hand = record { id = id; target = target.0; hangs_on = (new_hand hands id row.job target.0).hangs_on }
+  hand = record { id = id; target = target.0; parent = (new_hand hands id row.job target.0).parent }
 
   abbrev gave : Change
-  gave = gives store id target.0 hand.hangs_on
+  gave = gives store id target.0 hand.parent
 
   -- the table has this hand more
   beside_granted : table_check hands row.job id target.0 ≡ None → record beside { given = store.given ++ hand ∷ [] } ≡ beside_of line (with_hand hands id row.job target.0) bytes row.job
   beside_granted passed =
-      let now = (grants_alike (lengths bytes) hands row.job id target.0 passed).of_giver store refl has in
+      let now = (grants_alike (lengths bytes) hands row.job id target.0 passed).of_grantor store refl has in
       let received = taken_is (lengths bytes) (with_hand hands id row.job target.0) gave.shape now (true_T _ (taken_sorted (lengths bytes) (given_to row.job hands) [] tt)) in
       λ i. record { works = beside.works; used = beside.used; given = now.given i; received = received i; bytes = bytes }
 
@@ -178,16 +178,16 @@ module _ (node : ℕ) (line : WorkLine) (hands : List Hand) (bytes : ObjectId �
     abbrev after_limits : Option Refusal → Option Refusal
     after_limits o = cond (has_ended store id.task) (Some Gone) (elim (at row.copies id) [ None ↦ Some Absent | Some k ↦ grant_check_of k o ])
 
-    grant-by : grant store id target.0 ≡ unless_refused store (grant_check row id target.0 limits) gave
+    grant-by : grant store id target.0 ≡ unless_refused store (row_grant_check row id target.0 limits) gave
     grant-by =
         refuses.own id target.0 mine
-        ∙ first-check store (is_no_taker id row.job target.0) BadId _ _ _ gave
+        ∙ first-check store (is_no_grantee id row.job target.0) BadId _ _ _ gave
         (first-check store (has_ended store id.task) Gone [] _ _ gave
         (checked-nil store _ ∙ in_sight row beside id _ (λ k. cond (not (is_sealed_primary k.copy)) (Some NotResident) limits) gave (λ k found seen.
         first-check store (not (is_sealed_primary k.copy)) NotResident [] _ limits gave (checked-nil store _))))
 
-    table_says : grant_check row id target.0 (table_check hands row.job id target.0) ≡ grant_check row id target.0 limits
-    table_says = by (is_no_taker id row.job target.0)
+    table_says : row_grant_check row id target.0 (table_check hands row.job id target.0) ≡ row_grant_check row id target.0 limits
+    table_says = by (is_no_grantee id row.job target.0)
       where
         by : (b : Bool) → cond b (Some BadId) (after_limits (cond b (Some BadId) (cond (id.job.0 == row.job) limits (hung_check hands row.job id target.0 (ground hands id row.job)))))
             ≡ cond b (Some BadId) (after_limits limits)
@@ -195,39 +195,39 @@ module _ (node : ℕ) (line : WorkLine) (hands : List Hand) (bytes : ObjectId �
         by false = ap (λ b. after_limits (cond b limits (hung_check hands row.job id target.0 (ground hands id row.job)))) mine
 
     module _ (table : Option Refusal) (told : table ≡ table_check hands row.job id target.0) where
-      grant-is : (check : Option Refusal) → grant_check row id target.0 table ≡ check → change node row beside contents h asks ≡ erasing store (unless_refused store check gave)
+      grant-is : (check : Option Refusal) → row_grant_check row id target.0 table ≡ check → change node row beside contents h asks ≡ erasing store (unless_refused store check gave)
       grant-is check e =
           called row beside session (command.Grant id target)
-          ∙ ap (erasing store) (grant-by ∙ ap (λ o. unless_refused store o gave) (sym table_says ∙ ap (grant_check row id target.0) (sym told) ∙ e))
+          ∙ ap (erasing store) (grant-by ∙ ap (λ o. unless_refused store o gave) (sym table_says ∙ ap (row_grant_check row id target.0) (sym told) ∙ e))
 
-      pub grant_refused : (r : Refusal) → grant_check row id target.0 table ≡ Some r → TakesStep node row beside contents asks (only (reply.Refused r)) row
-          (beside_of line (hands_granted (grant_check row id target.0 table) hands id row.job target.0) bytes row.job)
+      pub grant_refused : (r : Refusal) → row_grant_check row id target.0 table ≡ Some r → RowStep node row beside contents asks (only (reply.Refused r)) row
+          (beside_of line (hands_granted (row_grant_check row id target.0 table) hands id row.job target.0) bytes row.job)
       grant_refused r e =
-          subst (λ o. TakesStep node row beside contents asks (only (reply.Refused r)) row (beside_of line (hands_granted o hands id row.job target.0) bytes row.job)) (sym e)
+          subst (λ o. RowStep node row beside contents asks (only (reply.Refused r)) row (beside_of line (hands_granted o hands id row.job target.0) bytes row.job)) (sym e)
           (stays node row beside contents h asks (reply.Refused r) (grant-is (Some r) e) refl refl refl)
 
-      pub grant_done : grant_check row id target.0 table ≡ None → TakesStep node row beside contents asks (only reply.Ok) (with_copy (with_granted true) row id)
-          (beside_of line (hands_granted (grant_check row id target.0 table) hands id row.job target.0) bytes row.job)
+      pub grant_done : row_grant_check row id target.0 table ≡ None → RowStep node row beside contents asks (only reply.Ok) (with_copy (with_granted true) row id)
+          (beside_of line (hands_granted (row_grant_check row id target.0 table) hands id row.job target.0) bytes row.job)
       grant_done e =
-          let alive = past (has_ended store id.task) Gone _ (past (is_no_taker id row.job target.0) BadId _ e).1 in
+          let alive = past (has_ended store id.task) Gone _ (past (is_no_grantee id row.job target.0) BadId _ e).1 in
           let k = there (λ k. grant_check_of k table) Absent (at row.copies id) alive.1 in
           let passed = (past (not (is_sealed_primary k.0.copy)) NotResident table (past k.0.copy.doomed Absent _ k.2).1).1 in
-          subst (λ o. TakesStep node row beside contents asks (only reply.Ok) (with_copy (with_granted true) row id) (beside_of line (hands_granted o hands id row.job target.0) bytes row.job)) (sym e)
-          (subst (λ b. TakesStep node row beside contents asks (only reply.Ok) (with_copy (with_granted true) row id) b) (beside_granted (sym told ∙ passed))
+          subst (λ o. RowStep node row beside contents asks (only reply.Ok) (with_copy (with_granted true) row id) (beside_of line (hands_granted o hands id row.job target.0) bytes row.job)) (sym e)
+          (subst (λ b. RowStep node row beside contents asks (only reply.Ok) (with_copy (with_granted true) row id) b) (beside_granted (sym told ∙ passed))
           (marked_so node row beside contents h asks (record { bytes = refl; digest = refl; received = refl }) id k.0 k.1 true (store.given ++ hand ∷ [])
           (sym (list_any-append (λ g. same_id id g.id) store.given (hand ∷ []) ∙ or_right (has_hand store.given id) (same_id id id || false) (or_left (same_id id id) false (same_id-itself id))))
           others_granted (grant-is None e)))
 
   -- another job's object
   module _ (foreign : (id.job.0 == row.job) ≡ false) where
-    pub lend_refused : (r : Refusal) → table_check hands row.job id target.0 ≡ Some r → TakesStep node row beside contents asks (only (reply.Refused r)) row beside
+    pub lend_refused : (r : Refusal) → table_check hands row.job id target.0 ≡ Some r → RowStep node row beside contents asks (only (reply.Refused r)) row beside
     lend_refused r e =
         stays node row beside contents h asks (reply.Refused r)
         (called row beside session (command.Grant id target) ∙ ap (erasing store) (refuses.foreign id target.0 foreign ∙ ap (λ o. unless_refused store o gave) e)) refl refl refl
 
-    pub lend_done : table_check hands row.job id target.0 ≡ None → TakesStep node row beside contents asks (only reply.Ok) row (beside_of line (with_hand hands id row.job target.0) bytes row.job)
+    pub lend_done : table_check hands row.job id target.0 ≡ None → RowStep node row beside contents asks (only reply.Ok) row (beside_of line (with_hand hands id row.job target.0) bytes row.job)
     lend_done e =
-        subst (λ b. TakesStep node row beside contents asks (only reply.Ok) row b) (beside_granted e)
+        subst (λ b. RowStep node row beside contents asks (only reply.Ok) row b) (beside_granted e)
         (note_taken node row beside contents h asks (store.given ++ hand ∷ []) beside.received
         (called row beside session (command.Grant id target) ∙ ap (erasing store) (refuses.foreign id target.0 foreign ∙ ap (λ o. unless_refused store o gave) e) ∙ none_erased row beside (store.given ++ hand ∷ [])) refl refl
         (λ q k found. others_granted q (not_own row beside contents h id foreign q k found)) (received_stays node row beside contents h asks refl))
@@ -236,7 +236,7 @@ module _ (node : ℕ) (line : WorkLine) (hands : List Hand) (bytes : ObjectId �
 
 module _ (node : ℕ) (line : WorkLine) (hands : List Hand) (bytes : ObjectId → List ℕ) (row : Row) (contents : Contents) (session : ℕ) (id : ObjectId) (target : JobNo)
     (h : IsShown row (beside_of line hands bytes row.job) contents) where
-  abbrev beside_all : Beside
+  abbrev beside_all : SharedTables
   beside_all = beside_of line hands bytes row.job
 
   abbrev whole : Shape
@@ -276,18 +276,18 @@ module _ (node : ℕ) (line : WorkLine) (hands : List Hand) (bytes : ObjectId �
       ∙ ap (erasing whole) ((refuses_alike (lengths bytes) hands whole (row_has_hands line hands bytes row)).withdrawal id target.0
       ∙ ap (λ o. unless_refused whole o (done (settled (shape_of row (record beside_all { given = rest })) id))) e)
 
-  pub withdraw_refused : (r : Refusal) → withdraw_check hands row.job id target.0 ≡ Some r → TakesStep node row beside_all contents ending (only (reply.Refused r)) row beside_all
+  pub withdraw_refused : (r : Refusal) → withdraw_check hands row.job id target.0 ≡ Some r → RowStep node row beside_all contents ending (only (reply.Refused r)) row beside_all
   withdraw_refused r e = stays node row beside_all contents h ending (reply.Refused r) (withdraw-is (Some r) e) refl refl refl
 
   -- another job's object has no copy here
-  pub give_back_done : (id.job.0 == row.job) ≡ false → withdraw_check hands row.job id target.0 ≡ None → TakesStep node row beside_all contents ending (only reply.Ok) row (beside_rest line test hands bytes row.job)
+  pub give_back_done : (id.job.0 == row.job) ≡ false → withdraw_check hands row.job id target.0 ≡ None → RowStep node row beside_all contents ending (only reply.Ok) row (beside_rest line test hands bytes row.job)
   give_back_done foreign e =
-      subst (λ b. TakesStep node row beside_all contents ending (only reply.Ok) row b) beside_left
+      subst (λ b. RowStep node row beside_all contents ending (only reply.Ok) row b) beside_left
       (note_taken node row beside_all contents h ending rest beside_all.received
       (withdraw-is None e ∙ ap (λ s. erasing whole (done s)) (settled_elsewhere (at row.copies id) refl) ∙ none_erased row beside_all rest) refl refl
       (λ q k found. others_left q (not_own row beside_all contents h id foreign q k found)) (received_stays node row beside_all contents h ending refl))
     where
-      settled_elsewhere : (o : Option Kept) → at row.copies id ≡ o → settled (shape_of row (record beside_all { given = rest })) id ≡ shape_of row (record beside_all { given = rest })
+      settled_elsewhere : (o : Option CopyView) → at row.copies id ≡ o → settled (shape_of row (record beside_all { given = rest })) id ≡ shape_of row (record beside_all { given = rest })
       settled_elsewhere None none =
           let s = shape_of row (record beside_all { given = rest }) in
           ap (λ o. option_map_or (λ (copy : Copy). cond (copy.doomed && is_idle s id copy) (drop_copy s id) s) o s) (at-copies_none row.copies id none)
@@ -309,10 +309,10 @@ module _ (node : ℕ) (line : WorkLine) (hands : List Hand) (bytes : ObjectId �
           | inr later ↦ or_right (same_id id hand.id) (has_hand given id) (some_hand given later)
         ]
 
-    there_is : (k : Kept) × (at row.copies id ≡ Some k)
+    there_is : (k : CopyView) × (at row.copies id ≡ Some k)
     there_is = by (at row.copies id) refl
       where
-        by : (o : Option Kept) → at row.copies id ≡ o → (k : Kept) × (at row.copies id ≡ Some k)
+        by : (o : Option CopyView) → at row.copies id ≡ o → (k : CopyView) × (at row.copies id ≡ Some k)
         by (Some k) found = (k, found)
         by None none = true_false (sym (h.kept.kept.shape.hands_of_copies id (numbers_equal id.job.0 row.job mine) (at-copies_none row.copies id none)) ∙ was_given)
 
@@ -325,9 +325,9 @@ module _ (node : ℕ) (line : WorkLine) (hands : List Hand) (bytes : ObjectId �
 
     pub withdraw_done : AreHands hands → (granted : Bool) → granted ≡ list_any (is_first id) (hands_left test hands)
         → ArePlaced (with_copy (with_granted granted) row id).window.placed (place_of (with_copy (with_granted granted) row id).copies)
-        → TakesStep node row beside_all contents ending (record { reply = reply.Ok; posts = []; erased = keys_settled (with_copy (with_granted granted) row id) id }) (settled_row (with_copy (with_granted granted) row id) id)
+        → RowStep node row beside_all contents ending (record { reply = reply.Ok; posts = []; erased = keys_settled (with_copy (with_granted granted) row id) id }) (settled_row (with_copy (with_granted granted) row id) id)
         (beside_rest line test hands bytes row.job)
     withdraw_done are granted says placed =
-        subst (λ b. TakesStep node row beside_all contents ending (record { reply = reply.Ok; posts = []; erased = keys_settled (with_copy (with_granted granted) row id) id }) (settled_row (with_copy (with_granted granted) row id) id) b) beside_left
+        subst (λ b. RowStep node row beside_all contents ending (record { reply = reply.Ok; posts = []; erased = keys_settled (with_copy (with_granted granted) row id) id }) (settled_row (with_copy (with_granted granted) row id) id) b) beside_left
         (settles_marked node row beside_all contents h ending (record { bytes = refl; digest = refl; received = refl }) id there_is.0 there_is.1 granted rest
         (says ∙ sym (its are)) others_left (withdraw-is None stands) placed)

@@ -7,14 +7,14 @@ use Rattle.obj_id.specs.declared.ids.ObjectId.{ObjectId}
 use Rattle.obj_id.specs.declared.commands.CopyState.TheVariants.{Away}
 use Rattle.obj_id.specs.declared.refusals.Refusal.TheVariants.{Full, Pending}
 use Rattle.obj_id.specs.Kinds.{is_primary}
-use Rattle.private_store.specs.Tables.{at}
-use Rattle.private_store.specs.Shape.{Copy, Shape}
-use Rattle.private_store.specs.Contents.{Contents}
-use Rattle.private_store.specs.Room.{Room, make_room, set_copy, drop_copy, evicted, offset_without, plan}
+use Rattle.private_store.specs.rules.Tables.{at}
+use Rattle.private_store.specs.rules.Shape.{Copy, Shape}
+use Rattle.private_store.specs.rules.Contents.{Contents}
+use Rattle.private_store.specs.rules.Room.{Room, make_room, set_copy, drop_copy, evicted, offset_without, plan}
 use Rattle.store_facts.proofs.Tests.{true_false, false_true}
 use Rattle.lru_evictor.specs.Plans.{listed}
 use Rattle.node_table.specs.RoomPlans.{IsPlanned, MakesPlace, AsksWrites, planned_by, refuses, makes_place}
-use Rattle.node_table.specs.Row.{Row, Beside, shape_of}
+use Rattle.node_table.specs.Row.{Row, SharedTables, shape_of}
 use Rattle.node_table.specs.Shown.{IsShown}
 use Rattle.node_table.specs.declared.room.RoomPlan.{RoomPlan}
 use Rattle.node_table.specs.declared.room.RoomPlan.TheVariants.{Fits, Evict, Ask, TellFailedSpill, Refuse}
@@ -84,13 +84,13 @@ placed_unrefused TellFailedSpill t = true_false t
 placed_unrefused (Refuse refusal) t = true_false t
 
 -- of a row's own plan
-pub room_grows : (row : Row) (beside : Beside) (contents : Contents) → IsShown row beside contents → (n : ℕ) → refuses (planned_by row.order (shape_of row beside) n) ≡ false
+pub room_grows : (row : Row) (beside : SharedTables) (contents : Contents) → IsShown row beside contents → (n : ℕ) → refuses (planned_by row.order (shape_of row beside) n) ≡ false
     → HasPlace (shape_of row beside) (make_room row.order (shape_of row beside) n) (planned_by row.order (shape_of row beside) n) ⊎ HasAskedWrites (shape_of row beside) (make_room row.order (shape_of row beside) n)
 room_grows row beside contents h n =
     grows (shape_of row beside) n (make_room row.order (shape_of row beside) n) (planned_by row.order (shape_of row beside) n) (listed (plan row.order (shape_of row beside) n)) (planned row beside contents h n)
 
 -- the place that a plan finds, with the copies that go
-pub place_planned_by : (row : Row) (beside : Beside) (contents : Contents) → IsShown row beside contents → (n : ℕ) → makes_place (planned_by row.order (shape_of row beside) n) ≡ true
+pub place_planned_by : (row : Row) (beside : SharedTables) (contents : Contents) → IsShown row beside contents → (n : ℕ) → makes_place (planned_by row.order (shape_of row beside) n) ≡ true
     → (victims : List ObjectId) × MakesPlace (make_room row.order (shape_of row beside) n) (shape_of row beside) n victims
 place_planned_by row beside contents h n = by (planned_by row.order (shape_of row beside) n) (planned row beside contents h n)
   where

@@ -7,55 +7,55 @@ use Rattle.std.specs.Map.{lookup, set_value}
 use Rattle.obj_id.specs.declared.ids.ObjectId.{ObjectId}
 use Rattle.obj_id.specs.declared.refusals.Refusal.{Refusal}
 use Rattle.obj_id.specs.Ids.{id_eq}
-use Rattle.private_store.specs.Tables.{ById, at}
-use Rattle.lru_evictor.specs.Facts.{standing_at}
+use Rattle.private_store.specs.rules.Tables.{ById, at}
+use Rattle.lru_evictor.specs.Facts.{info_at}
 use Rattle.node_table.specs.Entries.{by_rising_id, changed}
 use Rattle.node_table.specs.declared.copy.Held.{Held}
 use Rattle.node_table.specs.declared.copy.AfterChange.{AfterChange}
-use Rattle.node_table.specs.Kept.{Kept, is_ready, held}
+use Rattle.node_table.specs.CopyViews.{CopyView, is_ready, after_hold}
 use Rattle.node_table.specs.Dropping.{is_over, is_over_at, after_change}
-use Rattle.node_table.specs.Counted.{taken_by}
-use Rattle.node_table.specs.Followed.{facts_in}
+use Rattle.node_table.specs.Counted.{footprint_by}
+use Rattle.node_table.specs.InSync.{facts_in}
 use Rattle.node_table.specs.Holding.{IsHeld, IsUnready, IsHoldRefused, IsHeldAt, IsUnreadyAt, IsHoldRefusedAt}
 use Rattle.node_table.proofs.Changes.{written, unwritten, checked_there, checked_absent, at-changed_here}
 use Rattle.node_table.proofs.FollowsCopies.{standing_found}
 
-module _ (session : ℕ) (id : ObjectId) (es : List (ObjectId × Kept)) (now : ById Kept) (seen : by_rising_id es ≡ now) (x y : Kept) (found : lookup (id_eq id) es ≡ Some x) (new : List (ObjectId × Kept)) (set : new ≡ set_value (id_eq id) es y) where
+module _ (session : ℕ) (id : ObjectId) (es : List (ObjectId × CopyView)) (now : ById CopyView) (seen : by_rising_id es ≡ now) (x y : CopyView) (found : lookup (id_eq id) es ≡ Some x) (new : List (ObjectId × CopyView)) (set : new ≡ set_value (id_eq id) es y) where
   there : at now id ≡ Some x
-  there = checked_there (λ (o : Option Kept). o) id es now x seen found
+  there = checked_there (λ (o : Option CopyView). o) id es now x seen found
 
   pub held_at : (r : Result (Option Held) Refusal) → IfOk r (λ o. IfSome o (λ told. IsHeld x session told y)) → IfOk r (λ o. IfSome o (λ told. IsHeldAt now session id told (by_rising_id new)))
   held_at (Ok (Some told)) h =
-      let copies = written (held session) id es now seen new x y found h.copy set in
-      let after : at (by_rising_id new) id ≡ Some y = ap (λ t. at t id) copies ∙ at-changed_here (held session) id now x there ∙ ap Some (sym h.copy) in
-      record { kept = x; found = there; ready = h.ready; passed = h.passed; length = h.length; standing = h.standing ∙ sym (standing_found (by_rising_id new) id y after); copies = copies }
+      let copies = written (after_hold session) id es now seen new x y found h.copy set in
+      let after : at (by_rising_id new) id ≡ Some y = ap (λ t. at t id) copies ∙ at-changed_here (after_hold session) id now x there ∙ ap Some (sym h.copy) in
+      record { kept = x; found = there; ready = h.ready; passed = h.passed; length = h.length; eviction_info = h.eviction_info ∙ sym (standing_found (by_rising_id new) id y after); copies = copies }
   held_at (Ok None) h = tt
   held_at (Err e) h = tt
 
   pub unready_at : (r : Result (Option Held) Refusal) → IfOk r (λ o. IfNone o (IsUnready x y)) → IfOk r (λ o. IfNone o (IsUnreadyAt now id (by_rising_id new)))
   unready_at (Ok (Some told)) h = tt
-  unready_at (Ok None) h = record { unready = ap (λ (o : Option Kept). option_map_or (λ k. is_ready k.copy) o false) there ∙ h.unready; same = unwritten (held session) id es now seen new x y found h.same set }
+  unready_at (Ok None) h = record { unready = ap (λ (o : Option CopyView). option_map_or (λ k. is_ready k.copy) o false) there ∙ h.unready; same = unwritten (after_hold session) id es now seen new x y found h.same set }
   unready_at (Err e) h = tt
 
   pub refused_at : (r : Result (Option Held) Refusal) → IfErr r (λ refusal. IsHoldRefused x refusal y) → IfErr r (λ refusal. IsHoldRefusedAt now id refusal (by_rising_id new))
   refused_at (Ok o) h = tt
-  refused_at (Err e) h = record { kept = x; found = there; ready = h.ready; refused = h.refused; late = h.late; same = unwritten (held session) id es now seen new x y found h.same set }
+  refused_at (Err e) h = record { kept = x; found = there; ready = h.ready; refused = h.refused; late = h.late; same = unwritten (after_hold session) id es now seen new x y found h.same set }
 
 -- a hold takes no bytes
-pub taken-held : (session : ℕ) (x y : Kept) (r : Result (Option Held) Refusal) → IfOk r (λ o. IfSome o (λ told. IsHeld x session told y)) → IfOk r (λ o. IfNone o (IsUnready x y)) → IfErr r (λ refusal. IsHoldRefused x refusal y) → taken_by y ≡ taken_by x
-taken-held session x y (Ok (Some told)) some none refused = ap taken_by some.copy
-taken-held session x y (Ok None) some none refused = ap taken_by none.same
-taken-held session x y (Err e) some none refused = ap taken_by refused.same
+pub taken-held : (session : ℕ) (x y : CopyView) (r : Result (Option Held) Refusal) → IfOk r (λ o. IfSome o (λ told. IsHeld x session told y)) → IfOk r (λ o. IfNone o (IsUnready x y)) → IfErr r (λ refusal. IsHoldRefused x refusal y) → footprint_by y ≡ footprint_by x
+taken-held session x y (Ok (Some told)) some none refused = ap footprint_by some.copy
+taken-held session x y (Ok None) some none refused = ap footprint_by none.same
+taken-held session x y (Err e) some none refused = ap footprint_by refused.same
 
 -- where there is no copy
-pub none_at : (id : ObjectId) (es : List (ObjectId × Kept)) (now : ById Kept) (new : List (ObjectId × Kept)) → by_rising_id es ≡ now → lookup (id_eq id) es ≡ None → new ≡ es → IsUnreadyAt now id (by_rising_id new)
-none_at id es now new seen none same = record { unready = checked_absent (λ (o : Option Kept). option_map_or (λ k. is_ready k.copy) o false) id es now seen none; same = ap by_rising_id same ∙ seen }
+pub none_at : (id : ObjectId) (es : List (ObjectId × CopyView)) (now : ById CopyView) (new : List (ObjectId × CopyView)) → by_rising_id es ≡ now → lookup (id_eq id) es ≡ None → new ≡ es → IsUnreadyAt now id (by_rising_id new)
+none_at id es now new seen none same = record { unready = checked_absent (λ (o : Option CopyView). option_map_or (λ k. is_ready k.copy) o false) id es now seen none; same = ap by_rising_id same ∙ seen }
 
 -- ---- a change that may be refused
 
-module _ (f : Kept → Kept) (id : ObjectId) (now : ById Kept) (x : Kept) (found : at now id ≡ Some x) where
-  pub standing_after : (r : Result AfterChange Refusal) → IfOk r (λ a. a ≡ after_change (f x)) → IfOk r (λ a. a.standing ≡ standing_at (facts_in (changed f now id)) id)
-  standing_after (Ok a) h = ap (λ a. a.standing) h ∙ sym (standing_found (changed f now id) id (f x) (at-changed_here f id now x found))
+module _ (f : CopyView → CopyView) (id : ObjectId) (now : ById CopyView) (x : CopyView) (found : at now id ≡ Some x) where
+  pub standing_after : (r : Result AfterChange Refusal) → IfOk r (λ a. a ≡ after_change (f x)) → IfOk r (λ a. a.eviction_info ≡ info_at (facts_in (changed f now id)) id)
+  standing_after (Ok a) h = ap (λ a. a.eviction_info) h ∙ sym (standing_found (changed f now id) id (f x) (at-changed_here f id now x found))
   standing_after (Err e) h = tt
 
   pub over_after : (r : Result AfterChange Refusal) → IfOk r (λ a. a ≡ after_change (f x)) → IfOk r (λ a. a.over ≡ is_over_at (changed f now id) id)

@@ -16,32 +16,32 @@ use Rattle.obj_id.specs.Ids.{id_cmp, same_id}
 use Rattle.store_facts.proofs.Ids.{id_cmp-IsTotalOrder}
 use Rattle.private_store.specs.declared.inputs.Input.{Input}
 use Rattle.private_store.specs.declared.inputs.Input.TheVariants as input
-use Rattle.private_store.specs.Tables.{ById, at, with_entry, ids_of}
-use Rattle.private_store.specs.Shape.{Copy, Shape, Change}
-use Rattle.private_store.specs.Copies.{extent_of}
-use Rattle.private_store.specs.Room.{set_copy}
-use Rattle.private_store.specs.Change.{done, sending, erasing, settled}
-use Rattle.private_store.specs.Commands.{leave, leave_one, at_each, with_holds}
-use Rattle.private_store.specs.Contents.{Contents, judge, keeps_digest, no_digest}
-use Rattle.private_store.specs.Private.{key_of}
-use Rattle.private_store.specs.Step.{step}
+use Rattle.private_store.specs.rules.Tables.{ById, at, with_entry, ids_of}
+use Rattle.private_store.specs.rules.Shape.{Copy, Shape, Change}
+use Rattle.private_store.specs.rules.Copies.{extent_of}
+use Rattle.private_store.specs.rules.Room.{set_copy}
+use Rattle.private_store.specs.rules.Change.{done, sending, erasing, settled}
+use Rattle.private_store.specs.rules.Commands.{leave, leave_one, at_each, with_holds}
+use Rattle.private_store.specs.rules.Contents.{Contents, judge, keeps_digest, no_digest}
+use Rattle.private_store.specs.rules.Private.{key_of}
+use Rattle.private_store.specs.rules.Step.{step}
 use Rattle.store_facts.proofs.Filling.{filled}
 use Rattle.store_facts.proofs.KeptLists.{all_weaker}
 use Rattle.store_facts.proofs.ErasedKeys.{keys_none, all_found}
 use Rattle.store_facts.proofs.Rows.{at-put, at-put_here}
 use Rattle.store_facts.proofs.Tests.{and_left, and_right, both, some_value, none_some, less_is, true_T, T_true}
-use Rattle.job_region.specs.Region.{bytes_at as placed_bytes}
+use Rattle.job_region.specs.Region.{region_bytes_at as placed_bytes}
 use Rattle.lru_evictor.specs.Orders.{AreThere}
 use Rattle.lru_evictor.proofs.ForCallers.{reordered-unused}
 use Rattle.node_table.specs.Entries.{changed, all_changed}
-use Rattle.node_table.specs.Kept.{Kept, left}
-use Rattle.node_table.specs.Row.{Row, Beside, copies_of, shape_of, place_of, ArePlaced}
-use Rattle.node_table.specs.Shown.{seen, IsShown, only, TakesStep}
+use Rattle.node_table.specs.CopyViews.{CopyView, after_leave}
+use Rattle.node_table.specs.Row.{Row, SharedTables, copies_of, shape_of, place_of, ArePlaced}
+use Rattle.node_table.specs.Shown.{seen, IsShown, only, RowStep}
 use Rattle.node_table.specs.Usages.{total, doomed_one}
 use Rattle.node_table.proofs.ByChecks.{called}
 use Rattle.node_table.proofs.Places.{same_places}
 use Rattle.node_table.proofs.Settling.{settled-stays}
-use Rattle.node_table.proofs.Stepping.{Moves, moved, same_bytes, received_stays}
+use Rattle.node_table.proofs.Stepping.{TakesChange, moved, same_bytes, received_stays}
 
 -- ---- a table whose entries are changed one after another
 
@@ -112,7 +112,7 @@ module _ {X : Type 0} (f : X → X) where
 abbrev unheld : ℕ → Copy → Copy
 unheld session copy = with_holds copy session 0
 
-copies-left : (session : ℕ) (es : ById Kept) → copies_of (all_changed (left session) es) ≡ all_changed (unheld session) (copies_of es)
+copies-left : (session : ℕ) (es : ById CopyView) → copies_of (all_changed (after_leave session) es) ≡ all_changed (unheld session) (copies_of es)
 copies-left session [] = refl
 copies-left session (e ∷ es) = ap (λ t. (e.0, unheld session e.1.copy) ∷ t) (copies-left session es)
 
@@ -123,10 +123,10 @@ unmarked : (b : Bool) → ◌≡◌ {A = ℕ} (cond b 1 0) 0 → b ≡ false
 unmarked true e = absurd (omega (arith, e))
 unmarked false e = refl
 
-none_counted : (es : ById Kept) → sum_by (λ e. doomed_one e.1) es ≡ 0 → NoneDoomed (copies_of es)
+none_counted : (es : ById CopyView) → sum_by (λ e. doomed_one e.1) es ≡ 0 → NoneDoomed (copies_of es)
 none_counted [] none q copy found = none_some copy found
 none_counted (e ∷ es) none q copy found =
-    let all = sum_by-cons (λ (e : ObjectId × Kept). doomed_one e.1) e es in
+    let all = sum_by-cons (λ (e : ObjectId × CopyView). doomed_one e.1) e es in
     by (same_id q e.0) found (unmarked e.1.copy.doomed (omega (arith, all, none))) (none_counted es (omega (arith, all, none)) q copy)
   where
     by : (b : Bool) → cond b (Some e.1.copy) (at (copies_of es) q) ≡ Some copy → e.1.copy.doomed ≡ false → (at (copies_of es) q ≡ Some copy → copy.doomed ≡ false) → copy.doomed ≡ false
@@ -137,7 +137,7 @@ none_of : (n : ℕ) → min n (2 ^ 64 - 1) ≡ 0 → n ≡ 0
 none_of n e = grind (arith, e)
 
 -- where none is counted, none is doomed
-pub none_doomed : (es : ById Kept) → total doomed_one es ≡ 0 → NoneDoomed (copies_of es)
+pub none_doomed : (es : ById CopyView) → total doomed_one es ≡ 0 → NoneDoomed (copies_of es)
 none_doomed es none = none_counted es (none_of (sum_by (λ e. doomed_one e.1) es) none)
 
 sound-still : (session : ℕ) (es : ById Copy) (id : ObjectId) → NoneDoomed es → NoneDoomed (changed (unheld session) es id)
@@ -168,7 +168,7 @@ leaves-each session (id ∷ ids) store h =
 
 -- ---- the step
 
-module _ (node : ℕ) (row : Row) (beside : Beside) (contents : Contents) (session : ℕ) (h : IsShown row beside contents) (sound : NoneDoomed (copies_of row.copies)) where
+module _ (node : ℕ) (row : Row) (beside : SharedTables) (contents : Contents) (session : ℕ) (h : IsShown row beside contents) (sound : NoneDoomed (copies_of row.copies)) where
   abbrev s : Shape
   s = shape_of row beside
 
@@ -177,13 +177,13 @@ module _ (node : ℕ) (row : Row) (beside : Beside) (contents : Contents) (sessi
 
   -- the row without the session's holds
   abbrev pub row_left : Row
-  row_left = record row { copies = all_changed (left session) row.copies }
+  row_left = record row { copies = all_changed (after_leave session) row.copies }
 
   abbrev c : Change
   c = erasing s (done (shape_of row_left beside))
 
-  one : (q : ObjectId) (y : Kept) → at row_left.copies q ≡ Some y → (z : Kept) × (at row.copies q ≡ Some z) × (y ≡ left session z)
-  one = from_all (left session) row.copies
+  one : (q : ObjectId) (y : CopyView) → at row_left.copies q ≡ Some y → (z : CopyView) × (at row.copies q ≡ Some z) × (y ≡ after_leave session z)
+  one = from_all (after_leave session) row.copies
 
   leave-is : leave s session ≡ done (shape_of row_left beside)
   leave-is =
@@ -202,7 +202,7 @@ module _ (node : ℕ) (row : Row) (beside : Beside) (contents : Contents) (sessi
   keys : T (list_all (λ e. is_some (at (copies_of row_left.copies) e.0)) s.copies)
   keys = T_true _ (all_weaker (λ e. is_some (at s.copies e.0)) (λ e. is_some (at (copies_of row_left.copies) e.0)) s.copies (λ e. still e.0) (true_T _ (all_found s.copies)))
 
-  m : Moves node row beside contents h x c (only reply.Ok) row_left beside
+  m : TakesChange node row beside contents h x c (only reply.Ok) row_left beside
   m = record {
     shape = refl;
     order = sym (reordered-unused row.order (copies_of row_left.copies) there);
@@ -223,18 +223,18 @@ module _ (node : ℕ) (row : Row) (beside : Beside) (contents : Contents) (sessi
     erased = sym (ap (map (key_of row.job)) (keys_none s.copies (copies_of row_left.copies) keys));
   }
 
-  pub leave_done : TakesStep node row beside contents x (only reply.Ok) row_left beside
+  pub leave_done : RowStep node row beside contents x (only reply.Ok) row_left beside
   leave_done = moved node row beside contents h x c step_is (only reply.Ok) row_left beside m refl
 
 -- ---- where the copies lie
 
-pub places-left : (session : ℕ) (es : ById Kept) (q : ObjectId) → place_of (all_changed (left session) es) q ≡ place_of es q
-places-left session es q = ap (λ o. option_and_then (λ kept. extent_of kept.copy) o) (at-all (left session) es q) ∙ by (at es q)
+pub places-left : (session : ℕ) (es : ById CopyView) (q : ObjectId) → place_of (all_changed (after_leave session) es) q ≡ place_of es q
+places-left session es q = ap (λ o. option_and_then (λ kept. extent_of kept.copy) o) (at-all (after_leave session) es q) ∙ by (at es q)
   where
-    by : (o : Option Kept) → option_and_then (λ kept. extent_of kept.copy) (option_map (left session) o) ≡ option_and_then (λ kept. extent_of kept.copy) o
+    by : (o : Option CopyView) → option_and_then (λ kept. extent_of kept.copy) (option_map (after_leave session) o) ≡ option_and_then (λ kept. extent_of kept.copy) o
     by None = refl
     by (Some k) = refl
 
-pub left_placed : (placed : List (ℕ × List ℕ)) (es : ById Kept) → ArePlaced placed (place_of es) → (session : ℕ) (now : ById Kept) → now ≡ all_changed (left session) es → ArePlaced placed (place_of now)
+pub left_placed : (placed : List (ℕ × List ℕ)) (es : ById CopyView) → ArePlaced placed (place_of es) → (session : ℕ) (now : ById CopyView) → now ≡ all_changed (after_leave session) es → ArePlaced placed (place_of now)
 left_placed placed es h session now is =
-    subst (λ t. ArePlaced placed (place_of t)) (sym is) (same_places placed (place_of es) (place_of (all_changed (left session) es)) (places-left session es) h)
+    subst (λ t. ArePlaced placed (place_of t)) (sym is) (same_places placed (place_of es) (place_of (all_changed (after_leave session) es)) (places-left session es) h)

@@ -14,27 +14,27 @@ use Rattle.obj_id.specs.Ids.{id_cmp, same_id}
 use Rattle.store_facts.proofs.Ids.{same_id-itself, same_id-equal, same_id-flip}
 use Rattle.private_store.specs.declared.inputs.Input.{Input}
 use Rattle.private_store.specs.declared.inputs.Input.TheVariants as input
-use Rattle.private_store.specs.Tables.{ById, at, with_entry, ids_of, is_among}
-use Rattle.private_store.specs.Shape.{Copy, Shape, Change}
-use Rattle.private_store.specs.Copies.{extent_of, is_held, is_granted, is_working, is_idle}
-use Rattle.private_store.specs.Room.{set_copy, drop_copy}
-use Rattle.private_store.specs.Change.{done, sending, erasing, settled, keys_gone}
-use Rattle.private_store.specs.Commands.{leave_one, at_each, with_holds}
-use Rattle.private_store.specs.Contents.{Contents, judge, keeps_digest, no_digest}
-use Rattle.private_store.specs.Kept.{has_hand}
-use Rattle.private_store.specs.Private.{key_of}
-use Rattle.private_store.specs.Step.{step, reordered}
+use Rattle.private_store.specs.rules.Tables.{ById, at, with_entry, ids_of, is_among}
+use Rattle.private_store.specs.rules.Shape.{Copy, Shape, Change}
+use Rattle.private_store.specs.rules.Copies.{extent_of, is_held, is_granted, is_working, is_idle}
+use Rattle.private_store.specs.rules.Room.{set_copy, drop_copy}
+use Rattle.private_store.specs.rules.Change.{done, sending, erasing, settled, keys_gone}
+use Rattle.private_store.specs.rules.Commands.{leave_one, at_each, with_holds}
+use Rattle.private_store.specs.rules.Contents.{Contents, judge, keeps_digest, no_digest}
+use Rattle.private_store.specs.laws.Invariants.{has_hand}
+use Rattle.private_store.specs.rules.Private.{key_of}
+use Rattle.private_store.specs.rules.Step.{step, reordered}
 use Rattle.store_facts.proofs.Filling.{filled, below_none}
 use Rattle.store_facts.proofs.Rows.{at-put, at-put_here, at-drop}
 use Rattle.store_facts.proofs.Tests.{T_true, and_left, and_right, none_some, some_value}
-use Rattle.job_region.specs.Region.{bytes_at as placed_bytes}
+use Rattle.job_region.specs.Region.{region_bytes_at as placed_bytes}
 use Rattle.lru_evictor.specs.Orders.{AreThere}
 use Rattle.lru_evictor.proofs.ForCallers.{reordered-unused}
-use Rattle.node_table.specs.Kept.{Kept, left}
-use Rattle.node_table.specs.Row.{Row, Beside, copies_of, shape_of, place_of, ArePlaced}
+use Rattle.node_table.specs.CopyViews.{CopyView, after_leave}
+use Rattle.node_table.specs.Row.{Row, SharedTables, copies_of, shape_of, place_of, ArePlaced}
 use Rattle.node_table.specs.Dropping.{dropped, is_over, settled_row, keys_settled, unheld_row, left_row, keys_left}
-use Rattle.node_table.specs.Shown.{seen, work_on, IsShown, Given, only, TakesStep}
-use Rattle.node_table.specs.Usages.{item_of}
+use Rattle.node_table.specs.Shown.{seen, work_on, IsShown, RowGiven, only, RowStep}
+use Rattle.node_table.specs.Usages.{own_item_of}
 use Rattle.node_table.proofs.ByChecks.{called}
 use Rattle.node_table.proofs.Changes.{changed-found, changed-absent}
 use Rattle.node_table.proofs.Changing.{From, from_changed, there_with}
@@ -42,7 +42,7 @@ use Rattle.node_table.proofs.CopyTables.{at-first, at-rest, at-copies, at-copies
 use Rattle.node_table.proofs.Described.{working-on, idle_same}
 use Rattle.node_table.proofs.Dropping.{moves_left, left_placed}
 use Rattle.node_table.proofs.Places.{changed_placed}
-use Rattle.node_table.proofs.Stepping.{Moves, moved, bytes_now, digests_now, same_bytes, received_stays}
+use Rattle.node_table.proofs.Stepping.{TakesChange, moved, bytes_now, digests_now, same_bytes, received_stays}
 
 -- ---- the definition, copy by copy
 
@@ -82,32 +82,32 @@ reordered-with order copies id now there = ap (λ ids. ids ++ []) (same order)
     same [] = refl
     same (q ∷ ids) = λ i. cond (there_too q i && true) (q ∷ same ids i) (same ids i)
 
-module _ (node : ℕ) (row : Row) (beside : Beside) (contents : Contents) (h : IsShown row beside contents) (x : Input) (session : ℕ) where
+module _ (node : ℕ) (row : Row) (beside : SharedTables) (contents : Contents) (h : IsShown row beside contents) (x : Input) (session : ℕ) where
   -- what was done so far gave this store
   abbrev pub so_far : Shape → Change
   so_far s = done s
 
   abbrev pub MovedTo : Shape → Row → Type 0
-  MovedTo s r = Moves node row beside contents h x (so_far s) (only reply.Ok) r beside
+  MovedTo s r = TakesChange node row beside contents h x (so_far s) (only reply.Ok) r beside
 
   module _ (s : Shape) (r : Row) (m : MovedTo s r) (placed : ArePlaced r.window.placed (place_of r.copies)) (id : ObjectId) where
-    module _ (k : Kept) (found : at r.copies id ≡ Some k) where
+    module _ (k : CopyView) (found : at r.copies id ≡ Some k) where
       abbrev now : Copy
-      now = (left session k).copy
+      now = (after_leave session k).copy
 
       abbrev s_r : Shape
       s_r = shape_of r beside
 
       -- what is so of a copy, whichever holds it has
-      carried : (P : Kept → Type 0) → ((z : Kept) → P z → P (left session z)) → (q : ObjectId) (y : Kept) → at (unheld_row session r id).copies q ≡ Some y → ((z : Kept) → at r.copies q ≡ Some z → P z) → P y
-      carried P still q y e was = by (from_changed (left session) r.copies id k found q y e)
+      carried : (P : CopyView → Type 0) → ((z : CopyView) → P z → P (after_leave session z)) → (q : ObjectId) (y : CopyView) → at (unheld_row session r id).copies q ≡ Some y → ((z : CopyView) → at r.copies q ≡ Some z → P z) → P y
+      carried P still q y e was = by (from_changed (after_leave session) r.copies id k found q y e)
         where
-          by : (z : Kept) × (at r.copies q ≡ Some z) × From (left session) r.copies id q y z → P y
+          by : (z : CopyView) × (at r.copies q ≡ Some z) × From (after_leave session) r.copies id q y z → P y
           by (z, there, inl t) = subst P (sym t.1) (still z (was z there))
           by (z, there, inr t) = subst P (sym t.1) (was z there)
 
       copies_is : copies_of (unheld_row session r id).copies ≡ with_entry (copies_of r.copies) id now
-      copies_is = copies-changed (left session) r.copies id k found
+      copies_is = copies-changed (after_leave session) r.copies id k found
 
       m_unheld : MovedTo (set_copy s_r id now) (unheld_row session r id)
       m_unheld = record {
@@ -131,22 +131,22 @@ module _ (node : ℕ) (row : Row) (beside : Beside) (contents : Contents) (h : I
       }
 
       placed_unheld : ArePlaced r.window.placed (place_of (unheld_row session r id).copies)
-      placed_unheld = changed_placed r.window.placed r.copies placed (left session) (λ z. refl) id
+      placed_unheld = changed_placed r.window.placed r.copies placed (after_leave session) (λ z. refl) id
 
-      over_is : is_over (left session k) ≡ now.doomed && is_idle (set_copy s_r id now) id now
+      over_is : is_over (after_leave session k) ≡ now.doomed && is_idle (set_copy s_r id now) id now
       over_is = ap (λ b. now.doomed && b) (idle_same (is_held now) k.granted (is_granted s_r id) (is_working s_r id) k.working (m.granted id k found) (ap is_some (m.working id k found) ∙ working-on beside.works id))
 
-      left_is : left_shape session s id ≡ cond (is_over (left session k)) (drop_copy (set_copy s_r id now) id) (set_copy s_r id now)
+      left_is : left_shape session s id ≡ cond (is_over (after_leave session k)) (drop_copy (set_copy s_r id now) id) (set_copy s_r id now)
       left_is =
           ap (λ t. left_shape session t id) m.shape
           ∙ ap (λ o. option_map_or (λ copy. settled (set_copy s_r id (with_holds copy session 0)) id) o s_r) (at-copies_found r.copies id k found)
           ∙ ap (λ o. option_map_or (λ copy. cond (copy.doomed && is_idle (set_copy s_r id now) id copy) (drop_copy (set_copy s_r id now) id) (set_copy s_r id now)) o (set_copy s_r id now)) (at-put_here (copies_of r.copies) id now)
           ∙ ap (λ b. cond b (drop_copy (set_copy s_r id now) id) (set_copy s_r id now)) (sym over_is)
 
-      found_now : at (unheld_row session r id).copies id ≡ Some (left session k)
-      found_now = ap (λ t. at t id) (changed-found (left session) id r.copies k found) ∙ at-put_here r.copies id (left session k)
+      found_now : at (unheld_row session r id).copies id ≡ Some (after_leave session k)
+      found_now = ap (λ t. at t id) (changed-found (after_leave session) id r.copies k found) ∙ at-put_here r.copies id (after_leave session k)
 
-      row_is : left_row session r id ≡ cond (is_over (left session k)) (dropped (unheld_row session r id) id) (unheld_row session r id)
+      row_is : left_row session r id ≡ cond (is_over (after_leave session k)) (dropped (unheld_row session r id) id) (unheld_row session r id)
       row_is = ap (λ o. option_map_or (λ kept. cond (is_over kept) (dropped (unheld_row session r id) id) (unheld_row session r id)) o (unheld_row session r id)) found_now
 
       by_over : (b : Bool) → MovedTo (cond b (drop_copy (set_copy s_r id now) id) (set_copy s_r id now)) (cond b (dropped (unheld_row session r id) id) (unheld_row session r id))
@@ -158,15 +158,15 @@ module _ (node : ℕ) (row : Row) (beside : Beside) (contents : Contents) (h : I
       placed_over true = left_placed r.window.placed (unheld_row session r id).copies placed_unheld id
 
       pub found_moves : MovedTo (left_shape session s id) (left_row session r id)
-      found_moves = subst (λ t. MovedTo t (left_row session r id)) (sym left_is) (subst (MovedTo (cond (is_over (left session k)) (drop_copy (set_copy s_r id now) id) (set_copy s_r id now))) (sym row_is) (by_over (is_over (left session k))))
+      found_moves = subst (λ t. MovedTo t (left_row session r id)) (sym left_is) (subst (MovedTo (cond (is_over (after_leave session k)) (drop_copy (set_copy s_r id now) id) (set_copy s_r id now))) (sym row_is) (by_over (is_over (after_leave session k))))
 
       pub found_placed : ArePlaced (left_row session r id).window.placed (place_of (left_row session r id).copies)
-      found_placed = subst (λ r. ArePlaced r.window.placed (place_of r.copies)) (sym row_is) (placed_over (is_over (left session k)))
+      found_placed = subst (λ r. ArePlaced r.window.placed (place_of r.copies)) (sym row_is) (placed_over (is_over (after_leave session k)))
 
     module _ (none : at r.copies id ≡ None) where
       same_row : left_row session r id ≡ r
       same_row =
-          ap (λ t. settled_row (record r { copies = t }) id) (changed-absent (left session) id r.copies none)
+          ap (λ t. settled_row (record r { copies = t }) id) (changed-absent (after_leave session) id r.copies none)
           ∙ ap (λ o. option_map_or (λ kept. cond (is_over kept) (dropped r id) r) o r) none
 
       same_shape : left_shape session s id ≡ s
@@ -181,14 +181,14 @@ module _ (node : ℕ) (row : Row) (beside : Beside) (contents : Contents) (h : I
     pub one_moves : MovedTo (left_shape session s id) (left_row session r id)
     one_moves = by (at r.copies id) refl
       where
-        by : (o : Option Kept) → at r.copies id ≡ o → MovedTo (left_shape session s id) (left_row session r id)
+        by : (o : Option CopyView) → at r.copies id ≡ o → MovedTo (left_shape session s id) (left_row session r id)
         by (Some k) found = found_moves k found
         by None none = none_moves none
 
     pub one_placed : ArePlaced (left_row session r id).window.placed (place_of (left_row session r id).copies)
     one_placed = by (at r.copies id) refl
       where
-        by : (o : Option Kept) → at r.copies id ≡ o → ArePlaced (left_row session r id).window.placed (place_of (left_row session r id).copies)
+        by : (o : Option CopyView) → at r.copies id ≡ o → ArePlaced (left_row session r id).window.placed (place_of (left_row session r id).copies)
         by (Some k) found = found_placed k found
         by None none = none_placed none
 
@@ -204,9 +204,9 @@ module _ (session : ℕ) where
   unheld_other : (r : Row) (id q : ObjectId) → same_id id q ≡ false → at (unheld_row session r id).copies q ≡ at r.copies q
   unheld_other r id q other = by (at r.copies id)
     where
-      by : (o : Option Kept) → at (option_map_or (λ k. with_entry r.copies id (left session k)) o r.copies) q ≡ at r.copies q
+      by : (o : Option CopyView) → at (option_map_or (λ k. with_entry r.copies id (after_leave session k)) o r.copies) q ≡ at r.copies q
       by None = refl
-      by (Some k) = at-put r.copies id (left session k) q ∙ ap (λ b. cond b (Some (left session k)) (at r.copies q)) (same_id-flip q id ∙ other)
+      by (Some k) = at-put r.copies id (after_leave session k) q ∙ ap (λ b. cond b (Some (after_leave session k)) (at r.copies q)) (same_id-flip q id ∙ other)
 
   settled_other : (r : Row) (id q : ObjectId) → same_id id q ≡ false → at (settled_row r id).copies q ≡ at r.copies q
   settled_other r id q other = by (at r.copies id)
@@ -215,7 +215,7 @@ module _ (session : ℕ) where
       over true = at-drop r.copies id q ∙ ap (λ b. cond (not b) (at r.copies q) None) other
       over false = refl
 
-      by : (o : Option Kept) → at (option_map_or (λ kept. cond (is_over kept) (dropped r id) r) o r).copies q ≡ at r.copies q
+      by : (o : Option CopyView) → at (option_map_or (λ kept. cond (is_over kept) (dropped r id) r) o r).copies q ≡ at r.copies q
       by None = refl
       by (Some k) = over (is_over k)
 
@@ -229,17 +229,17 @@ module _ (session : ℕ) where
       over true = refl
       over false = refl
 
-      by : (o : Option Kept) → (option_map_or (λ kept. cond (is_over kept) (dropped r id) r) o r).job ≡ r.job
+      by : (o : Option CopyView) → (option_map_or (λ kept. cond (is_over kept) (dropped r id) r) o r).job ≡ r.job
       by None = refl
       by (Some k) = over (is_over k)
 
-  unheld_found : (r : Row) (id : ObjectId) (k : Kept) → at r.copies id ≡ Some k → at (unheld_row session r id).copies id ≡ Some (left session k)
-  unheld_found r id k found = ap (λ t. at t id) (changed-found (left session) id r.copies k found) ∙ at-put_here r.copies id (left session k)
+  unheld_found : (r : Row) (id : ObjectId) (k : CopyView) → at r.copies id ≡ Some k → at (unheld_row session r id).copies id ≡ Some (after_leave session k)
+  unheld_found r id k found = ap (λ t. at t id) (changed-found (after_leave session) id r.copies k found) ∙ at-put_here r.copies id (after_leave session k)
 
-  left_found : (r : Row) (id : ObjectId) (k : Kept) → at r.copies id ≡ Some k → is_none (at (left_row session r id).copies id) ≡ is_over (left session k)
+  left_found : (r : Row) (id : ObjectId) (k : CopyView) → at r.copies id ≡ Some k → is_none (at (left_row session r id).copies id) ≡ is_over (after_leave session k)
   left_found r id k found =
       ap (λ o. is_none (at (option_map_or (λ kept. cond (is_over kept) (dropped (unheld_row session r id) id) (unheld_row session r id)) o (unheld_row session r id)).copies id)) (unheld_found r id k found)
-      ∙ by (is_over (left session k))
+      ∙ by (is_over (after_leave session k))
     where
       by : (b : Bool) → is_none (at (cond b (dropped (unheld_row session r id) id) (unheld_row session r id)).copies id) ≡ b
       by true = ap is_none (at-drop (unheld_row session r id).copies id id ∙ ap (λ b. cond (not b) (at (unheld_row session r id).copies id) None) (same_id-itself id))
@@ -248,7 +248,7 @@ module _ (session : ℕ) where
   -- ---- all copies, by rising id
 
   -- an entry after the first has another id
-  later_id : (e : ObjectId × Kept) (es : ById Kept) → T (below_all id_cmp e.0 es) → (q : ObjectId) (k : Kept) → at es q ≡ Some k → same_id e.0 q ≡ false
+  later_id : (e : ObjectId × CopyView) (es : ById CopyView) → T (below_all id_cmp e.0 es) → (q : ObjectId) (k : CopyView) → at es q ≡ Some k → same_id e.0 q ≡ false
   later_id e es below q k found = by (same_id e.0 q) refl
     where
       by : (b : Bool) → same_id e.0 q ≡ b → b ≡ false
@@ -256,14 +256,14 @@ module _ (session : ℕ) where
       by false s = refl
 
   -- each entry is one of the row's
-  abbrev AreOf : ById Kept → Row → Type 0
-  AreOf es r = (q : ObjectId) (k : Kept) → at es q ≡ Some k → at r.copies q ≡ Some k
+  abbrev AreOf : ById CopyView → Row → Type 0
+  AreOf es r = (q : ObjectId) (k : CopyView) → at es q ≡ Some k → at r.copies q ≡ Some k
 
-  rest_of : (e : ObjectId × Kept) (es : ById Kept) (r : Row) → T (is_sorted id_cmp (e ∷ es)) → AreOf (e ∷ es) r → AreOf es (left_row session r e.0)
+  rest_of : (e : ObjectId × CopyView) (es : ById CopyView) (r : Row) → T (is_sorted id_cmp (e ∷ es)) → AreOf (e ∷ es) r → AreOf es (left_row session r e.0)
   rest_of e es r sorted are q k found =
       left_other r e.0 q (later_id e es (and_left (below_all id_cmp e.0 es) _ sorted) q k found) ∙ are q k (at-rest e es sorted q k found)
 
-  fold_other : (es : ById Kept) (r : Row) (q : ObjectId) → at es q ≡ None → at (fold (left_row session) r (ids_of es)).copies q ≡ at r.copies q
+  fold_other : (es : ById CopyView) (r : Row) (q : ObjectId) → at es q ≡ None → at (fold (left_row session) r (ids_of es)).copies q ≡ at r.copies q
   fold_other [] r q none = refl
   fold_other (e ∷ es) r q none = by (same_id q e.0) refl none (λ rest. fold_other es (left_row session r e.0) q rest)
     where
@@ -272,7 +272,7 @@ module _ (session : ℕ) where
       by true s none rest = none_some e.1 (sym none)
       by false s none rest = rest none ∙ left_other r e.0 q (same_id-flip e.0 q ∙ s)
 
-  fold_found : (es : ById Kept) (r : Row) → T (is_sorted id_cmp es) → AreOf es r → (q : ObjectId) (k : Kept) → at es q ≡ Some k → is_none (at (fold (left_row session) r (ids_of es)).copies q) ≡ is_over (left session k)
+  fold_found : (es : ById CopyView) (r : Row) → T (is_sorted id_cmp es) → AreOf es r → (q : ObjectId) (k : CopyView) → at es q ≡ Some k → is_none (at (fold (left_row session) r (ids_of es)).copies q) ≡ is_over (after_leave session k)
   fold_found [] r sorted are q k found = none_some k found
   fold_found (e ∷ es) r sorted are q k found =
       by (same_id q e.0) refl found (λ rest. fold_found es (left_row session r e.0) (and_right (below_all id_cmp e.0 es) _ sorted) (rest_of e es r sorted are) q k rest)
@@ -280,23 +280,23 @@ module _ (session : ℕ) where
       after : Row
       after = fold (left_row session) (left_row session r e.0) (ids_of es)
 
-      by : (b : Bool) → same_id q e.0 ≡ b → cond b (Some e.1) (at es q) ≡ Some k → (at es q ≡ Some k → is_none (at after.copies q) ≡ is_over (left session k)) → is_none (at after.copies q) ≡ is_over (left session k)
+      by : (b : Bool) → same_id q e.0 ≡ b → cond b (Some e.1) (at es q) ≡ Some k → (at es q ≡ Some k → is_none (at after.copies q) ≡ is_over (after_leave session k)) → is_none (at after.copies q) ≡ is_over (after_leave session k)
       by true s found rest =
           ap (λ i. is_none (at after.copies i)) (same_id-equal q e.0 s)
           ∙ ap is_none (fold_other es (left_row session r e.0) e.0 (below_none e.0 es (and_left (below_all id_cmp e.0 es) _ sorted)))
-          ∙ left_found r e.0 e.1 (are e.0 e.1 (at-first e es)) ∙ ap (λ z. is_over (left session z)) (some_value e.1 k found)
+          ∙ left_found r e.0 e.1 (are e.0 e.1 (at-first e es)) ∙ ap (λ z. is_over (after_leave session z)) (some_value e.1 k found)
       by false s found rest = rest found
 
   -- ---- device keys
 
   -- the number of the key that is gone with a copy
-  abbrev over_keys : Kept → List ℕ
-  over_keys k = cond (is_over (left session k)) (option_to_list k.copy.backed) []
+  abbrev over_keys : CopyView → List ℕ
+  over_keys k = cond (is_over (after_leave session k)) (option_to_list k.copy.backed) []
 
-  abbrev all_over : ById Kept → List ℕ
+  abbrev all_over : ById CopyView → List ℕ
   all_over es = flat_map (λ e. over_keys e.1) es
 
-  keys_by_row : (es : ById Kept) (r : Row) → T (is_sorted id_cmp es) → AreOf es r → keys_left session r (ids_of es) ≡ map (key_of r.job) (all_over es)
+  keys_by_row : (es : ById CopyView) (r : Row) → T (is_sorted id_cmp es) → AreOf es r → keys_left session r (ids_of es) ≡ map (key_of r.job) (all_over es)
   keys_by_row [] r sorted are = refl
   keys_by_row (e ∷ es) r sorted are =
       (λ i. first i ++ (keys_by_row es (left_row session r e.0) (and_right (below_all id_cmp e.0 es) _ sorted) (rest_of e es r sorted are) ∙ ap (λ n. map (key_of n) (all_over es)) (settled_job (unheld_row session r e.0) e.0)) i)
@@ -310,14 +310,14 @@ module _ (session : ℕ) where
       first : keys_settled (unheld_row session r e.0) e.0 ≡ map (key_of r.job) (over_keys e.1)
       first =
           ap (λ o. option_map_or (λ kept. cond (is_over kept) (option_to_list (option_map (key_of r.job) kept.copy.backed)) []) o []) (unheld_found r e.0 e.1 (are e.0 e.1 (at-first e es)))
-          ∙ one (is_over (left session e.1)) e.1.copy.backed
+          ∙ one (is_over (after_leave session e.1)) e.1.copy.backed
 
-  keys_by_table : (es : ById Kept) (after : ById Copy) → T (is_sorted id_cmp es) → ((q : ObjectId) (k : Kept) → at es q ≡ Some k → is_none (at after q) ≡ is_over (left session k)) → keys_gone (copies_of es) after ≡ all_over es
+  keys_by_table : (es : ById CopyView) (after : ById Copy) → T (is_sorted id_cmp es) → ((q : ObjectId) (k : CopyView) → at es q ≡ Some k → is_none (at after q) ≡ is_over (after_leave session k)) → keys_gone (copies_of es) after ≡ all_over es
   keys_by_table [] after sorted gone = refl
   keys_by_table (e ∷ es) after sorted gone =
       ap (λ b. cons_option (cond b e.1.copy.backed None) (keys_gone (copies_of es) after)) (gone e.0 e.1 (at-first e es))
-      ∙ ap (cons_option (cond (is_over (left session e.1)) e.1.copy.backed None)) (keys_by_table es after (and_right (below_all id_cmp e.0 es) _ sorted) (λ q k found. gone q k (at-rest e es sorted q k found)))
-      ∙ by (is_over (left session e.1)) e.1.copy.backed
+      ∙ ap (cons_option (cond (is_over (after_leave session e.1)) e.1.copy.backed None)) (keys_by_table es after (and_right (below_all id_cmp e.0 es) _ sorted) (λ q k found. gone q k (at-rest e es sorted q k found)))
+      ∙ by (is_over (after_leave session e.1)) e.1.copy.backed
     where
       by : (b : Bool) (o : Option ℕ) → cons_option (cond b o None) (all_over es) ≡ cond b (option_to_list o) [] ++ all_over es
       by true None = refl
@@ -326,15 +326,15 @@ module _ (session : ℕ) where
 
 -- ---- the step
 
-pub ids-listed : (es : ById Kept) → map (λ (item : OwnItem). item.id) (map item_of es) ≡ ids_of es
+pub ids-listed : (es : ById CopyView) → map (λ (item : OwnItem). item.id) (map own_item_of es) ≡ ids_of es
 ids-listed [] = refl
 ids-listed (e ∷ es) = ap (λ ids. e.0 ∷ ids) (ids-listed es)
 
-pub ids-copies : (es : ById Kept) → ids_of (copies_of es) ≡ ids_of es
+pub ids-copies : (es : ById CopyView) → ids_of (copies_of es) ≡ ids_of es
 ids-copies [] = refl
 ids-copies (e ∷ es) = ap (λ ids. e.0 ∷ ids) (ids-copies es)
 
-module _ (node : ℕ) (row : Row) (beside : Beside) (contents : Contents) (session : ℕ) (h : IsShown row beside contents) (placed : ArePlaced row.window.placed (place_of row.copies)) where
+module _ (node : ℕ) (row : Row) (beside : SharedTables) (contents : Contents) (session : ℕ) (h : IsShown row beside contents) (placed : ArePlaced row.window.placed (place_of row.copies)) where
   abbrev s : Shape
   s = shape_of row beside
 
@@ -347,7 +347,7 @@ module _ (node : ℕ) (row : Row) (beside : Beside) (contents : Contents) (sessi
   abbrev shape_after : Shape
   shape_after = fold (left_shape session) s (ids_of row.copies)
 
-  abbrev pub given : Given
+  abbrev pub given : RowGiven
   given = record { reply = reply.Ok; posts = []; erased = keys_left session row (ids_of row.copies) }
 
   sorted : T (is_sorted id_cmp row.copies)
@@ -371,12 +371,12 @@ module _ (node : ℕ) (row : Row) (beside : Beside) (contents : Contents) (sessi
   ends : MovedTo node row beside contents h x session shape_after row_after
   ends = each_moves node row beside contents h x session (ids_of row.copies) s row begins placed
 
-  gone : (q : ObjectId) (k : Kept) → at row.copies q ≡ Some k → is_none (at shape_after.copies q) ≡ is_over (left session k)
+  gone : (q : ObjectId) (k : CopyView) → at row.copies q ≡ Some k → is_none (at shape_after.copies q) ≡ is_over (after_leave session k)
   gone q k found =
       ap (λ t. is_none (at t.copies q)) ends.shape ∙ ap is_none (at-copies row_after.copies q) ∙ none_too (at row_after.copies q)
       ∙ fold_found session row.copies row sorted (λ q k f. f) q k found
     where
-      none_too : (o : Option Kept) → is_none (option_map (λ (k : Kept). k.copy) o) ≡ is_none o
+      none_too : (o : Option CopyView) → is_none (option_map (λ (k : CopyView). k.copy) o) ≡ is_none o
       none_too None = refl
       none_too (Some k) = refl
 
@@ -391,7 +391,7 @@ module _ (node : ℕ) (row : Row) (beside : Beside) (contents : Contents) (sessi
       called row beside session command.Leave
       ∙ ap (erasing s) (leaves-each session (ids_of s.copies) s ∙ ap (λ ids. done (fold (left_shape session) s ids)) (ids-copies row.copies))
 
-  m : Moves node row beside contents h x c given row_after beside
+  m : TakesChange node row beside contents h x c given row_after beside
   m = record {
     shape = ends.shape;
     order = ends.order;
@@ -406,5 +406,5 @@ module _ (node : ℕ) (row : Row) (beside : Beside) (contents : Contents) (sessi
     erased = keys;
   }
 
-  pub each_left : TakesStep node row beside contents x given row_after beside
+  pub each_left : RowStep node row beside contents x given row_after beside
   each_left = moved node row beside contents h x c step_is given row_after beside m refl

@@ -6,16 +6,16 @@ use Rattle.obj_id.specs.declared.ids.ObjectId.{ObjectId}
 use Rattle.obj_id.specs.declared.works.Extent.{Extent}
 use Rattle.obj_id.specs.declared.refusals.Refusal.{Refusal}
 use Rattle.obj_id.specs.declared.refusals.Refusal.TheVariants.{Absent, NotSealed, NotHeld}
-use Rattle.private_store.specs.Tables.{ById, at}
-use Rattle.private_store.specs.Shape.{Copy}
-use Rattle.private_store.specs.Copies.{extent_of, is_sealed}
-use Rattle.private_store.specs.Commands.{holds_of, is_unsealed}
-use Rattle.private_store.specs.Contents.{Contents, bytes_at}
-use Rattle.private_store.specs.Kept.{are_held}
+use Rattle.private_store.specs.rules.Tables.{ById, at}
+use Rattle.private_store.specs.rules.Shape.{Copy}
+use Rattle.private_store.specs.rules.Copies.{extent_of, is_sealed}
+use Rattle.private_store.specs.rules.Commands.{holds_of, is_unsealed}
+use Rattle.private_store.specs.rules.Contents.{Contents, bytes_at}
+use Rattle.private_store.specs.laws.Invariants.{are_held}
 use Rattle.store_facts.proofs.Tests.{some_value}
-use Rattle.job_region.specs.Region.{bytes_at as placed_bytes}
-use Rattle.node_table.specs.Kept.{Kept}
-use Rattle.node_table.specs.Row.{Row, Beside, copies_of}
+use Rattle.job_region.specs.Region.{region_bytes_at as placed_bytes}
+use Rattle.node_table.specs.CopyViews.{CopyView}
+use Rattle.node_table.specs.Row.{Row, SharedTables, copies_of}
 use Rattle.node_table.specs.Checks.{lend_check, lend_check_of}
 use Rattle.node_table.specs.Shown.{IsShown, IsLent}
 use Rattle.node_table.proofs.CopyTables.{at-copies, at-copies_found}
@@ -27,21 +27,21 @@ some_hold session [] e = absurd cc
 some_hold session (hold ∷ holds) e = refl
 
 -- a check of the store's copies reads those that the row keeps
-abbrev by_kept : ℕ → Option Kept → Option Refusal
+abbrev by_kept : ℕ → Option CopyView → Option Refusal
 by_kept session o = elim o [ None ↦ Some Absent | Some k ↦ lend_check_of k.copy session ]
 
 abbrev by_copy : ℕ → Option Copy → Option Refusal
 by_copy session o = elim o [ None ↦ Some Absent | Some copy ↦ lend_check_of copy session ]
 
-pub lend-by : (es : ById Kept) (session : ℕ) (id : ObjectId) (o : Option Kept) → at es id ≡ o → lend_check (copies_of es) session id ≡ by_kept session o
+pub lend-by : (es : ById CopyView) (session : ℕ) (id : ObjectId) (o : Option CopyView) → at es id ≡ o → lend_check (copies_of es) session id ≡ by_kept session o
 lend-by es session id o is = ap (by_copy session) (at-copies es id ∙ ap (option_map (λ k. k.copy)) is) ∙ by o
   where
-    by : (o : Option Kept) → by_copy session (option_map (λ k. k.copy) o) ≡ by_kept session o
+    by : (o : Option CopyView) → by_copy session (option_map (λ k. k.copy) o) ≡ by_kept session o
     by None = refl
     by (Some k) = refl
 
-module _ (row : Row) (beside : Beside) (contents : Contents) (h : IsShown row beside contents) (session : ℕ) (id : ObjectId) where
-  module _ (k : Kept) (found : at row.copies id ≡ Some k) (held : (holds_of k.copy session == 0) ≡ false) where
+module _ (row : Row) (beside : SharedTables) (contents : Contents) (h : IsShown row beside contents) (session : ℕ) (id : ObjectId) where
+  module _ (k : CopyView) (found : at row.copies id ≡ Some k) (held : (holds_of k.copy session == 0) ≡ false) where
     -- what is held is sealed
     held_sealed : is_sealed k.copy.state ≡ true
     held_sealed = (h.kept.kept.shape.each id k.copy (at-copies_found row.copies id k found)).held (some_hold session k.copy.holds held)
@@ -49,7 +49,7 @@ module _ (row : Row) (beside : Beside) (contents : Contents) (h : IsShown row be
     resident : is_some k.copy.offset ≡ true
     resident = (h.kept.kept.shape.each id k.copy (at-copies_found row.copies id k found)).resident ∙ sealed_resides k.copy.state k.copy.fetch held_sealed
 
-    pub held_shown : (shown : List ℕ) → ((k : Kept) (e : Extent) → at row.copies id ≡ Some k → extent_of k.copy ≡ Some e → shown ≡ take k.copy.length (placed_bytes e row.window.placed)) → shown ≡ bytes_at contents.bytes id
+    pub held_shown : (shown : List ℕ) → ((k : CopyView) (e : Extent) → at row.copies id ≡ Some k → extent_of k.copy ≡ Some e → shown ≡ take k.copy.length (placed_bytes e row.window.placed)) → shown ≡ bytes_at contents.bytes id
     held_shown shown are =
         let p = placed_at k.copy resident in
         are k p.0 found p.1 ∙ sym (h.bytes id k p.0 found p.1)
@@ -58,13 +58,13 @@ module _ (row : Row) (beside : Beside) (contents : Contents) (h : IsShown row be
     held_whole = (h.kept.kept.filled.each id k.copy (at-copies_found row.copies id k found)).bytes resident
 
   module _ (passed : lend_check (copies_of row.copies) session id ≡ None) where
-    got : (k : Kept) × (at row.copies id ≡ Some k) × (lend_check_of k.copy session ≡ None)
+    got : (k : CopyView) × (at row.copies id ≡ Some k) × (lend_check_of k.copy session ≡ None)
     got = there (λ k. lend_check_of k.copy session) Absent (at row.copies id) (sym (lend-by row.copies session id (at row.copies id) refl) ∙ passed)
 
     has : (holds_of got.0.copy session == 0) ≡ false
     has = (past (holds_of got.0.copy session == 0) NotHeld None (past (is_unsealed got.0.copy.state) NotSealed _ got.2).1).0
 
-    pub lent_so : (shown : List ℕ) → ((k : Kept) (e : Extent) → at row.copies id ≡ Some k → extent_of k.copy ≡ Some e → shown ≡ take k.copy.length (placed_bytes e row.window.placed)) → IsLent (copies_of row.copies) contents session id shown
+    pub lent_so : (shown : List ℕ) → ((k : CopyView) (e : Extent) → at row.copies id ≡ Some k → extent_of k.copy ≡ Some e → shown ≡ take k.copy.length (placed_bytes e row.window.placed)) → IsLent (copies_of row.copies) contents session id shown
     lent_so shown are =
         let is = held_shown got.0 got.1 has shown are in
         record {

@@ -45,7 +45,7 @@ mod Quotas
 mod EndingKeys
 mod Lending
 mod Listed
-mod Late
+mod MemoryLast
 mod Arriving
 mod Overwriting
 mod Unfetching

@@ -16,12 +16,12 @@ use Rattle.obj_id.specs.declared.ids.ObjectId.{ObjectId}
 use Rattle.obj_id.specs.declared.commands.OwnItem.{OwnItem}
 use Rattle.obj_id.specs.Ids.{id_cmp, id_eq}
 use Rattle.store_facts.proofs.Ids.{id_cmp-IsTotalOrder, id_cmp-IsAntisymmetric, same_id-id_eq, id_eq_equiv, id_eq-equal}
-use Rattle.private_store.specs.Tables.{ById, at}
+use Rattle.private_store.specs.rules.Tables.{ById, at}
 use Rattle.store_facts.proofs.ObjectMaps.{at-lookup}
 use Rattle.store_facts.proofs.Tests.{true_false, and_left, and_right}
 use Rattle.node_table.specs.Entries.{by_rising_id}
-use Rattle.node_table.specs.Kept.{Kept}
-use Rattle.node_table.specs.Usages.{item_of}
+use Rattle.node_table.specs.CopyViews.{CopyView}
+use Rattle.node_table.specs.Usages.{own_item_of}
 use Rattle.node_table.proofs.Rising.{rising-all}
 
 -- the items, each with its id
@@ -41,25 +41,25 @@ keys-keyed (i ∷ is) = ap (λ xs. i.id ∷ xs) (keys-keyed is)
 
 -- ---- before the walk over the entries and after it
 
-pub none_listed : (es left : List (ObjectId × Kept)) (now : ById Kept) (done : List OwnItem) → done ≡ [] → left ≡ es → IsDistinct id_eq (keys_of es) → by_rising_id es ≡ now
-    → IsPermutation (map item_of now) (done ++ map item_of left)
+pub none_listed : (es left : List (ObjectId × CopyView)) (now : ById CopyView) (done : List OwnItem) → done ≡ [] → left ≡ es → IsDistinct id_eq (keys_of es) → by_rising_id es ≡ now
+    → IsPermutation (map own_item_of now) (done ++ map own_item_of left)
 none_listed es left now done none all distinct seen =
-    subst (λ t. IsPermutation (map item_of t) (done ++ map item_of left)) seen
-    (subst (λ xs. IsPermutation (map item_of (by_rising_id es)) xs) (sym (λ i. none i ++ map item_of (all i)))
-    (IsPermutation-sym (map item_of es) (map item_of (by_rising_id es)) (IsPermutation-map item_of es (by_rising_id es) (rising-all es distinct))))
+    subst (λ t. IsPermutation (map own_item_of t) (done ++ map own_item_of left)) seen
+    (subst (λ xs. IsPermutation (map own_item_of (by_rising_id es)) xs) (sym (λ i. none i ++ map own_item_of (all i)))
+    (IsPermutation-sym (map own_item_of es) (map own_item_of (by_rising_id es)) (IsPermutation-map own_item_of es (by_rising_id es) (rising-all es distinct))))
 
-pub next_listed : (now : ById Kept) (done new : List OwnItem) (left rest : List (ObjectId × Kept)) (e : ObjectId × Kept) (item : OwnItem) → left ≡ e ∷ rest → item ≡ item_of e → new ≡ done ++ item ∷ []
-    → IsPermutation (map item_of now) (done ++ map item_of left) → IsPermutation (map item_of now) (new ++ map item_of rest)
+pub next_listed : (now : ById CopyView) (done new : List OwnItem) (left rest : List (ObjectId × CopyView)) (e : ObjectId × CopyView) (item : OwnItem) → left ≡ e ∷ rest → item ≡ own_item_of e → new ≡ done ++ item ∷ []
+    → IsPermutation (map own_item_of now) (done ++ map own_item_of left) → IsPermutation (map own_item_of now) (new ++ map own_item_of rest)
 next_listed now done new left rest e item takes is pushed all =
-    subst (IsPermutation (map item_of now)) (ap (λ xs. done ++ map item_of xs) takes ∙ sym (append_assoc done (item_of e ∷ []) (map item_of rest)) ∙ ap (λ x. (done ++ x ∷ []) ++ map item_of rest) (sym is) ∙ ap (λ xs. xs ++ map item_of rest) (sym pushed)) all
+    subst (IsPermutation (map own_item_of now)) (ap (λ xs. done ++ map own_item_of xs) takes ∙ sym (append_assoc done (own_item_of e ∷ []) (map own_item_of rest)) ∙ ap (λ x. (done ++ x ∷ []) ++ map own_item_of rest) (sym is) ∙ ap (λ xs. xs ++ map own_item_of rest) (sym pushed)) all
 
-pub all_listed : (now : ById Kept) (done : List OwnItem) (left : List (ObjectId × Kept)) → left ≡ [] → IsPermutation (map item_of now) (done ++ map item_of left) → IsPermutation (map item_of now) done
-all_listed now done left none all = subst (IsPermutation (map item_of now)) (ap (λ xs. done ++ map item_of xs) none ∙ append-nil done) all
+pub all_listed : (now : ById CopyView) (done : List OwnItem) (left : List (ObjectId × CopyView)) → left ≡ [] → IsPermutation (map own_item_of now) (done ++ map own_item_of left) → IsPermutation (map own_item_of now) done
+all_listed now done left none all = subst (IsPermutation (map own_item_of now)) (ap (λ xs. done ++ map own_item_of xs) none ∙ append-nil done) all
 
 -- ---- a table, and the items of it
 
 -- each id is below those after it, and so is none of them
-apart_from_below : (k : ObjectId) (table : ById Kept) → T (below_all id_cmp k table) → AllByRecursion (λ y. id_eq k y ≡ false) (keys_of table)
+apart_from_below : (k : ObjectId) (table : ById CopyView) → T (below_all id_cmp k table) → AllByRecursion (λ y. id_eq k y ≡ false) (keys_of table)
 apart_from_below k [] h = tt
 apart_from_below k (e ∷ es) h = (sym (same_id-id_eq k e.0) ∙ not_tied (id_cmp k e.0) (and_left _ _ h), apart_from_below k es (and_right _ _ h))
   where
@@ -68,20 +68,20 @@ apart_from_below k (e ∷ es) h = (sym (same_id-id_eq k e.0) ∙ not_tied (id_cm
     not_tied Equal h = absurd h
     not_tied Greater h = refl
 
-pub distinct_from_sorted : (table : ById Kept) → T (is_sorted id_cmp table) → IsDistinct id_eq (keys_of table)
+pub distinct_from_sorted : (table : ById CopyView) → T (is_sorted id_cmp table) → IsDistinct id_eq (keys_of table)
 unfolding IsDistinct
 distinct_from_sorted [] h = tt
 distinct_from_sorted (e ∷ es) h = (apart_from_below e.0 es (and_left _ _ h), distinct_from_sorted es (and_right _ _ h))
 
-below-items : (k : ObjectId) (table : ById Kept) → below_all id_cmp k (keyed (map item_of table)) ≡ below_all id_cmp k table
+below-items : (k : ObjectId) (table : ById CopyView) → below_all id_cmp k (keyed (map own_item_of table)) ≡ below_all id_cmp k table
 below-items k [] = refl
 below-items k (e ∷ es) = ap (λ b. is_lt (id_cmp k e.0) && b) (below-items k es)
 
-sorted-items : (table : ById Kept) → is_sorted id_cmp (keyed (map item_of table)) ≡ is_sorted id_cmp table
+sorted-items : (table : ById CopyView) → is_sorted id_cmp (keyed (map own_item_of table)) ≡ is_sorted id_cmp table
 sorted-items [] = refl
 sorted-items (e ∷ es) = λ i. below-items e.0 es i && sorted-items es i
 
-ids-items : (table : ById Kept) → ids_of_items (map item_of table) ≡ keys_of table
+ids-items : (table : ById CopyView) → ids_of_items (map own_item_of table) ≡ keys_of table
 ids-items [] = refl
 ids-items (e ∷ es) = ap (λ xs. e.0 ∷ xs) (ids-items es)
 
@@ -132,14 +132,14 @@ same_found q t u moved distinct_t distinct_u = by (lookup (id_eq q) t) (lookup (
     by None None in_t in_u = refl
 
 -- the items of a table, in any order, and then sorted by their ids
-pub listed : (now : ById Kept) (any items : List OwnItem) → T (is_sorted id_cmp now) → IsPermutation (map item_of now) any → IsPermutation any items → IsSortedByKey (λ i. i.id) id_cmp items → items ≡ map item_of now
+pub listed : (now : ById CopyView) (any items : List OwnItem) → T (is_sorted id_cmp now) → IsPermutation (map own_item_of now) any → IsPermutation any items → IsSortedByKey (λ i. i.id) id_cmp items → items ≡ map own_item_of now
 listed now any items in_order walked sorted up =
-    let moved = IsPermutation-map (λ (i : OwnItem). (i.id, i)) (map item_of now) items (IsPermutation-trans (map item_of now) any items walked sorted) in
+    let moved = IsPermutation-map (λ (i : OwnItem). (i.id, i)) (map own_item_of now) items (IsPermutation-trans (map own_item_of now) any items walked sorted) in
     let of_table = subst (IsDistinct id_eq) (sym (ids-items now)) (distinct_from_sorted now in_order) in
-    let distinct = IsDistinct-IsPermutation id_eq id_eq_equiv.symm (ids_of_items (map item_of now)) (ids_of_items items)
-    (IsPermutation-map (λ (i : OwnItem). i.id) (map item_of now) items (IsPermutation-trans (map item_of now) any items walked sorted)) of_table in
-    let same = same_entries id_cmp id_cmp-IsTotalOrder id_cmp-IsAntisymmetric (keyed items) (keyed (map item_of now)) (keyed-sorted items (rises items up distinct)) (subst T (sym (sorted-items now)) in_order) (λ q.
+    let distinct = IsDistinct-IsPermutation id_eq id_eq_equiv.symm (ids_of_items (map own_item_of now)) (ids_of_items items)
+    (IsPermutation-map (λ (i : OwnItem). i.id) (map own_item_of now) items (IsPermutation-trans (map own_item_of now) any items walked sorted)) of_table in
+    let same = same_entries id_cmp id_cmp-IsTotalOrder id_cmp-IsAntisymmetric (keyed items) (keyed (map own_item_of now)) (keyed-sorted items (rises items up distinct)) (subst T (sym (sorted-items now)) in_order) (λ q.
     at-distinct (keyed items) q
-    ∙ same_found q (keyed (map item_of now)) (keyed items) moved (subst (IsDistinct id_eq) (sym (keys-keyed (map item_of now))) of_table) (subst (IsDistinct id_eq) (sym (keys-keyed items)) distinct)
-    ∙ sym (at-distinct (keyed (map item_of now)) q)) in
-    sym (keyed-back items) ∙ ap (map (λ e. e.1)) same ∙ keyed-back (map item_of now)
+    ∙ same_found q (keyed (map own_item_of now)) (keyed items) moved (subst (IsDistinct id_eq) (sym (keys-keyed (map own_item_of now))) of_table) (subst (IsDistinct id_eq) (sym (keys-keyed items)) distinct)
+    ∙ sym (at-distinct (keyed (map own_item_of now)) q)) in
+    sym (keyed-back items) ∙ ap (map (λ e. e.1)) same ∙ keyed-back (map own_item_of now)

@@ -1,15 +1,15 @@
 -- Which marks leave a copy where it lies.
 use Rattle.std.proofs.Common.{◌≡◌, true, refl, ap}
-use Rattle.private_store.specs.Copies.{extent_of}
+use Rattle.private_store.specs.rules.Copies.{extent_of}
 use Rattle.store_facts.proofs.Tests.{true_false}
 use Rattle.node_table.specs.declared.marks.Mark.{Mark}
 use Rattle.node_table.specs.declared.marks.Mark.TheVariants as mark
-use Rattle.node_table.specs.Kept.{Kept}
+use Rattle.node_table.specs.CopyViews.{CopyView}
 use Rattle.node_table.specs.Marks.{marked_by, lies_still}
 use Rattle.node_table.proofs.Asking.{same_copy}
 use Rattle.node_table.proofs.Scoping.{unpinned-place, given_up-place}
 
-pub marked_lies : (m : Mark) → lies_still m ≡ true → (z : Kept) → extent_of (marked_by m z).copy ≡ extent_of z.copy
+pub marked_lies : (m : Mark) → lies_still m ≡ true → (z : CopyView) → extent_of (marked_by m z).copy ≡ extent_of z.copy
 marked_lies (mark.Left session) still z = refl
 marked_lies (mark.Sealed digest) still z = refl
 marked_lies mark.Unpinned still z = unpinned-place z

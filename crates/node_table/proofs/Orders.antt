@@ -6,8 +6,8 @@ use Rattle.std.proofs.lemmas.List.Folds.{list_all-append, list_any-append}
 use Rattle.obj_id.specs.declared.ids.ObjectId.{ObjectId}
 use Rattle.obj_id.specs.Ids.{same_id}
 use Rattle.store_facts.proofs.Ids.{same_id-equal, same_id-itself, same_id-not_back}
-use Rattle.private_store.specs.Tables.{ById, at, is_among}
-use Rattle.private_store.specs.Shape.{Copy}
+use Rattle.private_store.specs.rules.Tables.{ById, at, is_among}
+use Rattle.private_store.specs.rules.Shape.{Copy}
 use Rattle.store_facts.proofs.KeptLists.{all-filter, any-filter}
 use Rattle.store_facts.proofs.Tests.{true_false, both}
 use Rattle.lru_evictor.specs.Orders.{AreThere, without_id, last_used, touched}

@@ -5,20 +5,20 @@ use Rattle.obj_id.specs.declared.ids.ObjectId.{ObjectId}
 use Rattle.obj_id.specs.declared.works.Extent.{Extent}
 use Rattle.obj_id.specs.Ids.{same_id}
 use Rattle.store_facts.proofs.Ids.{same_id-itself}
-use Rattle.private_store.specs.Tables.{at}
-use Rattle.private_store.specs.Extents.{rounded}
-use Rattle.private_store.specs.Copies.{extent_of}
-use Rattle.private_store.specs.Contents.{Contents, bytes_at, overwritten}
+use Rattle.private_store.specs.rules.Tables.{at}
+use Rattle.private_store.specs.rules.Extents.{rounded}
+use Rattle.private_store.specs.rules.Copies.{extent_of}
+use Rattle.private_store.specs.rules.Contents.{Contents, bytes_at, overwritten}
 use Rattle.store_facts.proofs.Tests.{true_false}
-use Rattle.job_region.specs.Region.{bytes_at as placed_bytes}
+use Rattle.job_region.specs.Region.{region_bytes_at as placed_bytes}
 use Rattle.job_region.proofs.ForCallers.{part_over_within}
-use Rattle.node_table.specs.Kept.{Kept}
-use Rattle.node_table.specs.Row.{Row, Beside, place_of, ArePlaced}
+use Rattle.node_table.specs.CopyViews.{CopyView}
+use Rattle.node_table.specs.Row.{Row, SharedTables, place_of, ArePlaced}
 use Rattle.node_table.specs.Shown.{IsShown}
 use Rattle.node_table.proofs.Passed.{place_found, at_most_rounded}
 use Rattle.node_table.proofs.Places.{bytes-written, bytes-other, long_at}
 
-module _ (row : Row) (beside : Beside) (contents : Contents) (h : IsShown row beside contents) (id : ObjectId) (k : Kept) (found : at row.copies id ≡ Some k)
+module _ (row : Row) (beside : SharedTables) (contents : Contents) (h : IsShown row beside contents) (id : ObjectId) (k : CopyView) (found : at row.copies id ≡ Some k)
     (e : Extent) (lies : extent_of k.copy ≡ Some e) (long : e.length ≡ rounded k.copy.length) (offset : ℕ) (bytes : List ℕ) (within : offset + length bytes ≤ k.copy.length) where
   abbrev old_bytes : List ℕ
   old_bytes = placed_bytes e row.window.placed
@@ -48,7 +48,7 @@ module _ (row : Row) (beside : Beside) (contents : Contents) (h : IsShown row be
         ∙ ap (λ bs. overwritten bs offset bytes) (sym (h.bytes id k e found lies))
 
     -- and in no other copy's
-    pub written_elsewhere : (q : ObjectId) (z : Kept) (f : Extent) → same_id q id ≡ false → at row.copies q ≡ Some z → extent_of z.copy ≡ Some f → placed_bytes f placed_now ≡ placed_bytes f row.window.placed
+    pub written_elsewhere : (q : ObjectId) (z : CopyView) (f : Extent) → same_id q id ≡ false → at row.copies q ≡ Some z → extent_of z.copy ≡ Some f → placed_bytes f placed_now ≡ placed_bytes f row.window.placed
     written_elsewhere q z f differs was place =
         bytes-other row.window.placed e (placed.there id e is_place) (overwritten old_bytes offset bytes) f (λ same.
         true_false (sym differs ∙ ap (λ y. same_id y id) (sym (placed.apart id q e f is_place (place_found row.copies q z was ∙ place) same)) ∙ same_id-itself id))

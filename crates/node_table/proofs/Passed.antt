@@ -8,15 +8,15 @@ use Rattle.obj_id.specs.declared.refusals.Refusal.{Refusal}
 use Rattle.obj_id.specs.declared.refusals.Refusal.TheVariants.{BadSize, Absent, AlreadySealed, NotSealed, NotHeld, OutOfBounds}
 use Rattle.obj_id.specs.declared.commands.CopyState.{CopyState}
 use Rattle.obj_id.specs.declared.commands.CopyState.TheVariants.{Created, Sealed, Restoring, Fetching, Away}
-use Rattle.private_store.specs.Limits.{most_bytes}
-use Rattle.private_store.specs.Tables.{ById, at}
-use Rattle.private_store.specs.Extents.{rounded}
-use Rattle.private_store.specs.Shape.{Copy, Fetch}
-use Rattle.private_store.specs.Copies.{is_created, is_sealed, extent_of}
-use Rattle.private_store.specs.Kept.{has_extent}
-use Rattle.private_store.specs.Commands.{holds_of, is_unsealed}
+use Rattle.private_store.specs.rules.Limits.{most_bytes}
+use Rattle.private_store.specs.rules.Tables.{ById, at}
+use Rattle.private_store.specs.rules.Extents.{rounded}
+use Rattle.private_store.specs.rules.Shape.{Copy, Fetch}
+use Rattle.private_store.specs.rules.Copies.{is_created, is_sealed, extent_of}
+use Rattle.private_store.specs.laws.Invariants.{has_extent}
+use Rattle.private_store.specs.rules.Commands.{holds_of, is_unsealed}
 use Rattle.store_facts.proofs.Tests.{true_false}
-use Rattle.node_table.specs.Kept.{Kept}
+use Rattle.node_table.specs.CopyViews.{CopyView}
 use Rattle.node_table.specs.Row.{place_of}
 use Rattle.node_table.specs.Checks.{write_check, write_check_of, seal_check, seal_check_of, read_check, read_check_of}
 
@@ -25,7 +25,7 @@ pub past : (b : Bool) (r : Refusal) (rest : Option Refusal) → cond b (Some r) 
 past false r rest e = (refl, e)
 past true r rest e = absurd cc
 
-pub there : (f : Kept → Option Refusal) (r : Refusal) (o : Option Kept) → ◌≡◌ {A = Option Refusal} (elim o [ None ↦ Some r | Some k ↦ f k ]) None → (k : Kept) × (o ≡ Some k) × (f k ≡ None)
+pub there : (f : CopyView → Option Refusal) (r : Refusal) (o : Option CopyView) → ◌≡◌ {A = Option Refusal} (elim o [ None ↦ Some r | Some k ↦ f k ]) None → (k : CopyView) × (o ≡ Some k) × (f k ≡ None)
 there f r (Some k) e = (k, refl, e)
 there f r None e = absurd cc
 
@@ -33,13 +33,13 @@ pub not_not : (b : Bool) → not b ≡ false → b ≡ true
 not_not true e = refl
 not_not false e = absurd cc
 
-pub record IsWritten (copies : ById Kept) (id : ObjectId) (offset n : ℕ) : Type 0 where
-  pub copy : Kept
+pub record IsWritten (copies : ById CopyView) (id : ObjectId) (offset n : ℕ) : Type 0 where
+  pub copy : CopyView
   pub found : at copies id ≡ Some copy
   pub created : is_created copy.copy.state ≡ true
   pub within : offset + n ≤ copy.copy.length
 
-pub write_passed : (copies : ById Kept) (id : ObjectId) (offset n : ℕ) → write_check copies id offset n ≡ None → IsWritten copies id offset n
+pub write_passed : (copies : ById CopyView) (id : ObjectId) (offset n : ℕ) → write_check copies id offset n ≡ None → IsWritten copies id offset n
 write_passed copies id offset n e =
     let small = past (nat_lt most_bytes n) BadSize _ e in
     let k = there (λ k. write_check_of k offset n) Absent (at copies id) small.1 in
@@ -48,14 +48,14 @@ write_passed copies id offset n e =
     let ends = past (nat_lt k.0.copy.length (offset + n)) OutOfBounds _ made.1 in
     record { copy = k.0; found = k.1; created = not_not (is_created k.0.copy.state) made.0; within = grind (arith, nat_tests, ends.0) }
 
-pub record IsRead (copies : ById Kept) (session : ℕ) (id : ObjectId) (offset n : ℕ) : Type 0 where
-  pub copy : Kept
+pub record IsRead (copies : ById CopyView) (session : ℕ) (id : ObjectId) (offset n : ℕ) : Type 0 where
+  pub copy : CopyView
   pub found : at copies id ≡ Some copy
   pub unsealed : is_unsealed copy.copy.state ≡ false
   pub held : (holds_of copy.copy session == 0) ≡ false
   pub within : offset + n ≤ copy.copy.length
 
-pub read_passed : (copies : ById Kept) (session : ℕ) (id : ObjectId) (offset n : ℕ) → read_check copies session id offset n ≡ None → IsRead copies session id offset n
+pub read_passed : (copies : ById CopyView) (session : ℕ) (id : ObjectId) (offset n : ℕ) → read_check copies session id offset n ≡ None → IsRead copies session id offset n
 read_passed copies session id offset n e =
     let small = past (nat_lt most_bytes n) BadSize _ e in
     let k = there (λ k. read_check_of k session offset n) Absent (at copies id) small.1 in
@@ -64,13 +64,13 @@ read_passed copies session id offset n e =
     let ends = past (nat_lt k.0.copy.length (offset + n)) OutOfBounds _ has.1 in
     record { copy = k.0; found = k.1; unsealed = made.0; held = has.0; within = grind (arith, nat_tests, ends.0) }
 
-pub record IsUnwritten (copies : ById Kept) (id : ObjectId) : Type 0 where
-  pub copy : Kept
+pub record IsUnwritten (copies : ById CopyView) (id : ObjectId) : Type 0 where
+  pub copy : CopyView
   pub found : at copies id ≡ Some copy
   pub visible : copy.copy.doomed ≡ false
   pub created : is_created copy.copy.state ≡ true
 
-pub seal_passed : (copies : ById Kept) (id : ObjectId) → seal_check copies id ≡ None → IsUnwritten copies id
+pub seal_passed : (copies : ById CopyView) (id : ObjectId) → seal_check copies id ≡ None → IsUnwritten copies id
 seal_passed copies id e =
     let k = there seal_check_of Absent (at copies id) e in
     let seen = past k.0.copy.doomed Absent _ k.2 in
@@ -85,7 +85,7 @@ placed_at copy h = by copy.offset h
     by (Some o) h = (record { offset = o; length = rounded copy.length }, refl, refl)
     by None h = absurd cc
 
-pub place_found : (copies : ById Kept) (id : ObjectId) (k : Kept) → at copies id ≡ Some k → place_of copies id ≡ extent_of k.copy
+pub place_found : (copies : ById CopyView) (id : ObjectId) (k : CopyView) → at copies id ≡ Some k → place_of copies id ≡ extent_of k.copy
 place_found copies id k found = ap (λ o. option_and_then (λ kept. extent_of kept.copy) o) found
 
 pub created_resides : (state : CopyState) (fetch : Option Fetch) → is_created state ≡ true → has_extent state fetch ≡ true

@@ -10,21 +10,21 @@ use Rattle.obj_id.specs.declared.commands.Reply.{Reply}
 use Rattle.obj_id.specs.declared.commands.Reply.TheVariants as reply
 use Rattle.private_store.specs.declared.inputs.Input.{Input}
 use Rattle.private_store.specs.declared.inputs.Input.TheVariants as input
-use Rattle.private_store.specs.Limits.{most_bytes}
-use Rattle.private_store.specs.Tables.{at}
-use Rattle.private_store.specs.Shape.{Shape, Change, Seen}
-use Rattle.private_store.specs.Change.{replied, refused, checked, erasing}
-use Rattle.private_store.specs.Commands.{peek}
-use Rattle.private_store.specs.Contents.{Contents, bytes_at, whole_reply}
-use Rattle.private_store.specs.Hands.{Hand}
+use Rattle.private_store.specs.rules.Limits.{most_bytes}
+use Rattle.private_store.specs.rules.Tables.{at}
+use Rattle.private_store.specs.rules.Shape.{Shape, Change, Seen}
+use Rattle.private_store.specs.rules.Change.{replied, refused, checked, erasing}
+use Rattle.private_store.specs.rules.Commands.{peek}
+use Rattle.private_store.specs.rules.Contents.{Contents, bytes_at, whole_reply}
+use Rattle.private_store.specs.rules.Hands.{Hand}
 use Rattle.store_facts.proofs.Checks.{checked-nil}
 use Rattle.store_facts.proofs.Tests.{true_false}
 use Rattle.grants.specs.Table.{shows}
 use Rattle.grants.specs.Private.{as_taken, seen_by}
 use Rattle.spill_work.specs.Line.{WorkLine}
 use Rattle.node_table.specs.Granting.{peek_check, peek_reply}
-use Rattle.node_table.specs.Row.{Row, Beside, beside_of, shape_of}
-use Rattle.node_table.specs.Shown.{seen, IsShown, only, TakesStep}
+use Rattle.node_table.specs.Row.{Row, SharedTables, beside_of, shape_of}
+use Rattle.node_table.specs.Shown.{seen, IsShown, only, RowStep}
 use Rattle.node_table.proofs.ByChecks.{unless_refused, first-check, needing-by, called}
 use Rattle.node_table.proofs.Notes.{row_has_hands}
 use Rattle.node_table.proofs.Passed.{past, not_not}
@@ -52,7 +52,7 @@ some_seen n test (hand ∷ hands) =
 
 module _ (node : ℕ) (line : WorkLine) (hands : List Hand) (bytes : ObjectId → List ℕ) (row : Row) (contents : Contents) (session : ℕ) (id : ObjectId) (offset n : ℕ)
     (h : IsShown row (beside_of line hands bytes row.job) contents) where
-  abbrev beside : Beside
+  abbrev beside : SharedTables
   beside = beside_of line hands bytes row.job
 
   abbrev s : Shape
@@ -106,5 +106,5 @@ module _ (node : ℕ) (line : WorkLine) (hands : List Hand) (bytes : ObjectId �
       let sees = past (not (list_any (shows id row.job) hands)) NotGranted whole foreign.1 in
       ap (λ bs. reply.Bytes (take n (drop offset bs))) (bytes_seen (not_not (list_any (shows id row.job) hands) sees.0))
 
-  pub peeks : TakesStep node row beside contents x (only (peek_reply hands row.job id (bytes id) offset n)) row beside
-  peeks = subst (λ r. TakesStep node row beside contents x (only r) row beside) (told check refl) (stays node row beside contents h x (brief check) peek-is refl refl refl)
+  pub peeks : RowStep node row beside contents x (only (peek_reply hands row.job id (bytes id) offset n)) row beside
+  peeks = subst (λ r. RowStep node row beside contents x (only r) row beside) (told check refl) (stays node row beside contents h x (brief check) peek-is refl refl refl)

@@ -3,11 +3,11 @@ use Rattle.std.proofs.Common.{◌≡◌, ℕ, List, [], Option, Some, refl, sym,
 use Rattle.std.specs.List.Sorted.{IsNonDecreasingBy, IsPermutation}
 use Rattle.obj_id.specs.declared.ids.ObjectId.{ObjectId}
 use Rattle.obj_id.specs.declared.works.Extent.{Extent}
-use Rattle.private_store.specs.Extents.{first}
-use Rattle.private_store.specs.Tables.{ById}
+use Rattle.private_store.specs.rules.Extents.{first}
+use Rattle.private_store.specs.rules.Tables.{ById}
 use Rattle.job_region.specs.Region.{Region, extents_of, place_for, without}
 use Rattle.node_table.specs.Evicting.{IsPlacement, placed_without}
-use Rattle.node_table.specs.Kept.{Kept}
+use Rattle.node_table.specs.CopyViews.{CopyView}
 use Rattle.node_table.specs.Row.{Row}
 use Rattle.node_table.specs.declared.room.Placement.{Placement}
 use Rattle.node_table.proofs.Planning.{none_go}
@@ -22,7 +22,7 @@ no_victims row n p none gone place = record {
 }
 
 -- once these copies are evicted
-pub left_without : (row : Row) (es : ById Kept) → es ≡ row.copies → (victims : List ObjectId) (sorted : List Extent) → IsPermutation (gone es victims) sorted → without sorted row.window.placed ≡ placed_without row victims
+pub left_without : (row : Row) (es : ById CopyView) → es ≡ row.copies → (victims : List ObjectId) (sorted : List Extent) → IsPermutation (gone es victims) sorted → without sorted row.window.placed ≡ placed_without row victims
 left_without row es same victims sorted moved = left_sorted es victims row.window.placed sorted sorted moved refl ∙ ap (λ t. without (gone t victims) row.window.placed) same
 
 pub place_without : (row : Row) (n : ℕ) (victims : List ObjectId) (taken : List Extent) → without taken row.window.placed ≡ placed_without row victims → (window : Region) → window ≡ row.window

@@ -10,18 +10,18 @@ use Rattle.obj_id.specs.declared.ids.ObjectId.{ObjectId}
 use Rattle.obj_id.specs.declared.works.Extent.{Extent}
 use Rattle.obj_id.specs.declared.refusals.Refusal.{Refusal}
 use Rattle.obj_id.specs.declared.refusals.Refusal.TheVariants.{OutOfBounds}
-use Rattle.private_store.specs.Contents.{overwritten}
+use Rattle.private_store.specs.rules.Contents.{overwritten}
 use Rattle.store_facts.proofs.Tests.{some_value}
 use Rattle.store_facts.proofs.RowContents.{length-overwritten}
-use Rattle.job_region.specs.Region.{Region, extents_of, IsAt, bytes_at}
-use Rattle.private_store.specs.Tables.{ById, at, with_entry}
-use Rattle.private_store.specs.Copies.{extent_of}
+use Rattle.job_region.specs.Region.{Region, extents_of, IsAt, region_bytes_at}
+use Rattle.private_store.specs.rules.Tables.{ById, at, with_entry}
+use Rattle.private_store.specs.rules.Copies.{extent_of}
 use Rattle.store_facts.proofs.Rows.{at-put}
 use Rattle.obj_id.specs.Ids.{same_id}
 use Rattle.store_facts.proofs.Ids.{same_id-equal}
 use Rattle.std.specs.Option.{option_map_or, option_and_then}
 use Rattle.node_table.specs.Entries.{changed, each_changed}
-use Rattle.node_table.specs.Kept.{Kept}
+use Rattle.node_table.specs.CopyViews.{CopyView}
 use Rattle.node_table.specs.Row.{ArePlaced, place_of}
 
 same_offset : (n : ℕ) → nat_eq n n ≡ true
@@ -39,10 +39,10 @@ module _ (placed : List (ℕ × List ℕ)) (e : Extent) (there : IsAt e placed) 
   looked : (q : ℕ) → lookup (nat_eq q) (set_value (nat_eq e.offset) placed new) ≡ cond (nat_eq e.offset q) (Some new) (lookup (nat_eq q) placed)
   looked q = lookup-set_value nat_eq_equiv (nat_eq e.offset) (nat_eq_equiv.congr e.offset) q new placed (some_at (lookup (nat_eq e.offset) placed) there)
 
-  pub bytes-written : bytes_at e (set_value (nat_eq e.offset) placed new) ≡ new
+  pub bytes-written : region_bytes_at e (set_value (nat_eq e.offset) placed new) ≡ new
   bytes-written = ap (λ o. unwrap_or o []) (looked e.offset ∙ ap (λ b. cond b (Some new) (lookup (nat_eq e.offset) placed)) (same_offset e.offset))
 
-  pub bytes-other : (f : Extent) → e.offset ≢ f.offset → bytes_at f (set_value (nat_eq e.offset) placed new) ≡ bytes_at f placed
+  pub bytes-other : (f : Extent) → e.offset ≢ f.offset → region_bytes_at f (set_value (nat_eq e.offset) placed new) ≡ region_bytes_at f placed
   bytes-other f apart = ap (λ o. unwrap_or o []) (looked f.offset ∙ ap (λ b. cond b (Some new) (lookup (nat_eq f.offset) placed)) (other_offset e.offset f.offset apart))
 
   pub at-written : length new ≡ e.length → (f : Extent) → IsAt f placed → (e.offset ≡ f.offset → f.length ≡ e.length) → IsAt f (set_value (nat_eq e.offset) placed new)
@@ -64,7 +64,7 @@ extents-written (p ∷ placed) e at new long = by (nat_eq e.offset p.0) at (exte
     by true at rest = ap (λ n. record { offset = p.0; length = n } ∷ extents_of placed) (long ∙ sym at)
     by false at rest = ap (λ es. record { offset = p.0; length = length p.1 } ∷ es) (rest at new long)
 
-pub long_at : (placed : List (ℕ × List ℕ)) (e : Extent) → IsAt e placed → length (bytes_at e placed) ≡ e.length
+pub long_at : (placed : List (ℕ × List ℕ)) (e : Extent) → IsAt e placed → length (region_bytes_at e placed) ≡ e.length
 long_at placed e at = by (lookup (nat_eq e.offset) placed) at
   where
     by : (o : Option (List ℕ)) → IsSomeAnd o (λ bytes. length bytes ≡ e.length) → length (unwrap_or o []) ≡ e.length
@@ -86,7 +86,7 @@ module _ (placed : List (ℕ × List ℕ)) (places : ObjectId → Option Extent)
 -- a write that may be refused
 pub write_placed : (old new : Region) (places : ObjectId → Option Extent) (h : ArePlaced old.placed places) (id : ObjectId) (e : Extent) → places id ≡ Some e
     → (off : ℕ) (bytes : List ℕ) (r : Result (Unit {0}) Refusal)
-    → OnOk r (new ≡ record old { placed = set_value (nat_eq e.offset) old.placed (overwritten (bytes_at e old.placed) off bytes) })
+    → OnOk r (new ≡ record old { placed = set_value (nat_eq e.offset) old.placed (overwritten (region_bytes_at e old.placed) off bytes) })
     → (IsErrOf r OutOfBounds ↔ (e.length < off + length bytes)) → OnErr r (new ≡ old) → ArePlaced new.placed places
 write_placed old new places h id e is off bytes (Ok u) wrote bounds kept =
     let long = long_at old.placed e (h.there id e is) in
@@ -95,7 +95,7 @@ write_placed old new places h id e is off bytes (Ok u) wrote bounds kept =
       | false ↦ λ t. grind (arith, nat_tests, t)
     ] refl in
     subst (λ w. ArePlaced w.placed places) (sym wrote)
-    (written_placed old.placed places h id e is (overwritten (bytes_at e old.placed) off bytes) (length-overwritten (bytes_at e old.placed) off bytes (omega (arith, long, within)) ∙ long))
+    (written_placed old.placed places h id e is (overwritten (region_bytes_at e old.placed) off bytes) (length-overwritten (region_bytes_at e old.placed) off bytes (omega (arith, long, within)) ∙ long))
   where
     no_err : (u : Unit {0}) → IsErrOf {T = Unit {0}} {E = Refusal} (Ok u) OutOfBounds → ⊥
     no_err u e = absurd cc
@@ -111,13 +111,13 @@ same_places placed places now same h = record {
 
 -- ---- changes that leave a copy where it lies
 
-abbrev Lies : (Kept → Kept) → Type 0
-Lies f = (z : Kept) → extent_of (f z).copy ≡ extent_of z.copy
+abbrev Lies : (CopyView → CopyView) → Type 0
+Lies f = (z : CopyView) → extent_of (f z).copy ≡ extent_of z.copy
 
-places_changed : (f : Kept → Kept) → Lies f → (es : ById Kept) (id q : ObjectId) → place_of (changed f es id) q ≡ place_of es q
+places_changed : (f : CopyView → CopyView) → Lies f → (es : ById CopyView) (id q : ObjectId) → place_of (changed f es id) q ≡ place_of es q
 places_changed f lies es id q = by (at es id) refl
   where
-    by : (o : Option Kept) → at es id ≡ o → place_of (option_map_or (λ x. with_entry es id (f x)) o es) q ≡ place_of es q
+    by : (o : Option CopyView) → at es id ≡ o → place_of (option_map_or (λ x. with_entry es id (f x)) o es) q ≡ place_of es q
     by None e = refl
     by (Some z) e = ap (λ o. option_and_then (λ kept. extent_of kept.copy) o) (at-put es id (f z) q) ∙ here (same_id q id) refl
       where
@@ -125,24 +125,24 @@ places_changed f lies es id q = by (at es id) refl
         here true t = lies z ∙ sym (ap (λ o. option_and_then (λ kept. extent_of kept.copy) o) (ap (at es) (same_id-equal q id t) ∙ e))
         here false t = refl
 
-module _ (placed : List (ℕ × List ℕ)) (es : ById Kept) (h : ArePlaced placed (place_of es)) where
-  pub changed_placed : (f : Kept → Kept) → Lies f → (id : ObjectId) → ArePlaced placed (place_of (changed f es id))
+module _ (placed : List (ℕ × List ℕ)) (es : ById CopyView) (h : ArePlaced placed (place_of es)) where
+  pub changed_placed : (f : CopyView → CopyView) → Lies f → (id : ObjectId) → ArePlaced placed (place_of (changed f es id))
   changed_placed f lies id = same_places placed (place_of es) (place_of (changed f es id)) (places_changed f lies es id) h
 
   -- where they stand in a map that was changed
-  pub now_placed : (f : Kept → Kept) → Lies f → (id : ObjectId) (now : ById Kept) → now ≡ changed f es id → ArePlaced placed (place_of now)
+  pub now_placed : (f : CopyView → CopyView) → Lies f → (id : ObjectId) (now : ById CopyView) → now ≡ changed f es id → ArePlaced placed (place_of now)
   now_placed f lies id now is = subst (λ t. ArePlaced placed (place_of t)) (sym is) (changed_placed f lies id)
 
 -- and changes of several
-pub each_place : (f : Kept → Kept) → Lies f → (ids : List ObjectId) (es : ById Kept) (q : ObjectId) → place_of (each_changed f es ids) q ≡ place_of es q
+pub each_place : (f : CopyView → CopyView) → Lies f → (ids : List ObjectId) (es : ById CopyView) (q : ObjectId) → place_of (each_changed f es ids) q ≡ place_of es q
 each_place f lies [] es q = refl
 each_place f lies (id ∷ ids) es q = each_place f lies ids (changed f es id) q ∙ places_changed f lies es id q
 
-pub each_placed : (placed : List (ℕ × List ℕ)) (es : ById Kept) → ArePlaced placed (place_of es) → (f : Kept → Kept) → Lies f → (ids : List ObjectId) (now : ById Kept) → now ≡ each_changed f es ids → ArePlaced placed (place_of now)
+pub each_placed : (placed : List (ℕ × List ℕ)) (es : ById CopyView) → ArePlaced placed (place_of es) → (f : CopyView → CopyView) → Lies f → (ids : List ObjectId) (now : ById CopyView) → now ≡ each_changed f es ids → ArePlaced placed (place_of now)
 each_placed placed es h f lies ids now is = subst (λ t. ArePlaced placed (place_of t)) (sym is) (same_places placed (place_of es) (place_of (each_changed f es ids)) (each_place f lies ids es) h)
 
 -- a copy that isn't resident, where there was none
-pub entered_placed : (placed : List (ℕ × List ℕ)) (es : ById Kept) (id : ObjectId) (k : Kept) (now : ById Kept) → at es id ≡ None → k.copy.offset ≡ None → now ≡ with_entry es id k → ArePlaced placed (place_of es) → ArePlaced placed (place_of now)
+pub entered_placed : (placed : List (ℕ × List ℕ)) (es : ById CopyView) (id : ObjectId) (k : CopyView) (now : ById CopyView) → at es id ≡ None → k.copy.offset ≡ None → now ≡ with_entry es id k → ArePlaced placed (place_of es) → ArePlaced placed (place_of now)
 entered_placed placed es id k now none away is h = subst (λ t. ArePlaced placed (place_of t)) (sym is) (same_places placed (place_of es) (place_of (with_entry es id k)) same h)
   where
     nowhere : (p : Option ℕ) → p ≡ None → extent_of (record k.copy { offset = p }) ≡ None
@@ -152,6 +152,6 @@ entered_placed placed es id k now none away is h = subst (λ t. ArePlaced placed
     same : (q : ObjectId) → place_of (with_entry es id k) q ≡ place_of es q
     same q = ap (λ o. option_and_then (λ kept. extent_of kept.copy) o) (at-put es id k q) ∙ by (same_id q id) refl
       where
-        by : (b : Bool) → same_id q id ≡ b → option_and_then (λ (kept : Kept). extent_of kept.copy) (cond b (Some k) (at es q)) ≡ place_of es q
-        by true t = nowhere k.copy.offset away ∙ sym (ap (λ o. option_and_then (λ (kept : Kept). extent_of kept.copy) o) (ap (at es) (same_id-equal q id t) ∙ none))
+        by : (b : Bool) → same_id q id ≡ b → option_and_then (λ (kept : CopyView). extent_of kept.copy) (cond b (Some k) (at es q)) ≡ place_of es q
+        by true t = nowhere k.copy.offset away ∙ sym (ap (λ o. option_and_then (λ (kept : CopyView). extent_of kept.copy) o) (ap (at es) (same_id-equal q id t) ∙ none))
         by false t = refl

@@ -9,35 +9,35 @@ use Rattle.obj_id.specs.declared.ids.ObjectId.{ObjectId}
 use Rattle.obj_id.specs.declared.refusals.Refusal.TheVariants.{Pending, TooMany, DeviceFailed}
 use Rattle.obj_id.specs.Ids.{same_id}
 use Rattle.store_facts.proofs.Ids.{same_id-itself}
-use Rattle.private_store.specs.Limits.{has_numbers}
-use Rattle.private_store.specs.Tables.{ById, at, is_among}
-use Rattle.private_store.specs.Extents.{first}
-use Rattle.private_store.specs.Shape.{Shape}
-use Rattle.private_store.specs.Copies.{is_evictable, is_passing, is_spillable, device_used}
-use Rattle.private_store.specs.Contents.{Contents}
-use Rattle.private_store.specs.Kept.{IsOrderOfUse}
-use Rattle.private_store.specs.Room.{Plan, fits, wait, full, busy, evict, spill, plan, shortest, shortest_from, victims, spilled, spill_plan, in_order, offset_without, bytes_of_copies, works_left, asked, no_room, spill_room, room_by, make_room}
+use Rattle.private_store.specs.rules.Limits.{has_numbers}
+use Rattle.private_store.specs.rules.Tables.{ById, at, is_among}
+use Rattle.private_store.specs.rules.Extents.{first}
+use Rattle.private_store.specs.rules.Shape.{Shape}
+use Rattle.private_store.specs.rules.Copies.{is_evictable, is_draining, is_spillable, device_used}
+use Rattle.private_store.specs.rules.Contents.{Contents}
+use Rattle.private_store.specs.laws.Invariants.{IsOrderOfUse}
+use Rattle.private_store.specs.rules.Room.{Plan, fits, wait, full, busy, evict, spill, plan, shortest, shortest_from, victims, spilled, spill_plan, in_order, offset_without, bytes_of_copies, works_left, asked, no_room, spill_room, room_by, make_room}
 use Rattle.store_facts.proofs.KeptLists.{count-take}
 use Rattle.store_facts.proofs.KeptPlan.{AreChosen, fewer_chosen, shortest_chosen}
 use Rattle.store_facts.proofs.VictimsMakeRoom.{victims_make_room}
 use Rattle.store_facts.proofs.Tests.{both, or_left, or_right, true_false}
 use Rattle.job_region.specs.Region.{Region, extents_of, place_for, without}
 use Rattle.lru_evictor.specs.declared.facts.DeviceRoom.{DeviceRoom}
-use Rattle.lru_evictor.specs.declared.facts.Standing.{Standing}
+use Rattle.lru_evictor.specs.declared.facts.EvictionInfo.{EvictionInfo}
 use Rattle.lru_evictor.specs.Facts.{Looked, fits_without}
-use Rattle.lru_evictor.specs.Orders.{ids_of}
+use Rattle.lru_evictor.specs.Orders.{order_ids}
 use Rattle.lru_evictor.specs.Plans.{IsDescribed, IsOfCopies}
 use Rattle.lru_evictor.proofs.ForCallers.{offset-described}
 use Rattle.spill_work.specs.Line.{WorkLine, works_of, in_flight, used_by}
-use Rattle.node_table.specs.Kept.{Kept}
-use Rattle.node_table.specs.Row.{Row, Beside, shape_of, place_of, ArePlaced}
+use Rattle.node_table.specs.CopyViews.{CopyView}
+use Rattle.node_table.specs.Row.{Row, SharedTables, shape_of, place_of, ArePlaced}
 use Rattle.node_table.specs.Shown.{IsShown}
-use Rattle.node_table.specs.Followed.{AreFollowed}
+use Rattle.node_table.specs.InSync.{InSync}
 use Rattle.lru_evictor.specs.declared.facts.Plan.{Plan as Kind}
 use Rattle.lru_evictor.specs.declared.facts.Plan.TheVariants as kind
-use Rattle.lru_evictor.specs.Plans.{kind_of, listed}
-use Rattle.node_table.specs.Followed.{AreListed}
-use Rattle.node_table.specs.RoomPlans.{IsPlanned, MakesPlace, by_kind, plan_by, planned_by, place_as_it_is, facts_of}
+use Rattle.lru_evictor.specs.Plans.{plan_kind_of, listed}
+use Rattle.node_table.specs.InSync.{AreListed}
+use Rattle.node_table.specs.RoomPlans.{IsPlanned, MakesPlace, by_kind, plan_by, planned_by, place_as_it_is, row_facts_of}
 use Rattle.node_table.specs.Usages.{total, device_bytes}
 use Rattle.node_table.proofs.Telling.{device_is}
 use Rattle.node_table.specs.declared.room.RoomPlan.{RoomPlan}
@@ -107,7 +107,7 @@ module _ (order : List ObjectId) (once : IsOrderOfUse order) (store : Shape) (n 
   spilled_done None e = refl
   spilled_done (Some []) e = refl
   spilled_done (Some (id ∷ ids)) e = spills_first id ids (shortest_chosen order once store (is_spillable store)
-      (λ out. is_some (offset_without store n ((in_order store order (is_evictable store) ++ in_order store order (is_passing store)) ++ out))) (id ∷ ids) e)
+      (λ out. is_some (offset_without store n ((in_order store order (is_evictable store) ++ in_order store order (is_draining store)) ++ out))) (id ∷ ids) e)
 
   pub plan_done : IsDone (plan order store n)
   plan_done = by (victims order store n) refl
@@ -215,17 +215,17 @@ fits-at o p e = ap place_of_plan e
     place_of_plan (Refuse r) = o
 
 -- what room does is what is planned for it
-pub planned : (row : Row) (beside : Beside) (contents : Contents) → IsShown row beside contents → (n : ℕ)
+pub planned : (row : Row) (beside : SharedTables) (contents : Contents) → IsShown row beside contents → (n : ℕ)
     → IsPlanned (make_room row.order (shape_of row beside) n) (shape_of row beside) n (planned_by row.order (shape_of row beside) n) (listed (plan row.order (shape_of row beside) n))
 planned row beside contents h n = plan_done row.order h.kept.order (shape_of row beside) n
 
 -- where the plan is known
-pub planned_as : (row : Row) (beside : Beside) (contents : Contents) → IsShown row beside contents → (n : ℕ) (p q : RoomPlan) → p ≡ planned_by row.order (shape_of row beside) n → p ≡ q
+pub planned_as : (row : Row) (beside : SharedTables) (contents : Contents) → IsShown row beside contents → (n : ℕ) (p q : RoomPlan) → p ≡ planned_by row.order (shape_of row beside) n → p ≡ q
     → IsPlanned (make_room row.order (shape_of row beside) n) (shape_of row beside) n q (listed (plan row.order (shape_of row beside) n))
 planned_as row beside contents h n p q own is =
     subst (λ p. IsPlanned (make_room row.order (shape_of row beside) n) (shape_of row beside) n p (listed (plan row.order (shape_of row beside) n))) (sym own ∙ is) (planned row beside contents h n)
 
-module _ (row : Row) (beside : Beside) (contents : Contents) (h : IsShown row beside contents) (placed : ArePlaced row.window.placed (place_of row.copies)) (n : ℕ) where
+module _ (row : Row) (beside : SharedTables) (contents : Contents) (h : IsShown row beside contents) (placed : ArePlaced row.window.placed (place_of row.copies)) (n : ℕ) where
   abbrev s : Shape
   s = shape_of row beside
 
@@ -233,18 +233,18 @@ module _ (row : Row) (beside : Beside) (contents : Contents) (h : IsShown row be
   pub all_listed : AreListed row.copies row.order
   all_listed id some = by id (at row.copies id) refl some
     where
-      by : (id : ObjectId) (o : Option Kept) → at row.copies id ≡ o → is_some (option_map facts_of o) ≡ true → is_among row.order id ≡ true
+      by : (id : ObjectId) (o : Option CopyView) → at row.copies id ≡ o → is_some (option_map row_facts_of o) ≡ true → is_among row.order id ≡ true
       by id None found some = true_false some
       by id (Some k) found some = h.listed id k found
 
   -- the order of use has each copy as it stands
-  pub of_copies : (copies : ById Kept) → copies ≡ row.copies → (order : List (ObjectId × Standing)) → ids_of order ≡ row.order → AreFollowed row.copies order → IsOfCopies order (facts_at copies)
+  pub of_copies : (copies : ById CopyView) → copies ≡ row.copies → (order : List (ObjectId × EvictionInfo)) → order_ids order ≡ row.order → InSync row.copies order → IsOfCopies order (facts_at copies)
   of_copies copies same order own followed = record {
-    standings = subst (λ t. AreFollowed t order) (sym same) followed;
+    infos = subst (λ t. InSync t order) (sym same) followed;
     listed = λ id some. ap (λ ids. is_among ids id) own ∙ by id (at copies id) (ap (λ t. at t id) (sym same)) some;
   }
     where
-      by : (id : ObjectId) (o : Option Kept) → at row.copies id ≡ o → is_some (option_map facts_of o) ≡ true → is_among row.order id ≡ true
+      by : (id : ObjectId) (o : Option CopyView) → at row.copies id ≡ o → is_some (option_map row_facts_of o) ≡ true → is_among row.order id ≡ true
       by id None found some = true_false some
       by id (Some k) found some = h.listed id k found
 
@@ -253,7 +253,7 @@ module _ (row : Row) (beside : Beside) (contents : Contents) (h : IsShown row be
   device_here = record { quota = row.device; used = device_used s; works = length s.works }
 
   -- the row as its window and its copies have it
-  pub described_as : (window : Region) → window ≡ row.window → (copies : ById Kept) → copies ≡ row.copies → IsDescribed s window device_here (facts_at copies)
+  pub described_as : (window : Region) → window ≡ row.window → (copies : ById CopyView) → copies ≡ row.copies → IsDescribed s window device_here (facts_at copies)
   described_as window here copies same =
       subst (λ w. IsDescribed s w device_here (facts_at copies)) (sym here) (subst (λ t. IsDescribed s row.window device_here (facts_at t)) (sym same) (described row beside contents h placed device_here refl refl refl))
 
@@ -270,7 +270,7 @@ module _ (row : Row) (beside : Beside) (contents : Contents) (h : IsShown row be
   place_exit window here o found = place_planned o (ap (λ w. place_for w n) (sym here) ∙ found)
 
   module _ (job : JobNo) (own : job ≡ record { 0 = row.job }) where
-    module _ (window : Region) (here : window ≡ row.window) (copies : ById Kept) (same : copies ≡ row.copies) (quota used works : ℕ)
+    module _ (window : Region) (here : window ≡ row.window) (copies : ById CopyView) (same : copies ≡ row.copies) (quota used works : ℕ)
         (of_job : quota ≡ row.device) (walked : used ≡ total device_bytes copies) (line : WorkLine) (works_are : beside.works ≡ works_of line (record { 0 = row.job })) (used_is : beside.used ≡ used_by line (record { 0 = row.job })) (counted : works ≡ in_flight line job) where
       abbrev device : DeviceRoom
       device = record { quota = quota; used = used; works = works }
@@ -281,7 +281,7 @@ module _ (row : Row) (beside : Beside) (contents : Contents) (h : IsShown row be
           (described row beside contents h placed device of_job
           (walked ∙ ap (total device_bytes) same ∙ device_is row beside contents h) (counted ∙ ap (in_flight line) own ∙ ap length (sym works_are))))
 
-      pub plan_exit : (p : Kind) → ((store : Shape) → IsDescribed store window device (facts_at copies) → p ≡ kind_of (plan row.order store n))
+      pub plan_exit : (p : Kind) → ((store : Shape) → IsDescribed store window device (facts_at copies) → p ≡ plan_kind_of (plan row.order store n))
           → (asked : ℕ) → asked ≡ used_by line job → (failed : Bool) → failed ≡ row.spill_failed → (told : RoomPlan) → ((offset : ℕ) → told ≡ by_kind asked failed offset p) → told ≡ planned_by row.order s n
       plan_exit p is_plan asked is_asked failed is_failed told is =
           is (place_as_it_is s n) ∙ (λ i. by_kind ((is_asked ∙ ap (used_by line) own ∙ sym used_is) i) (is_failed i) (place_as_it_is s n) (is_plan s as_described i))

@@ -10,19 +10,19 @@ use Rattle.private_store.specs.declared.inputs.Input.{Input}
 use Rattle.private_store.specs.declared.inputs.Input.TheVariants as input
 use Rattle.obj_id.specs.declared.commands.Command.TheVariants as command
 use Rattle.node_table.specs.Checks.{can_pull, can_pull_at, visible_state}
-use Rattle.private_store.specs.Change.{refused, erasing, in_room}
-use Rattle.private_store.specs.Commands.{is_length, get_fetching, set_phase, counted, chunk_count}
-use Rattle.private_store.specs.Contents.{Contents, View, judge, is_sized, keeps_digest, no_digest}
-use Rattle.private_store.specs.Private.{Post, to_peer, pull_of, pull_posts, view_after}
-use Rattle.private_store.specs.Room.{make_room}
-use Rattle.private_store.specs.Shape.{Copy, Shape, Change, Fetch, Phase, locating, sized, pulling, failed, pull, remove_location}
-use Rattle.private_store.specs.Step.{step}
+use Rattle.private_store.specs.rules.Change.{refused, erasing, in_room}
+use Rattle.private_store.specs.rules.Commands.{is_length, get_fetching, set_phase, counted, chunk_count}
+use Rattle.private_store.specs.rules.Contents.{Contents, View, judge, is_sized, keeps_digest, no_digest}
+use Rattle.private_store.specs.rules.Private.{Post, to_peer, pull_of, pull_posts, view_after}
+use Rattle.private_store.specs.rules.Room.{make_room}
+use Rattle.private_store.specs.rules.Shape.{Copy, Shape, Change, Fetch, Phase, locating, sized, pulling, failed, pull, remove_location}
+use Rattle.private_store.specs.rules.Step.{step}
 use Rattle.store_facts.proofs.Checks.{checked-false, checked-nil}
 use Rattle.store_facts.proofs.Rows.{at-put_here}
 use Rattle.job_region.specs.Region.{extents_of}
 use Rattle.node_table.specs.MadeRooms.{BringsNothing}
 use Rattle.node_table.specs.RoomPlans.{MakesPlace}
-use Rattle.node_table.specs.Shown.{seen, IsShown, Given, TakesStep}
+use Rattle.node_table.specs.Shown.{seen, IsShown, RowGiven, RowStep}
 use Rattle.node_table.proofs.ByChecks.{sending-is}
 use Rattle.node_table.proofs.Getting.{some_at}
 use Rattle.node_table.proofs.Rooms.{change_is, m, here, placed_done}
@@ -32,41 +32,41 @@ use Rattle.std.proofs.lemmas.Bool.Decides.{nat_tests}
 use Rattle.std.proofs.lemmas.Bool.{eqb-true}
 use Rattle.obj_id.specs.declared.ids.JobNo.{JobNo}
 use Rattle.obj_id.specs.declared.ids.ObjectId.{ObjectId}
-use Rattle.private_store.specs.Tables.{ById, at, with_entry, is_among}
-use Rattle.private_store.specs.Copies.{extent_of, is_sealed, was_sealed}
-use Rattle.private_store.specs.Extents.{rounded, first, is_size}
-use Rattle.private_store.specs.Limits.{longest_object}
+use Rattle.private_store.specs.rules.Tables.{ById, at, with_entry, is_among}
+use Rattle.private_store.specs.rules.Copies.{extent_of, is_sealed, was_sealed}
+use Rattle.private_store.specs.rules.Extents.{rounded, first, is_size}
+use Rattle.private_store.specs.rules.Limits.{longest_object}
 use Rattle.obj_id.specs.declared.works.Extent.{Extent}
 use Rattle.store_facts.proofs.Tests.{both, both_left, both_right, true_false, none_some}
 use Rattle.node_table.specs.Evicting.{used_last, has_secondary, all_evicted, removals, placed_without, replaced}
-use Rattle.node_table.specs.Kept.{Kept, is_unasked, is_sealed_at, waits_for_place, with_chunks, pulled, placed_for}
+use Rattle.node_table.specs.CopyViews.{CopyView, is_unasked, is_sealed_at, waits_for_place, with_chunks, after_pull, after_placing}
 use Rattle.node_table.specs.declared.copy.Awaited.{Awaited}
 use Rattle.node_table.specs.declared.copy.Awaited.TheVariants.{Chunks, Device}
-use Rattle.node_table.specs.Row.{Row, Beside, copies_of, shape_of, place_of, ArePlaced}
+use Rattle.node_table.specs.Row.{Row, SharedTables, copies_of, shape_of, place_of, ArePlaced}
 
 -- a copy that waits for a place of n bytes
-pub record Waits (copies : ById Kept) (id : ObjectId) (n : ℕ) : Type 0 where
-  pub k : Kept
+pub record Waits (copies : ById CopyView) (id : ObjectId) (n : ℕ) : Type 0 where
+  pub k : CopyView
   pub found : at copies id ≡ Some k
   pub nowhere : place_of copies id ≡ None
   pub long : k.copy.length ≡ n
 
-pub waiting : (copies : ById Kept) (id : ObjectId) (n : ℕ) → option_map_or (waits_for_place n) (at copies id) false ≡ true → Waits copies id n
+pub waiting : (copies : ById CopyView) (id : ObjectId) (n : ℕ) → option_map_or (waits_for_place n) (at copies id) false ≡ true → Waits copies id n
 waiting copies id n e = by (at copies id) refl e
   where
-    nowhere : (k : Kept) (p : Option ℕ) → k.copy.offset ≡ p → is_none p ≡ true → extent_of k.copy ≡ None
+    nowhere : (k : CopyView) (p : Option ℕ) → k.copy.offset ≡ p → is_none p ≡ true → extent_of k.copy ≡ None
     nowhere k None t e = ap (λ p. extent_of (record k.copy { offset = p })) t
     nowhere k (Some o) t e = true_false e
 
     level : (a b : ℕ) → (a == b) ≡ true → a ≡ b
     level a b t = grind (arith, nat_tests, t)
 
-    by : (o : Option Kept) → at copies id ≡ o → option_map_or (waits_for_place n) o false ≡ true → Waits copies id n
+    by : (o : Option CopyView) → at copies id ≡ o → option_map_or (waits_for_place n) o false ≡ true → Waits copies id n
     by None f t = true_false t
     by (Some k) f t = record {
       k = k;
       found = f;
-      nowhere = ap (option_and_then (λ (k : Kept). extent_of k.copy)) f ∙ nowhere k k.copy.offset refl (both_left (is_none k.copy.offset) _ t);
+      nowhere = ap (option_and_then (λ (k : CopyView). extent_of k.copy)) f ∙ nowhere k k.copy.offset refl (both_left (is_none k.copy.offset) _ t);
       long = level k.copy.length n (both_right (is_none k.copy.offset) _ t);
     }
 
@@ -79,13 +79,13 @@ unused order = sym (by order)
     by (x ∷ ids) = ap (λ ys. x ∷ ys) (by ids)
 
 -- where it lies then
-pub placed_lies : (awaited : Awaited) (offset : ℕ) (k : Kept) (n : ℕ) → k.copy.length ≡ n → extent_of (placed_for awaited offset k).copy ≡ Some (record { offset = offset; length = rounded n })
+pub placed_lies : (awaited : Awaited) (offset : ℕ) (k : CopyView) (n : ℕ) → k.copy.length ≡ n → extent_of (after_placing awaited offset k).copy ≡ Some (record { offset = offset; length = rounded n })
 placed_lies awaited offset k n long = by awaited ∙ ap (λ m. Some (at_offset m)) long
   where
     at_offset : ℕ → Extent
     at_offset m = record { offset = offset; length = rounded m }
 
-    by : (awaited : Awaited) → extent_of (placed_for awaited offset k).copy ≡ Some (at_offset k.copy.length)
+    by : (awaited : Awaited) → extent_of (after_placing awaited offset k).copy ≡ Some (at_offset k.copy.length)
     by (Chunks missing) = refl
     by Device = refl
 
@@ -105,10 +105,10 @@ few_bytes window n fine =
     grind (arith, nat_tests, few)
 
 -- a copy in another state isn't sealed
-pub unsealed_visible : (copies : ById Kept) (id : ObjectId) (state : CopyState) → is_sealed state ≡ false → visible_state (at copies id) ≡ Ok (Some state) → is_sealed_at copies id ≡ false
+pub unsealed_visible : (copies : ById CopyView) (id : ObjectId) (state : CopyState) → is_sealed state ≡ false → visible_state (at copies id) ≡ Ok (Some state) → is_sealed_at copies id ≡ false
 unsealed_visible copies id state other visible =
     let v = some_at copies id state visible in
-    ap (λ o. option_map_or (λ (k : Kept). is_sealed k.copy.state) o false) v.found ∙ ap is_sealed v.is ∙ other
+    ap (λ o. option_map_or (λ (k : CopyView). is_sealed k.copy.state) o false) v.found ∙ ap is_sealed v.is ∙ other
 
 -- ---- a fetch whose source is known
 
@@ -119,9 +119,9 @@ pub record IsSized (window : ℕ) (copy : Copy) : Type 0 where
   pub is : fetch.phase ≡ sized source
   pub fine : is_size window copy.length ≡ true
 
-pub sized_at : (row : Row) (id : ObjectId) (k : Kept) → at row.copies id ≡ Some k → can_pull_at row id ≡ true → IsSized row.window.quota k.copy
+pub sized_at : (row : Row) (id : ObjectId) (k : CopyView) → at row.copies id ≡ Some k → can_pull_at row id ≡ true → IsSized row.window.quota k.copy
 sized_at row id k found may =
-    by k.copy.fetch refl (sym (ap (λ o. option_map_or (λ (kept : Kept). option_map_or (λ fetch. can_pull row.window.quota kept.copy fetch.phase) kept.copy.fetch false) o false) found) ∙ may)
+    by k.copy.fetch refl (sym (ap (λ o. option_map_or (λ (kept : CopyView). option_map_or (λ fetch. can_pull row.window.quota kept.copy fetch.phase) kept.copy.fetch false) o false) found) ∙ may)
   where
     of : (f : Fetch) → k.copy.fetch ≡ Some f → (p : Phase) → f.phase ≡ p → can_pull row.window.quota k.copy p ≡ true → IsSized row.window.quota k.copy
     of f e locating is t = true_false t
@@ -138,7 +138,7 @@ pub unasked_at : (window : ℕ) (copy : Copy) → IsSized window copy → option
 unasked_at window copy z = ap (λ o. option_map_or (λ (f : Fetch). is_unasked f.phase) o false) z.fetched ∙ ap is_unasked z.is
 
 -- it has no place, and waits for one
-pub waits : (copies : ById Kept) (id : ObjectId) (k : Kept) → at copies id ≡ Some k → k.copy.offset ≡ None → (n : ℕ) → n ≡ k.copy.length → option_map_or (waits_for_place n) (at copies id) false ≡ true
+pub waits : (copies : ById CopyView) (id : ObjectId) (k : CopyView) → at copies id ≡ Some k → k.copy.offset ≡ None → (n : ℕ) → n ≡ k.copy.length → option_map_or (waits_for_place n) (at copies id) false ≡ true
 waits copies id k found none n long =
     ap (λ o. option_map_or (waits_for_place n) o false) found ∙ both (is_none k.copy.offset) _ (ap is_none none) (same k.copy.length n (sym long))
   where
@@ -146,13 +146,13 @@ waits copies id k found none n long =
     same a b e = grind (arith, nat_tests, e)
 
 -- a Get brings no contents
-pub quiet_get : (node : ℕ) (row : Row) (beside : Beside) (contents : Contents) (session : ℕ) (id : ObjectId) → BringsNothing node (seen row beside contents) (input.Call session (command.Get id))
+pub quiet_get : (node : ℕ) (row : Row) (beside : SharedTables) (contents : Contents) (session : ℕ) (id : ObjectId) → BringsNothing node (seen row beside contents) (input.Call session (command.Get id))
 quiet_get node row beside contents session id = record { bytes = λ r. refl; digests = λ r. refl; received = refl }
 
 -- ---- the step
 
-module _ (node : ℕ) (row : Row) (beside : Beside) (contents : Contents) (h : IsShown row beside contents) (x : Input) (quiet : BringsNothing node (seen row beside contents) x)
-    (id : ObjectId) (k : Kept) (found : at row.copies id ≡ Some k) (is : k.copy.state ≡ Fetching) (fetch : Fetch) (source : ℕ) (fetched : k.copy.fetch ≡ Some fetch) (at_source : fetch.phase ≡ sized source)
+module _ (node : ℕ) (row : Row) (beside : SharedTables) (contents : Contents) (h : IsShown row beside contents) (x : Input) (quiet : BringsNothing node (seen row beside contents) x)
+    (id : ObjectId) (k : CopyView) (found : at row.copies id ≡ Some k) (is : k.copy.state ≡ Fetching) (fetch : Fetch) (source : ℕ) (fetched : k.copy.fetch ≡ Some fetch) (at_source : fetch.phase ≡ sized source)
     (fine : is_size row.window.quota k.copy.length ≡ true)
     (by_phase : step row.order (shape_of row beside) (judge node (seen row beside contents) x) ≡ erasing (shape_of row beside) (get_fetching row.order (shape_of row beside) id k.copy fetch (sized source))) where
   abbrev s : Shape
@@ -185,8 +185,8 @@ module _ (node : ℕ) (row : Row) (beside : Beside) (contents : Contents) (h : I
 
   module _ (victims : List ObjectId) (makes : MakesPlace (make_room row.order s n) s n victims) (placed : ArePlaced row.window.placed (place_of row.copies)) (nowhere : place_of row.copies id ≡ None) (stays : is_among victims id ≡ false)
       (offset : ℕ) (least : first (extents_of (placed_without row victims)) row.window.quota n ≡ Some offset) (free : lookup (nat_eq offset) (placed_without row victims) ≡ None) where
-    abbrev now : Kept
-    now = pulled offset k
+    abbrev now : CopyView
+    now = after_pull offset k
 
     lies : extent_of now.copy ≡ Some (record { offset = offset; length = rounded n })
     lies = refl
@@ -219,7 +219,7 @@ module _ (node : ℕ) (row : Row) (beside : Beside) (contents : Contents) (h : I
     abbrev pub new : Row
     new = replaced row None id now n offset victims
 
-    abbrev pub told : Given
+    abbrev pub told : RowGiven
     told = record { reply = reply.Refused Pending; posts = removals node row.copies victims ++ message ∷ []; erased = [] }
 
     abbrev after : View
@@ -239,7 +239,7 @@ module _ (node : ℕ) (row : Row) (beside : Beside) (contents : Contents) (h : I
         ∙ ap (λ d. to_peer source (Pull id fetch.number n d missing) ∷ []) (shown.digests id now (here node row beside contents h x quiet n f by_room victims makes placed id now nowhere stays offset lies refl least free
         beside.works beside.used None shape_is refl (λ u none. none_some u none) (λ _. h.listed id k found) of_digest (h.working id k found) (λ q differs. refl) (h.granted id k found)) keeps_now)
 
-    pub pull_done : TakesStep node row beside contents x told new beside
+    pub pull_done : RowStep node row beside contents x told new beside
     pull_done =
         placed_done node row beside contents h x quiet n f by_room victims makes placed id now nowhere stays offset lies refl least free
         beside.works beside.used None shape_is refl (λ u none. none_some u none) (λ _. h.listed id k found) of_digest (h.working id k found) (λ q differs. refl) (h.granted id k found) (message ∷ [])

@@ -7,21 +7,21 @@ use Rattle.obj_id.specs.declared.commands.Reply.TheVariants as reply
 use Rattle.obj_id.specs.declared.works.Quota.{Quota}
 use Rattle.private_store.specs.declared.inputs.Input.{Input}
 use Rattle.private_store.specs.declared.inputs.Input.TheVariants as input
-use Rattle.private_store.specs.Change.{done, checked}
-use Rattle.private_store.specs.Contents.{Contents, judge}
-use Rattle.private_store.specs.Copies.{is_within, fits_quota}
-use Rattle.private_store.specs.Extents.{end_of}
-use Rattle.private_store.specs.Limits.{is_quota}
-use Rattle.private_store.specs.Shape.{Shape, Change}
-use Rattle.private_store.specs.Step.{step}
+use Rattle.private_store.specs.rules.Change.{done, checked}
+use Rattle.private_store.specs.rules.Contents.{Contents, judge}
+use Rattle.private_store.specs.rules.Copies.{is_range_within, fits_quota}
+use Rattle.private_store.specs.rules.Extents.{end_of}
+use Rattle.private_store.specs.rules.Limits.{is_quota}
+use Rattle.private_store.specs.rules.Shape.{Shape, Change}
+use Rattle.private_store.specs.rules.Step.{step}
 use Rattle.store_facts.proofs.Checks.{checked-nil, checked-false}
 use Rattle.store_facts.proofs.Tests.{both, both_left, both_right}
 use Rattle.job_region.specs.Region.{are_within, extents_of}
 use Rattle.lru_evictor.specs.Plans.{extents_in}
 use Rattle.lru_evictor.proofs.ForCallers.{reordered-unused}
-use Rattle.node_table.specs.Quotas.{fits, refusal_by, requota_check, store_check, requoted}
-use Rattle.node_table.specs.Row.{Row, Beside, copies_of, shape_of, place_of, ArePlaced}
-use Rattle.node_table.specs.Shown.{seen, IsShown, only, TakesStep}
+use Rattle.node_table.specs.Quotas.{fits, refusal_by, row_requota_check, store_check, requoted}
+use Rattle.node_table.specs.Row.{Row, SharedTables, copies_of, shape_of, place_of, ArePlaced}
+use Rattle.node_table.specs.Shown.{seen, IsShown, only, RowStep}
 use Rattle.node_table.proofs.Described.{first_in, later_in, nothing_in, one_of, same_extents}
 use Rattle.node_table.proofs.Stepping.{moved, same_bytes, received_stays}
 use Rattle.node_table.proofs.Telling.{device_is}
@@ -55,16 +55,16 @@ within-is quota (p ∷ placed) = ap (λ b. nat_le (p.0 + length p.1) quota && b)
 
 -- ---- the check
 
-module _ (row : Row) (beside : Beside) (contents : Contents) (h : IsShown row beside contents) (placed : ArePlaced row.window.placed (place_of row.copies)) (quota : Quota) where
+module _ (row : Row) (beside : SharedTables) (contents : Contents) (h : IsShown row beside contents) (placed : ArePlaced row.window.placed (place_of row.copies)) (quota : Quota) where
   fits-is : fits row quota ≡ fits_quota (shape_of row beside) quota
   fits-is = λ i. window i && nat_le (device_is row beside contents h i) quota.device
     where
-      window : are_within quota.window row.window.placed ≡ is_within (shape_of row beside) quota.window
+      window : are_within quota.window row.window.placed ≡ is_range_within (shape_of row beside) quota.window
       window =
           within-is quota.window row.window.placed
           ∙ same_all (λ e. nat_le (end_of e) quota.window) (extents_of row.window.placed) (extents_in (shape_of row beside)) (same_extents row beside contents h placed)
 
-  pub check-is : requota_check row quota ≡ store_check (shape_of row beside) quota
+  pub check-is : row_requota_check row quota ≡ store_check (shape_of row beside) quota
   check-is = ap (λ b. refusal_by b quota) fits-is
 
 -- ---- the step
@@ -75,8 +75,8 @@ check_passed true true e = (refl, refl)
 check_passed true false e = absurd cc
 check_passed false fits e = absurd cc
 
-module _ (node : ℕ) (row : Row) (beside : Beside) (contents : Contents) (h : IsShown row beside contents) (placed : ArePlaced row.window.placed (place_of row.copies))
-    (quota : Quota) (none : requota_check row quota ≡ None) where
+module _ (node : ℕ) (row : Row) (beside : SharedTables) (contents : Contents) (h : IsShown row beside contents) (placed : ArePlaced row.window.placed (place_of row.copies))
+    (quota : Quota) (none : row_requota_check row quota ≡ None) where
   abbrev s : Shape
   s = shape_of row beside
 
@@ -95,7 +95,7 @@ module _ (node : ℕ) (row : Row) (beside : Beside) (contents : Contents) (h : I
       ∙ checked-false s (not (fits_quota s quota)) Full [] c fine.1
       ∙ checked-nil s c
 
-  pub requota_done : TakesStep node row beside contents x (only reply.Ok) (requoted row quota) beside
+  pub requota_done : RowStep node row beside contents x (only reply.Ok) (requoted row quota) beside
   requota_done =
       moved node row beside contents h x c change_is (only reply.Ok) (requoted row quota) beside (record {
         shape = refl;

@@ -4,9 +4,9 @@ use Rattle.std.specs.List.{list_all}
 use Rattle.obj_id.specs.declared.ids.ObjectId.{ObjectId}
 use Rattle.obj_id.specs.Ids.{same_id}
 use Rattle.store_facts.proofs.Ids.{same_id-itself, same_id-equal}
-use Rattle.private_store.specs.Tables.{ById, at, with_entry}
-use Rattle.private_store.specs.Shape.{Seen}
-use Rattle.private_store.specs.Contents.{kept}
+use Rattle.private_store.specs.rules.Tables.{ById, at, with_entry}
+use Rattle.private_store.specs.rules.Shape.{Seen}
+use Rattle.private_store.specs.rules.Contents.{kept}
 use Rattle.store_facts.proofs.Rows.{at-put}
 use Rattle.store_facts.proofs.Tests.{both, both_left, both_right}
 use Rattle.store_facts.proofs.KeptLists.{all_weaker}

@@ -9,19 +9,19 @@ use Rattle.obj_id.specs.declared.commands.Command.TheVariants as command
 use Rattle.obj_id.specs.declared.commands.Reply.TheVariants as reply
 use Rattle.private_store.specs.declared.inputs.Input.{Input}
 use Rattle.private_store.specs.declared.inputs.Input.TheVariants as input
-use Rattle.private_store.specs.Tables.{at}
-use Rattle.private_store.specs.Shape.{Copy, Shape, Change}
-use Rattle.private_store.specs.Room.{set_copy}
-use Rattle.private_store.specs.Change.{refused, done, erasing, settled}
-use Rattle.private_store.specs.Commands.{release, holds_of, with_holds}
-use Rattle.private_store.specs.Contents.{Contents}
-use Rattle.private_store.specs.Private.{key_of}
+use Rattle.private_store.specs.rules.Tables.{at}
+use Rattle.private_store.specs.rules.Shape.{Copy, Shape, Change}
+use Rattle.private_store.specs.rules.Room.{set_copy}
+use Rattle.private_store.specs.rules.Change.{refused, done, erasing, settled}
+use Rattle.private_store.specs.rules.Commands.{release, holds_of, with_holds}
+use Rattle.private_store.specs.rules.Contents.{Contents}
+use Rattle.private_store.specs.rules.Private.{key_of}
 use Rattle.store_facts.proofs.Checks.{checked-nil}
-use Rattle.node_table.specs.Kept.{Kept, released}
-use Rattle.node_table.specs.Row.{Row, Beside, shape_of, place_of, ArePlaced}
+use Rattle.node_table.specs.CopyViews.{CopyView, after_release}
+use Rattle.node_table.specs.Row.{Row, SharedTables, shape_of, place_of, ArePlaced}
 use Rattle.node_table.specs.Dropping.{dropped, is_over, is_over_at, settled_row, keys_settled}
 use Rattle.node_table.specs.Checks.{release_check}
-use Rattle.node_table.specs.Shown.{IsShown, only, TakesStep}
+use Rattle.node_table.specs.Shown.{IsShown, only, RowStep}
 use Rattle.node_table.proofs.ByChecks.{unless_refused, first-check, in_table, called, own}
 use Rattle.node_table.proofs.CopyTables.{at-copies, at-copies_found}
 use Rattle.node_table.proofs.Passed.{there}
@@ -29,7 +29,7 @@ use Rattle.node_table.proofs.Settling.{settles}
 use Rattle.node_table.proofs.Stepping.{stays}
 use Rattle.node_table.specs.Scope.{with_copy}
 
-module _ (node : ℕ) (row : Row) (beside : Beside) (contents : Contents) (session : ℕ) (id : ObjectId) (mine : (id.job.0 == row.job) ≡ true) (h : IsShown row beside contents) where
+module _ (node : ℕ) (row : Row) (beside : SharedTables) (contents : Contents) (session : ℕ) (id : ObjectId) (mine : (id.job.0 == row.job) ≡ true) (h : IsShown row beside contents) where
   abbrev s : Shape
   s = shape_of row beside
 
@@ -50,19 +50,19 @@ module _ (node : ℕ) (row : Row) (beside : Beside) (contents : Contents) (sessi
       first-check s (holds_of k.copy session == 0) NotHeld [] _ None release_done
       (checked-nil s _ ∙ sym (ap (λ o. option_map_or less o (refused s Absent)) (at-copies row.copies id ∙ ap (option_map (λ k. k.copy)) found))))
 
-  pub release_refused : (r : Refusal) → release_check row.copies session id ≡ Some r → TakesStep node row beside contents x (only (reply.Refused r)) row beside
+  pub release_refused : (r : Refusal) → release_check row.copies session id ≡ Some r → RowStep node row beside contents x (only (reply.Refused r)) row beside
   release_refused r e =
       stays node row beside contents h x (reply.Refused r)
       (called row beside session (command.Release id) ∙ ap (erasing s) (own row beside id _ mine ∙ release-by ∙ ap (λ o. unless_refused s o release_done) e)) refl refl refl
 
   -- the row with a hold less
   abbrev pub row_released : Row
-  row_released = with_copy (released session) row id
+  row_released = with_copy (after_release session) row id
 
-  released_there : (k : Kept) → at row.copies id ≡ Some k → release_check row.copies session id ≡ None → ArePlaced row_released.window.placed (place_of row_released.copies)
-      → TakesStep node row beside contents x (record { reply = reply.Ok; posts = []; erased = keys_settled row_released id }) (settled_row row_released id) beside
+  released_there : (k : CopyView) → at row.copies id ≡ Some k → release_check row.copies session id ≡ None → ArePlaced row_released.window.placed (place_of row_released.copies)
+      → RowStep node row beside contents x (record { reply = reply.Ok; posts = []; erased = keys_settled row_released id }) (settled_row row_released id) beside
   released_there k found passed placed =
-      settles node row beside contents h x (record { bytes = refl; digest = refl; received = refl }) id k found (released session)
+      settles node row beside contents h x (record { bytes = refl; digest = refl; received = refl }) id k found (after_release session)
       (record {
         lies = λ z. (refl, refl);
         digest = refl;
@@ -77,7 +77,7 @@ module _ (node : ℕ) (row : Row) (beside : Beside) (contents : Contents) (sessi
       (λ o. refl) placed
 
   pub release_done_so : release_check row.copies session id ≡ None → ArePlaced row_released.window.placed (place_of row_released.copies)
-      → TakesStep node row beside contents x (record { reply = reply.Ok; posts = []; erased = keys_settled row_released id }) (settled_row row_released id) beside
+      → RowStep node row beside contents x (record { reply = reply.Ok; posts = []; erased = keys_settled row_released id }) (settled_row row_released id) beside
   release_done_so passed placed =
       let k = there (λ k. cond (holds_of k.copy session == 0) (Some NotHeld) None) Absent (at row.copies id) passed in
       released_there k.0 k.1 passed placed
@@ -86,13 +86,13 @@ module _ (node : ℕ) (row : Row) (beside : Beside) (contents : Contents) (sessi
 pub row_kept : (row : Row) (id : ObjectId) → is_over_at row.copies id ≡ false → settled_row row id ≡ row
 row_kept row id kept = by (at row.copies id) kept
   where
-    by : (o : Option Kept) → option_map_or is_over o false ≡ false → option_map_or (λ k. cond (is_over k) (dropped row id) row) o row ≡ row
+    by : (o : Option CopyView) → option_map_or is_over o false ≡ false → option_map_or (λ k. cond (is_over k) (dropped row id) row) o row ≡ row
     by None h = refl
     by (Some k) h = ap (λ b. cond b (dropped row id) row) h
 
 pub keys_kept : (row : Row) (id : ObjectId) → is_over_at row.copies id ≡ false → keys_settled row id ≡ []
 keys_kept row id kept = by (at row.copies id) kept
   where
-    by : (o : Option Kept) → option_map_or is_over o false ≡ false → option_map_or (λ k. cond (is_over k) (option_to_list (option_map (key_of row.job) k.copy.backed)) []) o [] ≡ []
+    by : (o : Option CopyView) → option_map_or is_over o false ≡ false → option_map_or (λ k. cond (is_over k) (option_to_list (option_map (key_of row.job) k.copy.backed)) []) o [] ≡ []
     by None h = refl
     by (Some k) h = ap (λ b. cond b (option_to_list (option_map (key_of row.job) k.copy.backed)) []) h

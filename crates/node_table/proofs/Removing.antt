@@ -1,7 +1,7 @@
 -- Copies of some ids changed, one after the other.
 use Rattle.std.proofs.Common.{◌≡◌, ℕ, ◌+◌, List, ◌∷◌, drop, sym, ap, ◌∙◌}
 use Rattle.obj_id.specs.declared.ids.ObjectId.{ObjectId}
-use Rattle.private_store.specs.Tables.{ById}
+use Rattle.private_store.specs.rules.Tables.{ById}
 use Rattle.node_table.specs.Entries.{each_changed, changed}
 
 -- the first of those that are left is changed

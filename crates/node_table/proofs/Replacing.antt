@@ -13,9 +13,9 @@ use Rattle.obj_id.specs.declared.works.Extent.{Extent}
 use Rattle.obj_id.specs.Kinds.{is_primary}
 use Rattle.obj_id.specs.Ids.{same_id}
 use Rattle.store_facts.proofs.Ids.{same_id-equal, same_id-itself}
-use Rattle.private_store.specs.Tables.{ById, at, with_entry, is_among}
-use Rattle.private_store.specs.Extents.{rounded}
-use Rattle.private_store.specs.Copies.{extent_of}
+use Rattle.private_store.specs.rules.Tables.{ById, at, with_entry, is_among}
+use Rattle.private_store.specs.rules.Extents.{rounded}
+use Rattle.private_store.specs.rules.Copies.{extent_of}
 use Rattle.store_facts.proofs.Rows.{at-put}
 use Rattle.store_facts.proofs.Tests.{true_false, false_true, some_value, none_some}
 use Rattle.job_region.specs.Region.{extents_of, without, put_in, IsAt}
@@ -24,9 +24,9 @@ use Rattle.lru_evictor.specs.Facts.{gone_of}
 use Rattle.lru_evictor.specs.Orders.{without_id, last_used}
 use Rattle.lru_evictor.proofs.ForCallers.{goes, without-permuted}
 use Rattle.node_table.specs.Evicting.{all_evicted}
-use Rattle.node_table.specs.Followed.{LiesAlone}
-use Rattle.node_table.specs.Kept.{Kept, unplaced}
-use Rattle.node_table.specs.RoomPlans.{facts_of}
+use Rattle.node_table.specs.InSync.{LiesAlone}
+use Rattle.node_table.specs.CopyViews.{CopyView, after_eviction}
+use Rattle.node_table.specs.RoomPlans.{row_facts_of}
 use Rattle.node_table.specs.Row.{place_of, ArePlaced}
 use Rattle.node_table.proofs.Evicting.{evicted_of, at-evicted}
 use Rattle.node_table.proofs.Described.{first_in, later_in, one_of, nothing_in}
@@ -39,14 +39,14 @@ level m n t = grind (arith, nat_tests, t)
 
 -- ---- the extents that go
 
-module _ (es : ById Kept) where
+module _ (es : ById CopyView) where
   abbrev pub gone : List ObjectId → List Extent
-  gone victims = gone_of (λ id. option_map facts_of (at es id)) victims
+  gone victims = gone_of (λ id. option_map row_facts_of (at es id)) victims
 
-  extent_is : (v : ObjectId) → option_and_then (λ f. f.extent) (option_map facts_of (at es v)) ≡ place_of es v
+  extent_is : (v : ObjectId) → option_and_then (λ f. f.extent) (option_map row_facts_of (at es v)) ≡ place_of es v
   extent_is v = by (at es v)
     where
-      by : (o : Option Kept) → option_and_then (λ f. f.extent) (option_map facts_of o) ≡ option_and_then (λ kept. extent_of kept.copy) o
+      by : (o : Option CopyView) → option_and_then (λ f. f.extent) (option_map row_facts_of o) ≡ option_and_then (λ kept. extent_of kept.copy) o
       by None = refl
       by (Some k) = refl
 
@@ -148,11 +148,11 @@ beside p (x ∷ placed) e inside = by (nat_lt x.0 p.0) (beside p placed e) insid
 
 -- ---- the copies
 
-module _ (es : ById Kept) (placed : List (ℕ × List ℕ)) (h : ArePlaced placed (place_of es)) (victims : List ObjectId)
-    (id : ObjectId) (k : Kept) (n offset : ℕ) (nowhere : place_of es id ≡ None) (stays : is_among victims id ≡ false)
+module _ (es : ById CopyView) (placed : List (ℕ × List ℕ)) (h : ArePlaced placed (place_of es)) (victims : List ObjectId)
+    (id : ObjectId) (k : CopyView) (n offset : ℕ) (nowhere : place_of es id ≡ None) (stays : is_among victims id ≡ false)
     (lies_there : extent_of k.copy ≡ Some (record { offset = offset; length = rounded n }))
     (fresh : lookup (nat_eq offset) (without (gone es victims) placed) ≡ None) where
-  abbrev pub es_now : ById Kept
+  abbrev pub es_now : ById CopyView
   es_now = all_evicted victims (with_entry es id k)
 
   abbrev pub placed_now : List (ℕ × List ℕ)
@@ -161,7 +161,7 @@ module _ (es : ById Kept) (placed : List (ℕ × List ℕ)) (h : ArePlaced place
   abbrev new : Extent
   new = record { offset = offset; length = rounded n }
 
-  abbrev entered : ObjectId → Option Kept
+  abbrev entered : ObjectId → Option CopyView
   entered q = cond (same_id q id) (Some k) (at es q)
 
   pub at_now : (q : ObjectId) → at es_now q ≡ cond (is_among victims q) (option_and_then evicted_of (entered q)) (entered q)
@@ -171,23 +171,23 @@ module _ (es : ById Kept) (placed : List (ℕ × List ℕ)) (h : ArePlaced place
   id_now = at_now id ∙ (λ i. cond (stays i) (option_and_then evicted_of (entered id)) (cond (same_id-itself id i) (Some k) (at es id)))
 
   -- an entry of another object: it was there, and is no victim, or gave up its place
-  pub record Was (q : ObjectId) (y : Kept) : Type 0 where
-    pub was : Kept
+  pub record Was (q : ObjectId) (y : CopyView) : Type 0 where
+    pub was : CopyView
     pub other : same_id q id ≡ false
     pub found : at es q ≡ Some was
-    pub is : ((is_among victims q ≡ false) × (was ≡ y)) ⊎ ((is_among victims q ≡ true) × (is_primary was.copy.kind ≡ true) × (unplaced was ≡ y))
+    pub is : ((is_among victims q ≡ false) × (was ≡ y)) ⊎ ((is_among victims q ≡ true) × (is_primary was.copy.kind ≡ true) × (after_eviction was ≡ y))
 
-  abbrev pub Stands : ObjectId → Kept → Type 0
+  abbrev pub Stands : ObjectId → CopyView → Type 0
   Stands q y = ((same_id q id ≡ true) × (k ≡ y)) ⊎ Was q y
 
-  pub stands : (q : ObjectId) (y : Kept) → at es_now q ≡ Some y → Stands q y
+  pub stands : (q : ObjectId) (y : CopyView) → at es_now q ≡ Some y → Stands q y
   stands q y found = by (same_id q id) refl (is_among victims q) refl (at es q) refl (sym (at_now q) ∙ found)
     where
-      kind : (z : Kept) (p : Bool) → is_primary z.copy.kind ≡ p → cond p (Some (unplaced z)) None ≡ Some y → (is_primary z.copy.kind ≡ true) × (unplaced z ≡ y)
-      kind z true p e = (p, some_value (unplaced z) y e)
+      kind : (z : CopyView) (p : Bool) → is_primary z.copy.kind ≡ p → cond p (Some (after_eviction z)) None ≡ Some y → (is_primary z.copy.kind ≡ true) × (after_eviction z ≡ y)
+      kind z true p e = (p, some_value (after_eviction z) y e)
       kind z false p e = none_some y e
 
-      by : (s : Bool) → same_id q id ≡ s → (a : Bool) → is_among victims q ≡ a → (o : Option Kept) → at es q ≡ o
+      by : (s : Bool) → same_id q id ≡ s → (a : Bool) → is_among victims q ≡ a → (o : Option CopyView) → at es q ≡ o
           → cond a (option_and_then evicted_of (cond s (Some k) o)) (cond s (Some k) o) ≡ Some y → Stands q y
       by true s true v o f e = true_false (sym (sym v ∙ ap (is_among victims) (same_id-equal q id s) ∙ stays))
       by true s false v o f e = inl (s, some_value k y e)
@@ -223,24 +223,24 @@ module _ (es : ById Kept) (placed : List (ℕ × List ℕ)) (h : ArePlaced place
   place_now : (q : ObjectId) (e : Extent) → place_of es_now q ≡ Some e → ((q ≡ id) × (new ≡ e)) ⊎ ((is_among victims q ≡ false) × (place_of es q ≡ Some e))
   place_now q e lies = by (at es_now q) refl lies
     where
-      of : (y : Kept) → Stands q y → extent_of y.copy ≡ Some e → ((q ≡ id) × (new ≡ e)) ⊎ ((is_among victims q ≡ false) × (place_of es q ≡ Some e))
-      of y (inl t) lies = inl (same_id-equal q id t.0, some_value new e (sym lies_there ∙ ap (λ (k : Kept). extent_of k.copy) t.1 ∙ lies))
+      of : (y : CopyView) → Stands q y → extent_of y.copy ≡ Some e → ((q ≡ id) × (new ≡ e)) ⊎ ((is_among victims q ≡ false) × (place_of es q ≡ Some e))
+      of y (inl t) lies = inl (same_id-equal q id t.0, some_value new e (sym lies_there ∙ ap (λ (k : CopyView). extent_of k.copy) t.1 ∙ lies))
       of y (inr w) lies = elim w.is [
-        | inl t ↦ inr (t.0, ap (option_and_then (λ (k : Kept). extent_of k.copy)) (w.found ∙ ap Some t.1) ∙ lies)
-        | inr t ↦ none_some e (ap (λ (k : Kept). extent_of k.copy) t.2 ∙ lies)
+        | inl t ↦ inr (t.0, ap (option_and_then (λ (k : CopyView). extent_of k.copy)) (w.found ∙ ap Some t.1) ∙ lies)
+        | inr t ↦ none_some e (ap (λ (k : CopyView). extent_of k.copy) t.2 ∙ lies)
       ]
 
-      by : (o : Option Kept) → at es_now q ≡ o → option_and_then (λ (k : Kept). extent_of k.copy) o ≡ Some e → ((q ≡ id) × (new ≡ e)) ⊎ ((is_among victims q ≡ false) × (place_of es q ≡ Some e))
+      by : (o : Option CopyView) → at es_now q ≡ o → option_and_then (λ (k : CopyView). extent_of k.copy) o ≡ Some e → ((q ≡ id) × (new ≡ e)) ⊎ ((is_among victims q ≡ false) × (place_of es q ≡ Some e))
       by None found lies = none_some e lies
       by (Some y) found lies = of y (stands q y found) lies
 
   pub new_lies : place_of es_now id ≡ Some new
-  new_lies = ap (option_and_then (λ (k : Kept). extent_of k.copy)) id_now ∙ lies_there
+  new_lies = ap (option_and_then (λ (k : CopyView). extent_of k.copy)) id_now ∙ lies_there
 
   old_lies : (q : ObjectId) (e : Extent) → is_among victims q ≡ false → place_of es q ≡ Some e → place_of es_now q ≡ Some e
-  old_lies q e kept lies = ap (option_and_then (λ (k : Kept). extent_of k.copy)) (at_now q ∙ ap (λ a. cond a (option_and_then evicted_of (entered q)) (entered q)) kept) ∙ by (same_id q id) refl
+  old_lies q e kept lies = ap (option_and_then (λ (k : CopyView). extent_of k.copy)) (at_now q ∙ ap (λ a. cond a (option_and_then evicted_of (entered q)) (entered q)) kept) ∙ by (same_id q id) refl
     where
-      by : (b : Bool) → same_id q id ≡ b → option_and_then (λ (k : Kept). extent_of k.copy) (cond b (Some k) (at es q)) ≡ Some e
+      by : (b : Bool) → same_id q id ≡ b → option_and_then (λ (k : CopyView). extent_of k.copy) (cond b (Some k) (at es q)) ≡ Some e
       by true t = none_some e (sym nowhere ∙ ap (place_of es) (sym (same_id-equal q id t)) ∙ lies)
       by false t = lies
 
@@ -277,12 +277,12 @@ module _ (es : ById Kept) (placed : List (ℕ × List ℕ)) (h : ArePlaced place
   replaced_placed = record { there = there_now; apart = apart_now; owned = owned_now }
 
 -- where copies are placed, one that lies there lies alone
-pub alone : (placed : List (ℕ × List ℕ)) (es : ById Kept) (id : ObjectId) (e : Extent) → ArePlaced placed (place_of es) → place_of es id ≡ Some e → e.offset + e.length < 2 ^ 29 → LiesAlone es id e
+pub alone : (placed : List (ℕ × List ℕ)) (es : ById CopyView) (id : ObjectId) (e : Extent) → ArePlaced placed (place_of es) → place_of es id ≡ Some e → e.offset + e.length < 2 ^ 29 → LiesAlone es id e
 alone placed es id e h lies small = record { lies = lies; apart = λ x f there same. h.apart x id f e there lies same; small = small }
 
 -- ---- what goes, in another order
 
-pub left_sorted : (es : ById Kept) (victims : List ObjectId) (placed : List (ℕ × List ℕ)) (sorted taken : List Extent) → IsPermutation (gone es victims) sorted → taken ≡ sorted → without taken placed ≡ without (gone es victims) placed
+pub left_sorted : (es : ById CopyView) (victims : List ObjectId) (placed : List (ℕ × List ℕ)) (sorted taken : List Extent) → IsPermutation (gone es victims) sorted → taken ≡ sorted → without taken placed ≡ without (gone es victims) placed
 left_sorted es victims placed sorted taken moved is = ap (λ gs. without gs placed) is ∙ without-permuted (gone es victims) sorted placed moved
 
 -- ---- an id that is in an order no more

@@ -16,30 +16,30 @@ use Rattle.obj_id.specs.Ids.{same_id}
 use Rattle.store_facts.proofs.Ids.{same_id-itself}
 use Rattle.private_store.specs.declared.inputs.Input.{Input}
 use Rattle.private_store.specs.declared.inputs.Input.TheVariants as input
-use Rattle.private_store.specs.Change.{erasing, in_room, checked}
-use Rattle.private_store.specs.Commands.{restore, restoring as restored}
-use Rattle.private_store.specs.Contents.{Contents, judge, keeps_digest, is_sized}
-use Rattle.private_store.specs.Copies.{was_sealed, is_sealed}
-use Rattle.private_store.specs.Extents.{first}
-use Rattle.private_store.specs.Hands.{Hand}
-use Rattle.private_store.specs.Kept.{is_remembered, is_restoring, is_fetching, has_write, has_read}
-use Rattle.private_store.specs.Limits.{most_works, longest_object, has_numbers}
-use Rattle.private_store.specs.Room.{make_room, offset_without, works_left}
-use Rattle.private_store.specs.Shape.{Shape, Change, Fetch, WorkInFlight}
-use Rattle.private_store.specs.Step.{step}
-use Rattle.private_store.specs.Tables.{at, is_among}
+use Rattle.private_store.specs.rules.Change.{erasing, in_room, checked}
+use Rattle.private_store.specs.rules.Commands.{restore, restoring as restored}
+use Rattle.private_store.specs.rules.Contents.{Contents, judge, keeps_digest, is_sized}
+use Rattle.private_store.specs.rules.Copies.{was_sealed, is_sealed}
+use Rattle.private_store.specs.rules.Extents.{first}
+use Rattle.private_store.specs.rules.Hands.{Hand}
+use Rattle.private_store.specs.laws.Invariants.{is_remembered, is_restoring, is_fetching, has_write, has_read}
+use Rattle.private_store.specs.rules.Limits.{most_works, longest_object, has_numbers}
+use Rattle.private_store.specs.rules.Room.{make_room, offset_without, works_left}
+use Rattle.private_store.specs.rules.Shape.{Shape, Change, Fetch, WorkInFlight}
+use Rattle.private_store.specs.rules.Step.{step}
+use Rattle.private_store.specs.rules.Tables.{at, is_among}
 use Rattle.store_facts.proofs.KeptCopy.{has_work-split}
 use Rattle.store_facts.proofs.Checks.{checked-nil, checked-true, checked-false}
 use Rattle.store_facts.proofs.Tests.{both, none_some, none_here, true_false}
-use Rattle.spill_work.specs.Line.{WorkLine, Asks, ask_check, used_by, works_of, in_flight}
+use Rattle.spill_work.specs.Line.{WorkLine, AsksWork, ask_check, used_by, works_of, in_flight}
 use Rattle.node_table.specs.Asked.{HasAsked}
 use Rattle.job_region.specs.Region.{extents_of}
 use Rattle.node_table.specs.Evicting.{placed_without, replaced, removals}
-use Rattle.node_table.specs.Kept.{Kept, restoring}
+use Rattle.node_table.specs.CopyViews.{CopyView, after_restore_begun}
 use Rattle.node_table.specs.MadeRooms.{BringsNothing}
 use Rattle.node_table.specs.RoomPlans.{MakesPlace}
-use Rattle.node_table.specs.Row.{Row, Beside, beside_of, shape_of, place_of, ArePlaced}
-use Rattle.node_table.specs.Shown.{seen, work_on, IsShown, only, TakesStep}
+use Rattle.node_table.specs.Row.{Row, SharedTables, beside_of, shape_of, place_of, ArePlaced}
+use Rattle.node_table.specs.Shown.{seen, work_on, IsShown, only, RowStep}
 use Rattle.node_table.proofs.Asking.{work_before, work_after}
 use Rattle.node_table.proofs.CopyTables.{at-copies_found}
 use Rattle.node_table.proofs.Described.{working-on}
@@ -58,8 +58,8 @@ one_work w id own reads =
 no_other : (w : WorkInFlight) (q : ObjectId) → same_id q w.id ≡ false → work_on (w ∷ []) q ≡ None
 no_other w q other = ap (λ b. option_map (λ (w : WorkInFlight). cond w.writes Write Read) (cond b (Some w) None)) other
 
-module _ (node : ℕ) (row : Row) (beside : Beside) (contents : Contents) (session : ℕ) (id : ObjectId) (mine : (id.job.0 == row.job) ≡ true) (alive : is_remembered row.ended_tasks id.task ≡ false) (h : IsShown row beside contents)
-    (k : Kept) (found : at row.copies id ≡ Some k) (unmarked : k.copy.doomed ≡ false) (is : k.copy.state ≡ Away) (sound : k.copy.fault ≡ None) where
+module _ (node : ℕ) (row : Row) (beside : SharedTables) (contents : Contents) (session : ℕ) (id : ObjectId) (mine : (id.job.0 == row.job) ≡ true) (alive : is_remembered row.ended_tasks id.task ≡ false) (h : IsShown row beside contents)
+    (k : CopyView) (found : at row.copies id ≡ Some k) (unmarked : k.copy.doomed ≡ false) (is : k.copy.state ≡ Away) (sound : k.copy.fault ≡ None) where
   abbrev s : Shape
   s = shape_of row beside
 
@@ -82,7 +82,7 @@ module _ (node : ℕ) (row : Row) (beside : Beside) (contents : Contents) (sessi
   abbrev numbered : Change
   numbered = checked s ((is_ok (make_room row.order s n).offset && not (has_numbers s.works_asked 1), TooMany) ∷ []) (in_room (make_room row.order s n) f)
 
-  pub busy_told : (works_left s == 0) ≡ true → TakesStep node row beside contents x (only (reply.Refused Busy)) row beside
+  pub busy_told : (works_left s == 0) ≡ true → RowStep node row beside contents x (only (reply.Refused Busy)) row beside
   busy_told none =
       stays node row beside contents h x (reply.Refused Busy)
       (by_restore ∙ ap (erasing s) (checked-true s (works_left s == 0) Busy [] numbered none)) refl refl refl
@@ -107,7 +107,7 @@ module _ (node : ℕ) (row : Row) (beside : Beside) (contents : Contents) (sessi
           by None e = true_false e
           by (Some p) e = refl
 
-      pub too_many_told : has_numbers s.works_asked 1 ≡ false → TakesStep node row beside contents x (only (reply.Refused TooMany)) row beside
+      pub too_many_told : has_numbers s.works_asked 1 ≡ false → RowStep node row beside contents x (only (reply.Refused TooMany)) row beside
       too_many_told none =
           stays node row beside contents h x (reply.Refused TooMany)
           (after_busy ∙ ap (erasing s) (checked-true s (is_ok (make_room row.order s n).offset && not (has_numbers s.works_asked 1)) TooMany [] (in_room (make_room row.order s n) f)
@@ -118,7 +118,7 @@ module _ (node : ℕ) (row : Row) (beside : Beside) (contents : Contents) (sessi
         abbrev work : WorkInFlight
         work = record { number = s.works_asked + 1; id = id; writes = false }
 
-        abbrev pub after : Beside
+        abbrev pub after : SharedTables
         after = record beside { works = beside.works ++ work ∷ []; used = beside.used + 1 }
 
         by_room : step row.order s (judge node (seen row beside contents) x) ≡ erasing s (in_room (make_room row.order s n) f)
@@ -145,15 +145,15 @@ module _ (node : ℕ) (row : Row) (beside : Beside) (contents : Contents) (sessi
         keeps : keeps_digest k.copy ≡ true
         keeps = ap (λ st. cond (was_sealed st) true (option_map_or (λ (fetch : Fetch). is_sized fetch.phase) k.copy.fetch false)) is
 
-        pub restore_done : TakesStep node row beside contents x (record { reply = reply.Refused Pending; posts = removals node row.copies victims; erased = [] }) (replaced row None id (restoring offset k) n offset victims) after
+        pub restore_done : RowStep node row beside contents x (record { reply = reply.Refused Pending; posts = removals node row.copies victims; erased = [] }) (replaced row None id (after_restore_begun offset k) n offset victims) after
         restore_done =
-            subst (λ ps. TakesStep node row beside contents x (record { reply = reply.Refused Pending; posts = ps; erased = [] }) (replaced row None id (restoring offset k) n offset victims) after) (append-nil (removals node row.copies victims))
-            (placed_done node row beside contents h x quiet n f by_room victims makes placed id (restoring offset k) nowhere stays_here offset refl refl least free
+            subst (λ ps. RowStep node row beside contents x (record { reply = reply.Refused Pending; posts = ps; erased = [] }) (replaced row None id (after_restore_begun offset k) n offset victims) after) (append-nil (removals node row.copies victims))
+            (placed_done node row beside contents h x quiet n f by_room victims makes placed id (after_restore_begun offset k) nowhere stays_here offset refl refl least free
             after.works after.used None refl refl (λ u none. none_some u none) (λ _. h.listed id k found) (λ now. h.digests id k found keeps)
             (sym (work_before beside.works (work ∷ []) id no_work ∙ one_work work id refl refl)) (λ q differs. work_after beside.works (work ∷ []) q (no_other work q differs)) (h.granted id k found) [] refl)
 
 -- what a job sees once a read was asked for
-pub asked_beside : (old new : WorkLine) (job number : ℕ) (id : ObjectId) (hands : List Hand) (bytes : ObjectId → List ℕ) → Asks old (record { job = record { 0 = job }; number = number; id = id; kind = Read }) new
+pub asked_beside : (old new : WorkLine) (job number : ℕ) (id : ObjectId) (hands : List Hand) (bytes : ObjectId → List ℕ) → AsksWork old (record { job = record { 0 = job }; number = number; id = id; kind = Read }) new
     → beside_of new hands bytes job ≡ record (beside_of old hands bytes job) { works = (beside_of old hands bytes job).works ++ record { number = used_by old (record { 0 = job }) + 1; id = id; writes = false } ∷ []; used = used_by old (record { 0 = job }) + 1 }
 asked_beside old new job number id hands bytes asks =
     (λ i. record (beside_of old hands bytes job) { works = asks.own_works i; used = asks.own_used i })
@@ -188,7 +188,7 @@ numbers_left place used (inl more) fits t = left (has_numbers used 1) refl
     left false e = absurd (more.1 (grind (arith, nat_tests, e, fits)))
 numbers_left place used (inr none) fits t = true_false (sym none ∙ t)
 
-pub has_asked : (old new : WorkLine) (j : JobNo) (number : ℕ) (id : ObjectId) → Asks old (record { job = j; number = number; id = id; kind = Read }) new → HasAsked old j new
+pub has_asked : (old new : WorkLine) (j : JobNo) (number : ℕ) (id : ObjectId) → AsksWork old (record { job = j; number = number; id = id; kind = Read }) new → HasAsked old j new
 has_asked old new j number id asks = record {
   kind = Read;
   ids = id ∷ [];
@@ -201,5 +201,5 @@ pub asked_nothing : (line : WorkLine) (job : JobNo) → HasAsked line job line
 asked_nothing line job = record { kind = Read; ids = []; works = sym (append-nil line.works); own_works = sym (append-nil (works_of line job)) }
 
 -- what is away has bytes, and no more than the longest
-pub sized_away : (row : Row) (beside : Beside) (contents : Contents) (h : IsShown row beside contents) (id : ObjectId) (k : Kept) → at row.copies id ≡ Some k → k.copy.state ≡ Away → (0 < k.copy.length) × (k.copy.length ≤ longest_object)
+pub sized_away : (row : Row) (beside : SharedTables) (contents : Contents) (h : IsShown row beside contents) (id : ObjectId) (k : CopyView) → at row.copies id ≡ Some k → k.copy.state ≡ Away → (0 < k.copy.length) × (k.copy.length ≤ longest_object)
 sized_away row beside contents h id k found is = (h.kept.kept.shape.each id k.copy (at-copies_found row.copies id k found)).sized (ap is_fetching is)

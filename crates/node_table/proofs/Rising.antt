@@ -18,7 +18,7 @@ use Rattle.obj_id.specs.declared.ids.ObjectId.{ObjectId}
 use Rattle.obj_id.specs.Ids.{id_cmp, id_eq, same_id}
 use Rattle.store_facts.proofs.Ids.{id_cmp-IsTotalOrder, id_cmp-IsAntisymmetric, same_id-id_eq, same_id-flip, id_eq_equiv, id_eq-equal, id_eq-itself}
 use Rattle.store_facts.proofs.Tests.{none_some}
-use Rattle.private_store.specs.Tables.{ById, at, with_entry, without_entry}
+use Rattle.private_store.specs.rules.Tables.{ById, at, with_entry, without_entry}
 use Rattle.node_table.specs.Entries.{by_rising_id, all_changed}
 
 module _ {X : Type 0} where

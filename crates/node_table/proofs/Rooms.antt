@@ -21,24 +21,24 @@ use Rattle.obj_id.specs.Ids.{id_cmp, same_id}
 use Rattle.obj_id.specs.Kinds.{is_primary}
 use Rattle.store_facts.proofs.Ids.{id_cmp-IsTotalOrder, id_cmp-IsAntisymmetric, same_id-equal, same_id-itself, same_id-flip}
 use Rattle.private_store.specs.declared.inputs.Input.{Input}
-use Rattle.private_store.specs.Tables.{ById, at, with_entry, without_entry, is_among}
-use Rattle.private_store.specs.Extents.{rounded, first, is_size}
-use Rattle.private_store.specs.Limits.{longest_object}
+use Rattle.private_store.specs.rules.Tables.{ById, at, with_entry, without_entry, is_among}
+use Rattle.private_store.specs.rules.Extents.{rounded, first, is_size}
+use Rattle.private_store.specs.rules.Limits.{longest_object}
 use Rattle.store_facts.proofs.FirstFit.{first-free}
-use Rattle.private_store.specs.Shape.{Copy, Shape, Change, Sending, WorkInFlight, remove_location}
-use Rattle.private_store.specs.Copies.{extent_of, is_sealed, was_sealed, is_evictable, is_idle, device_used}
-use Rattle.private_store.specs.Room.{Room, make_room, offset_without, no_room, evict_room, evicted}
-use Rattle.private_store.specs.Change.{refused, sending, erasing, in_room}
-use Rattle.private_store.specs.Kept.{IsOrderOfUse, has_hand}
-use Rattle.private_store.specs.Contents.{Contents, View, judge, keeps_digest, no_digest, whole_reply, brought, is_sized}
-use Rattle.private_store.specs.Private.{Post, key_of, posts_of, to_directory, view_after}
-use Rattle.private_store.specs.Step.{step, reordered, is_used}
+use Rattle.private_store.specs.rules.Shape.{Copy, Shape, Change, Sending, WorkInFlight, remove_location}
+use Rattle.private_store.specs.rules.Copies.{extent_of, is_sealed, was_sealed, is_evictable, is_idle, device_used}
+use Rattle.private_store.specs.rules.Room.{Room, make_room, offset_without, no_room, evict_room, evicted}
+use Rattle.private_store.specs.rules.Change.{refused, sending, erasing, in_room}
+use Rattle.private_store.specs.laws.Invariants.{IsOrderOfUse, has_hand}
+use Rattle.private_store.specs.rules.Contents.{Contents, View, judge, keeps_digest, no_digest, whole_reply, brought, is_sized}
+use Rattle.private_store.specs.rules.Private.{Post, key_of, posts_of, to_directory, view_after}
+use Rattle.private_store.specs.rules.Step.{step, reordered, is_used}
 use Rattle.store_facts.proofs.Filling.{filled}
 use Rattle.store_facts.proofs.KeptLists.{any-filter, all_weaker}
 use Rattle.store_facts.proofs.ErasedKeys.{keys_none, all_found}
 use Rattle.store_facts.proofs.Rows.{at-put}
 use Rattle.store_facts.proofs.Tests.{T_true, both, both_left, both_right, or_left, or_right, some_value, none_some, true_false}
-use Rattle.job_region.specs.Region.{bytes_at as placed_bytes, extents_of}
+use Rattle.job_region.specs.Region.{region_bytes_at as placed_bytes, extents_of}
 use Rattle.job_region.proofs.ForCallers.{lookup-put_in}
 use Rattle.lru_evictor.specs.declared.facts.CopyFacts.{CopyFacts}
 use Rattle.lru_evictor.specs.Orders.{AreThere}
@@ -46,11 +46,11 @@ use Rattle.lru_evictor.specs.declared.facts.DeviceRoom.{DeviceRoom}
 use Rattle.lru_evictor.proofs.ForCallers.{offset-described, reordered-unused}
 use Rattle.node_table.specs.Entries.{changed}
 use Rattle.node_table.specs.Evicting.{has_secondary, evicted_one, all_evicted, removals, placed_without, MayGo, replaced}
-use Rattle.node_table.specs.Kept.{Kept, unplaced, is_sealed_at}
+use Rattle.node_table.specs.CopyViews.{CopyView, after_eviction, is_sealed_at}
 use Rattle.node_table.specs.MadeRooms.{BringsNothing, TellsRoom}
-use Rattle.node_table.specs.RoomPlans.{MakesPlace, facts_of, is_idle as is_idle_here}
-use Rattle.node_table.specs.Row.{Row, Beside, copies_of, shape_of, place_of, ArePlaced}
-use Rattle.node_table.specs.Shown.{seen, work_on, IsShown, Given, only, TakesStep}
+use Rattle.node_table.specs.RoomPlans.{MakesPlace, row_facts_of, is_idle as is_idle_here}
+use Rattle.node_table.specs.Row.{Row, SharedTables, copies_of, shape_of, place_of, ArePlaced}
+use Rattle.node_table.specs.Shown.{seen, work_on, IsShown, RowGiven, only, RowStep}
 use Rattle.node_table.proofs.ByChecks.{sending-is}
 use Rattle.node_table.proofs.Changes.{changed-found, changed-absent}
 use Rattle.node_table.proofs.CopyTables.{sorted-copies, at-copies, at-copies_found, copies-with}
@@ -58,24 +58,24 @@ use Rattle.node_table.proofs.Counting.{length-once}
 use Rattle.node_table.proofs.Described.{described, facts_at}
 use Rattle.node_table.proofs.Evicting.{CanGo, evicted_of, at-evicted, store_evicted, evictions_told, none_erased}
 use Rattle.node_table.proofs.Replacing.{Stands, stands, at_now, id_now, found_still}
-use Rattle.node_table.proofs.Stepping.{Moves, moved, stays, same_bytes, received_stays}
+use Rattle.node_table.proofs.Stepping.{TakesChange, moved, stays, same_bytes, received_stays}
 
 -- ---- tables of which some are evicted
 
-sorted-one : (es : ById Kept) (id : ObjectId) → T (is_sorted id_cmp es) → T (is_sorted id_cmp (evicted_one es id))
+sorted-one : (es : ById CopyView) (id : ObjectId) → T (is_sorted id_cmp es) → T (is_sorted id_cmp (evicted_one es id))
 sorted-one es id sorted = by (has_secondary es id) (at es id) refl
   where
-    by : (b : Bool) (o : Option Kept) → at es id ≡ o → T (is_sorted id_cmp (cond b (without_entry es id) (changed unplaced es id)))
+    by : (b : Bool) (o : Option CopyView) → at es id ≡ o → T (is_sorted id_cmp (cond b (without_entry es id) (changed after_eviction es id)))
     by true o found = is_sorted-where_key id_cmp (λ x. not (same_id id x)) es sorted
-    by false None none = subst (λ t. T (is_sorted id_cmp t)) (sym (changed-absent unplaced id es none)) sorted
-    by false (Some k) found = subst (λ t. T (is_sorted id_cmp t)) (sym (changed-found unplaced id es k found)) (is_sorted-put id_cmp id_cmp-IsTotalOrder id (unplaced k) es sorted)
+    by false None none = subst (λ t. T (is_sorted id_cmp t)) (sym (changed-absent after_eviction id es none)) sorted
+    by false (Some k) found = subst (λ t. T (is_sorted id_cmp t)) (sym (changed-found after_eviction id es k found)) (is_sorted-put id_cmp id_cmp-IsTotalOrder id (after_eviction k) es sorted)
 
-sorted-evicted : (ids : List ObjectId) (es : ById Kept) → T (is_sorted id_cmp es) → T (is_sorted id_cmp (all_evicted ids es))
+sorted-evicted : (ids : List ObjectId) (es : ById CopyView) → T (is_sorted id_cmp es) → T (is_sorted id_cmp (all_evicted ids es))
 sorted-evicted [] es sorted = sorted
 sorted-evicted (id ∷ ids) es sorted = sorted-evicted ids (evicted_one es id) (sorted-one es id sorted)
 
 -- what is put stays, whichever others are evicted
-with-evicted : (ids : List ObjectId) (es : ById Kept) (id : ObjectId) (k : Kept) → T (is_sorted id_cmp es) → is_among ids id ≡ false → all_evicted ids (with_entry es id k) ≡ with_entry (all_evicted ids es) id k
+with-evicted : (ids : List ObjectId) (es : ById CopyView) (id : ObjectId) (k : CopyView) → T (is_sorted id_cmp es) → is_among ids id ≡ false → all_evicted ids (with_entry es id k) ≡ with_entry (all_evicted ids es) id k
 with-evicted ids es id k sorted stays =
     same_entries id_cmp id_cmp-IsTotalOrder id_cmp-IsAntisymmetric (all_evicted ids (with_entry es id k)) (with_entry (all_evicted ids es) id k)
     (sorted-evicted ids (with_entry es id k) (is_sorted-put id_cmp id_cmp-IsTotalOrder id k es sorted))
@@ -160,30 +160,30 @@ first_within es window n p e =
     grind (arith, nat_tests, inside)
 
 -- what may be evicted is sealed, and each copy is named once
-module _ (copies : ById Kept) where
-  is_sealed_there : (q : ObjectId) → option_map_or (λ (f : CopyFacts). f.evictable) (option_map facts_of (at copies q)) false ≡ true → is_sealed_at copies q ≡ true
+module _ (copies : ById CopyView) where
+  is_sealed_there : (q : ObjectId) → option_map_or (λ (f : CopyFacts). f.evictable) (option_map row_facts_of (at copies q)) false ≡ true → is_sealed_at copies q ≡ true
   is_sealed_there q = by (at copies q)
     where
-      by : (o : Option Kept) → option_map_or (λ (f : CopyFacts). f.evictable) (option_map facts_of o) false ≡ true → option_map_or (λ (k : Kept). is_sealed k.copy.state) o false ≡ true
+      by : (o : Option CopyView) → option_map_or (λ (f : CopyFacts). f.evictable) (option_map row_facts_of o) false ≡ true → option_map_or (λ (k : CopyView). is_sealed k.copy.state) o false ≡ true
       by None t = t
       by (Some k) t = both_left (is_sealed k.copy.state) (is_idle_here k) (both_left (is_sealed k.copy.state && is_idle_here k) _ t)
 
-  is_there : (q : ObjectId) → option_map_or (λ (f : CopyFacts). f.evictable) (option_map facts_of (at copies q)) false ≡ true → is_some (at copies q) ≡ true
+  is_there : (q : ObjectId) → option_map_or (λ (f : CopyFacts). f.evictable) (option_map row_facts_of (at copies q)) false ≡ true → is_some (at copies q) ≡ true
   is_there q = by (at copies q)
     where
-      by : (o : Option Kept) → option_map_or (λ (f : CopyFacts). f.evictable) (option_map facts_of o) false ≡ true → is_some o ≡ true
+      by : (o : Option CopyView) → option_map_or (λ (f : CopyFacts). f.evictable) (option_map row_facts_of o) false ≡ true → is_some o ≡ true
       by None t = true_false t
       by (Some k) t = refl
 
-  pub may_go : (victims : List ObjectId) → list_all (λ q. option_map_or (λ (f : CopyFacts). f.evictable) (option_map facts_of (at copies q)) false) victims ≡ true → IsOrderOfUse victims → MayGo copies victims
+  pub may_go : (victims : List ObjectId) → list_all (λ q. option_map_or (λ (f : CopyFacts). f.evictable) (option_map row_facts_of (at copies q)) false) victims ≡ true → IsOrderOfUse victims → MayGo copies victims
   may_go victims evictable once =
       record {
-        sealed = all_weaker (λ q. option_map_or (λ (f : CopyFacts). f.evictable) (option_map facts_of (at copies q)) false) (is_sealed_at copies) victims is_sealed_there evictable;
-        few = length-once victims copies once (all_weaker (λ q. option_map_or (λ (f : CopyFacts). f.evictable) (option_map facts_of (at copies q)) false) (λ q. is_some (at copies q)) victims is_there evictable);
+        sealed = all_weaker (λ q. option_map_or (λ (f : CopyFacts). f.evictable) (option_map row_facts_of (at copies q)) false) (is_sealed_at copies) victims is_sealed_there evictable;
+        few = length-once victims copies once (all_weaker (λ q. option_map_or (λ (f : CopyFacts). f.evictable) (option_map row_facts_of (at copies q)) false) (λ q. is_some (at copies q)) victims is_there evictable);
       }
 
 -- what isn't sealed isn't among them
-pub stays_of : (copies : ById Kept) (victims : List ObjectId) (id : ObjectId) → MayGo copies victims → is_sealed_at copies id ≡ false → is_among victims id ≡ false
+pub stays_of : (copies : ById CopyView) (victims : List ObjectId) (id : ObjectId) → MayGo copies victims → is_sealed_at copies id ≡ false → is_among victims id ≡ false
 stays_of copies victims id go unsealed = by (is_among victims id) refl
   where
     by : (b : Bool) → is_among victims id ≡ b → b ≡ false
@@ -191,17 +191,17 @@ stays_of copies victims id go unsealed = by (is_among victims id) refl
     by true among = sym (each_among (is_sealed_at copies) victims go.sealed id among) ∙ unsealed
 
 -- where a plan makes a place for n bytes
-module _ (row : Row) (beside : Beside) (contents : Contents) (h : IsShown row beside contents) (n : ℕ) (victims : List ObjectId)
+module _ (row : Row) (beside : SharedTables) (contents : Contents) (h : IsShown row beside contents) (n : ℕ) (victims : List ObjectId)
     (makes : MakesPlace (make_room row.order (shape_of row beside) n) (shape_of row beside) n victims) where
   abbrev st : Shape
   st = shape_of row beside
 
   -- a victim is sealed, and a secondary or backed
-  pub record Goes (k : Kept) : Type 0 where
+  pub record Goes (k : CopyView) : Type 0 where
     pub sealed : is_sealed k.copy.state ≡ true
     pub backed : is_primary k.copy.kind ≡ true → is_some k.copy.backed ≡ true
 
-  pub goes : (q : ObjectId) (k : Kept) → is_among victims q ≡ true → at row.copies q ≡ Some k → Goes k
+  pub goes : (q : ObjectId) (k : CopyView) → is_among victims q ≡ true → at row.copies q ≡ Some k → Goes k
   goes q k among found =
       let evictable : is_evictable st q k.copy ≡ true =
       sym (ap (λ c. option_map_or (is_evictable st q) c false) (at-copies_found row.copies q k found))
@@ -240,7 +240,7 @@ module _ (row : Row) (beside : Beside) (contents : Contents) (h : IsShown row be
             let within = first_within (extents_of (placed_without row victims)) row.window.quota n p e in
             both (nat_lt 0 n && nat_le n longest_object) _ (both (nat_lt 0 n) _ (grind (arith, nat_tests, some)) (grind (arith, nat_tests, small))) (grind (arith, nat_tests, within))
 
-module _ (node : ℕ) (row : Row) (beside : Beside) (contents : Contents) (h : IsShown row beside contents) (x : Input) (quiet : BringsNothing node (seen row beside contents) x)
+module _ (node : ℕ) (row : Row) (beside : SharedTables) (contents : Contents) (h : IsShown row beside contents) (x : Input) (quiet : BringsNothing node (seen row beside contents) x)
     (n : ℕ) (f : Shape → ℕ → Change) (by_room : step row.order (shape_of row beside) (judge node (seen row beside contents) x) ≡ erasing (shape_of row beside) (in_room (make_room row.order (shape_of row beside) n) f)) where
   abbrev s : Shape
   s = shape_of row beside
@@ -251,13 +251,13 @@ module _ (node : ℕ) (row : Row) (beside : Beside) (contents : Contents) (h : I
   pub room_is : (room : Room) → make_room row.order s n ≡ room → step row.order s (judge node bf x) ≡ erasing s (sending room.sent (elim room.offset [ Ok offset ↦ f room.shape offset | Err refusal ↦ refused room.shape refusal ]))
   room_is room is = by_room ∙ ap (erasing s) (ap (λ r. in_room r f) is ∙ in_room-is room f)
 
-  pub room_refused : (r : Refusal) → make_room row.order s n ≡ no_room s r → TakesStep node row beside contents x (only (reply.Refused r)) row beside
+  pub room_refused : (r : Refusal) → make_room row.order s n ≡ no_room s r → RowStep node row beside contents x (only (reply.Refused r)) row beside
   room_refused r is =
       stays node row beside contents h x (reply.Refused r) (room_is (no_room s r) is ∙ ap (erasing s) (sending-is [] (refused s r)))
       (quiet.bytes (reply.Refused r)) (quiet.digests (reply.Refused r)) quiet.received
 
-  -- that a spill failed is told, and then forgotten
-  pub failed_told : make_room row.order s n ≡ no_room (record s { spill_failed = false }) DeviceFailed → TakesStep node row beside contents x (only (reply.Refused DeviceFailed)) (record row { spill_failed = false }) beside
+  -- that a spill failed is answered, and then forgotten
+  pub failed_told : make_room row.order s n ≡ no_room (record s { spill_failed = false }) DeviceFailed → RowStep node row beside contents x (only (reply.Refused DeviceFailed)) (record row { spill_failed = false }) beside
   failed_told is =
       let told : Shape = record s { spill_failed = false } in
       moved node row beside contents h x (erasing s (refused told DeviceFailed)) (room_is (no_room told DeviceFailed) is ∙ ap (erasing s) (sending-is [] (refused told DeviceFailed)))
@@ -279,7 +279,7 @@ module _ (node : ℕ) (row : Row) (beside : Beside) (contents : Contents) (h : I
 
   module _ (victims : List ObjectId) (makes : MakesPlace (make_room row.order s n) s n victims) where
     module _ (placed : ArePlaced row.window.placed (place_of row.copies)) where
-      module _ (id : ObjectId) (k : Kept) (nowhere : place_of row.copies id ≡ None) (kept_here : is_among victims id ≡ false)
+      module _ (id : ObjectId) (k : CopyView) (nowhere : place_of row.copies id ≡ None) (kept_here : is_among victims id ≡ false)
           (offset : ℕ) (lies_there : extent_of k.copy ≡ Some (record { offset = offset; length = rounded n })) (long : k.copy.length ≡ n)
           (least : first (extents_of (placed_without row victims)) row.window.quota n ≡ Some offset) (free : lookup (nat_eq offset) (placed_without row victims) ≡ None)
           (works : List WorkInFlight) (numbers : ℕ) (used : Option ObjectId)
@@ -298,7 +298,7 @@ module _ (node : ℕ) (row : Row) (beside : Beside) (contents : Contents) (h : I
         abbrev pub c : Change
         c = erasing s (record d { sent = sent ++ d.sent })
 
-        abbrev pub after : Beside
+        abbrev pub after : SharedTables
         after = record beside { works = works; used = numbers }
 
         abbrev pub new : Row
@@ -326,15 +326,15 @@ module _ (node : ℕ) (row : Row) (beside : Beside) (contents : Contents) (h : I
         still : (q : ObjectId) → is_some (at (copies_of row.copies) q) ≡ true → is_some (at (copies_of new.copies) q) ≡ not (is_among victims q && is_none (at new.copies q))
         still q was = ap is_some (at-copies new.copies q) ∙ mapped (at new.copies q) ∙ by (is_among victims q) refl
           where
-            mapped : (o : Option Kept) → is_some (option_map (λ (k : Kept). k.copy) o) ≡ is_some o
+            mapped : (o : Option CopyView) → is_some (option_map (λ (k : CopyView). k.copy) o) ≡ is_some o
             mapped None = refl
             mapped (Some k) = refl
 
-            none_is : (o : Option Kept) → is_some o ≡ not (is_none o)
+            none_is : (o : Option CopyView) → is_some o ≡ not (is_none o)
             none_is None = refl
             none_is (Some k) = refl
 
-            entered : (b : Bool) (o : Option Kept) → is_some o ≡ true → is_some (cond b (Some k) o) ≡ true
+            entered : (b : Bool) (o : Option CopyView) → is_some o ≡ true → is_some (cond b (Some k) o) ≡ true
             entered true o e = refl
             entered false o e = e
 
@@ -367,10 +367,10 @@ module _ (node : ℕ) (row : Row) (beside : Beside) (contents : Contents) (h : I
             last None is = refl
             last (Some w) is = both _ true (ap (λ q. is_some (at (copies_of new.copies) q)) (is w refl) ∙ now_there) refl
 
-        stands_at : (q : ObjectId) (y : Kept) → at new.copies q ≡ Some y → Stands row.copies row.window.placed placed victims id k n offset nowhere kept_here lies_there free q y
+        stands_at : (q : ObjectId) (y : CopyView) → at new.copies q ≡ Some y → Stands row.copies row.window.placed placed victims id k n offset nowhere kept_here lies_there free q y
         stands_at = stands row.copies row.window.placed placed victims id k n offset nowhere kept_here lies_there free
 
-        listed_now : (q : ObjectId) (y : Kept) → at new.copies q ≡ Some y → is_among new.order q ≡ true
+        listed_now : (q : ObjectId) (y : CopyView) → at new.copies q ≡ Some y → is_among new.order q ≡ true
         listed_now q y found =
             subst (λ ids. is_among ids q ≡ true) order_is
             (still_listed row.order (copies_of new.copies) used q (ap is_some (at-copies_found new.copies q y found)) (elim (stands_at q y found) [
@@ -385,7 +385,7 @@ module _ (node : ℕ) (row : Row) (beside : Beside) (contents : Contents) (h : I
         no_bytes : at contents.bytes id ≡ None
         no_bytes = by (at contents.bytes id) refl
           where
-            unplaced_here : (o : Option Kept) → option_and_then (λ kept. extent_of kept.copy) o ≡ None → option_map_or (λ copy. is_some copy.offset) (option_map (λ (k : Kept). k.copy) o) false ≡ false
+            unplaced_here : (o : Option CopyView) → option_and_then (λ kept. extent_of kept.copy) o ≡ None → option_map_or (λ copy. is_some copy.offset) (option_map (λ (k : CopyView). k.copy) o) false ≡ false
             unplaced_here None e = refl
             unplaced_here (Some z) e = of z.copy.offset e
               where
@@ -407,14 +407,14 @@ module _ (node : ℕ) (row : Row) (beside : Beside) (contents : Contents) (h : I
             ∙ ap (λ (e : Extent). take n (placed_bytes e new.window.placed)) (some_value (record { offset = offset; length = rounded n }) e (sym lies_there ∙ lies))
             ∙ ap (λ m. take m (placed_bytes e new.window.placed)) (sym long)
 
-        bytes_at_now : (q : ObjectId) (y : Kept) (e : Extent) → at new.copies q ≡ Some y → extent_of y.copy ≡ Some e → filled (at contents.bytes q) y.copy ≡ take y.copy.length (placed_bytes e new.window.placed)
+        bytes_at_now : (q : ObjectId) (y : CopyView) (e : Extent) → at new.copies q ≡ Some y → extent_of y.copy ≡ Some e → filled (at contents.bytes q) y.copy ≡ take y.copy.length (placed_bytes e new.window.placed)
         bytes_at_now q y e found lies = elim (stands_at q y found) [
-          | inl t ↦ ap (λ i. filled (at contents.bytes i) y.copy) (same_id-equal q id t.0) ∙ subst (λ (z : Kept). filled (at contents.bytes id) z.copy ≡ take z.copy.length (placed_bytes e new.window.placed)) t.1 (new_bytes e (ap (λ (z : Kept). extent_of z.copy) t.1 ∙ lies))
+          | inl t ↦ ap (λ i. filled (at contents.bytes i) y.copy) (same_id-equal q id t.0) ∙ subst (λ (z : CopyView). filled (at contents.bytes id) z.copy ≡ take z.copy.length (placed_bytes e new.window.placed)) t.1 (new_bytes e (ap (λ (z : CopyView). extent_of z.copy) t.1 ∙ lies))
           | inr w ↦ elim w.is [
             | inl t ↦
                 same_bytes node row beside contents h x q y e (w.found ∙ ap Some t.1) lies
-                ∙ ap (λ o. take y.copy.length (unwrap_or o [])) (sym (found_still row.copies row.window.placed placed victims id k n offset nowhere kept_here lies_there free q e t.0 (ap (option_and_then (λ (z : Kept). extent_of z.copy)) (w.found ∙ ap Some t.1) ∙ lies)).1)
-            | inr t ↦ none_some e (ap (λ (z : Kept). extent_of z.copy) t.2 ∙ lies)
+                ∙ ap (λ o. take y.copy.length (unwrap_or o [])) (sym (found_still row.copies row.window.placed placed victims id k n offset nowhere kept_here lies_there free q e t.0 (ap (option_and_then (λ (z : CopyView). extent_of z.copy)) (w.found ∙ ap Some t.1) ∙ lies)).1)
+            | inr t ↦ none_some e (ap (λ (z : CopyView). extent_of z.copy) t.2 ∙ lies)
           ]
         ]
 
@@ -429,41 +429,41 @@ module _ (node : ℕ) (row : Row) (beside : Beside) (contents : Contents) (h : I
             by Fetching e = true_false e
             by Away e = refl
 
-        digests_now : (q : ObjectId) (y : Kept) → at new.copies q ≡ Some y → keeps_digest y.copy ≡ true → unwrap_or (at contents.digests q) no_digest ≡ unwrap_or y.digest no_digest
+        digests_now : (q : ObjectId) (y : CopyView) → at new.copies q ≡ Some y → keeps_digest y.copy ≡ true → unwrap_or (at contents.digests q) no_digest ≡ unwrap_or y.digest no_digest
         digests_now q y found keeps = elim (stands_at q y found) [
-          | inl t ↦ ap (λ i. unwrap_or (at contents.digests i) no_digest) (same_id-equal q id t.0) ∙ of_digest (ap (λ (z : Kept). keeps_digest z.copy) t.1 ∙ keeps) ∙ ap (λ (z : Kept). unwrap_or z.digest no_digest) t.1
+          | inl t ↦ ap (λ i. unwrap_or (at contents.digests i) no_digest) (same_id-equal q id t.0) ∙ of_digest (ap (λ (z : CopyView). keeps_digest z.copy) t.1 ∙ keeps) ∙ ap (λ (z : CopyView). unwrap_or z.digest no_digest) t.1
           | inr w ↦ elim w.is [
             | inl t ↦ h.digests q y (w.found ∙ ap Some t.1) keeps
-            | inr t ↦ h.digests q w.was w.found (sealed_keeps w.was.copy (goes row beside contents h n victims makes q w.was t.0 w.found).sealed) ∙ ap (λ (z : Kept). unwrap_or z.digest no_digest) t.2
+            | inr t ↦ h.digests q w.was w.found (sealed_keeps w.was.copy (goes row beside contents h n victims makes q w.was t.0 w.found).sealed) ∙ ap (λ (z : CopyView). unwrap_or z.digest no_digest) t.2
           ]
         ]
 
-        working_now : (q : ObjectId) (y : Kept) → at new.copies q ≡ Some y → y.working ≡ work_on works q
+        working_now : (q : ObjectId) (y : CopyView) → at new.copies q ≡ Some y → y.working ≡ work_on works q
         working_now q y found = elim (stands_at q y found) [
-          | inl t ↦ ap (λ (z : Kept). z.working) (sym t.1) ∙ of_work ∙ ap (work_on works) (sym (same_id-equal q id t.0))
+          | inl t ↦ ap (λ (z : CopyView). z.working) (sym t.1) ∙ of_work ∙ ap (work_on works) (sym (same_id-equal q id t.0))
           | inr w ↦ elim w.is [
-            | inl t ↦ ap (λ (z : Kept). z.working) (sym t.1) ∙ h.working q w.was w.found ∙ sym (same_works q w.other)
-            | inr t ↦ ap (λ (z : Kept). z.working) (sym t.2) ∙ h.working q w.was w.found ∙ sym (same_works q w.other)
+            | inl t ↦ ap (λ (z : CopyView). z.working) (sym t.1) ∙ h.working q w.was w.found ∙ sym (same_works q w.other)
+            | inr t ↦ ap (λ (z : CopyView). z.working) (sym t.2) ∙ h.working q w.was w.found ∙ sym (same_works q w.other)
           ]
         ]
 
-        granted_now : (q : ObjectId) (y : Kept) → at new.copies q ≡ Some y → y.granted ≡ has_hand beside.given q
+        granted_now : (q : ObjectId) (y : CopyView) → at new.copies q ≡ Some y → y.granted ≡ has_hand beside.given q
         granted_now q y found = elim (stands_at q y found) [
-          | inl t ↦ ap (λ (z : Kept). z.granted) (sym t.1) ∙ of_hand ∙ ap (has_hand beside.given) (sym (same_id-equal q id t.0))
+          | inl t ↦ ap (λ (z : CopyView). z.granted) (sym t.1) ∙ of_hand ∙ ap (has_hand beside.given) (sym (same_id-equal q id t.0))
           | inr w ↦ elim w.is [
-            | inl t ↦ ap (λ (z : Kept). z.granted) (sym t.1) ∙ h.granted q w.was w.found
-            | inr t ↦ ap (λ (z : Kept). z.granted) (sym t.2) ∙ h.granted q w.was w.found
+            | inl t ↦ ap (λ (z : CopyView). z.granted) (sym t.1) ∙ h.granted q w.was w.found
+            | inr t ↦ ap (λ (z : CopyView). z.granted) (sym t.2) ∙ h.granted q w.was w.found
           ]
         ]
 
         -- what is gone is a secondary, and no secondary is on the device
-        gone_unbacked : (q : ObjectId) (z : Kept) → at row.copies q ≡ Some z → at (copies_of new.copies) q ≡ None → z.copy.backed ≡ None
+        gone_unbacked : (q : ObjectId) (z : CopyView) → at row.copies q ≡ Some z → at (copies_of new.copies) q ≡ None → z.copy.backed ≡ None
         gone_unbacked q z found gone = by (same_id q id) refl (is_among victims q) (is_primary z.copy.kind) refl (sym (ap (λ o. cond (is_among victims q) (option_and_then evicted_of (cond (same_id q id) (Some k) o)) (cond (same_id q id) (Some k) o)) found) ∙ sym (now_at q) ∙ none)
           where
             none : at new.copies q ≡ None
             none = of (at new.copies q) (sym (at-copies new.copies q) ∙ gone)
               where
-                of : (o : Option Kept) → option_map (λ (k : Kept). k.copy) o ≡ None → o ≡ None
+                of : (o : Option CopyView) → option_map (λ (k : CopyView). k.copy) o ≡ None → o ≡ None
                 of None e = refl
                 of (Some y) e = none_some y.copy (sym e)
 
@@ -473,17 +473,17 @@ module _ (node : ℕ) (row : Row) (beside : Beside) (contents : Contents) (h : I
                 here_too : same_id q id ≡ true → at new.copies q ≡ Some k
                 here_too same = ap (at new.copies) (same_id-equal q id same) ∙ here
             by false same false p kind e = none_some z (sym e)
-            by false same true true kind e = none_some (unplaced z) (sym (sym (ap (λ p. cond p (Some (unplaced z)) None) kind) ∙ e))
+            by false same true true kind e = none_some (after_eviction z) (sym (sym (ap (λ p. cond p (Some (after_eviction z)) None) kind) ∙ e))
             by false same true false kind e = let m = h.kept.kept.shape.each q z.copy (at-copies_found row.copies q z found) in (m.secondary kind).2
 
         now_is : c.shape.copies ≡ copies_of new.copies
         now_is = ap (λ (t : Shape). t.copies) d_shape ∙ copies_is
 
         module _ (posts : List Post) where
-          abbrev pub told : Given
+          abbrev pub told : RowGiven
           told = record { reply = whole_reply bf x d.reply; posts = removals node row.copies victims ++ posts; erased = [] }
 
-          pub m : Moves node row beside contents h x c told new after
+          pub m : TakesChange node row beside contents h x c told new after
           m = record {
             shape = d_shape ∙ ap (λ t. record s { copies = t; works = works; works_asked = numbers }) copies_is;
             order = ap (reordered row.order (copies_of new.copies)) d_used ∙ order_is;
@@ -502,13 +502,13 @@ module _ (node : ℕ) (row : Row) (beside : Beside) (contents : Contents) (h : I
           posts_are [] o more = refl
           posts_are (q ∷ ids) o more = ap (λ ps. to_directory (RemoveLocation q node) ++ ps) (posts_are ids o more)
 
-          pub placed_done : posts ≡ flat_map (posts_of node (view_after node bf x (judge node bf x) c) x) d.sent → TakesStep node row beside contents x told new after
+          pub placed_done : posts ≡ flat_map (posts_of node (view_after node bf x (judge node bf x) c) x) d.sent → RowStep node row beside contents x told new after
           placed_done posts_is =
               moved node row beside contents h x c change_is told new after m
               (ap (λ ps. removals node row.copies victims ++ ps) posts_is ∙ posts_are (filter (has_secondary row.copies) victims) (view_after node bf x (judge node bf x) c) d.sent)
 
 -- whatever waited for the room
-module _ (row : Row) (beside : Beside) (contents : Contents) (h : IsShown row beside contents) (n : ℕ) where
+module _ (row : Row) (beside : SharedTables) (contents : Contents) (h : IsShown row beside contents) (n : ℕ) where
   pub refusal_told : (r : Refusal) → make_room row.order (shape_of row beside) n ≡ no_room (shape_of row beside) r → TellsRoom row beside contents n r row beside
   refusal_told r is = record { tells = λ node x f quiet by_room. room_refused node row beside contents h x quiet n f (by_room (ap (λ (room : Room). is_ok room.offset) is)) r is }
 
@@ -516,6 +516,6 @@ module _ (row : Row) (beside : Beside) (contents : Contents) (h : IsShown row be
       → TellsRoom row beside contents n DeviceFailed now beside
   failure_told is now same = record {
     tells = λ node x f quiet by_room.
-        subst (λ r. TakesStep node row beside contents x (only (reply.Refused DeviceFailed)) r beside) (sym same)
+        subst (λ r. RowStep node row beside contents x (only (reply.Refused DeviceFailed)) r beside) (sym same)
         (failed_told node row beside contents h x quiet n f (by_room (ap (λ (room : Room). is_ok room.offset) is)) is);
   }

@@ -16,27 +16,27 @@ use Rattle.obj_id.specs.Kinds.{is_primary}
 use Rattle.store_facts.proofs.Ids.{id_cmp-IsTotalOrder, id_cmp-IsAntisymmetric}
 use Rattle.private_store.specs.declared.inputs.Input.{Input}
 use Rattle.private_store.specs.declared.inputs.Input.TheVariants as input
-use Rattle.private_store.specs.Limits.{most_borrowers}
-use Rattle.private_store.specs.Tables.{ById, at, with_entry}
-use Rattle.private_store.specs.Shape.{Copy, Shape, Change, Sending, free, remove_location}
-use Rattle.private_store.specs.Copies.{extent_of, in_scope, was_sealed}
-use Rattle.private_store.specs.Kept.{is_remembered}
-use Rattle.private_store.specs.Room.{set_copy}
-use Rattle.private_store.specs.Change.{refused, done, checked, erasing, settled, doom, doom_notice, has_ended}
-use Rattle.private_store.specs.Change as changes
-use Rattle.private_store.specs.Commands.{unpin, borrow, give_up, delete, has_borrower, without_borrower}
-use Rattle.private_store.specs.Commands as commands
-use Rattle.private_store.specs.Contents.{Contents, View, keeps_digest}
-use Rattle.private_store.specs.Private.{Post, posts_of}
+use Rattle.private_store.specs.rules.Limits.{most_borrowers}
+use Rattle.private_store.specs.rules.Tables.{ById, at, with_entry}
+use Rattle.private_store.specs.rules.Shape.{Copy, Shape, Change, Sending, free, remove_location}
+use Rattle.private_store.specs.rules.Copies.{extent_of, in_scope, was_sealed}
+use Rattle.private_store.specs.laws.Invariants.{is_remembered}
+use Rattle.private_store.specs.rules.Room.{set_copy}
+use Rattle.private_store.specs.rules.Change.{refused, done, checked, erasing, settled, doom, doom_notice, has_ended}
+use Rattle.private_store.specs.rules.Change as changes
+use Rattle.private_store.specs.rules.Commands.{unpin, borrow, give_up, delete, has_borrower, without_borrower}
+use Rattle.private_store.specs.rules.Commands as commands
+use Rattle.private_store.specs.rules.Contents.{Contents, View, keeps_digest}
+use Rattle.private_store.specs.rules.Private.{Post, posts_of}
 use Rattle.store_facts.proofs.Checks.{checked-nil}
 use Rattle.store_facts.proofs.Rows.{at-put, at-put_here}
 use Rattle.store_facts.proofs.Tests.{T_true}
 use Rattle.node_table.specs.Checks.{unpin_check, unpin_check_of, borrow_check, borrow_check_of, row_borrow_check, give_up_check, give_up_check_of, delete_check}
 use Rattle.node_table.specs.Dropping.{settled_row, keys_settled}
-use Rattle.node_table.specs.Kept.{Kept, scoped, doomed, unpinned, borrowed, given_up}
-use Rattle.node_table.specs.Row.{Row, Beside, shape_of, place_of, ArePlaced}
-use Rattle.node_table.specs.Scope.{farewell, farewell_at, posted, with_copy}
-use Rattle.node_table.specs.Shown.{seen, IsShown, only, TakesStep}
+use Rattle.node_table.specs.CopyViews.{CopyView, view_in_scope, after_doom, after_unpin, after_borrow, after_give_up}
+use Rattle.node_table.specs.Row.{Row, SharedTables, shape_of, place_of, ArePlaced}
+use Rattle.node_table.specs.Scope.{removal_notice, removal_notice_at, notice_posts, with_copy}
+use Rattle.node_table.specs.Shown.{seen, IsShown, only, RowStep}
 use Rattle.node_table.proofs.ByChecks.{unless_refused, first-check, in_sight, called, own, sending-is}
 use Rattle.node_table.proofs.CopyTables.{at-copies_found}
 use Rattle.node_table.proofs.Passed.{past, there}
@@ -47,23 +47,23 @@ use Rattle.node_table.specs.RoomPlans.{is_idle}
 -- ---- what the changes leave as it was
 
 -- a copy that is perhaps doomed has what else it had
-scoped-keeps : {X : Type 0} (part : Kept → X) → ((z : Kept) → part (doomed z) ≡ part z) → (z : Kept) → part (scoped z) ≡ part z
+scoped-keeps : {X : Type 0} (part : CopyView → X) → ((z : CopyView) → part (after_doom z) ≡ part z) → (z : CopyView) → part (view_in_scope z) ≡ part z
 scoped-keeps part same z = by (in_scope z.copy)
   where
-    by : (b : Bool) → part (cond b z (doomed z)) ≡ part z
+    by : (b : Bool) → part (cond b z (after_doom z)) ≡ part z
     by true = refl
     by false = same z
 
-pub doomed-place : (z : Kept) → extent_of (doomed z).copy ≡ extent_of z.copy
+pub doomed-place : (z : CopyView) → extent_of (after_doom z).copy ≡ extent_of z.copy
 doomed-place z = refl
 
-pub unpinned-place : (z : Kept) → extent_of (unpinned z).copy ≡ extent_of z.copy
+pub unpinned-place : (z : CopyView) → extent_of (after_unpin z).copy ≡ extent_of z.copy
 unpinned-place z = scoped-keeps (λ y. extent_of y.copy) doomed-place (record z { copy = record z.copy { pinned = false } })
 
-pub given_up-place : (task : TaskNo) (z : Kept) → extent_of (given_up task z).copy ≡ extent_of z.copy
+pub given_up-place : (task : TaskNo) (z : CopyView) → extent_of (after_give_up task z).copy ≡ extent_of z.copy
 given_up-place task z = scoped-keeps (λ y. extent_of y.copy) doomed-place (record z { copy = without_borrower z.copy task })
 
-pub doomed-minor : (k : Kept) → IsMinor doomed k
+pub doomed-minor : (k : CopyView) → IsMinor after_doom k
 doomed-minor k = record {
   lies = λ z. (refl, refl);
   digest = refl;
@@ -73,7 +73,7 @@ doomed-minor k = record {
   backed = refl;
 }
 
-pub scoped-minor : (g : Kept → Kept) (k : Kept) → IsMinor g k → IsMinor (λ z. scoped (g z)) k
+pub scoped-minor : (g : CopyView → CopyView) (k : CopyView) → IsMinor g k → IsMinor (λ z. view_in_scope (g z)) k
 scoped-minor g k m = record {
   lies = λ z. (scoped-keeps (λ y. y.copy.offset) (λ y. refl) (g z) ∙ (m.lies z).0, scoped-keeps (λ y. y.copy.length) (λ y. refl) (g z) ∙ (m.lies z).1);
   digest = scoped-keeps (λ y. y.digest) (λ y. refl) (g k) ∙ m.digest;
@@ -83,7 +83,7 @@ scoped-minor g k m = record {
   backed = scoped-keeps (λ y. y.copy.backed) (λ y. refl) (g k) ∙ m.backed;
 }
   where
-    by : (b : Bool) → keeps_digest (cond b (g k) (doomed (g k))).copy ≡ true → keeps_digest (g k).copy ≡ true
+    by : (b : Bool) → keeps_digest (cond b (g k) (after_doom (g k))).copy ≡ true → keeps_digest (g k).copy ≡ true
     by true keep = keep
     by false keep = keep
 
@@ -134,39 +134,39 @@ scoped-is s id a sorted sound = by (in_scope a)
         doom-is (set_copy s id a) id a (at-put_here s.copies id a)
         ∙ ap (λ t. record (done (settled (record s { copies = t }) id)) { sent = option_to_list (notice_of id a) }) (with-again s.copies id a (record a { doomed = true }) sorted)
 
-pub scoped-copy : (k : Kept) → (scoped k).copy ≡ scoped_copy k.copy
+pub scoped-copy : (k : CopyView) → (view_in_scope k).copy ≡ scoped_copy k.copy
 scoped-copy k = by (in_scope k.copy)
   where
-    by : (b : Bool) → (cond b k (doomed k)).copy ≡ cond b k.copy (record k.copy { doomed = true })
+    by : (b : Bool) → (cond b k (after_doom k)).copy ≡ cond b k.copy (record k.copy { doomed = true })
     by true = refl
     by false = refl
 
 -- ---- messages
 
 module _ (node : ℕ) (id : ObjectId) (o : View) (x : Input) where
-  told-is : (k : Kept) (a : Copy) → a.state ≡ k.copy.state → a.kind ≡ k.copy.kind → a.doomed ≡ false
-      → posted (farewell node id k) ≡ flat_map (posts_of node o x) (option_to_list (notice_of id a))
+  told-is : (k : CopyView) (a : Copy) → a.state ≡ k.copy.state → a.kind ≡ k.copy.kind → a.doomed ≡ false
+      → notice_posts (removal_notice node id k) ≡ flat_map (posts_of node o x) (option_to_list (notice_of id a))
   told-is k a state kind sound =
       by (was_sealed k.copy.state) (is_primary k.copy.kind)
       ∙ sym (λ i. flat_map (posts_of node o x) (option_to_list (cond (was_sealed (state i) && not (sound i)) (cond (is_primary (kind i)) (Some (free id)) (Some (remove_location id))) None)))
     where
-      by : (b p : Bool) → posted (cond b (Some (cond p (Free id) (RemoveLocation id node))) None)
+      by : (b p : Bool) → notice_posts (cond b (Some (cond p (Free id) (RemoveLocation id node))) None)
           ≡ flat_map (posts_of node o x) (option_to_list (cond (b && true) (cond p (Some (free id)) (Some (remove_location id))) None))
       by true true = refl
       by true false = refl
       by false p = refl
 
-  pub scoped_told : (k : Kept) (a : Copy) → a.state ≡ k.copy.state → a.kind ≡ k.copy.kind → a.doomed ≡ false → (copies : ById Kept) → at copies id ≡ Some k
-      → posted (farewell_at node copies id (not (in_scope a))) ≡ flat_map (posts_of node o x) (scoped_notice id a)
+  pub scoped_told : (k : CopyView) (a : Copy) → a.state ≡ k.copy.state → a.kind ≡ k.copy.kind → a.doomed ≡ false → (copies : ById CopyView) → at copies id ≡ Some k
+      → notice_posts (removal_notice_at node copies id (not (in_scope a))) ≡ flat_map (posts_of node o x) (scoped_notice id a)
   scoped_told k a state kind sound copies found = by (in_scope a)
     where
-      by : (b : Bool) → posted (farewell_at node copies id (not b)) ≡ flat_map (posts_of node o x) (cond b [] (option_to_list (notice_of id a)))
+      by : (b : Bool) → notice_posts (removal_notice_at node copies id (not b)) ≡ flat_map (posts_of node o x) (cond b [] (option_to_list (notice_of id a)))
       by true = refl
-      by false = ap (λ o. posted (option_and_then (farewell node id) o)) found ∙ told-is k a state kind sound
+      by false = ap (λ o. notice_posts (option_and_then (removal_notice node id) o)) found ∙ told-is k a state kind sound
 
 -- ---- the commands
 
-module _ (node : ℕ) (row : Row) (beside : Beside) (contents : Contents) (session : ℕ) (id : ObjectId) (mine : (id.job.0 == row.job) ≡ true) (h : IsShown row beside contents) where
+module _ (node : ℕ) (row : Row) (beside : SharedTables) (contents : Contents) (session : ℕ) (id : ObjectId) (mine : (id.job.0 == row.job) ≡ true) (h : IsShown row beside contents) where
   abbrev s : Shape
   s = shape_of row beside
 
@@ -177,24 +177,24 @@ module _ (node : ℕ) (row : Row) (beside : Beside) (contents : Contents) (sessi
   abbrev with_it : (Copy → Change) → Change
   with_it f = option_map_or f (at s.copies id) (refused s Absent)
 
-  it : (f : Copy → Change) (k : Kept) → at row.copies id ≡ Some k → with_it f ≡ f k.copy
+  it : (f : Copy → Change) (k : CopyView) → at row.copies id ≡ Some k → with_it f ≡ f k.copy
   it f k found = ap (λ o. option_map_or f o (refused s Absent)) (at-copies_found row.copies id k found)
 
   -- a command that leaves the copy doomed unless it is in scope
-  module _ (c : Command (List ℕ)) (quiet : BringsNothing node (seen row beside contents) (input.Call session c)) (g : Kept → Kept) (k : Kept) (found : at row.copies id ≡ Some k)
+  module _ (c : Command (List ℕ)) (quiet : BringsNothing node (seen row beside contents) (input.Call session c)) (g : CopyView → CopyView) (k : CopyView) (found : at row.copies id ≡ Some k)
       (minor : IsMinor g k) (same : ((g k).copy.state ≡ k.copy.state) × ((g k).copy.kind ≡ k.copy.kind)) (sound : (g k).copy.doomed ≡ false) where
     abbrev row_scoped : Row
-    row_scoped = with_copy (λ z. scoped (g z)) row id
+    row_scoped = with_copy (λ z. view_in_scope (g z)) row id
 
     scoped_so : change node row beside contents h (input.Call session c) ≡ erasing s (commands.scoped s id (g k).copy)
-        → (stays : Bool) → stays ≡ in_scope (g k).copy → (posts : List Post) → posts ≡ posted (farewell_at node row.copies id (not stays))
+        → (stays : Bool) → stays ≡ in_scope (g k).copy → (posts : List Post) → posts ≡ notice_posts (removal_notice_at node row.copies id (not stays))
         → ArePlaced row_scoped.window.placed (place_of row_scoped.copies)
-        → TakesStep node row beside contents (input.Call session c) (record { reply = reply.Ok; posts = posts; erased = keys_settled row_scoped id }) (settled_row row_scoped id) beside
+        → RowStep node row beside contents (input.Call session c) (record { reply = reply.Ok; posts = posts; erased = keys_settled row_scoped id }) (settled_row row_scoped id) beside
     scoped_so is stays keeps posts told placed =
-        settles node row beside contents h (input.Call session c) quiet id k found (λ z. scoped (g z)) (scoped-minor g k minor) (scoped_notice id (g k).copy) posts
+        settles node row beside contents h (input.Call session c) quiet id k found (λ z. view_in_scope (g z)) (scoped-minor g k minor) (scoped_notice id (g k).copy) posts
         (is ∙ ap (erasing s) (scoped-is s id (g k).copy sorted sound
         ∙ ap (λ a. record (done (settled (set_copy s id a) id)) { sent = scoped_notice id (g k).copy }) (sym (scoped-copy (g k)))))
-        (λ o. told ∙ ap (λ b. posted (farewell_at node row.copies id (not b))) keeps
+        (λ o. told ∙ ap (λ b. notice_posts (removal_notice_at node row.copies id (not b))) keeps
         ∙ scoped_told node id o (input.Call session c) k (g k).copy same.0 same.1 sound row.copies found) placed
 
   -- ---- Unpin
@@ -214,22 +214,22 @@ module _ (node : ℕ) (row : Row) (beside : Beside) (contents : Contents) (sessi
         → change node row beside contents h (input.Call session (command.Unpin id task)) ≡ erasing s (unless_refused s check unpin_done)
     unpin-is check e = called row beside session (command.Unpin id task) ∙ ap (erasing s) (own row beside id _ mine ∙ unpin-by ∙ ap (λ o. unless_refused s o unpin_done) e)
 
-    pub unpin_refused : (r : Refusal) → unpin_check row.copies id task ≡ Some r → TakesStep node row beside contents (input.Call session (command.Unpin id task)) (only (reply.Refused r)) row beside
+    pub unpin_refused : (r : Refusal) → unpin_check row.copies id task ≡ Some r → RowStep node row beside contents (input.Call session (command.Unpin id task)) (only (reply.Refused r)) row beside
     unpin_refused r e = stays node row beside contents h (input.Call session (command.Unpin id task)) (reply.Refused r) (unpin-is (Some r) e) refl refl refl
 
     abbrev pub row_unpinned : Row
-    row_unpinned = with_copy unpinned row id
+    row_unpinned = with_copy after_unpin row id
 
-    pub unpin_done_so : unpin_check row.copies id task ≡ None → (keeps : Bool) → keeps ≡ option_map_or (λ (k : Kept). in_scope (record k.copy { pinned = false })) (at row.copies id) false
-        → (posts : List Post) → posts ≡ posted (farewell_at node row.copies id (not keeps)) → ArePlaced row_unpinned.window.placed (place_of row_unpinned.copies)
-        → TakesStep node row beside contents (input.Call session (command.Unpin id task)) (record { reply = reply.Ok; posts = posts; erased = keys_settled row_unpinned id }) (settled_row row_unpinned id) beside
+    pub unpin_done_so : unpin_check row.copies id task ≡ None → (keeps : Bool) → keeps ≡ option_map_or (λ (k : CopyView). in_scope (record k.copy { pinned = false })) (at row.copies id) false
+        → (posts : List Post) → posts ≡ notice_posts (removal_notice_at node row.copies id (not keeps)) → ArePlaced row_unpinned.window.placed (place_of row_unpinned.copies)
+        → RowStep node row beside contents (input.Call session (command.Unpin id task)) (record { reply = reply.Ok; posts = posts; erased = keys_settled row_unpinned id }) (settled_row row_unpinned id) beside
     unpin_done_so passed keeps is posts told placed =
         let k = there (λ k. cond k.copy.doomed (Some Absent) (unpin_check_of k (same_task task id.task))) Absent (at row.copies id) passed in
         scoped_so (command.Unpin id task) (record { bytes = refl; digest = refl; received = refl }) (λ z. record z { copy = record z.copy { pinned = false } }) k.0 k.1
         (record { lies = λ z. (refl, refl); digest = refl; keeps = λ keep. keep; working = refl; granted = refl; backed = refl })
         (refl, refl) (past k.0.copy.doomed Absent _ k.2).0
         (unpin-is None passed ∙ ap (erasing s) (it (λ copy. commands.scoped s id (record copy { pinned = false })) k.0 k.1))
-        keeps (is ∙ ap (λ o. option_map_or (λ (k : Kept). in_scope (record k.copy { pinned = false })) o false) k.1) posts told placed
+        keeps (is ∙ ap (λ o. option_map_or (λ (k : CopyView). in_scope (record k.copy { pinned = false })) o false) k.1) posts told placed
 
     pub unpin_ok : unpin_check row.copies id task ≡ None → (change node row beside contents h (input.Call session (command.Unpin id task))).reply ≡ reply.Ok
     unpin_ok passed =
@@ -254,22 +254,22 @@ module _ (node : ℕ) (row : Row) (beside : Beside) (contents : Contents) (sessi
         → change node row beside contents h (input.Call session (command.GiveUp id task)) ≡ erasing s (unless_refused s check give_up_done)
     give_up-is check e = called row beside session (command.GiveUp id task) ∙ ap (erasing s) (own row beside id _ mine ∙ give_up-by ∙ ap (λ o. unless_refused s o give_up_done) e)
 
-    pub give_up_refused : (r : Refusal) → give_up_check row.copies id task ≡ Some r → TakesStep node row beside contents (input.Call session (command.GiveUp id task)) (only (reply.Refused r)) row beside
+    pub give_up_refused : (r : Refusal) → give_up_check row.copies id task ≡ Some r → RowStep node row beside contents (input.Call session (command.GiveUp id task)) (only (reply.Refused r)) row beside
     give_up_refused r e = stays node row beside contents h (input.Call session (command.GiveUp id task)) (reply.Refused r) (give_up-is (Some r) e) refl refl refl
 
     abbrev pub row_given_up : Row
-    row_given_up = with_copy (given_up task) row id
+    row_given_up = with_copy (after_give_up task) row id
 
-    pub give_up_done_so : give_up_check row.copies id task ≡ None → (keeps : Bool) → keeps ≡ option_map_or (λ (k : Kept). in_scope (without_borrower k.copy task)) (at row.copies id) false
-        → (posts : List Post) → posts ≡ posted (farewell_at node row.copies id (not keeps)) → ArePlaced row_given_up.window.placed (place_of row_given_up.copies)
-        → TakesStep node row beside contents (input.Call session (command.GiveUp id task)) (record { reply = reply.Ok; posts = posts; erased = keys_settled row_given_up id }) (settled_row row_given_up id) beside
+    pub give_up_done_so : give_up_check row.copies id task ≡ None → (keeps : Bool) → keeps ≡ option_map_or (λ (k : CopyView). in_scope (without_borrower k.copy task)) (at row.copies id) false
+        → (posts : List Post) → posts ≡ notice_posts (removal_notice_at node row.copies id (not keeps)) → ArePlaced row_given_up.window.placed (place_of row_given_up.copies)
+        → RowStep node row beside contents (input.Call session (command.GiveUp id task)) (record { reply = reply.Ok; posts = posts; erased = keys_settled row_given_up id }) (settled_row row_given_up id) beside
     give_up_done_so passed keeps is posts told placed =
         let k = there (λ k. cond k.copy.doomed (Some Absent) (give_up_check_of k task)) Absent (at row.copies id) passed in
         scoped_so (command.GiveUp id task) (record { bytes = refl; digest = refl; received = refl }) (λ z. record z { copy = without_borrower z.copy task }) k.0 k.1
         (record { lies = λ z. (refl, refl); digest = refl; keeps = λ keep. keep; working = refl; granted = refl; backed = refl })
         (refl, refl) (past k.0.copy.doomed Absent _ k.2).0
         (give_up-is None passed ∙ ap (erasing s) (it (λ copy. commands.scoped s id (without_borrower copy task)) k.0 k.1))
-        keeps (is ∙ ap (λ o. option_map_or (λ (k : Kept). in_scope (without_borrower k.copy task)) o false) k.1) posts told placed
+        keeps (is ∙ ap (λ o. option_map_or (λ (k : CopyView). in_scope (without_borrower k.copy task)) o false) k.1) posts told placed
 
     pub give_up_ok : give_up_check row.copies id task ≡ None → (change node row beside contents h (input.Call session (command.GiveUp id task))).reply ≡ reply.Ok
     give_up_ok passed =
@@ -292,19 +292,19 @@ module _ (node : ℕ) (row : Row) (beside : Beside) (contents : Contents) (sessi
       → change node row beside contents h (input.Call session (command.Delete id)) ≡ erasing s (unless_refused s check delete_done)
   delete-is check e = called row beside session (command.Delete id) ∙ ap (erasing s) (own row beside id _ mine ∙ delete-by ∙ ap (λ o. unless_refused s o delete_done) e)
 
-  pub delete_refused : (r : Refusal) → delete_check row.copies id ≡ Some r → TakesStep node row beside contents (input.Call session (command.Delete id)) (only (reply.Refused r)) row beside
+  pub delete_refused : (r : Refusal) → delete_check row.copies id ≡ Some r → RowStep node row beside contents (input.Call session (command.Delete id)) (only (reply.Refused r)) row beside
   delete_refused r e = stays node row beside contents h (input.Call session (command.Delete id)) (reply.Refused r) (delete-is (Some r) e) refl refl refl
 
   abbrev pub row_doomed : Row
-  row_doomed = with_copy doomed row id
+  row_doomed = with_copy after_doom row id
 
-  pub delete_done_so : delete_check row.copies id ≡ None → (posts : List Post) → posts ≡ posted (farewell_at node row.copies id true) → ArePlaced row_doomed.window.placed (place_of row_doomed.copies)
-      → TakesStep node row beside contents (input.Call session (command.Delete id)) (record { reply = reply.Ok; posts = posts; erased = keys_settled row_doomed id }) (settled_row row_doomed id) beside
+  pub delete_done_so : delete_check row.copies id ≡ None → (posts : List Post) → posts ≡ notice_posts (removal_notice_at node row.copies id true) → ArePlaced row_doomed.window.placed (place_of row_doomed.copies)
+      → RowStep node row beside contents (input.Call session (command.Delete id)) (record { reply = reply.Ok; posts = posts; erased = keys_settled row_doomed id }) (settled_row row_doomed id) beside
   delete_done_so passed posts told placed =
       let k = there (λ k. cond k.copy.doomed (Some Absent) (cond k.granted (Some Granted) None)) Absent (at row.copies id) passed in
-      settles node row beside contents h (input.Call session (command.Delete id)) (record { bytes = refl; digest = refl; received = refl }) id k.0 k.1 doomed (doomed-minor k.0) (option_to_list (notice_of id k.0.copy)) posts
+      settles node row beside contents h (input.Call session (command.Delete id)) (record { bytes = refl; digest = refl; received = refl }) id k.0 k.1 after_doom (doomed-minor k.0) (option_to_list (notice_of id k.0.copy)) posts
       (delete-is None passed ∙ ap (erasing s) (it (λ copy. doom s id) k.0 k.1 ∙ doom-is s id k.0.copy (at-copies_found row.copies id k.0 k.1)))
-      (λ o. told ∙ ap (λ o. posted (option_and_then (farewell node id) o)) k.1
+      (λ o. told ∙ ap (λ o. notice_posts (option_and_then (removal_notice node id) o)) k.1
       ∙ told-is node id o (input.Call session (command.Delete id)) k.0 k.0.copy refl refl (past k.0.copy.doomed Absent _ k.2).0) placed
 
   pub delete_ok : delete_check row.copies id ≡ None → (change node row beside contents h (input.Call session (command.Delete id))).reply ≡ reply.Ok
@@ -334,23 +334,23 @@ module _ (node : ℕ) (row : Row) (beside : Beside) (contents : Contents) (sessi
         → change node row beside contents h (input.Call session (command.Borrow id task)) ≡ erasing s (unless_refused s check borrow_done)
     borrow-is check e = called row beside session (command.Borrow id task) ∙ ap (erasing s) (own row beside id _ mine ∙ borrow-by ∙ ap (λ o. unless_refused s o borrow_done) e)
 
-    pub borrow_refused : (r : Refusal) → row_borrow_check row id task ≡ Some r → TakesStep node row beside contents (input.Call session (command.Borrow id task)) (only (reply.Refused r)) row beside
+    pub borrow_refused : (r : Refusal) → row_borrow_check row id task ≡ Some r → RowStep node row beside contents (input.Call session (command.Borrow id task)) (only (reply.Refused r)) row beside
     borrow_refused r e = stays node row beside contents h (input.Call session (command.Borrow id task)) (reply.Refused r) (borrow-is (Some r) e) refl refl refl
 
     abbrev pub row_borrowed : Row
-    row_borrowed = with_copy (borrowed task) row id
+    row_borrowed = with_copy (after_borrow task) row id
 
-    pub borrow_done_so : row_borrow_check row id task ≡ None → TakesStep node row beside contents (input.Call session (command.Borrow id task)) (only reply.Ok) row_borrowed beside
+    pub borrow_done_so : row_borrow_check row id task ≡ None → RowStep node row beside contents (input.Call session (command.Borrow id task)) (only reply.Ok) row_borrowed beside
     borrow_done_so passed =
         let alive = past (is_remembered row.ended_tasks id.task || is_remembered row.ended_tasks task) Gone _ passed in
         let k = there (λ k. cond k.copy.doomed (Some Absent) (borrow_check_of k task)) Absent (at row.copies id) alive.1 in
         let sound = (past k.0.copy.doomed Absent _ k.2).0 in
-        stays_so node row beside contents h (input.Call session (command.Borrow id task)) (record { bytes = refl; digest = refl; received = refl }) id k.0 k.1 (borrowed task)
+        stays_so node row beside contents h (input.Call session (command.Borrow id task)) (record { bytes = refl; digest = refl; received = refl }) id k.0 k.1 (after_borrow task)
         (record { lies = λ z. (refl, refl); digest = refl; keeps = λ keep. keep; working = refl; granted = refl; backed = refl })
         [] []
         (borrow-is None passed ∙ ap (erasing s) (it (λ copy. done (set_copy s id (borrowed_copy copy))) k.0 k.1
         ∙ ap done (sym (settled-stays (set_copy s id (borrowed_copy k.0.copy)) id (borrowed_copy k.0.copy) (at-put_here s.copies id (borrowed_copy k.0.copy)) sound))))
-        (λ o. refl) (ap (λ b. b && is_idle (borrowed task k.0)) sound)
+        (λ o. refl) (ap (λ b. b && is_idle (after_borrow task k.0)) sound)
 
     pub borrow_ok : row_borrow_check row id task ≡ None → (change node row beside contents h (input.Call session (command.Borrow id task))).reply ≡ reply.Ok
     borrow_ok passed =

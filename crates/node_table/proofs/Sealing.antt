@@ -5,7 +5,7 @@ use Rattle.obj_id.specs.declared.ids.ObjectId.{ObjectId}
 use Rattle.obj_id.specs.declared.works.Extent.{Extent}
 use Rattle.obj_id.specs.declared.messages.Digest.{Digest}
 use Rattle.obj_id.specs.declared.messages.Location.{Location}
-use Rattle.obj_id.specs.declared.messages.Place.TheVariants.{Directory}
+use Rattle.obj_id.specs.declared.messages.Endpoint.TheVariants.{Directory}
 use Rattle.obj_id.specs.declared.messages.Message.TheVariants.{ToDirectory}
 use Rattle.obj_id.specs.declared.messages.DirectoryMessage.TheVariants.{AddLocation}
 use Rattle.obj_id.specs.declared.refusals.Refusal.{Refusal}
@@ -16,37 +16,37 @@ use Rattle.obj_id.specs.declared.commands.Reply.TheVariants as reply
 use Rattle.obj_id.specs.Ids.{same_id}
 use Rattle.private_store.specs.declared.inputs.Input.{Input}
 use Rattle.private_store.specs.declared.inputs.Input.TheVariants as input
-use Rattle.private_store.specs.Tables.{at, with_entry}
-use Rattle.private_store.specs.Shape.{Copy, Shape, Change, add_location}
-use Rattle.private_store.specs.Copies.{extent_of}
-use Rattle.private_store.specs.Room.{set_copy}
-use Rattle.private_store.specs.Change.{refused, done, erasing, sending}
-use Rattle.private_store.specs.Contents.{Contents, judge, bytes_at, digest_of, no_digest, keeps_digest}
-use Rattle.private_store.specs.Private.{Post, key_of, length_at}
-use Rattle.private_store.specs.Step.{step}
+use Rattle.private_store.specs.rules.Tables.{at, with_entry}
+use Rattle.private_store.specs.rules.Shape.{Copy, Shape, Change, add_location}
+use Rattle.private_store.specs.rules.Copies.{extent_of}
+use Rattle.private_store.specs.rules.Room.{set_copy}
+use Rattle.private_store.specs.rules.Change.{refused, done, erasing, sending}
+use Rattle.private_store.specs.rules.Contents.{Contents, judge, bytes_at, digest_of, no_digest, keeps_digest}
+use Rattle.private_store.specs.rules.Private.{Post, key_of, length_at}
+use Rattle.private_store.specs.rules.Step.{step}
 use Rattle.store_facts.proofs.Rows.{at-put, at-put_here}
-use Rattle.job_region.specs.Region.{bytes_at as placed_bytes}
+use Rattle.job_region.specs.Region.{region_bytes_at as placed_bytes}
 use Rattle.lru_evictor.proofs.ForCallers.{reordered-unused}
 use Rattle.node_table.specs.Entries.{changed}
-use Rattle.node_table.specs.Kept.{Kept, sealed}
-use Rattle.node_table.specs.Row.{Row, Beside, copies_of, shape_of}
+use Rattle.node_table.specs.CopyViews.{CopyView, after_seal}
+use Rattle.node_table.specs.Row.{Row, SharedTables, copies_of, shape_of}
 use Rattle.node_table.specs.Checks.{seal_check}
-use Rattle.node_table.specs.Shown.{seen, IsShown, Given, only, TakesStep}
+use Rattle.node_table.specs.Shown.{seen, IsShown, RowGiven, only, RowStep}
 use Rattle.node_table.proofs.ByChecks.{unless_refused, called, own, seal_done, seal-by, sending-is}
 use Rattle.node_table.proofs.Changes.{changed-found}
 use Rattle.node_table.proofs.CopyTables.{at-copies_found, copies-changed}
 use Rattle.node_table.proofs.Passed.{IsUnwritten, seal_passed, placed_at, created_resides}
 use Rattle.node_table.proofs.Changing.{there_still, from_changed, bytes_stay, works_stay, listed_stay, keys_with, granted_stay}
-use Rattle.node_table.proofs.Stepping.{Moves, moved, shown_now, stays, digests_now, received_stays}
+use Rattle.node_table.proofs.Stepping.{TakesChange, moved, shown_now, stays, digests_now, received_stays}
 
-module _ (node : ℕ) (row : Row) (beside : Beside) (contents : Contents) (session : ℕ) (id : ObjectId) (mine : (id.job.0 == row.job) ≡ true) (h : IsShown row beside contents) where
+module _ (node : ℕ) (row : Row) (beside : SharedTables) (contents : Contents) (session : ℕ) (id : ObjectId) (mine : (id.job.0 == row.job) ≡ true) (h : IsShown row beside contents) where
   abbrev s : Shape
   s = shape_of row beside
 
   abbrev x : Input
   x = input.Call session (command.Seal id)
 
-  pub seal_refused : (r : Refusal) → seal_check row.copies id ≡ Some r → TakesStep node row beside contents x (only (reply.Refused r)) row beside
+  pub seal_refused : (r : Refusal) → seal_check row.copies id ≡ Some r → RowStep node row beside contents x (only (reply.Refused r)) row beside
   seal_refused r e =
       stays node row beside contents h x (reply.Refused r)
       (called row beside session (command.Seal id) ∙ ap (erasing s) (own row beside id _ mine ∙ seal-by row beside id ∙ ap (λ o. unless_refused s o (seal_done row beside id)) e)) refl refl refl
@@ -55,7 +55,7 @@ module _ (node : ℕ) (row : Row) (beside : Beside) (contents : Contents) (sessi
     abbrev w : IsUnwritten row.copies id
     w = seal_passed row.copies id passed
 
-    abbrev k : Kept
+    abbrev k : CopyView
     k = w.copy
 
     abbrev now : Copy
@@ -63,30 +63,30 @@ module _ (node : ℕ) (row : Row) (beside : Beside) (contents : Contents) (sessi
 
     -- the row with the copy sealed
     abbrev pub row_sealed : Row
-    row_sealed = record row { copies = changed (sealed digest) row.copies id }
+    row_sealed = record row { copies = changed (after_seal digest) row.copies id }
 
     abbrev c : Change
     c = erasing s (record (done (set_copy s id now)) { sent = add_location id ∷ [] })
 
-    keeps : (z : Kept) → ((sealed digest z).copy.offset ≡ z.copy.offset) × ((sealed digest z).copy.length ≡ z.copy.length)
+    keeps : (z : CopyView) → ((after_seal digest z).copy.offset ≡ z.copy.offset) × ((after_seal digest z).copy.length ≡ z.copy.length)
     keeps z = (refl, refl)
 
     found : at row.copies id ≡ Some k
     found = w.found
 
     module _ (is : digest ≡ digest_of (bytes_at contents.bytes id)) (messages : List Post) where
-      abbrev pub told : Given
+      abbrev pub told : RowGiven
       told = record { reply = reply.Ok; posts = messages; erased = [] }
 
       abbrev post_of : Location → List Post
       post_of e = (Directory, ToDirectory (AddLocation id e)) ∷ []
 
-      digest_now : (q : ObjectId) (y : Kept) → at row_sealed.copies q ≡ Some y → keeps_digest y.copy ≡ true → unwrap_or (at (digests_now node row beside contents h x c) q) no_digest ≡ unwrap_or y.digest no_digest
+      digest_now : (q : ObjectId) (y : CopyView) → at row_sealed.copies q ≡ Some y → keeps_digest y.copy ≡ true → unwrap_or (at (digests_now node row beside contents h x c) q) no_digest ≡ unwrap_or y.digest no_digest
       digest_now q y there keep =
-          let z = from_changed (sealed digest) row.copies id k found q y there in
+          let z = from_changed (after_seal digest) row.copies id k found q y there in
           ap (λ p. unwrap_or p no_digest) (at-put contents.digests id (digest_of (bytes_at contents.bytes id)) q) ∙ by z.0 z.1 z.2
         where
-          by : (z : Kept) → at row.copies q ≡ Some z → ((same_id q id ≡ true) × (y ≡ sealed digest z)) ⊎ ((same_id q id ≡ false) × (y ≡ z))
+          by : (z : CopyView) → at row.copies q ≡ Some z → ((same_id q id ≡ true) × (y ≡ after_seal digest z)) ⊎ ((same_id q id ≡ false) × (y ≡ z))
               → unwrap_or (cond (same_id q id) (Some (digest_of (bytes_at contents.bytes id))) (at contents.digests q)) no_digest ≡ unwrap_or y.digest no_digest
           by z e (inl t) = ap (λ b. unwrap_or (cond b (Some (digest_of (bytes_at contents.bytes id))) (at contents.digests q)) no_digest) t.0 ∙ sym is ∙ ap (λ y. unwrap_or y.digest no_digest) (sym t.1)
           by z e (inr t) =
@@ -94,18 +94,18 @@ module _ (node : ℕ) (row : Row) (beside : Beside) (contents : Contents) (sessi
               ∙ h.digests q z e (ap (λ y. keeps_digest y.copy) (sym t.1) ∙ keep) ∙ ap (λ y. unwrap_or y.digest no_digest) (sym t.1)
 
       copies_is : with_entry (copies_of row.copies) id now ≡ copies_of row_sealed.copies
-      copies_is = sym (copies-changed (sealed digest) row.copies id k found)
+      copies_is = sym (copies-changed (after_seal digest) row.copies id k found)
 
-      m : Moves node row beside contents h x c told row_sealed beside
+      m : TakesChange node row beside contents h x c told row_sealed beside
       m = record {
         shape = ap (λ t. record s { copies = t }) copies_is;
-        order = sym (reordered-unused row.order (copies_of row_sealed.copies) (there_still node row beside contents h x id k found (sealed digest) keeps row.order h.there));
-        there = there_still node row beside contents h x id k found (sealed digest) keeps row.order h.there;
-        listed = listed_stay node row beside contents h x id k found (sealed digest) keeps row.order h.listed;
-        bytes = bytes_stay node row beside contents h x id k found (sealed digest) keeps c refl;
+        order = sym (reordered-unused row.order (copies_of row_sealed.copies) (there_still node row beside contents h x id k found (after_seal digest) keeps row.order h.there));
+        there = there_still node row beside contents h x id k found (after_seal digest) keeps row.order h.there;
+        listed = listed_stay node row beside contents h x id k found (after_seal digest) keeps row.order h.listed;
+        bytes = bytes_stay node row beside contents h x id k found (after_seal digest) keeps c refl;
         digests = digest_now;
-        working = works_stay node row beside contents h x id k found (sealed digest) keeps refl;
-        granted = granted_stay node row beside contents h x id k found (sealed digest) keeps refl;
+        working = works_stay node row beside contents h x id k found (after_seal digest) keeps refl;
+        granted = granted_stay node row beside contents h x id k found (after_seal digest) keeps refl;
         received = received_stays node row beside contents h x refl;
         reply = refl;
         erased = sym (ap (map (key_of row.job)) (keys_with (copies_of row.copies) id now));
@@ -118,19 +118,19 @@ module _ (node : ℕ) (row : Row) (beside : Beside) (contents : Contents) (sessi
           ∙ ap (λ p. option_map_or (λ copy. sending (add_location id ∷ []) (done (set_copy s id (record copy { state = Sealed })))) p (refused s Absent)) (at-copies_found row.copies id k found)
           ∙ sending-is (add_location id ∷ []) (done (set_copy s id now)))
 
-      there_now : at row_sealed.copies id ≡ Some (sealed digest k)
-      there_now = ap (λ t. at t id) (changed-found (sealed digest) id row.copies k found) ∙ at-put_here row.copies id (sealed digest k)
+      there_now : at row_sealed.copies id ≡ Some (after_seal digest k)
+      there_now = ap (λ t. at t id) (changed-found (after_seal digest) id row.copies k found) ∙ at-put_here row.copies id (after_seal digest k)
 
-      pub seal_done_so : (entry : Location) → entry.node ≡ node → ((z : Kept) → at row.copies id ≡ Some z → entry.length ≡ z.copy.length) → entry.digest ≡ digest
-          → messages ≡ post_of entry → TakesStep node row beside contents x told row_sealed beside
+      pub seal_done_so : (entry : Location) → entry.node ≡ node → ((z : CopyView) → at row.copies id ≡ Some z → entry.length ≡ z.copy.length) → entry.digest ≡ digest
+          → messages ≡ post_of entry → RowStep node row beside contents x told row_sealed beside
       seal_done_so entry at_node long its posts =
           moved node row beside contents h x c step_is told row_sealed beside m
           (posts ∙ ap post_of (
           ap (λ n. record { node = n; length = entry.length; digest = entry.digest }) at_node
           ∙ ap (λ n. record { node = node; length = n; digest = entry.digest }) (long k found ∙ sym (ap (λ p. option_map_or (λ copy. copy.length) p 0) (at-put_here (copies_of row.copies) id now)))
-          ∙ ap (λ d. record { node = node; length = length_at c.shape id; digest = d }) (its ∙ sym ((shown_now node row beside contents h x c step_is told row_sealed beside m).digests id (sealed digest k) there_now refl))))
+          ∙ ap (λ d. record { node = node; length = length_at c.shape id; digest = d }) (its ∙ sym ((shown_now node row beside contents h x c step_is told row_sealed beside m).digests id (after_seal digest k) there_now refl))))
 
-    pub seal_digest : (result : Digest) → result ≡ digest → ((k : Kept) (e : Extent) → at row.copies id ≡ Some k → extent_of k.copy ≡ Some e → result ≡ digest_of (take k.copy.length (placed_bytes e row.window.placed))) → digest ≡ digest_of (bytes_at contents.bytes id)
+    pub seal_digest : (result : Digest) → result ≡ digest → ((k : CopyView) (e : Extent) → at row.copies id ≡ Some k → extent_of k.copy ≡ Some e → result ≡ digest_of (take k.copy.length (placed_bytes e row.window.placed))) → digest ≡ digest_of (bytes_at contents.bytes id)
     seal_digest result same its =
         let resident = (h.kept.kept.shape.each id k.copy (at-copies_found row.copies id k found)).resident ∙ created_resides k.copy.state k.copy.fetch w.created in
         let p = placed_at k.copy resident in

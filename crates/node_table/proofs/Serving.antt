@@ -22,28 +22,28 @@ use Rattle.obj_id.specs.Kinds.{is_primary}
 use Rattle.private_store.specs.declared.faults.Fault.{Fault}
 use Rattle.private_store.specs.declared.inputs.Input.{Input}
 use Rattle.private_store.specs.declared.inputs.Input.TheVariants as input
-use Rattle.private_store.specs.Tables.{ById, at}
-use Rattle.private_store.specs.Shape.{Copy, Shape, Change, Fetch, Sending, remove_location, chunks, not_here}
-use Rattle.private_store.specs.Copies.{was_sealed, extent_of}
-use Rattle.private_store.specs.Extents.{rounded}
-use Rattle.private_store.specs.Room.{Room, Plan, fits, wait, full, busy, evict, spill, asked, room_by, no_room, make_room, eviction_notice}
-use Rattle.private_store.specs.Change.{refused, done, sending, erasing, in_room}
-use Rattle.private_store.specs.Commands.{restore, restoring}
-use Rattle.private_store.specs.Events.{quiet, pull_arrived}
-use Rattle.private_store.specs.Events as events
-use Rattle.private_store.specs.Step.{order_after}
-use Rattle.private_store.specs.Contents.{Contents, View, digest_at, no_digest, same_digest, is_sized, pull_matches, judge, contents_after, whole_reply}
-use Rattle.private_store.specs.Kept.{IsViewKept, is_remembered, has_extent}
-use Rattle.private_store.specs.Private.{Post, posts_of, to_directory, to_peer, chunks_asked, key_of, view_step, view_after}
+use Rattle.private_store.specs.rules.Tables.{ById, at}
+use Rattle.private_store.specs.rules.Shape.{Copy, Shape, Change, Fetch, Sending, remove_location, chunks, not_here}
+use Rattle.private_store.specs.rules.Copies.{was_sealed, extent_of}
+use Rattle.private_store.specs.rules.Extents.{rounded}
+use Rattle.private_store.specs.rules.Room.{Room, Plan, fits, wait, full, busy, evict, spill, asked, room_by, no_room, make_room, eviction_notice}
+use Rattle.private_store.specs.rules.Change.{refused, done, sending, erasing, in_room}
+use Rattle.private_store.specs.rules.Commands.{restore, restoring}
+use Rattle.private_store.specs.rules.Events.{quiet, pull_arrived}
+use Rattle.private_store.specs.rules.Events as events
+use Rattle.private_store.specs.rules.Step.{order_after}
+use Rattle.private_store.specs.rules.Contents.{Contents, View, digest_at, no_digest, same_digest, is_sized, pull_matches, judge, contents_after, whole_reply}
+use Rattle.private_store.specs.laws.Invariants.{IsViewKept, is_remembered, has_extent}
+use Rattle.private_store.specs.rules.Private.{Post, posts_of, to_directory, to_peer, chunks_asked, key_of, view_step, view_after}
 use Rattle.store_facts.proofs.Checks.{checked_has}
 use Rattle.store_facts.proofs.ErasedKeys.{keys_none, all_found}
 use Rattle.store_facts.proofs.StepsKept.{view_keeps}
 use Rattle.store_facts.proofs.Tests.{true_false, both_left, both_right}
-use Rattle.job_region.specs.Region.{bytes_at as placed_bytes}
-use Rattle.node_table.specs.Kept.{Kept}
-use Rattle.node_table.specs.Row.{Row, Beside, copies_of, shape_of}
-use Rattle.node_table.specs.Serving.{was_sealed_with, answer_by, pull_answer, chunks_to}
-use Rattle.node_table.specs.Shown.{seen, IsShown, Given, only, TakesStep}
+use Rattle.job_region.specs.Region.{region_bytes_at as placed_bytes}
+use Rattle.node_table.specs.CopyViews.{CopyView}
+use Rattle.node_table.specs.Row.{Row, SharedTables, copies_of, shape_of}
+use Rattle.node_table.specs.Serving.{was_sealed_with, answer_by, row_pull_answer, chunks_to}
+use Rattle.node_table.specs.Shown.{seen, IsShown, RowGiven, only, RowStep}
 use Rattle.node_table.specs.declared.serve_pull.PullAnswer.{PullAnswer}
 use Rattle.node_table.specs.declared.serve_pull.PullAnswer.TheVariants as pull
 use Rattle.node_table.proofs.Arriving.{live_is, ignored}
@@ -69,12 +69,12 @@ shows pull.NotHere = false
 shows _ = true
 
 -- the copy that is answered for
-pub record IsAsked (k : Kept) (n : ℕ) (digest : Digest) (answer : PullAnswer) : Type 0 where
+pub record IsAsked (k : CopyView) (n : ℕ) (digest : Digest) (answer : PullAnswer) : Type 0 where
   pub unmarked : k.copy.doomed ≡ false
   pub matches : was_sealed_with n digest k ≡ true
   pub answered : answer_by k.copy.state k.copy.fault ≡ answer
 
-asked_parts : (k : Kept) (n : ℕ) (digest : Digest) (answer : PullAnswer) → shows answer ≡ true → pull_answer n digest (Some k) ≡ answer → IsAsked k n digest answer
+asked_parts : (k : CopyView) (n : ℕ) (digest : Digest) (answer : PullAnswer) → shows answer ≡ true → row_pull_answer n digest (Some k) ≡ answer → IsAsked k n digest answer
 asked_parts k n digest answer shown e = by k.copy.doomed (was_sealed_with n digest k) refl refl e
   where
     by : (d m : Bool) → k.copy.doomed ≡ d → was_sealed_with n digest k ≡ m → cond (not d && m) (answer_by k.copy.state k.copy.fault) pull.NotHere ≡ answer → IsAsked k n digest answer
@@ -99,17 +99,17 @@ away_answer Away None e = (refl, refl)
 away_answer Away (Some f) e = absurd cc
 
 -- the copy that is to be read back
-pub record Restores (copies : ById Kept) (id : ObjectId) (n : ℕ) (digest : Digest) : Type 0 where
-  pub k : Kept
+pub record Restores (copies : ById CopyView) (id : ObjectId) (n : ℕ) (digest : Digest) : Type 0 where
+  pub k : CopyView
   pub found : at copies id ≡ Some k
   pub asked : IsAsked k n digest pull.Restore
   pub is : k.copy.state ≡ Away
   pub sound : k.copy.fault ≡ None
 
-pub restores : (copies : ById Kept) (id : ObjectId) (n : ℕ) (digest : Digest) → pull_answer n digest (at copies id) ≡ pull.Restore → Restores copies id n digest
+pub restores : (copies : ById CopyView) (id : ObjectId) (n : ℕ) (digest : Digest) → row_pull_answer n digest (at copies id) ≡ pull.Restore → Restores copies id n digest
 restores copies id n digest e = by (at copies id) refl e
   where
-    by : (o : Option Kept) → at copies id ≡ o → pull_answer n digest o ≡ pull.Restore → Restores copies id n digest
+    by : (o : Option CopyView) → at copies id ≡ o → row_pull_answer n digest o ≡ pull.Restore → Restores copies id n digest
     by None none e = absurd cc
     by (Some k) found e =
         let a = asked_parts k n digest pull.Restore refl e in
@@ -170,11 +170,11 @@ same_removals node v w x y (id ∷ ids) = ap (λ posts. to_directory (RemoveLoca
 
 -- ---- whether it matches
 
-module _ (row : Row) (beside : Beside) (contents : Contents) (h : IsShown row beside contents) (id : ObjectId) (n : ℕ) (digest : Digest) where
+module _ (row : Row) (beside : SharedTables) (contents : Contents) (h : IsShown row beside contents) (id : ObjectId) (n : ℕ) (digest : Digest) where
   abbrev matches_of : Option Copy → Bool
   matches_of o = option_map_or (λ (copy : Copy). was_sealed copy.state && copy.length == n && same_digest digest (digest_at contents.digests id)) o false
 
-  matches_found : (k : Kept) → at row.copies id ≡ Some k → pull_matches (seen row beside contents) id n digest ≡ was_sealed_with n digest k
+  matches_found : (k : CopyView) → at row.copies id ≡ Some k → pull_matches (seen row beside contents) id n digest ≡ was_sealed_with n digest k
   matches_found k found = ap matches_of (at-copies_found row.copies id k found) ∙ by (was_sealed k.copy.state) refl
     where
       by : (b : Bool) → was_sealed k.copy.state ≡ b → (was_sealed k.copy.state && k.copy.length == n && same_digest digest (digest_at contents.digests id)) ≡ was_sealed_with n digest k
@@ -188,13 +188,13 @@ module _ (row : Row) (beside : Beside) (contents : Contents) (h : IsShown row be
   pub matches_is : pull_matches (seen row beside contents) id n digest ≡ option_map_or (was_sealed_with n digest) (at row.copies id) false
   matches_is = by (at row.copies id) refl
     where
-      by : (o : Option Kept) → at row.copies id ≡ o → pull_matches (seen row beside contents) id n digest ≡ option_map_or (was_sealed_with n digest) o false
+      by : (o : Option CopyView) → at row.copies id ≡ o → pull_matches (seen row beside contents) id n digest ≡ option_map_or (was_sealed_with n digest) o false
       by None none = ap matches_of (at-copies_none row.copies id none)
       by (Some k) found = matches_found k found
 
 -- ---- the step
 
-module _ (node : ℕ) (row : Row) (beside : Beside) (contents : Contents) (h : IsShown row beside contents) (from : ℕ) (id : ObjectId) (number n : ℕ) (digest : Digest) (indexes : List ℕ) where
+module _ (node : ℕ) (row : Row) (beside : SharedTables) (contents : Contents) (h : IsShown row beside contents) (from : ℕ) (id : ObjectId) (number n : ℕ) (digest : Digest) (indexes : List ℕ) where
   abbrev s : Shape
   s = shape_of row beside
 
@@ -223,7 +223,7 @@ module _ (node : ℕ) (row : Row) (beside : Beside) (contents : Contents) (h : I
   pull_is : change node row beside contents h x ≡ arrived_by (pull_matches before id n digest) (shown_copy (at s.copies id))
   pull_is = live_is node row beside contents h x refl (pull_arrived row.order s id (pull_matches before id n digest))
 
-  module _ (k : Kept) (found : at row.copies id ≡ Some k) where
+  module _ (k : CopyView) (found : at row.copies id ≡ Some k) where
     by_state : (st : CopyState) (fault : Option Fault) → events.pull_answer row.order s id (record k.copy { state = st; fault = fault }) ≡ by_answer (answer_by st fault) (record k.copy { state = st; fault = fault })
     by_state Created fault = refl
     by_state Sealed fault = refl
@@ -237,7 +237,7 @@ module _ (node : ℕ) (row : Row) (beside : Beside) (contents : Contents) (h : I
     by_marks false false = refl
     by_marks false true = by_state k.copy.state k.copy.fault
 
-    found_is : change node row beside contents h x ≡ by_answer (pull_answer n digest (Some k)) k.copy
+    found_is : change node row beside contents h x ≡ by_answer (row_pull_answer n digest (Some k)) k.copy
     found_is =
         pull_is ∙ ap (λ o. arrived_by (pull_matches before id n digest) (shown_copy o)) (at-copies_found row.copies id k found)
         ∙ ap (λ m. arrived_by m (shown_copy (Some k.copy))) (matches_found row beside contents h id n digest k found) ∙ by_marks k.copy.doomed (was_sealed_with n digest k)
@@ -251,31 +251,31 @@ module _ (node : ℕ) (row : Row) (beside : Beside) (contents : Contents) (h : I
       sending-is sent (done s) ∙ ap (λ l. record (done s) { sent = l }) (append-nil sent)
       ∙ ap (λ ks. record (done s) { sent = sent; erased = ks }) (sym (keys_none (copies_of row.copies) (copies_of row.copies) (all_found (copies_of row.copies))))
 
-  pub not_here_done : pull_answer n digest (at row.copies id) ≡ pull.NotHere
-      → TakesStep node row beside contents x (record { reply = reply.Ok; posts = to_peer from (peer.NotHere id number) ∷ []; erased = [] }) row beside
+  pub not_here_done : row_pull_answer n digest (at row.copies id) ≡ pull.NotHere
+      → RowStep node row beside contents x (record { reply = reply.Ok; posts = to_peer from (peer.NotHere id number) ∷ []; erased = [] }) row beside
   not_here_done e =
       tells node row beside contents h x reply.Ok (not_here id ∷ []) (to_peer from (peer.NotHere id number) ∷ []) refl refl refl (by (at row.copies id) refl e ∙ sent_is (not_here id ∷ [])) refl
     where
-      by : (o : Option Kept) → at row.copies id ≡ o → pull_answer n digest o ≡ pull.NotHere → change node row beside contents h x ≡ nowhere
+      by : (o : Option CopyView) → at row.copies id ≡ o → row_pull_answer n digest o ≡ pull.NotHere → change node row beside contents h x ≡ nowhere
       by None none e = none_is none
       by (Some k) found e = found_is k found ∙ ap (λ a. by_answer a k.copy) e
 
-  pub nothing_done : pull_answer n digest (at row.copies id) ≡ pull.Nothing → TakesStep node row beside contents x (only reply.Ok) row beside
+  pub nothing_done : row_pull_answer n digest (at row.copies id) ≡ pull.Nothing → RowStep node row beside contents x (only reply.Ok) row beside
   nothing_done e = by (at row.copies id) refl e
     where
-      by : (o : Option Kept) → at row.copies id ≡ o → pull_answer n digest o ≡ pull.Nothing → TakesStep node row beside contents x (only reply.Ok) row beside
+      by : (o : Option CopyView) → at row.copies id ≡ o → row_pull_answer n digest o ≡ pull.Nothing → RowStep node row beside contents x (only reply.Ok) row beside
       by None none e = absurd cc
       by (Some k) found e = ignored node row beside contents h x refl (found_is k found ∙ ap (λ a. by_answer a k.copy) e) refl refl
 
   -- ---- chunks
 
-  extent_at : (k : Kept) (o : Option ℕ) → k.copy.offset ≡ o → is_some o ≡ true → (e : Extent) × (extent_of k.copy ≡ Some e)
+  extent_at : (k : CopyView) (o : Option ℕ) → k.copy.offset ≡ o → is_some o ≡ true → (e : Extent) × (extent_of k.copy ≡ Some e)
   extent_at k (Some p) is there = (record { offset = p; length = rounded k.copy.length }, ap (option_map (λ p. record { offset = p; length = rounded k.copy.length })) is)
   extent_at k None is there = true_false there
 
   module _ (posts : List Post)
-      (asked : (k : Kept) (e : Extent) → at row.copies id ≡ Some k → extent_of k.copy ≡ Some e → posts ≡ chunks_to (take k.copy.length (placed_bytes e row.window.placed)) from id number indexes) where
-    chunks_at : (k : Kept) → at row.copies id ≡ Some k → pull_answer n digest (Some k) ≡ pull.Chunks → TakesStep node row beside contents x (record { reply = reply.Ok; posts = posts; erased = [] }) row beside
+      (asked : (k : CopyView) (e : Extent) → at row.copies id ≡ Some k → extent_of k.copy ≡ Some e → posts ≡ chunks_to (take k.copy.length (placed_bytes e row.window.placed)) from id number indexes) where
+    chunks_at : (k : CopyView) → at row.copies id ≡ Some k → row_pull_answer n digest (Some k) ≡ pull.Chunks → RowStep node row beside contents x (record { reply = reply.Ok; posts = posts; erased = [] }) row beside
     chunks_at k found e =
         let a = asked_parts k n digest pull.Chunks refl e in
         let st = sealed_answer k.copy.state k.copy.fault a.answered in
@@ -288,7 +288,7 @@ module _ (node : ℕ) (row : Row) (beside : Beside) (contents : Contents) (h : I
         ∙ eqb-true k.copy.length n (both_right (was_sealed k.copy.state) _ (both_left (was_sealed k.copy.state && k.copy.length == n) _ a.matches)) in
         let is = found_is k found ∙ ap (λ a. by_answer a k.copy) e ∙ sent_is (chunks id ∷ []) in
         let c = telling node row beside contents h x reply.Ok (chunks id ∷ []) in
-        let told : Given = record { reply = reply.Ok; posts = posts; erased = [] } in
+        let told : RowGiven = record { reply = reply.Ok; posts = posts; erased = [] } in
         let shown = shown_now node row beside contents h x c is told row beside (same_moves node row beside contents h x reply.Ok (chunks id ∷ []) posts refl refl refl) in
         tells node row beside contents h x reply.Ok (chunks id ∷ []) posts refl refl refl is
         (asked k lies.0 found lies.1
@@ -296,16 +296,16 @@ module _ (node : ℕ) (row : Row) (beside : Beside) (contents : Contents) (h : I
         ∙ ap (λ b. map (to_peer from) (chunks_asked b id number n indexes)) (sym (shown.bytes id k lies.0 found lies.1))
         ∙ sym (append-nil _))
 
-    pub chunks_done : pull_answer n digest (at row.copies id) ≡ pull.Chunks → TakesStep node row beside contents x (record { reply = reply.Ok; posts = posts; erased = [] }) row beside
+    pub chunks_done : row_pull_answer n digest (at row.copies id) ≡ pull.Chunks → RowStep node row beside contents x (record { reply = reply.Ok; posts = posts; erased = [] }) row beside
     chunks_done e = by (at row.copies id) refl e
       where
-        by : (o : Option Kept) → at row.copies id ≡ o → pull_answer n digest o ≡ pull.Chunks → TakesStep node row beside contents x (record { reply = reply.Ok; posts = posts; erased = [] }) row beside
+        by : (o : Option CopyView) → at row.copies id ≡ o → row_pull_answer n digest o ≡ pull.Chunks → RowStep node row beside contents x (record { reply = reply.Ok; posts = posts; erased = [] }) row beside
         by None none e = absurd cc
         by (Some k) found e = chunks_at k found e
 
   -- ---- a restore for another node
 
-  module _ (e : pull_answer n digest (at row.copies id) ≡ pull.Restore) where
+  module _ (e : row_pull_answer n digest (at row.copies id) ≡ pull.Restore) where
     abbrev read : Restores row.copies id n digest
     read = restores row.copies id n digest e
 
@@ -319,7 +319,7 @@ module _ (node : ℕ) (row : Row) (beside : Beside) (contents : Contents) (h : I
     pub alive_restored : is_remembered row.ended_tasks id.task ≡ false
     alive_restored = (h.kept.kept.shape.each id copy (at-copies_found row.copies id read.k read.found)).of_live_task read.asked.unmarked
 
-    module _ (session : ℕ) (told : Given) (new : Row) (after : Beside) (t : TakesStep node row beside contents (input.Call session (command.Get id)) told new after) where
+    module _ (session : ℕ) (told : RowGiven) (new : Row) (after : SharedTables) (t : RowStep node row beside contents (input.Call session (command.Get id)) told new after) where
       abbrev y : Input
       y = input.Call session (command.Get id)
 
@@ -333,9 +333,9 @@ module _ (node : ℕ) (row : Row) (beside : Beside) (contents : Contents) (h : I
       by_get = fault_is node row beside contents session id own_restored alive_restored h read.k read.found read.asked.unmarked read.is None read.sound
 
       by_pull : change node row beside contents h x ≡ quiet s c
-      by_pull = found_is read.k read.found ∙ ap (λ a. by_answer a copy) (ap (pull_answer n digest) (sym read.found) ∙ e)
+      by_pull = found_is read.k read.found ∙ ap (λ a. by_answer a copy) (ap (row_pull_answer n digest) (sym read.found) ∙ e)
 
-      -- that a spill failed is still to be told
+      -- that a spill failed is still to be answered
       abbrev quieted : Row
       quieted = record new { spill_failed = row.spill_failed }
 
@@ -385,7 +385,7 @@ module _ (node : ℕ) (row : Row) (beside : Beside) (contents : Contents) (h : I
           ∙ sym (ap (flat_map (posts_of node vx x)) removes.sent)
           ∙ sym (ap (λ d. flat_map (posts_of node (view_after node before x (judge node before x) d) x) d.sent) by_pull)
 
-      pub restored_done : TakesStep node row beside contents x (record { reply = reply.Ok; posts = told.posts; erased = [] }) quieted after
+      pub restored_done : RowStep node row beside contents x (record { reply = reply.Ok; posts = told.posts; erased = [] }) quieted after
       restored_done = record {
         shape = shape_is;
         order = order_is;

@@ -5,27 +5,27 @@ use Rattle.std.specs.Option.{option_map_or}
 use Rattle.obj_id.specs.declared.ids.ObjectId.{ObjectId}
 use Rattle.obj_id.specs.declared.commands.Reply.TheVariants as reply
 use Rattle.private_store.specs.declared.inputs.Input.{Input}
-use Rattle.private_store.specs.Tables.{at}
-use Rattle.private_store.specs.Shape.{Copy, Shape, Change, Sending}
-use Rattle.private_store.specs.Copies.{is_held, is_granted, is_working, is_idle}
-use Rattle.private_store.specs.Room.{set_copy, drop_copy}
-use Rattle.private_store.specs.Change.{done, erasing, settled, keys_gone}
-use Rattle.private_store.specs.Contents.{Contents, View, judge, keeps_digest, bytes_brought, digest_brought, bytes_received}
-use Rattle.private_store.specs.Private.{Post, key_of, posts_of, view_after}
+use Rattle.private_store.specs.rules.Tables.{at}
+use Rattle.private_store.specs.rules.Shape.{Copy, Shape, Change, Sending}
+use Rattle.private_store.specs.rules.Copies.{is_held, is_granted, is_working, is_idle}
+use Rattle.private_store.specs.rules.Room.{set_copy, drop_copy}
+use Rattle.private_store.specs.rules.Change.{done, erasing, settled, keys_gone}
+use Rattle.private_store.specs.rules.Contents.{Contents, View, judge, keeps_digest, bytes_brought, digest_brought, bytes_received}
+use Rattle.private_store.specs.rules.Private.{Post, key_of, posts_of, view_after}
 use Rattle.store_facts.proofs.Rows.{at-put_here}
 use Rattle.store_facts.proofs.Tests.{T_true}
 use Rattle.lru_evictor.proofs.ForCallers.{reordered-unused}
-use Rattle.node_table.specs.Kept.{Kept}
-use Rattle.node_table.specs.Row.{Row, Beside, copies_of, shape_of, place_of, ArePlaced}
+use Rattle.node_table.specs.CopyViews.{CopyView}
+use Rattle.node_table.specs.Row.{Row, SharedTables, copies_of, shape_of, place_of, ArePlaced}
 use Rattle.node_table.specs.Dropping.{dropped, is_over, settled_row, keys_settled}
 use Rattle.node_table.specs.Scope.{with_copy}
-use Rattle.node_table.specs.Shown.{seen, IsShown, Given, TakesStep}
+use Rattle.node_table.specs.Shown.{seen, IsShown, RowGiven, RowStep}
 use Rattle.node_table.proofs.Changes.{changed-found}
 use Rattle.node_table.proofs.Changing.{there_still, bytes_stay, digests_stay, works_stay, listed_stay, keys_with, granted_stay}
 use Rattle.node_table.proofs.CopyTables.{at-copies_found, copies-changed}
 use Rattle.node_table.proofs.Described.{working-on, idle_same}
 use Rattle.node_table.proofs.Dropping.{change_left, moves_left, key_removed}
-use Rattle.node_table.proofs.Stepping.{Moves, moved, change, received_stays}
+use Rattle.node_table.proofs.Stepping.{TakesChange, moved, change, received_stays}
 
 -- what isn't doomed stays
 pub settled-stays : (store : Shape) (id : ObjectId) (copy : Copy) → at store.copies id ≡ Some copy → copy.doomed ≡ false → settled store id ≡ store
@@ -34,8 +34,8 @@ settled-stays store id copy found sound =
     ∙ ap (λ b. cond (b && is_idle store id copy) (drop_copy store id) store) sound
 
 -- the change of a copy leaves its place, its bytes and what stands on it
-pub record IsMinor (f : Kept → Kept) (k : Kept) : Type 0 where
-  pub lies : (z : Kept) → ((f z).copy.offset ≡ z.copy.offset) × ((f z).copy.length ≡ z.copy.length)
+pub record IsMinor (f : CopyView → CopyView) (k : CopyView) : Type 0 where
+  pub lies : (z : CopyView) → ((f z).copy.offset ≡ z.copy.offset) × ((f z).copy.length ≡ z.copy.length)
   pub digest : (f k).digest ≡ k.digest
   pub keeps : keeps_digest (f k).copy ≡ true → keeps_digest k.copy ≡ true
   pub working : (f k).working ≡ k.working
@@ -54,9 +54,9 @@ one_key job None = refl
 one_key job (Some n) = refl
 
 -- a row that has moved so far removes its copy if nothing keeps it
-module _ (node : ℕ) (row : Row) (beside : Beside) (contents : Contents) (h : IsShown row beside contents) (x : Input) (r : Row) (after : Beside) (store : Shape) (sent : List Sending) (posts : List Post)
-    (m : Moves node row beside contents h x (erasing (shape_of row beside) (record (done store) { sent = sent })) (record { reply = reply.Ok; posts = posts; erased = [] }) r after)
-    (id : ObjectId) (k : Kept) (found : at r.copies id ≡ Some k) (there : at store.copies id ≡ Some k.copy) (alike : is_over k ≡ k.copy.doomed && is_idle store id k.copy)
+module _ (node : ℕ) (row : Row) (beside : SharedTables) (contents : Contents) (h : IsShown row beside contents) (x : Input) (r : Row) (after : SharedTables) (store : Shape) (sent : List Sending) (posts : List Post)
+    (m : TakesChange node row beside contents h x (erasing (shape_of row beside) (record (done store) { sent = sent })) (record { reply = reply.Ok; posts = posts; erased = [] }) r after)
+    (id : ObjectId) (k : CopyView) (found : at r.copies id ≡ Some k) (there : at store.copies id ≡ Some k.copy) (alike : is_over k ≡ k.copy.doomed && is_idle store id k.copy)
     (key : keys_gone (copies_of row.copies) (drop_copy store id).copies ≡ option_to_list k.copy.backed) where
   abbrev done_if : Bool → Change
   done_if b = erasing (shape_of row beside) (record (done (cond b (drop_copy store id) store)) { sent = sent })
@@ -70,7 +70,7 @@ module _ (node : ℕ) (row : Row) (beside : Beside) (contents : Contents) (h : I
   abbrev row_settled : Bool → Row
   row_settled b = cond b (dropped r id) r
 
-  abbrev gives : Bool → Given
+  abbrev gives : Bool → RowGiven
   gives b = record { reply = reply.Ok; posts = posts; erased = cond b (option_to_list (option_map (key_of row.job) k.copy.backed)) [] }
 
   settled_row-is : settled_row r id ≡ row_settled (is_over k)
@@ -87,27 +87,27 @@ module _ (node : ℕ) (row : Row) (beside : Beside) (contents : Contents) (h : I
     shows d = view_after node (seen row beside contents) x (judge node (seen row beside contents) x) d
 
     -- a copy that something keeps, or that isn't doomed, stays
-    pub moved_stays : is_over k ≡ false → TakesStep node row beside contents x (record { reply = reply.Ok; posts = posts; erased = [] }) r after
+    pub moved_stays : is_over k ≡ false → RowStep node row beside contents x (record { reply = reply.Ok; posts = posts; erased = [] }) r after
     moved_stays is =
         moved node row beside contents h x (done_if false) (step_is ∙ settled_is ∙ ap done_if is) (record { reply = reply.Ok; posts = posts; erased = [] }) r after m (posted (shows (done_if false)))
 
-    settled_so : ArePlaced r.window.placed (place_of r.copies) → (b : Bool) → is_over k ≡ b → TakesStep node row beside contents x (gives b) (row_settled b) after
+    settled_so : ArePlaced r.window.placed (place_of r.copies) → (b : Bool) → is_over k ≡ b → RowStep node row beside contents x (gives b) (row_settled b) after
     settled_so placed false is = moved_stays is
     settled_so placed true is =
         let keys = keys_gone (copies_of row.copies) (drop_copy store id).copies in
-        let told : Given = record { reply = reply.Ok; posts = posts; erased = [] } in
+        let told : RowGiven = record { reply = reply.Ok; posts = posts; erased = [] } in
         let gone = change_left node row beside contents h x (done_if false) told r after m refl placed id keys in
         moved node row beside contents h x gone (step_is ∙ settled_is ∙ ap done_if is) (gives true) (dropped r id) after
         (moves_left node row beside contents h x (done_if false) told r after m refl placed id keys (gives true) refl (one_key row.job k.copy.backed ∙ ap (map (key_of row.job)) (sym key)))
         (posted (shows gone))
 
-    pub moved_settles : r.job ≡ row.job → ArePlaced r.window.placed (place_of r.copies) → TakesStep node row beside contents x (record { reply = reply.Ok; posts = posts; erased = keys_settled r id }) (settled_row r id) after
+    pub moved_settles : r.job ≡ row.job → ArePlaced r.window.placed (place_of r.copies) → RowStep node row beside contents x (record { reply = reply.Ok; posts = posts; erased = keys_settled r id }) (settled_row r id) after
     moved_settles same placed =
-        subst (λ ks. TakesStep node row beside contents x (record { reply = reply.Ok; posts = posts; erased = ks }) (settled_row r id) after) (sym (keys-are same))
-        (subst (λ t. TakesStep node row beside contents x (gives (is_over k)) t after) (sym settled_row-is) (settled_so placed (is_over k) refl))
+        subst (λ ks. RowStep node row beside contents x (record { reply = reply.Ok; posts = posts; erased = ks }) (settled_row r id) after) (sym (keys-are same))
+        (subst (λ t. RowStep node row beside contents x (gives (is_over k)) t after) (sym settled_row-is) (settled_so placed (is_over k) refl))
 
-module _ (node : ℕ) (row : Row) (beside : Beside) (contents : Contents) (h : IsShown row beside contents) (x : Input) (quiet : BringsNothing node (seen row beside contents) x)
-    (id : ObjectId) (k : Kept) (found : at row.copies id ≡ Some k) (f : Kept → Kept) (minor : IsMinor f k) (sent : List Sending) (posts : List Post) where
+module _ (node : ℕ) (row : Row) (beside : SharedTables) (contents : Contents) (h : IsShown row beside contents) (x : Input) (quiet : BringsNothing node (seen row beside contents) x)
+    (id : ObjectId) (k : CopyView) (found : at row.copies id ≡ Some k) (f : CopyView → CopyView) (minor : IsMinor f k) (sent : List Sending) (posts : List Post) where
   abbrev s : Shape
   s = shape_of row beside
 
@@ -120,10 +120,10 @@ module _ (node : ℕ) (row : Row) (beside : Beside) (contents : Contents) (h : I
   abbrev c : Change
   c = erasing s (record (done (set_copy s id now)) { sent = sent })
 
-  abbrev told : Given
+  abbrev told : RowGiven
   told = record { reply = reply.Ok; posts = posts; erased = [] }
 
-  m : Moves node row beside contents h x c told row_now beside
+  m : TakesChange node row beside contents h x c told row_now beside
   m = record {
     shape = ap (λ t. record s { copies = t }) (sym (copies-changed f row.copies id k found));
     order = sym (reordered-unused row.order (copies_of row_now.copies) (there_still node row beside contents h x id k found f minor.lies row.order h.there));
@@ -153,8 +153,8 @@ module _ (node : ℕ) (row : Row) (beside : Beside) (contents : Contents) (h : I
   module _ (step_is : change node row beside contents h x ≡ erasing s (record (done (settled (set_copy s id now) id)) { sent = sent }))
       (posted : (o : View) → posts ≡ flat_map (posts_of node o x) sent) where
     -- a copy that something keeps, or that isn't doomed, stays
-    pub stays_so : is_over (f k) ≡ false → TakesStep node row beside contents x told row_now beside
+    pub stays_so : is_over (f k) ≡ false → RowStep node row beside contents x told row_now beside
     stays_so is = moved_stays node row beside contents h x row_now beside (set_copy s id now) sent posts m id (f k) found_now (at-put_here (copies_of row.copies) id now) over_is key_is step_is posted is
 
-    pub settles : ArePlaced row_now.window.placed (place_of row_now.copies) → TakesStep node row beside contents x (record { reply = reply.Ok; posts = posts; erased = keys_settled row_now id }) (settled_row row_now id) beside
+    pub settles : ArePlaced row_now.window.placed (place_of row_now.copies) → RowStep node row beside contents x (record { reply = reply.Ok; posts = posts; erased = keys_settled row_now id }) (settled_row row_now id) beside
     settles placed = moved_settles node row beside contents h x row_now beside (set_copy s id now) sent posts m id (f k) found_now (at-put_here (copies_of row.copies) id now) over_is key_is step_is posted refl placed

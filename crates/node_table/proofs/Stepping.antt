@@ -7,28 +7,28 @@ use Rattle.obj_id.specs.declared.messages.Digest.{Digest}
 use Rattle.obj_id.specs.declared.commands.Reply.{Reply}
 use Rattle.obj_id.specs.Ids.{id_cmp}
 use Rattle.private_store.specs.declared.inputs.Input.{Input}
-use Rattle.private_store.specs.Tables.{ById, at, is_among}
-use Rattle.private_store.specs.Shape.{Copy, Seen, Change, Sending}
-use Rattle.private_store.specs.Copies.{extent_of}
-use Rattle.private_store.specs.Change.{replied, erasing}
-use Rattle.private_store.specs.Step.{step, reordered}
-use Rattle.private_store.specs.Contents.{Contents, View, judge, bytes_at, keeps_digest, no_digest, bytes_brought, digest_brought, bytes_received, brought, kept, whole_reply}
-use Rattle.private_store.specs.Private.{Post, posts_of, key_of, view_step, view_after}
-use Rattle.private_store.specs.Kept.{IsViewKept, has_hand}
+use Rattle.private_store.specs.rules.Tables.{ById, at, is_among}
+use Rattle.private_store.specs.rules.Shape.{Copy, Seen, Change, Sending}
+use Rattle.private_store.specs.rules.Copies.{extent_of}
+use Rattle.private_store.specs.rules.Change.{replied, erasing}
+use Rattle.private_store.specs.rules.Step.{step, reordered}
+use Rattle.private_store.specs.rules.Contents.{Contents, View, judge, bytes_at, keeps_digest, no_digest, bytes_brought, digest_brought, bytes_received, brought, kept, whole_reply}
+use Rattle.private_store.specs.rules.Private.{Post, posts_of, key_of, view_step, view_after}
+use Rattle.private_store.specs.laws.Invariants.{IsViewKept, has_hand}
 use Rattle.store_facts.proofs.Filling.{at-kept, kept_row, filled}
 use Rattle.store_facts.proofs.RowContents.{default_same}
 use Rattle.store_facts.proofs.ErasedKeys.{keys_none, all_found}
 use Rattle.store_facts.proofs.StepsKept.{view_keeps}
-use Rattle.job_region.specs.Region.{bytes_at as placed_bytes}
+use Rattle.job_region.specs.Region.{region_bytes_at as placed_bytes}
 use Rattle.lru_evictor.specs.Orders.{AreThere}
 use Rattle.lru_evictor.proofs.ForCallers.{reordered-unused}
-use Rattle.node_table.specs.Kept.{Kept}
-use Rattle.node_table.specs.Row.{Row, Beside, copies_of, received_bytes, shape_of}
-use Rattle.node_table.specs.Shown.{seen, work_on, IsShown, Given, only, TakesStep}
+use Rattle.node_table.specs.CopyViews.{CopyView}
+use Rattle.node_table.specs.Row.{Row, SharedTables, copies_of, received_bytes, shape_of}
+use Rattle.node_table.specs.Shown.{seen, work_on, IsShown, RowGiven, only, RowStep}
 use Rattle.node_table.proofs.CopyTables.{at-copies_found}
 use Rattle.node_table.proofs.Received.{kept_as_they_are}
 
-module _ (node : ℕ) (row : Row) (beside : Beside) (contents : Contents) (h : IsShown row beside contents) (x : Input) where
+module _ (node : ℕ) (row : Row) (beside : SharedTables) (contents : Contents) (h : IsShown row beside contents) (x : Input) where
   abbrev pub before : View
   before = seen row beside contents
 
@@ -43,20 +43,20 @@ module _ (node : ℕ) (row : Row) (beside : Beside) (contents : Contents) (h : I
   digests_now c = brought contents.digests (digest_brought node before x c.reply)
 
   -- what has to be shown of the row after a step whose change this is
-  pub record Moves (c : Change) (told : Given) (new : Row) (after : Beside) : Type 0 where
+  pub record TakesChange (c : Change) (told : RowGiven) (new : Row) (after : SharedTables) : Type 0 where
     pub shape : c.shape ≡ shape_of new after
     pub order : reordered row.order (copies_of new.copies) c.used ≡ new.order
     pub there : AreThere (copies_of new.copies) new.order
-    pub listed : (id : ObjectId) (k : Kept) → at new.copies id ≡ Some k → is_among new.order id ≡ true
-    pub bytes : (id : ObjectId) (k : Kept) (e : Extent) → at new.copies id ≡ Some k → extent_of k.copy ≡ Some e → filled (at (bytes_now c) id) k.copy ≡ take k.copy.length (placed_bytes e new.window.placed)
-    pub digests : (id : ObjectId) (k : Kept) → at new.copies id ≡ Some k → keeps_digest k.copy ≡ true → unwrap_or (at (digests_now c) id) no_digest ≡ unwrap_or k.digest no_digest
-    pub working : (id : ObjectId) (k : Kept) → at new.copies id ≡ Some k → k.working ≡ work_on after.works id
-    pub granted : (id : ObjectId) (k : Kept) → at new.copies id ≡ Some k → k.granted ≡ has_hand after.given id
+    pub listed : (id : ObjectId) (k : CopyView) → at new.copies id ≡ Some k → is_among new.order id ≡ true
+    pub bytes : (id : ObjectId) (k : CopyView) (e : Extent) → at new.copies id ≡ Some k → extent_of k.copy ≡ Some e → filled (at (bytes_now c) id) k.copy ≡ take k.copy.length (placed_bytes e new.window.placed)
+    pub digests : (id : ObjectId) (k : CopyView) → at new.copies id ≡ Some k → keeps_digest k.copy ≡ true → unwrap_or (at (digests_now c) id) no_digest ≡ unwrap_or k.digest no_digest
+    pub working : (id : ObjectId) (k : CopyView) → at new.copies id ≡ Some k → k.working ≡ work_on after.works id
+    pub granted : (id : ObjectId) (k : CopyView) → at new.copies id ≡ Some k → k.granted ≡ has_hand after.given id
     pub received : kept (λ seen. true) (λ seen. []) (brought contents.received (bytes_received x)) after.received ≡ received_bytes after
     pub reply : told.reply ≡ whole_reply before x c.reply
     pub erased : told.erased ≡ map (key_of row.job) c.erased
 
-  module _ (c : Change) (is : change ≡ c) (told : Given) (new : Row) (after : Beside) (m : Moves c told new after) where
+  module _ (c : Change) (is : change ≡ c) (told : RowGiven) (new : Row) (after : SharedTables) (m : TakesChange c told new after) where
     abbrev pub o : View
     o = view_after node before x (judge node before x) c
 
@@ -75,7 +75,7 @@ module _ (node : ℕ) (row : Row) (beside : Beside) (contents : Contents) (h : I
     sorted : T (is_sorted id_cmp c.shape.copies)
     sorted = subst (λ s. T (is_sorted id_cmp s.copies)) (sym m.shape) (subst T (sym kept_now.kept.shape.by_id) tt)
 
-    copy_at : (id : ObjectId) (k : Kept) → at new.copies id ≡ Some k → at c.shape.copies id ≡ Some k.copy
+    copy_at : (id : ObjectId) (k : CopyView) → at new.copies id ≡ Some k → at c.shape.copies id ≡ Some k.copy
     copy_at id k e = ap (λ s. at s.copies id) m.shape ∙ at-copies_found new.copies id k e
 
     resides : (copy : Copy) (e : Extent) → extent_of copy ≡ Some e → is_some copy.offset ≡ true
@@ -105,7 +105,7 @@ module _ (node : ℕ) (row : Row) (beside : Beside) (contents : Contents) (h : I
       received = ap (λ s. kept (λ seen. true) (λ seen. []) (brought contents.received (bytes_received x)) s.received) m.shape ∙ m.received;
     }
 
-    pub moved : told.posts ≡ flat_map (posts_of node o x) c.sent → TakesStep node row beside contents x told new after
+    pub moved : told.posts ≡ flat_map (posts_of node o x) c.sent → RowStep node row beside contents x told new after
     moved posts = record {
       shape = ap (λ v. v.shape) same_view ∙ m.shape;
       order = ap (λ v. v.order) same_view ∙ order_is;
@@ -117,10 +117,10 @@ module _ (node : ℕ) (row : Row) (beside : Beside) (contents : Contents) (h : I
 
   -- ---- where nothing is brought for a copy, and it stays
 
-  length_of : (id : ObjectId) (k : Kept) → at row.copies id ≡ Some k → is_some k.copy.offset ≡ true → length (bytes_at contents.bytes id) ≡ k.copy.length
+  length_of : (id : ObjectId) (k : CopyView) → at row.copies id ≡ Some k → is_some k.copy.offset ≡ true → length (bytes_at contents.bytes id) ≡ k.copy.length
   length_of id k found lies = (h.kept.kept.filled.each id k.copy (at-copies_found row.copies id k found)).bytes lies
 
-  pub same_bytes : (id : ObjectId) (k : Kept) (e : Extent) → at row.copies id ≡ Some k → extent_of k.copy ≡ Some e → filled (at contents.bytes id) k.copy ≡ take k.copy.length (placed_bytes e row.window.placed)
+  pub same_bytes : (id : ObjectId) (k : CopyView) (e : Extent) → at row.copies id ≡ Some k → extent_of k.copy ≡ Some e → filled (at contents.bytes id) k.copy ≡ take k.copy.length (placed_bytes e row.window.placed)
   same_bytes id k e found lies = default_same (at contents.bytes id) k.copy.length (length_of id k found (by k.copy.offset lies)) ∙ h.bytes id k e found lies
     where
       by : (p : Option ℕ) → extent_of (record k.copy { offset = p }) ≡ Some e → is_some p ≡ true
@@ -139,7 +139,7 @@ module _ (node : ℕ) (row : Row) (beside : Beside) (contents : Contents) (h : I
 
   module _ (r : Reply ℕ) (sent : List Sending) (posts : List Post)
       (bytes : bytes_brought before x (judge node before x) r ≡ None) (digests : digest_brought node before x r ≡ None) (none : bytes_received x ≡ None) where
-    pub same_moves : Moves (telling r sent) (record { reply = whole_reply before x r; posts = posts; erased = [] }) row beside
+    pub same_moves : TakesChange (telling r sent) (record { reply = whole_reply before x r; posts = posts; erased = [] }) row beside
     same_moves = record {
       shape = refl;
       order = sym (reordered-unused row.order (copies_of row.copies) h.there);
@@ -155,10 +155,10 @@ module _ (node : ℕ) (row : Row) (beside : Beside) (contents : Contents) (h : I
     }
 
     pub tells : (is : change ≡ telling r sent) → posts ≡ flat_map (posts_of node (o (telling r sent) is (record { reply = whole_reply before x r; posts = posts; erased = [] }) row beside same_moves) x) sent
-        → TakesStep node row beside contents x (record { reply = whole_reply before x r; posts = posts; erased = [] }) row beside
+        → RowStep node row beside contents x (record { reply = whole_reply before x r; posts = posts; erased = [] }) row beside
     tells is said = moved (telling r sent) is (record { reply = whole_reply before x r; posts = posts; erased = [] }) row beside same_moves said
 
   -- one that sends nothing
   pub stays : (r : Reply ℕ) → change ≡ erasing (shape_of row beside) (replied (shape_of row beside) r) → bytes_brought before x (judge node before x) r ≡ None → digest_brought node before x r ≡ None → bytes_received x ≡ None
-      → TakesStep node row beside contents x (only (whole_reply before x r)) row beside
+      → RowStep node row beside contents x (only (whole_reply before x r)) row beside
   stays r is bytes digests none = tells r [] [] bytes digests none is refl

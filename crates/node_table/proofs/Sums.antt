@@ -10,13 +10,13 @@ use Rattle.indexmap.specs.IndexMap.{insert_entry, swap_remove_entry}
 use Rattle.indexmap.proofs.MapLemmas.{Found-position, Missing-position}
 use Rattle.obj_id.specs.declared.ids.ObjectId.{ObjectId}
 use Rattle.obj_id.specs.Ids.{id_eq}
-use Rattle.private_store.specs.Tables.{ById}
+use Rattle.private_store.specs.rules.Tables.{ById}
 use Rattle.store_facts.proofs.Tests.{some_value}
-use Rattle.node_table.specs.declared.taken.Taken.{Taken}
+use Rattle.node_table.specs.declared.footprint.Footprint.{Footprint}
 use Rattle.node_table.specs.Entries.{by_rising_id}
-use Rattle.node_table.specs.Kept.{Kept}
+use Rattle.node_table.specs.CopyViews.{CopyView}
 use Rattle.node_table.specs.Usages.{window_bytes, device_bytes, total}
-use Rattle.node_table.specs.Counted.{capped, nothing, taken_by, capped_sum, taken_of, exchanged, CanExchange}
+use Rattle.node_table.specs.Counted.{capped, nothing, footprint_by, capped_sum, footprint_of, exchanged, CanExchange}
 use Rattle.node_table.proofs.Rising.{total-rising}
 
 -- ---- a sum over entries
@@ -96,58 +96,58 @@ module _ {K X : Type 0} (f : X → ℕ) where
 
 -- ---- capped sums
 
-module _ (bytes : Kept → ℕ) where
-  abbrev one : Kept → ℕ
+module _ (bytes : CopyView → ℕ) where
+  abbrev one : CopyView → ℕ
   one k = capped (bytes k)
 
-  sum-bound : (es : ById Kept) → capped_sum bytes es ≤ 18446744073709551615 * length es
+  sum-bound : (es : ById CopyView) → capped_sum bytes es ≤ 18446744073709551615 * length es
   sum-bound [] = omega arith
   sum-bound (e ∷ es) =
       let rest = sum-bound es in
-      let all = sum_by-cons (λ (e : ObjectId × Kept). capped (bytes e.1)) e es in
+      let all = sum_by-cons (λ (e : ObjectId × CopyView). capped (bytes e.1)) e es in
       omega (arith, rest, all)
 
-  sum-capped : (es : ById Kept) → capped (capped_sum bytes es) ≡ total bytes es
+  sum-capped : (es : ById CopyView) → capped (capped_sum bytes es) ≡ total bytes es
   sum-capped [] = refl
   sum-capped (e ∷ es) =
       let rest = sum-capped es in
-      let all = sum_by-cons (λ (e : ObjectId × Kept). capped (bytes e.1)) e es in
-      let plain = sum_by-cons (λ (e : ObjectId × Kept). bytes e.1) e es in
+      let all = sum_by-cons (λ (e : ObjectId × CopyView). capped (bytes e.1)) e es in
+      let plain = sum_by-cons (λ (e : ObjectId × CopyView). bytes e.1) e es in
       omega (arith, rest, all, plain)
 
   -- what is told of the sum
-  pub told : (es : List (ObjectId × Kept)) (now : ById Kept) → by_rising_id es ≡ now → IsDistinct id_eq (keys_of es) → capped (capped_sum bytes es) ≡ total bytes now
+  pub told : (es : List (ObjectId × CopyView)) (now : ById CopyView) → by_rising_id es ≡ now → IsDistinct id_eq (keys_of es) → capped (capped_sum bytes es) ≡ total bytes now
   told es now seen distinct =
-      sum-capped es ∙ ap capped (sym (total-rising (λ (e : ObjectId × Kept). bytes e.1) es distinct)) ∙ ap (total bytes) seen
+      sum-capped es ∙ ap capped (sym (total-rising (λ (e : ObjectId × CopyView). bytes e.1) es distinct)) ∙ ap (total bytes) seen
 
 -- ---- exchanges
 
 -- what a table takes at most of one copy
-abbrev pub IsSmall : Taken → Type 0
+abbrev pub IsSmall : Footprint → Type 0
 IsSmall taken = (taken.window ≤ 18446744073709551615) × (taken.device ≤ 18446744073709551615)
 
-pub small_by : (k : Kept) → IsSmall (taken_by k)
+pub small_by : (k : CopyView) → IsSmall (footprint_by k)
 small_by k = (omega arith, omega arith)
 
 pub small_nothing : IsSmall nothing
 small_nothing = (omega arith, omega arith)
 
 -- what the copy took that a look-up finds
-abbrev pub taken_any : Option Kept → Taken
-taken_any o = option_map_or taken_by o nothing
+abbrev pub taken_any : Option CopyView → Footprint
+taken_any o = option_map_or footprint_by o nothing
 
-any_window : (o : Option Kept) → (taken_any o).window ≡ option_map_or (λ k. capped (window_bytes k)) o 0
+any_window : (o : Option CopyView) → (taken_any o).window ≡ option_map_or (λ k. capped (window_bytes k)) o 0
 any_window None = refl
 any_window (Some k) = refl
 
-any_device : (o : Option Kept) → (taken_any o).device ≡ option_map_or (λ k. capped (device_bytes k)) o 0
+any_device : (o : Option CopyView) → (taken_any o).device ≡ option_map_or (λ k. capped (device_bytes k)) o 0
 any_device None = refl
 any_device (Some k) = refl
 
 swapped : (sum new before after : ℕ) → before ≤ sum → new + before ≡ sum + after → sum - before + after ≡ new
 swapped sum new before after le is = omega (arith, le, is)
 
-module _ (test : ObjectId → Bool) (es : List (ObjectId × Kept)) (taken before after : Taken) (has : taken ≡ taken_of es) (was : before ≡ taken_any (lookup test es)) where
+module _ (test : ObjectId → Bool) (es : List (ObjectId × CopyView)) (taken before after : Footprint) (has : taken ≡ footprint_of es) (was : before ≡ taken_any (lookup test es)) where
   window-le : (taken_any (lookup test es)).window ≤ capped_sum window_bytes es
   window-le = let le = found-le (λ k. capped (window_bytes k)) test es in let is = any_window (lookup test es) in omega (arith, le, is)
 
@@ -161,12 +161,12 @@ module _ (test : ObjectId → Bool) (es : List (ObjectId × Kept)) (taken before
       let a = small.0 in
       let b = small.1 in
       subst (λ t. CanExchange t before after) (sym has)
-      (subst (λ t. CanExchange (taken_of es) t after) (sym was)
+      (subst (λ t. CanExchange (footprint_of es) t after) (sym was)
       (record { window = window-le; device = device-le; window_fits = omega (arith, w, a, few); device_fits = omega (arith, d, b, few) }))
 
-  module _ (result : Taken) (is : result ≡ exchanged taken before after) (new : List (ObjectId × Kept)) where
+  module _ (result : Footprint) (is : result ≡ exchanged taken before after) (new : List (ObjectId × CopyView)) where
     by_sums : capped_sum window_bytes new + (taken_any (lookup test es)).window ≡ capped_sum window_bytes es + after.window
-        → capped_sum device_bytes new + (taken_any (lookup test es)).device ≡ capped_sum device_bytes es + after.device → result ≡ taken_of new
+        → capped_sum device_bytes new + (taken_any (lookup test es)).device ≡ capped_sum device_bytes es + after.device → result ≡ footprint_of new
     by_sums window device =
         is ∙ (λ i. exchanged (has i) (was i) after)
         ∙ (λ i. record {
@@ -175,10 +175,10 @@ module _ (test : ObjectId → Bool) (es : List (ObjectId × Kept)) (taken before
         })
 
     -- the copy that is there is another one now
-    pub taken-set : (x y : Kept) → lookup test es ≡ Some x → after ≡ taken_by y → new ≡ set_value test es y → result ≡ taken_of new
-    taken-set x y found now set = by_sums (sum window_bytes (λ (t : Taken). t.window) any_window refl) (sum device_bytes (λ (t : Taken). t.device) any_device refl)
+    pub taken-set : (x y : CopyView) → lookup test es ≡ Some x → after ≡ footprint_by y → new ≡ set_value test es y → result ≡ footprint_of new
+    taken-set x y found now set = by_sums (sum window_bytes (λ (t : Footprint). t.window) any_window refl) (sum device_bytes (λ (t : Footprint). t.device) any_device refl)
       where
-        sum : (bytes : Kept → ℕ) (part : Taken → ℕ) → ((o : Option Kept) → part (taken_any o) ≡ option_map_or (λ k. capped (bytes k)) o 0) → part (taken_by y) ≡ capped (bytes y)
+        sum : (bytes : CopyView → ℕ) (part : Footprint → ℕ) → ((o : Option CopyView) → part (taken_any o) ≡ option_map_or (λ k. capped (bytes k)) o 0) → part (footprint_by y) ≡ capped (bytes y)
             → capped_sum bytes new + part (taken_any (lookup test es)) ≡ capped_sum bytes es + part after
         sum bytes part any one =
             let all = weights-set_value (λ k. capped (bytes k)) test es x y found in
@@ -188,10 +188,10 @@ module _ (test : ObjectId → Bool) (es : List (ObjectId × Kept)) (taken before
             omega (arith, all, here, old, next)
 
     -- the copy is put
-    pub taken-insert : (eq : ObjectId → ObjectId → Bool) (id : ObjectId) → test ≡ eq id → (y : Kept) → after ≡ taken_by y → new ≡ insert_entry eq es id y → result ≡ taken_of new
-    taken-insert eq id own y now put = by_sums (sum window_bytes (λ (t : Taken). t.window) any_window refl) (sum device_bytes (λ (t : Taken). t.device) any_device refl)
+    pub taken-insert : (eq : ObjectId → ObjectId → Bool) (id : ObjectId) → test ≡ eq id → (y : CopyView) → after ≡ footprint_by y → new ≡ insert_entry eq es id y → result ≡ footprint_of new
+    taken-insert eq id own y now put = by_sums (sum window_bytes (λ (t : Footprint). t.window) any_window refl) (sum device_bytes (λ (t : Footprint). t.device) any_device refl)
       where
-        sum : (bytes : Kept → ℕ) (part : Taken → ℕ) → ((o : Option Kept) → part (taken_any o) ≡ option_map_or (λ k. capped (bytes k)) o 0) → part (taken_by y) ≡ capped (bytes y)
+        sum : (bytes : CopyView → ℕ) (part : Footprint → ℕ) → ((o : Option CopyView) → part (taken_any o) ≡ option_map_or (λ k. capped (bytes k)) o 0) → part (footprint_by y) ≡ capped (bytes y)
             → capped_sum bytes new + part (taken_any (lookup test es)) ≡ capped_sum bytes es + part after
         sum bytes part any one =
             let all = weights-insert_entry (λ k. capped (bytes k)) eq es id y in
@@ -201,10 +201,10 @@ module _ (test : ObjectId → Bool) (es : List (ObjectId × Kept)) (taken before
             omega (arith, all, here, old, next)
 
     -- the copy is removed
-    pub taken-remove : after ≡ nothing → new ≡ swap_remove_entry test es → result ≡ taken_of new
-    taken-remove now gone = by_sums (sum window_bytes (λ (t : Taken). t.window) any_window refl) (sum device_bytes (λ (t : Taken). t.device) any_device refl)
+    pub taken-remove : after ≡ nothing → new ≡ swap_remove_entry test es → result ≡ footprint_of new
+    taken-remove now gone = by_sums (sum window_bytes (λ (t : Footprint). t.window) any_window refl) (sum device_bytes (λ (t : Footprint). t.device) any_device refl)
       where
-        sum : (bytes : Kept → ℕ) (part : Taken → ℕ) → ((o : Option Kept) → part (taken_any o) ≡ option_map_or (λ k. capped (bytes k)) o 0) → part nothing ≡ 0
+        sum : (bytes : CopyView → ℕ) (part : Footprint → ℕ) → ((o : Option CopyView) → part (taken_any o) ≡ option_map_or (λ k. capped (bytes k)) o 0) → part nothing ≡ 0
             → capped_sum bytes new + part (taken_any (lookup test es)) ≡ capped_sum bytes es + part after
         sum bytes part any one =
             let all = weights-swap_remove_entry (λ k. capped (bytes k)) test es in
@@ -216,27 +216,27 @@ module _ (test : ObjectId → Bool) (es : List (ObjectId × Kept)) (taken before
 -- ---- changes that take as much as before
 
 -- of one copy
-pub taken-same : (test : ObjectId → Bool) (es new : List (ObjectId × Kept)) (taken : Taken) (x y : Kept) → lookup test es ≡ Some x → new ≡ set_value test es y → taken_by y ≡ taken_by x → taken ≡ taken_of es → taken ≡ taken_of new
+pub taken-same : (test : ObjectId → Bool) (es new : List (ObjectId × CopyView)) (taken : Footprint) (x y : CopyView) → lookup test es ≡ Some x → new ≡ set_value test es y → footprint_by y ≡ footprint_by x → taken ≡ footprint_of es → taken ≡ footprint_of new
 taken-same test es new taken x y found set same has =
-    has ∙ (λ i. record { window = sym (sum window_bytes (ap (λ (t : Taken). t.window) same)) i; device = sym (sum device_bytes (ap (λ (t : Taken). t.device) same)) i })
+    has ∙ (λ i. record { window = sym (sum window_bytes (ap (λ (t : Footprint). t.window) same)) i; device = sym (sum device_bytes (ap (λ (t : Footprint). t.device) same)) i })
   where
-    sum : (bytes : Kept → ℕ) → capped (bytes y) ≡ capped (bytes x) → capped_sum bytes new ≡ capped_sum bytes es
+    sum : (bytes : CopyView → ℕ) → capped (bytes y) ≡ capped (bytes x) → capped_sum bytes new ≡ capped_sum bytes es
     sum bytes one =
         let all = weights-set_value (λ k. capped (bytes k)) test es x y found in
         let here = ap (capped_sum bytes) set in
         omega (arith, all, here, one)
 
 -- of each
-pub taken-each : (g : ObjectId → Kept → Kept) → ((id : ObjectId) (k : Kept) → taken_by (g id k) ≡ taken_by k) → (es new : List (ObjectId × Kept)) (taken : Taken) → new ≡ map (λ e. (e.0, g e.0 e.1)) es → taken ≡ taken_of es → taken ≡ taken_of new
+pub taken-each : (g : ObjectId → CopyView → CopyView) → ((id : ObjectId) (k : CopyView) → footprint_by (g id k) ≡ footprint_by k) → (es new : List (ObjectId × CopyView)) (taken : Footprint) → new ≡ map (λ e. (e.0, g e.0 e.1)) es → taken ≡ footprint_of es → taken ≡ footprint_of new
 taken-each g same es new taken each has =
     has
     ∙ (λ i. record {
-      window = sym (weights-changed (λ k. capped (window_bytes k)) g (λ id k. ap (λ (t : Taken). t.window) (same id k)) es) i;
-      device = sym (weights-changed (λ k. capped (device_bytes k)) g (λ id k. ap (λ (t : Taken). t.device) (same id k)) es) i;
+      window = sym (weights-changed (λ k. capped (window_bytes k)) g (λ id k. ap (λ (t : Footprint). t.window) (same id k)) es) i;
+      device = sym (weights-changed (λ k. capped (device_bytes k)) g (λ id k. ap (λ (t : Footprint). t.device) (same id k)) es) i;
     })
-    ∙ sym (ap taken_of each)
+    ∙ sym (ap footprint_of each)
 
 -- of one copy, unless that was refused
-pub taken-either : {R E : Type 0} (r : Result R E) (f : Kept → Kept) (x y : Kept) → OnOk r (y ≡ f x) → OnErr r (y ≡ x) → taken_by (f x) ≡ taken_by x → taken_by y ≡ taken_by x
-taken-either (Ok v) f x y ok err same = ap taken_by ok ∙ same
-taken-either (Err e) f x y ok err same = ap taken_by err
+pub taken-either : {R E : Type 0} (r : Result R E) (f : CopyView → CopyView) (x y : CopyView) → OnOk r (y ≡ f x) → OnErr r (y ≡ x) → footprint_by (f x) ≡ footprint_by x → footprint_by y ≡ footprint_by x
+taken-either (Ok v) f x y ok err same = ap footprint_by ok ∙ same
+taken-either (Err e) f x y ok err same = ap footprint_by err

@@ -6,7 +6,7 @@ use Rattle.std.specs.Map.{keys_of}
 use Rattle.std.proofs.lemmas.Bool.Decides.{nat_tests}
 use Rattle.obj_id.specs.declared.ids.ObjectId.{ObjectId}
 use Rattle.obj_id.specs.Ids.{id_eq}
-use Rattle.private_store.specs.Tables.{ById}
+use Rattle.private_store.specs.rules.Tables.{ById}
 use Rattle.node_table.specs.Entries.{by_rising_id}
 use Rattle.node_table.proofs.Rising.{total-rising}
 

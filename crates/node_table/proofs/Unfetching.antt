@@ -17,25 +17,25 @@ use Rattle.private_store.specs.declared.faults.FetchFault.{FetchFault}
 use Rattle.private_store.specs.declared.faults.FetchFault.TheVariants.{Absent}
 use Rattle.private_store.specs.declared.inputs.Input.{Input}
 use Rattle.private_store.specs.declared.inputs.Input.TheVariants as input
-use Rattle.private_store.specs.Tables.{ById, at, without_entry}
-use Rattle.private_store.specs.Shape.{Copy, Shape, Change, Fetch, Phase, locating, sized, pulling, failed, Sending, remove_source}
-use Rattle.private_store.specs.Copies.{extent_of}
-use Rattle.private_store.specs.Room.{set_copy}
-use Rattle.private_store.specs.Change.{done, sending}
-use Rattle.private_store.specs.Events.{fetch_of, fetch_failed, not_here_arrived}
-use Rattle.private_store.specs.Contents.{Contents, View, keeps_digest, is_sized, digest_brought, brought, bytes_received}
-use Rattle.private_store.specs.Private.{Post, posts_of, to_directory}
-use Rattle.private_store.specs.Kept.{is_fetching}
+use Rattle.private_store.specs.rules.Tables.{ById, at, without_entry}
+use Rattle.private_store.specs.rules.Shape.{Copy, Shape, Change, Fetch, Phase, locating, sized, pulling, failed, Sending, remove_source}
+use Rattle.private_store.specs.rules.Copies.{extent_of}
+use Rattle.private_store.specs.rules.Room.{set_copy}
+use Rattle.private_store.specs.rules.Change.{done, sending}
+use Rattle.private_store.specs.rules.Events.{fetch_of, fetch_failed, not_here_arrived}
+use Rattle.private_store.specs.rules.Contents.{Contents, View, keeps_digest, is_sized, digest_brought, brought, bytes_received}
+use Rattle.private_store.specs.rules.Private.{Post, posts_of, to_directory}
+use Rattle.private_store.specs.laws.Invariants.{is_fetching}
 use Rattle.store_facts.proofs.Filling.{filled}
 use Rattle.store_facts.proofs.Rows.{at-put}
 use Rattle.store_facts.proofs.Tests.{none_some, true_false, false_true, both_left, both_right}
-use Rattle.job_region.specs.Region.{without, bytes_at as placed_bytes}
-use Rattle.fetch_core.specs.Fetching.{is_refused_by}
-use Rattle.node_table.specs.Arriving.{in_phase, of_length, asks, unfetched, unfetched_row}
+use Rattle.job_region.specs.Region.{without, region_bytes_at as placed_bytes}
+use Rattle.fetch_core.specs.Fetching.{is_pulled_from}
+use Rattle.node_table.specs.Arriving.{in_phase, fetch_of_length, asks, after_failed_fetch, unfetched_row}
 use Rattle.node_table.specs.Entries.{changed}
-use Rattle.node_table.specs.Kept.{Kept}
-use Rattle.node_table.specs.Row.{Row, Beside, shape_of, place_of, ArePlaced}
-use Rattle.node_table.specs.Shown.{seen, IsShown, only, TakesStep}
+use Rattle.node_table.specs.CopyViews.{CopyView}
+use Rattle.node_table.specs.Row.{Row, SharedTables, shape_of, place_of, ArePlaced}
+use Rattle.node_table.specs.Shown.{seen, IsShown, only, RowStep}
 use Rattle.node_table.proofs.Arriving.{numbers_turn, IsOf, fetch_is, fetch_case, is_on_way, live_is, ignored, arrived}
 use Rattle.node_table.proofs.ByChecks.{sending-is}
 use Rattle.node_table.proofs.Changes.{changed-found, changed-absent}
@@ -46,47 +46,47 @@ use Rattle.node_table.proofs.Stepping.{change, bytes_now, same_bytes}
 
 -- ---- the place that is given back
 
-module _ (placed : List (ℕ × List ℕ)) (es : ById Kept) (h : ArePlaced placed (place_of es)) (id : ObjectId) (fault : FetchFault) where
-  place_unfetched : (q : ObjectId) → place_of (changed (unfetched fault) es id) q ≡ cond (not (same_id id q)) (place_of es q) None
+module _ (placed : List (ℕ × List ℕ)) (es : ById CopyView) (h : ArePlaced placed (place_of es)) (id : ObjectId) (fault : FetchFault) where
+  place_unfetched : (q : ObjectId) → place_of (changed (after_failed_fetch fault) es id) q ≡ cond (not (same_id id q)) (place_of es q) None
   place_unfetched q = by (at es id) refl
     where
       absent : at es id ≡ None → (b : Bool) → same_id id q ≡ b → place_of es q ≡ cond (not b) (place_of es q) None
-      absent e true t = ap (place_of es) (sym (same_id-equal id q t)) ∙ ap (λ o. option_and_then (λ (kept : Kept). extent_of kept.copy) o) e
+      absent e true t = ap (place_of es) (sym (same_id-equal id q t)) ∙ ap (λ o. option_and_then (λ (kept : CopyView). extent_of kept.copy) o) e
       absent e false t = refl
 
-      there : (k : Kept) (b : Bool) → option_and_then (λ (kept : Kept). extent_of kept.copy) (cond b (Some (unfetched fault k)) (at es q)) ≡ cond (not b) (place_of es q) None
+      there : (k : CopyView) (b : Bool) → option_and_then (λ (kept : CopyView). extent_of kept.copy) (cond b (Some (after_failed_fetch fault k)) (at es q)) ≡ cond (not b) (place_of es q) None
       there k true = refl
       there k false = refl
 
-      by : (o : Option Kept) → at es id ≡ o → place_of (changed (unfetched fault) es id) q ≡ cond (not (same_id id q)) (place_of es q) None
-      by None e = ap (λ t. place_of t q) (changed-absent (unfetched fault) id es e) ∙ absent e (same_id id q) refl
+      by : (o : Option CopyView) → at es id ≡ o → place_of (changed (after_failed_fetch fault) es id) q ≡ cond (not (same_id id q)) (place_of es q) None
+      by None e = ap (λ t. place_of t q) (changed-absent (after_failed_fetch fault) id es e) ∙ absent e (same_id id q) refl
       by (Some k) e =
-          ap (λ t. place_of t q) (changed-found (unfetched fault) id es k e)
-          ∙ ap (λ o. option_and_then (λ (kept : Kept). extent_of kept.copy) o) (at-put es id (unfetched fault k) q ∙ ap (λ b. cond b (Some (unfetched fault k)) (at es q)) (same_id-flip q id))
+          ap (λ t. place_of t q) (changed-found (after_failed_fetch fault) id es k e)
+          ∙ ap (λ o. option_and_then (λ (kept : CopyView). extent_of kept.copy) o) (at-put es id (after_failed_fetch fault k) q ∙ ap (λ b. cond b (Some (after_failed_fetch fault k)) (at es q)) (same_id-flip q id))
           ∙ there k (same_id id q)
 
-  pub unfetched_placed : ArePlaced (without (option_to_list (place_of es id)) placed) (place_of (changed (unfetched fault) es id))
+  pub unfetched_placed : ArePlaced (without (option_to_list (place_of es id)) placed) (place_of (changed (after_failed_fetch fault) es id))
   unfetched_placed =
-      same_places (without (option_to_list (place_of es id)) placed) (place_of (without_entry es id)) (place_of (changed (unfetched fault) es id))
+      same_places (without (option_to_list (place_of es id)) placed) (place_of (without_entry es id)) (place_of (changed (after_failed_fetch fault) es id))
       (λ q. place_unfetched q ∙ sym (place_left placed es h id q)) (left_placed placed es h id)
 
 -- ---- the step
 
-module _ (node : ℕ) (row : Row) (beside : Beside) (contents : Contents) (h : IsShown row beside contents) (id : ObjectId) (number : ℕ) (of : IsOf row id number) (fault : FetchFault) where
-  abbrev k : Kept
+module _ (node : ℕ) (row : Row) (beside : SharedTables) (contents : Contents) (h : IsShown row beside contents) (id : ObjectId) (number : ℕ) (of : IsOf row id number) (fault : FetchFault) where
+  abbrev k : CopyView
   k = of.k
 
   on_way : is_fetching k.copy.state ≡ true
   on_way = is_on_way row beside contents h id k of.found of.fetch of.fetched
 
   -- the store's copy after its fetch failed
-  pub failed_is : fetch_failed (shape_of row beside) id k.copy of.fetch fault ≡ set_copy (shape_of row beside) id (unfetched fault k).copy
+  pub failed_is : fetch_failed (shape_of row beside) id k.copy of.fetch fault ≡ set_copy (shape_of row beside) id (after_failed_fetch fault k).copy
   failed_is = ap (λ o. set_copy (shape_of row beside) id (record k.copy { offset = None; fetch = in_phase (failed fault) o })) (sym of.fetched)
 
-  no_digest_left : keeps_digest (unfetched fault k).copy ≡ false
+  no_digest_left : keeps_digest (after_failed_fetch fault k).copy ≡ false
   no_digest_left = by k.copy.state on_way
     where
-      by : (st : CopyState) → is_fetching st ≡ true → keeps_digest (record (unfetched fault k).copy { state = st }) ≡ false
+      by : (st : CopyState) → is_fetching st ≡ true → keeps_digest (record (after_failed_fetch fault k).copy { state = st }) ≡ false
       by Fetching e = ap (λ o. option_map_or (λ (fetch : Fetch). is_sized fetch.phase) (in_phase (failed fault) o) false) of.fetched
       by Created e = true_false e
       by Sealed e = true_false e
@@ -96,13 +96,13 @@ module _ (node : ℕ) (row : Row) (beside : Beside) (contents : Contents) (h : I
   -- what lies in the window is as it was but for the place of the copy
   module _ (x : Input) (none : bytes_received x ≡ None) (placed : List (ℕ × List ℕ)) (sent : List Sending) (posts : List Post)
       (digest : digest_brought node (seen row beside contents) x reply.Ok ≡ None)
-      (elsewhere : (q : ObjectId) (z : Kept) (e : Extent) → same_id q id ≡ false → at row.copies q ≡ Some z → extent_of z.copy ≡ Some e
-      → filled (at (bytes_now node row beside contents h x (record (done (set_copy (shape_of row beside) id (unfetched fault k).copy)) { sent = sent })) q) z.copy ≡ take z.copy.length (placed_bytes e placed)) where
+      (elsewhere : (q : ObjectId) (z : CopyView) (e : Extent) → same_id q id ≡ false → at row.copies q ≡ Some z → extent_of z.copy ≡ Some e
+      → filled (at (bytes_now node row beside contents h x (record (done (set_copy (shape_of row beside) id (after_failed_fetch fault k).copy)) { sent = sent })) q) z.copy ≡ take z.copy.length (placed_bytes e placed)) where
     pub fails : change node row beside contents h x ≡ record (done (fetch_failed (shape_of row beside) id k.copy of.fetch fault)) { sent = sent }
         → ((o : View) → posts ≡ flat_map (posts_of node o x) sent)
-        → TakesStep node row beside contents x (record { reply = reply.Ok; posts = posts; erased = [] }) (record row { window = record row.window { placed = placed }; copies = changed (unfetched fault) row.copies id }) beside
+        → RowStep node row beside contents x (record { reply = reply.Ok; posts = posts; erased = [] }) (record row { window = record row.window { placed = placed }; copies = changed (after_failed_fetch fault) row.copies id }) beside
     fails is posted =
-        arrived node row beside contents h x none id k of.found (unfetched fault) placed sent posts refl refl
+        arrived node row beside contents h x none id k of.found (after_failed_fetch fault) placed sent posts refl refl
         (λ e lies. none_some e lies) elsewhere
         (λ keeps. true_false (sym no_digest_left ∙ keeps))
         (λ q differs. ap (λ d. at (brought contents.digests d) q) digest)
@@ -117,10 +117,10 @@ pub record IsAsked (row : Row) (id : ObjectId) (number from : ℕ) : Type 0 wher
   pub pulled : of.fetch.phase ≡ pulling source missing
   pub itself : (from == source) ≡ true
 
-pub asked : (row : Row) (id : ObjectId) (number from : ℕ) (k : Kept) → at row.copies id ≡ Some k → asks number from k ≡ true → IsAsked row id number from
-asked row id number from k found e = by k.copy.fetch refl (both_right (is_fetching k.copy.state) (option_map_or (λ (fetch : Fetch). is_refused_by number from (of_length k.copy.length fetch)) k.copy.fetch false) e)
+pub asked : (row : Row) (id : ObjectId) (number from : ℕ) (k : CopyView) → at row.copies id ≡ Some k → asks number from k ≡ true → IsAsked row id number from
+asked row id number from k found e = by k.copy.fetch refl (both_right (is_fetching k.copy.state) (option_map_or (λ (fetch : Fetch). is_pulled_from number from (fetch_of_length k.copy.length fetch)) k.copy.fetch false) e)
   where
-    by_phase : (fetch : Fetch) → k.copy.fetch ≡ Some fetch → (p : Phase) → fetch.phase ≡ p → is_refused_by number from (of_length k.copy.length (record fetch { phase = p })) ≡ true → IsAsked row id number from
+    by_phase : (fetch : Fetch) → k.copy.fetch ≡ Some fetch → (p : Phase) → fetch.phase ≡ p → is_pulled_from number from (fetch_of_length k.copy.length (record fetch { phase = p })) ≡ true → IsAsked row id number from
     by_phase fetch fetched (pulling source missing) is t = record {
       of = record { k = k; fetch = fetch; found = found; fetched = fetched; numbered = numbers_turn number fetch.number (both_left (number == fetch.number) (from == source) t) };
       source = source;
@@ -132,11 +132,11 @@ asked row id number from k found e = by k.copy.fetch refl (both_right (is_fetchi
     by_phase fetch fetched (sized source) is t = true_false t
     by_phase fetch fetched (failed fault) is t = true_false t
 
-    by : (o : Option Fetch) → k.copy.fetch ≡ o → option_map_or (λ (fetch : Fetch). is_refused_by number from (of_length k.copy.length fetch)) o false ≡ true → IsAsked row id number from
+    by : (o : Option Fetch) → k.copy.fetch ≡ o → option_map_or (λ (fetch : Fetch). is_pulled_from number from (fetch_of_length k.copy.length fetch)) o false ≡ true → IsAsked row id number from
     by None fetched t = true_false t
     by (Some fetch) fetched t = by_phase fetch fetched fetch.phase refl t
 
-module _ (node : ℕ) (row : Row) (beside : Beside) (contents : Contents) (h : IsShown row beside contents) (id : ObjectId) (number from : ℕ) where
+module _ (node : ℕ) (row : Row) (beside : SharedTables) (contents : Contents) (h : IsShown row beside contents) (id : ObjectId) (number from : ℕ) where
   abbrev x : Input
   x = input.Arrive (arrival.FromPeer from (peer.NotHere id number))
 
@@ -157,21 +157,21 @@ module _ (node : ℕ) (row : Row) (beside : Beside) (contents : Contents) (h : I
 
   asks_is : (of : IsOf row id number) (source : ℕ) (missing : List ℕ) → of.fetch.phase ≡ pulling source missing → (from == source) ≡ true → asks number from of.k ≡ true
   asks_is of source missing is itself =
-      (λ i. is_on_way row beside contents h id of.k of.found of.fetch of.fetched i && option_map_or (λ (fetch : Fetch). is_refused_by number from (of_length of.k.copy.length fetch)) (of.fetched i) false)
-      ∙ ap (λ p. is_refused_by number from (record (of_length of.k.copy.length of.fetch) { phase = p })) is
+      (λ i. is_on_way row beside contents h id of.k of.found of.fetch of.fetched i && option_map_or (λ (fetch : Fetch). is_pulled_from number from (fetch_of_length of.k.copy.length fetch)) (of.fetched i) false)
+      ∙ ap (λ p. is_pulled_from number from (record (fetch_of_length of.k.copy.length of.fetch) { phase = p })) is
       ∙ (λ i. numbers_turn of.fetch.number number of.numbered i && itself i)
 
-  pub not_asked : option_map_or (asks number from) (at row.copies id) false ≡ false → TakesStep node row beside contents x (only reply.Ok) row beside
+  pub not_asked : option_map_or (asks number from) (at row.copies id) false ≡ false → RowStep node row beside contents x (only reply.Ok) row beside
   not_asked e = elim (fetch_case row beside id number) [ inl none ↦ late None none refl | inr of ↦ by of of.fetch.phase refl ]
     where
-      late : (o : Option (Copy × Fetch)) → fetch_of s id number ≡ o → of_fetch o ≡ done s → TakesStep node row beside contents x (only reply.Ok) row beside
+      late : (o : Option (Copy × Fetch)) → fetch_of s id number ≡ o → of_fetch o ≡ done s → RowStep node row beside contents x (only reply.Ok) row beside
       late o e same = ignored node row beside contents h x refl (step_is o e ∙ same) refl refl
 
-      by_source : (of : IsOf row id number) (source : ℕ) (missing : List ℕ) → of.fetch.phase ≡ pulling source missing → (b : Bool) → (from == source) ≡ b → TakesStep node row beside contents x (only reply.Ok) row beside
+      by_source : (of : IsOf row id number) (source : ℕ) (missing : List ℕ) → of.fetch.phase ≡ pulling source missing → (b : Bool) → (from == source) ≡ b → RowStep node row beside contents x (only reply.Ok) row beside
       by_source of source missing is true t = false_true (sym (asks_is of source missing is t) ∙ sym (ap (λ o. option_map_or (asks number from) o false) of.found) ∙ e)
       by_source of source missing is false t = late (Some (of.k.copy, of.fetch)) (fetch_is row beside id number of) (ap (by_phase of.k.copy of.fetch) is ∙ ap (refused_by of.k.copy of.fetch source) t)
 
-      by : (of : IsOf row id number) (p : Phase) → of.fetch.phase ≡ p → TakesStep node row beside contents x (only reply.Ok) row beside
+      by : (of : IsOf row id number) (p : Phase) → of.fetch.phase ≡ p → RowStep node row beside contents x (only reply.Ok) row beside
       by of (pulling source missing) is = by_source of source missing is (from == source) refl
       by of locating is = late (Some (of.k.copy, of.fetch)) (fetch_is row beside id number of) (ap (by_phase of.k.copy of.fetch) is)
       by of (sized source) is = late (Some (of.k.copy, of.fetch)) (fetch_is row beside id number of) (ap (by_phase of.k.copy of.fetch) is)
@@ -184,7 +184,7 @@ module _ (node : ℕ) (row : Row) (beside : Beside) (contents : Contents) (h : I
         ∙ sending-is (remove_source id a.source ∷ []) (done (fetch_failed s id a.of.k.copy a.of.fetch Absent))
 
     pub not_here_done : (posts : List Post) → posts ≡ to_directory (RemoveLocation id from)
-        → TakesStep node row beside contents x (record { reply = reply.Ok; posts = posts; erased = [] }) (unfetched_row Absent row id) beside
+        → RowStep node row beside contents x (record { reply = reply.Ok; posts = posts; erased = [] }) (unfetched_row Absent row id) beside
     not_here_done posts said =
         fails node row beside contents h id number a.of Absent x refl (without (option_to_list (place_of row.copies id)) row.window.placed) (remove_source id a.source ∷ []) posts refl
         (λ q z e differs was lies.
@@ -193,9 +193,9 @@ module _ (node : ℕ) (row : Row) (beside : Beside) (contents : Contents) (h : I
         change_is (λ o. said ∙ ap (λ n. to_directory (RemoveLocation id n)) (eqb-true from a.source a.itself))
 
   pub not_here_at : ArePlaced row.window.placed (place_of row.copies) → option_map_or (asks number from) (at row.copies id) false ≡ true → (posts : List Post) → posts ≡ to_directory (RemoveLocation id from)
-      → TakesStep node row beside contents x (record { reply = reply.Ok; posts = posts; erased = [] }) (unfetched_row Absent row id) beside
+      → RowStep node row beside contents x (record { reply = reply.Ok; posts = posts; erased = [] }) (unfetched_row Absent row id) beside
   not_here_at placed e posts said = by (at row.copies id) refl e
     where
-      by : (o : Option Kept) → at row.copies id ≡ o → option_map_or (asks number from) o false ≡ true → TakesStep node row beside contents x (record { reply = reply.Ok; posts = posts; erased = [] }) (unfetched_row Absent row id) beside
+      by : (o : Option CopyView) → at row.copies id ≡ o → option_map_or (asks number from) o false ≡ true → RowStep node row beside contents x (record { reply = reply.Ok; posts = posts; erased = [] }) (unfetched_row Absent row id) beside
       by None found t = true_false t
       by (Some k) found t = not_here_done (asked row id number from k found t) placed posts said

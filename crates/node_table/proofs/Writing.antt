@@ -10,22 +10,22 @@ use Rattle.obj_id.specs.Ids.{same_id}
 use Rattle.store_facts.proofs.Ids.{same_id-equal}
 use Rattle.private_store.specs.declared.inputs.Input.{Input}
 use Rattle.private_store.specs.declared.inputs.Input.TheVariants as input
-use Rattle.private_store.specs.Tables.{at}
-use Rattle.private_store.specs.Shape.{Shape}
-use Rattle.private_store.specs.Copies.{extent_of}
-use Rattle.private_store.specs.Change.{replied, done, erasing}
-use Rattle.private_store.specs.Contents.{Contents, bytes_at, overwritten}
+use Rattle.private_store.specs.rules.Tables.{at}
+use Rattle.private_store.specs.rules.Shape.{Shape}
+use Rattle.private_store.specs.rules.Copies.{extent_of}
+use Rattle.private_store.specs.rules.Change.{replied, done, erasing}
+use Rattle.private_store.specs.rules.Contents.{Contents, bytes_at, overwritten}
 use Rattle.store_facts.proofs.Tests.{some_value}
 use Rattle.store_facts.proofs.Filling.{filled}
 use Rattle.store_facts.proofs.ErasedKeys.{keys_none, all_found}
 use Rattle.store_facts.proofs.Rows.{at-put}
-use Rattle.private_store.specs.Private.{key_of}
-use Rattle.job_region.specs.Region.{bytes_at as placed_bytes}
+use Rattle.private_store.specs.rules.Private.{key_of}
+use Rattle.job_region.specs.Region.{region_bytes_at as placed_bytes}
 use Rattle.lru_evictor.proofs.ForCallers.{reordered-unused}
-use Rattle.node_table.specs.Kept.{Kept}
-use Rattle.node_table.specs.Row.{Row, Beside, copies_of, shape_of, place_of, ArePlaced}
+use Rattle.node_table.specs.CopyViews.{CopyView}
+use Rattle.node_table.specs.Row.{Row, SharedTables, copies_of, shape_of, place_of, ArePlaced}
 use Rattle.node_table.specs.Checks.{write_check, read_check}
-use Rattle.node_table.specs.Shown.{IsShown, only, TakesStep}
+use Rattle.node_table.specs.Shown.{IsShown, only, RowStep}
 use Rattle.node_table.proofs.ByChecks.{unless_refused, called, own, write-by, read-by}
 use Rattle.node_table.proofs.CopyTables.{at-copies_found}
 use Rattle.node_table.proofs.Passed.{IsWritten, write_passed, IsRead, read_passed, placed_at, created_resides}
@@ -33,7 +33,7 @@ use Rattle.node_table.proofs.Lending.{held_shown}
 use Rattle.node_table.proofs.Overwriting.{is_place, fits, written_here, written_elsewhere}
 use Rattle.node_table.proofs.Stepping.{moved, stays, same_bytes, received_stays}
 
-module _ (node : ℕ) (row : Row) (beside : Beside) (contents : Contents) (session : ℕ) (id : ObjectId) (offset : ℕ) (mine : (id.job.0 == row.job) ≡ true) (h : IsShown row beside contents) where
+module _ (node : ℕ) (row : Row) (beside : SharedTables) (contents : Contents) (session : ℕ) (id : ObjectId) (offset : ℕ) (mine : (id.job.0 == row.job) ≡ true) (h : IsShown row beside contents) where
   abbrev s : Shape
   s = shape_of row beside
 
@@ -41,7 +41,7 @@ module _ (node : ℕ) (row : Row) (beside : Beside) (contents : Contents) (sessi
     abbrev x : Input
     x = input.Call session (command.Write id offset bytes)
 
-    pub write_refused : (r : Refusal) → write_check row.copies id offset (length bytes) ≡ Some r → TakesStep node row beside contents x (only (reply.Refused r)) row beside
+    pub write_refused : (r : Refusal) → write_check row.copies id offset (length bytes) ≡ Some r → RowStep node row beside contents x (only (reply.Refused r)) row beside
     write_refused r e =
         stays node row beside contents h x (reply.Refused r)
         (called row beside session (command.Write id offset (length bytes)) ∙ ap (erasing s) (own row beside id _ mine ∙ write-by row beside id offset (length bytes) ∙ ap (λ o. unless_refused s o (done s)) e)) refl refl refl
@@ -74,7 +74,7 @@ module _ (node : ℕ) (row : Row) (beside : Beside) (contents : Contents) (sessi
           (fits row beside contents h id w.copy w.found e lies (placed_at w.copy.copy resident).2 offset bytes w.within)
 
       module _ (placed : ArePlaced row.window.placed (place_of row.copies)) where
-        here_now : (k : Kept) (f : Extent) → at row.copies id ≡ Some k → extent_of k.copy ≡ Some f → filled (Some (overwritten (bytes_at contents.bytes id) offset bytes)) k.copy ≡ take k.copy.length (placed_bytes f wrote.window.placed)
+        here_now : (k : CopyView) (f : Extent) → at row.copies id ≡ Some k → extent_of k.copy ≡ Some f → filled (Some (overwritten (bytes_at contents.bytes id) offset bytes)) k.copy ≡ take k.copy.length (placed_bytes f wrote.window.placed)
         here_now k f found place =
             let is : k ≡ w.copy = some_value k w.copy (sym found ∙ w.found) in
             let at_e : f ≡ e = some_value f e (sym place ∙ ap (λ k. extent_of k.copy) is ∙ lies) in
@@ -82,12 +82,12 @@ module _ (node : ℕ) (row : Row) (beside : Beside) (contents : Contents) (sessi
             ∙ ap (λ g. take w.copy.copy.length (placed_bytes g wrote.window.placed)) at_e
             ∙ written_here row beside contents h id w.copy w.found e lies (placed_at w.copy.copy resident).2 offset bytes w.within placed)
 
-        elsewhere : (q : ObjectId) (k : Kept) (f : Extent) → same_id q id ≡ false → at row.copies q ≡ Some k → extent_of k.copy ≡ Some f → filled (at contents.bytes q) k.copy ≡ take k.copy.length (placed_bytes f wrote.window.placed)
+        elsewhere : (q : ObjectId) (k : CopyView) (f : Extent) → same_id q id ≡ false → at row.copies q ≡ Some k → extent_of k.copy ≡ Some f → filled (at contents.bytes q) k.copy ≡ take k.copy.length (placed_bytes f wrote.window.placed)
         elsewhere q k f differ found place =
             same_bytes node row beside contents h x q k f found place
             ∙ ap (take k.copy.length) (sym (written_elsewhere row beside contents h id w.copy w.found e lies (placed_at w.copy.copy resident).2 offset bytes w.within placed q k f differ found place))
 
-        pub write_done : TakesStep node row beside contents x (only reply.Ok) wrote beside
+        pub write_done : RowStep node row beside contents x (only reply.Ok) wrote beside
         write_done =
             moved node row beside contents h x (erasing s (done s))
             (called row beside session (command.Write id offset (length bytes)) ∙ ap (erasing s) (own row beside id _ mine ∙ write-by row beside id offset (length bytes) ∙ ap (λ o. unless_refused s o (done s)) passed))
@@ -114,7 +114,7 @@ module _ (node : ℕ) (row : Row) (beside : Beside) (contents : Contents) (sessi
     abbrev y : Input
     y = input.Call session (command.Read id offset n)
 
-    pub read_refused : (r : Refusal) → read_check row.copies session id offset n ≡ Some r → TakesStep node row beside contents y (only (reply.Refused r)) row beside
+    pub read_refused : (r : Refusal) → read_check row.copies session id offset n ≡ Some r → RowStep node row beside contents y (only (reply.Refused r)) row beside
     read_refused r e =
         stays node row beside contents h y (reply.Refused r)
         (called row beside session (command.Read id offset n) ∙ ap (erasing s) (own row beside id _ mine ∙ read-by row beside id session offset n ∙ ap (λ o. unless_refused s o (replied s (reply.Bytes n))) e)) refl refl refl
@@ -123,10 +123,10 @@ module _ (node : ℕ) (row : Row) (beside : Beside) (contents : Contents) (sessi
       abbrev got : IsRead row.copies session id offset n
       got = read_passed row.copies session id offset n passed
 
-      pub read_done : (told : List ℕ) → told ≡ take n (drop offset (bytes_at contents.bytes id)) → TakesStep node row beside contents y (only (reply.Bytes told)) row beside
-      read_done told is = subst (λ bs. TakesStep node row beside contents y (only (reply.Bytes bs)) row beside) (sym is)
+      pub read_done : (told : List ℕ) → told ≡ take n (drop offset (bytes_at contents.bytes id)) → RowStep node row beside contents y (only (reply.Bytes told)) row beside
+      read_done told is = subst (λ bs. RowStep node row beside contents y (only (reply.Bytes bs)) row beside) (sym is)
           (stays node row beside contents h y (reply.Bytes n)
           (called row beside session (command.Read id offset n) ∙ ap (erasing s) (own row beside id _ mine ∙ read-by row beside id session offset n ∙ ap (λ o. unless_refused s o (replied s (reply.Bytes n))) passed)) refl refl refl)
 
-      pub read_found : (shown : List ℕ) → ((k : Kept) (e : Extent) → at row.copies id ≡ Some k → extent_of k.copy ≡ Some e → shown ≡ take k.copy.length (placed_bytes e row.window.placed)) → shown ≡ bytes_at contents.bytes id
+      pub read_found : (shown : List ℕ) → ((k : CopyView) (e : Extent) → at row.copies id ≡ Some k → extent_of k.copy ≡ Some e → shown ≡ take k.copy.length (placed_bytes e row.window.placed)) → shown ≡ bytes_at contents.bytes id
       read_found = held_shown row beside contents h session id got.copy got.found got.held

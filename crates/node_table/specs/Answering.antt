@@ -11,36 +11,36 @@ use Rattle.private_store.specs.declared.faults.Fault.{Fault}
 use Rattle.private_store.specs.declared.faults.Fault.TheVariants.{DeviceFailed, Damaged}
 use Rattle.private_store.specs.declared.inputs.WorkVerdict.{WorkVerdict}
 use Rattle.private_store.specs.declared.inputs.WorkVerdict.TheVariants as work
-use Rattle.private_store.specs.Contents.{has_digest, no_digest, overwritten, write_verdict}
-use Rattle.private_store.specs.Kept.{is_restoring}
-use Rattle.job_region.specs.Region.{without, bytes_at as placed_bytes}
-use Rattle.spill_work.specs.declared.queue.Asked.{Asked}
+use Rattle.private_store.specs.rules.Contents.{has_digest, no_digest, overwritten, write_verdict}
+use Rattle.private_store.specs.laws.Invariants.{is_restoring}
+use Rattle.job_region.specs.Region.{without, region_bytes_at as placed_bytes}
+use Rattle.spill_work.specs.declared.queue.IoRequest.{IoRequest}
 use Rattle.node_table.specs.Entries.{changed}
-use Rattle.node_table.specs.Kept.{Kept, written, restored, lost}
+use Rattle.node_table.specs.CopyViews.{CopyView, after_write, after_restore, after_failed_restore}
 use Rattle.node_table.specs.Row.{Row, place_of}
 use Rattle.node_table.specs.Usages.{is_spilling}
 
 -- ---- a copy
 
 -- whether a work of this kind is in flight for it
-abbrev pub is_in_work : WorkKind → Kept → Bool
+abbrev pub is_in_work : WorkKind → CopyView → Bool
 is_in_work Write kept = is_spilling kept
 is_in_work Read kept = is_restoring kept.copy.state
 
 -- whether these are its bytes
-abbrev pub has_bytes : Kept → List ℕ → Bool
+abbrev pub has_bytes : CopyView → List ℕ → Bool
 has_bytes kept bytes = (length bytes == kept.copy.length) && has_digest bytes (unwrap_or kept.digest no_digest)
 
 -- what the answer is to its read
-abbrev pub read_verdict : Kept → DeviceAnswer → WorkVerdict
-read_verdict kept device.Done = work.Failed
-read_verdict kept (device.Bytes bytes) = if has_bytes kept bytes then work.Fine else work.Damaged
-read_verdict kept device.Failed = work.Failed
+abbrev pub view_read_verdict : CopyView → DeviceAnswer → WorkVerdict
+view_read_verdict kept device.Done = work.Failed
+view_read_verdict kept (device.Bytes bytes) = if has_bytes kept bytes then work.Fine else work.Damaged
+view_read_verdict kept device.Failed = work.Failed
 
 -- and to its work of this kind
-abbrev pub verdict_of : WorkKind → Kept → DeviceAnswer → WorkVerdict
-verdict_of Write kept answer = write_verdict answer
-verdict_of Read kept answer = read_verdict kept answer
+abbrev pub work_verdict_of : WorkKind → CopyView → DeviceAnswer → WorkVerdict
+work_verdict_of Write kept answer = write_verdict answer
+work_verdict_of Read kept answer = view_read_verdict kept answer
 
 -- ---- the row
 
@@ -51,14 +51,14 @@ has_failed _ = false
 -- the write of the copy under this number ended
 abbrev pub written_row : ℕ → Bool → Row → ObjectId → Row
 written_row number failed row id =
-    record row { copies = changed (written number failed) row.copies id; spill_failed = failed || row.spill_failed }
+    record row { copies = changed (after_write number failed) row.copies id; spill_failed = failed || row.spill_failed }
 
 -- the copy is sealed again, with these bytes in its place
 abbrev pub refilled : Extent → List ℕ → Row → ObjectId → Row
 refilled e bytes row id =
     record row {
       window = record row.window { placed = set_value (nat_eq e.offset) row.window.placed (overwritten (placed_bytes e row.window.placed) 0 bytes) };
-      copies = changed restored row.copies id;
+      copies = changed after_restore row.copies id;
     }
 
 -- the copy is away again, and its place is free
@@ -66,17 +66,17 @@ abbrev pub lost_row : Fault → Row → ObjectId → Row
 lost_row fault row id =
     record row {
       window = record row.window { placed = without (option_to_list (place_of row.copies id)) row.window.placed };
-      copies = changed (lost fault) row.copies id;
+      copies = changed (after_failed_restore fault) row.copies id;
     }
 
 -- the read of the copy at its place ended
-abbrev pub read_row : Extent → Kept → DeviceAnswer → Row → ObjectId → Row
+abbrev pub read_row : Extent → CopyView → DeviceAnswer → Row → ObjectId → Row
 read_row e kept device.Done row id = lost_row DeviceFailed row id
 read_row e kept (device.Bytes bytes) row id = if has_bytes kept bytes then refilled e bytes row id else lost_row Damaged row id
 read_row e kept device.Failed row id = lost_row DeviceFailed row id
 
 -- the row after the answer to the work, before it is looked at whether anything keeps its copy
-abbrev pub ended_row : Asked → Extent → Kept → DeviceAnswer → Row → Row
+abbrev pub ended_row : IoRequest → Extent → CopyView → DeviceAnswer → Row → Row
 ended_row asked e kept answer row =
     elim asked.kind [
       | Write ↦ written_row asked.number (has_failed (write_verdict answer)) row asked.id

@@ -10,44 +10,44 @@ use Rattle.obj_id.specs.declared.refusals.Refusal.TheVariants.{BadSize, Gone, Ex
 use Rattle.obj_id.specs.declared.ids.TaskNo.{TaskNo}
 use Rattle.obj_id.specs.Ids.{same_task}
 use Rattle.obj_id.specs.Kinds.{is_primary}
-use Rattle.private_store.specs.Limits.{most_bytes, most_holds, most_copies, most_borrowers, most_ended_tasks, has_numbers}
-use Rattle.private_store.specs.Tables.{ById, at}
-use Rattle.private_store.specs.Extents.{is_size}
-use Rattle.private_store.specs.Shape.{Copy, Fetch, Phase, sized}
-use Rattle.private_store.specs.Copies.{is_created}
-use Rattle.private_store.specs.Commands.{holds_of, all_holds, has_borrower, is_unsealed}
+use Rattle.private_store.specs.rules.Limits.{most_bytes, most_holds, most_copies, most_borrowers, most_ended_tasks, has_numbers}
+use Rattle.private_store.specs.rules.Tables.{ById, at}
+use Rattle.private_store.specs.rules.Extents.{is_size}
+use Rattle.private_store.specs.rules.Shape.{Copy, Fetch, Phase, sized}
+use Rattle.private_store.specs.rules.Copies.{is_created}
+use Rattle.private_store.specs.rules.Commands.{holds_of, all_holds, has_borrower, is_unsealed}
 use Rattle.private_store.specs.declared.faults.Fault.{Fault}
-use Rattle.private_store.specs.Kept.{is_remembered}
-use Rattle.node_table.specs.Kept.{Kept}
+use Rattle.private_store.specs.laws.Invariants.{is_remembered}
+use Rattle.node_table.specs.CopyViews.{CopyView}
 use Rattle.node_table.specs.Row.{Row}
 
 -- of a copy that is there
-abbrev pub write_check_of : Kept → ℕ → ℕ → Option Refusal
+abbrev pub write_check_of : CopyView → ℕ → ℕ → Option Refusal
 write_check_of kept offset n =
     if kept.copy.doomed then Some Absent else
     (if not (is_created kept.copy.state) then Some AlreadySealed else
     (if nat_lt kept.copy.length (offset + n) then Some OutOfBounds else None))
 
-abbrev pub write_check : ById Kept → ObjectId → ℕ → ℕ → Option Refusal
+abbrev pub write_check : ById CopyView → ObjectId → ℕ → ℕ → Option Refusal
 write_check copies id offset n =
     if nat_lt most_bytes n then Some BadSize else
     elim (at copies id) [ None ↦ Some Absent | Some kept ↦ write_check_of kept offset n ]
 
-abbrev pub seal_check_of : Kept → Option Refusal
+abbrev pub seal_check_of : CopyView → Option Refusal
 seal_check_of kept =
     if kept.copy.doomed then Some Absent else
     (if not (is_created kept.copy.state) then Some AlreadySealed else None)
 
-abbrev pub seal_check : ById Kept → ObjectId → Option Refusal
+abbrev pub seal_check : ById CopyView → ObjectId → Option Refusal
 seal_check copies id = elim (at copies id) [ None ↦ Some Absent | Some kept ↦ seal_check_of kept ]
 
-abbrev pub read_check_of : Kept → ℕ → ℕ → ℕ → Option Refusal
+abbrev pub read_check_of : CopyView → ℕ → ℕ → ℕ → Option Refusal
 read_check_of kept session offset n =
     if is_unsealed kept.copy.state then Some NotSealed else
     (if holds_of kept.copy session == 0 then Some NotHeld else
     (if nat_lt kept.copy.length (offset + n) then Some OutOfBounds else None))
 
-abbrev pub read_check : ById Kept → ℕ → ObjectId → ℕ → ℕ → Option Refusal
+abbrev pub read_check : ById CopyView → ℕ → ObjectId → ℕ → ℕ → Option Refusal
 read_check copies session id offset n =
     if nat_lt most_bytes n then Some BadSize else
     elim (at copies id) [ None ↦ Some Absent | Some kept ↦ read_check_of kept session offset n ]
@@ -62,19 +62,19 @@ abbrev pub lend_check : ById Copy → ℕ → ObjectId → Option Refusal
 lend_check copies session id =
     elim (at copies id) [ None ↦ Some Absent | Some copy ↦ lend_check_of copy session ]
 
-abbrev pub release_check_of : Kept → ℕ → Option Refusal
+abbrev pub release_check_of : CopyView → ℕ → Option Refusal
 release_check_of kept session = if holds_of kept.copy session == 0 then Some NotHeld else None
 
-abbrev pub release_check : ById Kept → ℕ → ObjectId → Option Refusal
+abbrev pub release_check : ById CopyView → ℕ → ObjectId → Option Refusal
 release_check copies session id =
     elim (at copies id) [ None ↦ Some Absent | Some kept ↦ release_check_of kept session ]
 
 -- whether one more hold is too many
-abbrev pub hold_check_of : Kept → Option Refusal
+abbrev pub hold_check_of : CopyView → Option Refusal
 hold_check_of kept = if nat_le most_holds (all_holds kept.copy) then Some TooMany else None
 
 -- whether another copy is too many, or no number is left for its fetch
-abbrev pub fetch_check : ById Kept → ℕ → Option Refusal
+abbrev pub fetch_check : ById CopyView → ℕ → Option Refusal
 fetch_check copies begun =
     if nat_le most_copies (length copies) then Some TooMany else
     (if has_numbers begun 1 then None else Some TooMany)
@@ -82,23 +82,23 @@ fetch_check copies begun =
 -- ---- scope
 
 -- of a primary that its owner task is to keep no longer, where that task asks or another
-abbrev pub unpin_check_of : Kept → Bool → Option Refusal
+abbrev pub unpin_check_of : CopyView → Bool → Option Refusal
 unpin_check_of kept owner =
     if not (is_primary kept.copy.kind && owner) then Some NotOwner else
     (if not kept.copy.pinned then Some NotHeld else None)
 
-abbrev pub unpin_check : ById Kept → ObjectId → TaskNo → Option Refusal
+abbrev pub unpin_check : ById CopyView → ObjectId → TaskNo → Option Refusal
 unpin_check copies id task =
     elim (at copies id) [ None ↦ Some Absent | Some kept ↦ if kept.copy.doomed then Some Absent else unpin_check_of kept (same_task task id.task) ]
 
-abbrev pub borrow_check_of : Kept → TaskNo → Option Refusal
+abbrev pub borrow_check_of : CopyView → TaskNo → Option Refusal
 borrow_check_of kept task =
     if not (is_primary kept.copy.kind) then Some NotOwner else
     (if has_borrower kept.copy task then Some Exists else
     (if nat_le most_borrowers (length kept.copy.borrowers) then Some TooMany else None))
 
 -- where neither task has ended
-abbrev pub borrow_check : ById Kept → ObjectId → TaskNo → Option Refusal
+abbrev pub borrow_check : ById CopyView → ObjectId → TaskNo → Option Refusal
 borrow_check copies id task =
     elim (at copies id) [ None ↦ Some Absent | Some kept ↦ if kept.copy.doomed then Some Absent else borrow_check_of kept task ]
 
@@ -106,16 +106,16 @@ abbrev pub row_borrow_check : Row → ObjectId → TaskNo → Option Refusal
 row_borrow_check row id task =
     if is_remembered row.ended_tasks id.task || is_remembered row.ended_tasks task then Some Gone else borrow_check row.copies id task
 
-abbrev pub give_up_check_of : Kept → TaskNo → Option Refusal
+abbrev pub give_up_check_of : CopyView → TaskNo → Option Refusal
 give_up_check_of kept task =
     if not (is_primary kept.copy.kind) then Some NotOwner else
     (if not (has_borrower kept.copy task) then Some Absent else None)
 
-abbrev pub give_up_check : ById Kept → ObjectId → TaskNo → Option Refusal
+abbrev pub give_up_check : ById CopyView → ObjectId → TaskNo → Option Refusal
 give_up_check copies id task =
     elim (at copies id) [ None ↦ Some Absent | Some kept ↦ if kept.copy.doomed then Some Absent else give_up_check_of kept task ]
 
-abbrev pub delete_check : ById Kept → ObjectId → Option Refusal
+abbrev pub delete_check : ById CopyView → ObjectId → Option Refusal
 delete_check copies id =
     elim (at copies id) [ None ↦ Some Absent | Some kept ↦ if kept.copy.doomed then Some Absent else (if kept.granted then Some Granted else None) ]
 
@@ -145,12 +145,12 @@ early_check row session (command.EndTask task) = end_task_check row task
 early_check row session _ = None
 
 -- the state of a copy that is asked for, if there is one
-abbrev pub visible_state : Option Kept → Result (Option CopyState) Refusal
+abbrev pub visible_state : Option CopyView → Result (Option CopyState) Refusal
 visible_state None = Ok None
 visible_state (Some kept) = if kept.copy.doomed then Err Absent else Ok (Some kept.copy.state)
 
 -- what the copy that is asked for has to tell of its last restore
-abbrev pub fault_at : ById Kept → ObjectId → Option Fault
+abbrev pub fault_at : ById CopyView → ObjectId → Option Fault
 fault_at copies id = option_and_then (λ kept. kept.copy.fault) (at copies id)
 
 -- whether the source of the copy's fetch is known, and the window may have its length

@@ -3,15 +3,15 @@ use Rattle.std.specs.Prelude.{ℕ, Bool, false, ◌&&◌, if◌then◌else◌, L
 use Rattle.std.specs.Option.{option_map, option_map_or}
 use Rattle.obj_id.specs.declared.ids.ObjectId.{ObjectId}
 use Rattle.obj_id.specs.declared.works.DeviceKey.{DeviceKey}
-use Rattle.private_store.specs.Tables.{ById, at, without_entry}
-use Rattle.private_store.specs.Private.{key_of}
+use Rattle.private_store.specs.rules.Tables.{ById, at, without_entry}
+use Rattle.private_store.specs.rules.Private.{key_of}
 use Rattle.job_region.specs.Region.{without}
-use Rattle.lru_evictor.specs.Facts.{standing_of}
+use Rattle.lru_evictor.specs.Facts.{info_of}
 use Rattle.lru_evictor.specs.Orders.{without_id}
 use Rattle.node_table.specs.declared.copy.AfterChange.{AfterChange}
 use Rattle.node_table.specs.Entries.{changed}
-use Rattle.node_table.specs.Kept.{Kept, left}
-use Rattle.node_table.specs.RoomPlans.{is_idle, facts_of}
+use Rattle.node_table.specs.CopyViews.{CopyView, after_leave}
+use Rattle.node_table.specs.RoomPlans.{is_idle, row_facts_of}
 use Rattle.node_table.specs.Row.{Row, place_of}
 
 -- the copy is removed, and its place is free
@@ -24,16 +24,16 @@ dropped row id =
     }
 
 -- whether a copy is removed as soon as it is looked at: it is doomed, and nothing keeps it
-abbrev pub is_over : Kept → Bool
+abbrev pub is_over : CopyView → Bool
 is_over kept = kept.copy.doomed && is_idle kept
 
 -- whether the copy of an id is; not if there is none
-abbrev pub is_over_at : ById Kept → ObjectId → Bool
+abbrev pub is_over_at : ById CopyView → ObjectId → Bool
 is_over_at copies id = option_map_or is_over (at copies id) false
 
 -- what is told of a copy after a change of it
-abbrev pub after_change : Kept → AfterChange
-after_change kept = record { standing = standing_of (facts_of kept); over = is_over kept }
+abbrev pub after_change : CopyView → AfterChange
+after_change kept = record { eviction_info = info_of (row_facts_of kept); over = is_over kept }
 
 -- the row after the copy was looked at
 abbrev pub settled_row : Row → ObjectId → Row
@@ -48,7 +48,7 @@ keys_settled row id =
 
 -- the row without the session's holds on one copy
 abbrev pub unheld_row : ℕ → Row → ObjectId → Row
-unheld_row session row id = record row { copies = changed (left session) row.copies id }
+unheld_row session row id = record row { copies = changed (after_leave session) row.copies id }
 
 -- and without the copy, if nothing else keeps it
 abbrev pub left_row : ℕ → Row → ObjectId → Row

@@ -3,8 +3,8 @@ use Rattle.std.specs.Prelude.{List, flat_map, Option, option_map, option_to_list
 use Rattle.std.specs.Option.{option_and_then}
 use Rattle.obj_id.specs.declared.ids.ObjectId.{ObjectId}
 use Rattle.obj_id.specs.declared.works.DeviceKey.{DeviceKey}
-use Rattle.private_store.specs.Tables.{at}
-use Rattle.private_store.specs.Private.{key_of}
+use Rattle.private_store.specs.rules.Tables.{at}
+use Rattle.private_store.specs.rules.Private.{key_of}
 use Rattle.node_table.specs.Row.{Row}
 
 -- of a copy that is backed

@@ -5,65 +5,65 @@ use Rattle.obj_id.specs.declared.ids.TaskNo.{TaskNo}
 use Rattle.obj_id.specs.declared.ids.ObjectId.{ObjectId}
 use Rattle.obj_id.specs.declared.works.DeviceKey.{DeviceKey}
 use Rattle.obj_id.specs.Ids.{same_task}
-use Rattle.private_store.specs.Tables.{ById, at}
-use Rattle.private_store.specs.Copies.{in_scope}
-use Rattle.private_store.specs.Commands.{has_borrower, without_borrower}
-use Rattle.private_store.specs.Private.{Post}
+use Rattle.private_store.specs.rules.Tables.{ById, at}
+use Rattle.private_store.specs.rules.Copies.{in_scope}
+use Rattle.private_store.specs.rules.Commands.{has_borrower, without_borrower}
+use Rattle.private_store.specs.rules.Private.{Post}
 use Rattle.node_table.specs.Checks.{end_task_check}
 use Rattle.node_table.specs.Dropping.{settled_row}
 use Rattle.node_table.specs.Ending.{key_at}
-use Rattle.node_table.specs.Kept.{Kept, doomed, given_up, ungranted}
-use Rattle.node_table.specs.Row.{Row, Beside}
-use Rattle.node_table.specs.Scope.{farewell_at, posted, with_copy}
+use Rattle.node_table.specs.CopyViews.{CopyView, after_doom, after_give_up, after_grants_ended}
+use Rattle.node_table.specs.Row.{Row, SharedTables}
+use Rattle.node_table.specs.Scope.{removal_notice_at, notice_posts, with_copy}
 
 -- ---- the hands
 
 -- no hand stands any more of the copies of the task's objects
-abbrev pub hands_ended : TaskNo → ById Kept → ById Kept
-hands_ended task table = map (λ e. (e.0, if same_task task e.0.task then ungranted e.1 else e.1)) table
+abbrev pub copies_ungranted : TaskNo → ById CopyView → ById CopyView
+copies_ungranted task table = map (λ e. (e.0, if same_task task e.0.task then after_grants_ended e.1 else e.1)) table
 
 -- beside the row the hands that the job gave of the task's own objects are gone
-abbrev pub beside_ended : ℕ → TaskNo → Beside → Beside
+abbrev pub beside_ended : ℕ → TaskNo → SharedTables → SharedTables
 beside_ended job task beside =
     record beside { given = filter (λ hand. not (hand.id.job.0 == job && same_task task hand.id.task)) beside.given }
 
 -- the task is remembered, and its objects' hands have ended
 abbrev pub task_row : TaskNo → Row → Row
-task_row task row = record row { copies = hands_ended task row.copies; ended_tasks = row.ended_tasks ++ task ∷ [] }
+task_row task row = record row { copies = copies_ungranted task row.copies; ended_tasks = row.ended_tasks ++ task ∷ [] }
 
 -- what stands beside the row after the command, whether it is refused or not
-abbrev pub beside_after : Row → TaskNo → Beside → Beside
+abbrev pub beside_after : Row → TaskNo → SharedTables → SharedTables
 beside_after row task beside = option_map_or (λ refusal. beside) (end_task_check row task) (beside_ended row.job task beside)
 
 -- ---- one copy
 
-abbrev pub is_doomed_at : ById Kept → ObjectId → Bool
+abbrev pub is_doomed_at : ById CopyView → ObjectId → Bool
 is_doomed_at copies id = option_map_or (λ kept. kept.copy.doomed) (at copies id) false
 
-abbrev pub borrows_at : TaskNo → ById Kept → ObjectId → Bool
+abbrev pub borrows_at : TaskNo → ById CopyView → ObjectId → Bool
 borrows_at task copies id = option_map_or (λ kept. has_borrower kept.copy task) (at copies id) false
 
 -- whether it is in scope without the task
-abbrev pub stays_at : TaskNo → ById Kept → ObjectId → Bool
+abbrev pub stays_at : TaskNo → ById CopyView → ObjectId → Bool
 stays_at task copies id = option_map_or (λ kept. in_scope (without_borrower kept.copy task)) (at copies id) false
 
 -- the copy is doomed if it is the task's, and removed if nothing keeps it
 abbrev pub doomed_row : TaskNo → Row → ObjectId → Row
-doomed_row task row id = if same_task task id.task then settled_row (with_copy doomed row id) id else row
+doomed_row task row id = if same_task task id.task then settled_row (with_copy after_doom row id) id else row
 
 -- what the directory is told of it then
 abbrev pub doom_posts : ℕ → TaskNo → Row → ObjectId → List Post
-doom_posts node task row id = posted (farewell_at node row.copies id (same_task task id.task && not (is_doomed_at row.copies id)))
+doom_posts node task row id = notice_posts (removal_notice_at node row.copies id (same_task task id.task && not (is_doomed_at row.copies id)))
 
 -- the task's borrow of the copy is given up, if it has one
 abbrev pub given_up_row : TaskNo → Row → ObjectId → Row
 given_up_row task row id =
-    if is_doomed_at row.copies id then with_copy (given_up task) row id else
-    (if borrows_at task row.copies id then settled_row (with_copy (given_up task) row id) id else row)
+    if is_doomed_at row.copies id then with_copy (after_give_up task) row id else
+    (if borrows_at task row.copies id then settled_row (with_copy (after_give_up task) row id) id else row)
 
 abbrev pub give_up_posts : ℕ → TaskNo → Row → ObjectId → List Post
 give_up_posts node task row id =
-    posted (farewell_at node row.copies id (not (is_doomed_at row.copies id) && (borrows_at task row.copies id && not (stays_at task row.copies id))))
+    notice_posts (removal_notice_at node row.copies id (not (is_doomed_at row.copies id) && (borrows_at task row.copies id && not (stays_at task row.copies id))))
 
 -- ---- one after another
 

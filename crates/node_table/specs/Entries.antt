@@ -2,7 +2,7 @@
 use Rattle.std.specs.Prelude.{List, [], ◌∷◌, map, fold}
 use Rattle.std.specs.Option.{option_map_or}
 use Rattle.obj_id.specs.declared.ids.ObjectId.{ObjectId}
-use Rattle.private_store.specs.Tables.{ById, at, with_entry}
+use Rattle.private_store.specs.rules.Tables.{ById, at, with_entry}
 
 -- the entries by rising id, however they stand; of two of one id the first counts
 abbrev pub by_rising_id : {X : Type 0} → List (ObjectId × X) → ById X

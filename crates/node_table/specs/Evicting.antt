@@ -8,39 +8,39 @@ use Rattle.obj_id.specs.declared.ids.ObjectId.{ObjectId}
 use Rattle.obj_id.specs.declared.works.Extent.{Extent}
 use Rattle.obj_id.specs.declared.messages.DirectoryMessage.TheVariants.{RemoveLocation}
 use Rattle.obj_id.specs.Kinds.{is_primary}
-use Rattle.private_store.specs.Tables.{ById, at, with_entry, without_entry, is_among}
-use Rattle.private_store.specs.Extents.{rounded, first}
-use Rattle.private_store.specs.Private.{Post, to_directory}
-use Rattle.private_store.specs.Step.{is_used}
+use Rattle.private_store.specs.rules.Tables.{ById, at, with_entry, without_entry, is_among}
+use Rattle.private_store.specs.rules.Extents.{rounded, first}
+use Rattle.private_store.specs.rules.Private.{Post, to_directory}
+use Rattle.private_store.specs.rules.Step.{is_used}
 use Rattle.job_region.specs.Region.{put_in, without, extents_of}
 use Rattle.lru_evictor.specs.Facts.{gone_of}
 use Rattle.node_table.specs.Entries.{changed}
-use Rattle.node_table.specs.Kept.{Kept, unplaced, is_sealed_at}
-use Rattle.node_table.specs.RoomPlans.{facts_of}
+use Rattle.node_table.specs.CopyViews.{CopyView, after_eviction, is_sealed_at}
+use Rattle.node_table.specs.RoomPlans.{row_facts_of}
 use Rattle.node_table.specs.Row.{Row}
 use Rattle.node_table.specs.declared.room.Placement.{Placement}
 
 -- ---- copies
 
 -- whether the id has a copy that a transfer made
-abbrev pub has_secondary : ById Kept → ObjectId → Bool
+abbrev pub has_secondary : ById CopyView → ObjectId → Bool
 has_secondary table id = option_map_or (λ kept. not (is_primary kept.copy.kind)) (at table id) false
 
 -- a secondary is removed, and a primary gives up its place
-abbrev pub evicted_one : ById Kept → ObjectId → ById Kept
-evicted_one table id = if has_secondary table id then without_entry table id else changed unplaced table id
+abbrev pub evicted_one : ById CopyView → ObjectId → ById CopyView
+evicted_one table id = if has_secondary table id then without_entry table id else changed after_eviction table id
 
-abbrev pub all_evicted : List ObjectId → ById Kept → ById Kept
+abbrev pub all_evicted : List ObjectId → ById CopyView → ById CopyView
 all_evicted ids table = fold evicted_one table ids
 
 -- what the directory is told of evictions: a primary can be pulled still
-abbrev pub removals : ℕ → ById Kept → List ObjectId → List Post
+abbrev pub removals : ℕ → ById CopyView → List ObjectId → List Post
 removals node table ids = flat_map (λ id. to_directory (RemoveLocation id node)) (filter (has_secondary table) ids)
 
 -- ---- the order of use
 
 -- without those of the ids that have no copy
-abbrev pub without_missing : ById Kept → List ObjectId → List ObjectId → List ObjectId
+abbrev pub without_missing : ById CopyView → List ObjectId → List ObjectId → List ObjectId
 without_missing table ids order = filter (λ x. not (is_among ids x && is_none (at table x))) order
 
 -- what was used now stands last
@@ -51,7 +51,7 @@ used_last used order = filter (λ x. not (is_used used x)) order ++ option_to_li
 
 -- the extents of the victims
 abbrev pub extents_gone : Row → List ObjectId → List Extent
-extents_gone row victims = gone_of (λ id. option_map facts_of (at row.copies id)) victims
+extents_gone row victims = gone_of (λ id. option_map row_facts_of (at row.copies id)) victims
 
 -- what lies in the window without the victims
 abbrev pub placed_without : Row → List ObjectId → List (ℕ × List ℕ)
@@ -64,16 +64,16 @@ pub record IsPlacement (row : Row) (n : ℕ) (p : Placement) : Type 0 where
   pub first : first (extents_of (placed_without row p.victims)) row.window.quota n ≡ Some p.offset
 
 -- these ids are of sealed copies, and no more than there are
-pub record MayGo (copies : ById Kept) (victims : List ObjectId) : Type 0 where
+pub record MayGo (copies : ById CopyView) (victims : List ObjectId) : Type 0 where
   pub sealed : list_all (is_sealed_at copies) victims ≡ true
   pub few : length victims ≤ length copies
 
 -- the copies then
-abbrev pub copies_replaced : Row → ObjectId → Kept → List ObjectId → ById Kept
+abbrev pub copies_replaced : Row → ObjectId → CopyView → List ObjectId → ById CopyView
 copies_replaced row id kept victims = all_evicted victims (with_entry row.copies id kept)
 
 -- the victims were evicted, and the copy of the id lies at the offset, with n bytes of zeros
-abbrev pub replaced : Row → Option ObjectId → ObjectId → Kept → ℕ → ℕ → List ObjectId → Row
+abbrev pub replaced : Row → Option ObjectId → ObjectId → CopyView → ℕ → ℕ → List ObjectId → Row
 replaced row used id kept n offset victims =
     record row {
       window = record row.window { placed = put_in (offset, replicate (rounded n) 0) (placed_without row victims) };
@@ -82,7 +82,7 @@ replaced row used id kept n offset victims =
     }
 
 -- the same, at the first place that there is then
-pub record IsReplaced (old : Row) (used : Option ObjectId) (id : ObjectId) (kept : ℕ → Kept) (n : ℕ) (victims : List ObjectId) (e : Extent) (new : Row) : Type 0 where
+pub record IsReplaced (old : Row) (used : Option ObjectId) (id : ObjectId) (kept : ℕ → CopyView) (n : ℕ) (victims : List ObjectId) (e : Extent) (new : Row) : Type 0 where
   pub least : first (extents_of (placed_without old victims)) old.window.quota n ≡ Some e.offset
   pub length : e.length ≡ rounded n
   pub row : new ≡ replaced old used id (kept e.offset) n e.offset victims

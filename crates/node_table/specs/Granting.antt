@@ -7,33 +7,33 @@ use Rattle.obj_id.specs.declared.commands.Reply.{Reply}
 use Rattle.obj_id.specs.declared.commands.Reply.TheVariants as reply
 use Rattle.obj_id.specs.declared.refusals.Refusal.{Refusal}
 use Rattle.obj_id.specs.declared.refusals.Refusal.TheVariants.{BadId, Absent, BadSize, OutOfBounds, NotGranted, Gone, NotResident}
-use Rattle.private_store.specs.Limits.{most_bytes}
-use Rattle.private_store.specs.Tables.{at}
-use Rattle.private_store.specs.Copies.{extent_of}
-use Rattle.private_store.specs.Commands.{is_sealed_primary}
-use Rattle.private_store.specs.Hands.{Hand, with_hand}
-use Rattle.private_store.specs.Kept.{is_remembered}
-use Rattle.grants.specs.Table.{shows, is_no_taker}
-use Rattle.job_region.specs.Region.{bytes_at as placed_bytes}
-use Rattle.node_table.specs.Kept.{Kept}
+use Rattle.private_store.specs.rules.Limits.{most_bytes}
+use Rattle.private_store.specs.rules.Tables.{at}
+use Rattle.private_store.specs.rules.Copies.{extent_of}
+use Rattle.private_store.specs.rules.Commands.{is_sealed_primary}
+use Rattle.private_store.specs.rules.Hands.{Hand, with_hand}
+use Rattle.private_store.specs.laws.Invariants.{is_remembered}
+use Rattle.grants.specs.Table.{shows, is_no_grantee}
+use Rattle.job_region.specs.Region.{region_bytes_at as placed_bytes}
+use Rattle.node_table.specs.CopyViews.{CopyView}
 use Rattle.node_table.specs.Row.{Row}
 
 -- of a copy that is there, where this is what the table of hands says
-abbrev pub grant_check_of : Kept → Option Refusal → Option Refusal
+abbrev pub grant_check_of : CopyView → Option Refusal → Option Refusal
 grant_check_of kept table =
     if kept.copy.doomed then Some Absent else
     (if not (is_sealed_primary kept.copy) then Some NotResident else table)
 
 -- why the job's own object can't be granted
-abbrev pub grant_check : Row → ObjectId → ℕ → Option Refusal → Option Refusal
-grant_check row id target table =
-    if is_no_taker id row.job target then Some BadId else
+abbrev pub row_grant_check : Row → ObjectId → ℕ → Option Refusal → Option Refusal
+row_grant_check row id target table =
+    if is_no_grantee id row.job target then Some BadId else
     (if is_remembered row.ended_tasks id.task then Some Gone else
     elim (at row.copies id) [ None ↦ Some Absent | Some kept ↦ grant_check_of kept table ])
 
 -- the standing hands after a grant that is refused, or isn't
 abbrev pub hands_granted : Option Refusal → List Hand → ObjectId → ℕ → ℕ → List Hand
-hands_granted check hands id giver taker = option_map_or (λ refusal. hands) check (with_hand hands id giver taker)
+hands_granted check hands id grantor grantee = option_map_or (λ refusal. hands) check (with_hand hands id grantor grantee)
 
 -- why the job can't peek at so many bytes of an object of this length
 abbrev pub peek_check : List Hand → ℕ → ObjectId → ℕ → ℕ → ℕ → Option Refusal
@@ -51,7 +51,7 @@ peek_reply hands job id bytes offset n =
 -- ---- what is lent to those who were granted it
 
 -- of a copy, the bytes that lie in the row's window
-abbrev pub kept_bytes : Row → Kept → List ℕ
+abbrev pub kept_bytes : Row → CopyView → List ℕ
 kept_bytes row kept = option_map_or (λ e. take kept.copy.length (placed_bytes e row.window.placed)) (extent_of kept.copy) []
 
 -- of an object, by the row of its own job

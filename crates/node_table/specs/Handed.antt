@@ -3,14 +3,14 @@ use Rattle.std.specs.Prelude.{ℕ, ◌==◌, if◌then◌else◌, find, List, Op
 use Rattle.std.specs.Option.{option_and_then}
 use Rattle.obj_id.specs.declared.works.Work.{Work}
 use Rattle.obj_id.specs.declared.works.WorkKind.TheVariants as kind
-use Rattle.private_store.specs.Tables.{at}
-use Rattle.private_store.specs.Shape.{Copy, WorkInFlight}
-use Rattle.private_store.specs.Contents.{View, bytes_at}
-use Rattle.private_store.specs.Private.{key_of}
+use Rattle.private_store.specs.rules.Tables.{at}
+use Rattle.private_store.specs.rules.Shape.{Copy, WorkInFlight}
+use Rattle.private_store.specs.rules.Contents.{View, bytes_at}
+use Rattle.private_store.specs.rules.Private.{key_of}
 
 -- a work with its key, its length and a write's bytes
-abbrev pub work_given : ℕ → View → WorkInFlight → Copy → Work (List ℕ)
-work_given job view w copy =
+abbrev pub row_work_given : ℕ → View → WorkInFlight → Copy → Work (List ℕ)
+row_work_given job view w copy =
     record {
       job = record { 0 = job };
       number = w.number;
@@ -21,7 +21,7 @@ work_given job view w copy =
     }
 
 -- the work of the job under this number
-abbrev pub work_of : ℕ → ℕ → View → Option (Work (List ℕ))
-work_of job number view =
-    option_and_then (λ w. option_map (work_given job view w) (at view.shape.copies w.id))
+abbrev pub row_work_of : ℕ → ℕ → View → Option (Work (List ℕ))
+row_work_of job number view =
+    option_and_then (λ w. option_map (row_work_given job view w) (at view.shape.copies w.id))
     (find (λ w. w.number == number) view.shape.works)

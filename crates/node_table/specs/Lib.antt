@@ -1,5 +1,5 @@
 pub mod Entries
-pub mod Kept
+pub mod CopyViews
 pub mod Row
 pub mod Scope
 pub mod Shown
@@ -17,7 +17,7 @@ pub mod Asked
 pub mod Answering
 pub mod Handed
 pub mod Quotas
-pub mod Late
+pub mod MemoryLast
 pub mod Arriving
 pub mod Marks
 pub mod Serving
@@ -25,4 +25,4 @@ pub mod Ending
 pub mod EndingTasks
 pub mod Notes
 pub mod Granting
-pub mod Followed
+pub mod InSync

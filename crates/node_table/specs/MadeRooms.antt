@@ -5,17 +5,17 @@ use Rattle.obj_id.specs.declared.commands.Reply.{Reply}
 use Rattle.obj_id.specs.declared.commands.Reply.TheVariants as reply
 use Rattle.obj_id.specs.declared.refusals.Refusal.{Refusal}
 use Rattle.private_store.specs.declared.inputs.Input.{Input}
-use Rattle.private_store.specs.Shape.{Shape, Change}
-use Rattle.private_store.specs.Contents.{Contents, View, judge, bytes_brought, digest_brought, bytes_received}
-use Rattle.private_store.specs.Hands.{Hand}
-use Rattle.private_store.specs.Room.{make_room}
-use Rattle.private_store.specs.Change.{erasing, in_room}
-use Rattle.private_store.specs.Step.{step}
+use Rattle.private_store.specs.rules.Shape.{Shape, Change}
+use Rattle.private_store.specs.rules.Contents.{Contents, View, judge, bytes_brought, digest_brought, bytes_received}
+use Rattle.private_store.specs.rules.Hands.{Hand}
+use Rattle.private_store.specs.rules.Room.{make_room}
+use Rattle.private_store.specs.rules.Change.{erasing, in_room}
+use Rattle.private_store.specs.rules.Step.{step}
 use Rattle.spill_work.specs.Line.{WorkLine}
 use Rattle.node_table.specs.Evicting.{MayGo, IsPlacement}
-use Rattle.node_table.specs.Row.{Row, Beside, beside_of, shape_of}
+use Rattle.node_table.specs.Row.{Row, SharedTables, beside_of, shape_of}
 use Rattle.node_table.specs.RoomPlans.{MakesPlace, planned_by, refuses}
-use Rattle.node_table.specs.Shown.{seen, only, IsShown, TakesStep}
+use Rattle.node_table.specs.Shown.{seen, only, IsShown, RowStep}
 use Rattle.node_table.specs.declared.room.MadeRoom.{MadeRoom}
 use Rattle.node_table.specs.declared.room.MadeRoom.TheVariants.{Place, Told}
 
@@ -25,17 +25,17 @@ pub record BringsNothing (node : ℕ) (before : View) (x : Input) : Type 0 where
   pub digests : (r : Reply ℕ) → digest_brought node before x r ≡ None
   pub received : bytes_received x ≡ None
 
--- each step that waits for room for n bytes is told this, and that is all it does
-pub record TellsRoom (old : Row) (before : Beside) (contents : Contents) (n : ℕ) (r : Refusal) (new : Row) (after : Beside) : Type 0 where
+-- each step that waits for room for n bytes answers this, and that is all it does
+pub record TellsRoom (old : Row) (before : SharedTables) (contents : Contents) (n : ℕ) (r : Refusal) (new : Row) (after : SharedTables) : Type 0 where
   pub tells : (node : ℕ) (x : Input) (f : Shape → ℕ → Change) → BringsNothing node (seen old before contents) x
       → (is_ok (make_room old.order (shape_of old before) n).offset ≡ false
       → step old.order (shape_of old before) (judge node (seen old before contents) x) ≡ erasing (shape_of old before) (in_room (make_room old.order (shape_of old before) n) f))
-      → TakesStep node old before contents x (only (reply.Refused r)) new after
+      → RowStep node old before contents x (only (reply.Refused r)) new after
 
 -- what was made is what room for n bytes does
-abbrev pub IsMade : MadeRoom → Row → Beside → Contents → ℕ → Row → Beside → Type 0
-IsMade (Place placement) old before contents n new after = MakesPlace (make_room old.order (shape_of old before) n) (shape_of old before) n placement.victims
-IsMade (Told refusal) old before contents n new after = TellsRoom old before contents n refusal new after
+abbrev pub IsRoomMade : MadeRoom → Row → SharedTables → Contents → ℕ → Row → SharedTables → Type 0
+IsRoomMade (Place placement) old before contents n new after = MakesPlace (make_room old.order (shape_of old before) n) (shape_of old before) n placement.victims
+IsRoomMade (Told refusal) old before contents n new after = TellsRoom old before contents n refusal new after
 
 -- where there is a place once copies are evicted these may go, and nothing has changed yet
 abbrev pub WaitsForPlace : MadeRoom → Row → WorkLine → ℕ → Row → WorkLine → Type 0
@@ -49,6 +49,6 @@ IsPlannedFor row line n =
     → refuses (planned_by row.order (shape_of row (beside_of line hands bytes row.job)) n) ≡ false
 
 -- whether there is none
-abbrev pub is_told : MadeRoom → Bool
-is_told (Place placement) = false
-is_told (Told refusal) = true
+abbrev pub tells_refusal : MadeRoom → Bool
+tells_refusal (Place placement) = false
+tells_refusal (Told refusal) = true

@@ -1,34 +1,34 @@
 -- What happens to a copy: of each mark, what it makes of the copy, when the copy can take it, and whether it lies where it lay.
 use Rattle.std.specs.Prelude.{◌≡◌, Bool, true, false, ◌&&◌, is_some}
-use Rattle.private_store.specs.Copies.{is_created}
-use Rattle.private_store.specs.Kept.{is_fetching, is_restoring}
+use Rattle.private_store.specs.rules.Copies.{is_created}
+use Rattle.private_store.specs.laws.Invariants.{is_fetching, is_restoring}
 use Rattle.node_table.specs.declared.marks.Mark.{Mark}
 use Rattle.node_table.specs.declared.marks.Mark.TheVariants as mark
-use Rattle.node_table.specs.Arriving.{gap_closed, brought, unfetched}
-use Rattle.node_table.specs.Kept.{Kept, left, sealed, unpinned, given_up, doomed, with_granted, fault_told, spilling_if, written, restored, lost, placed_for, CanAwait, unplaced}
+use Rattle.node_table.specs.Arriving.{after_chunk, after_last_chunk, after_failed_fetch}
+use Rattle.node_table.specs.CopyViews.{CopyView, after_leave, after_seal, after_unpin, after_give_up, after_doom, with_granted, after_fault_told, spill_begun_if, after_write, after_restore, after_failed_restore, after_placing, CanAwait, after_eviction}
 use Rattle.node_table.specs.Usages.{is_spilling}
 
 -- what it makes of the copy
-abbrev pub marked_by : Mark → Kept → Kept
-marked_by (mark.Left session) = left session
-marked_by (mark.Sealed digest) = sealed digest
-marked_by mark.Unpinned = unpinned
-marked_by (mark.GivenUp task) = given_up task
-marked_by mark.Doomed = doomed
+abbrev pub marked_by : Mark → CopyView → CopyView
+marked_by (mark.Left session) = after_leave session
+marked_by (mark.Sealed digest) = after_seal digest
+marked_by mark.Unpinned = after_unpin
+marked_by (mark.GivenUp task) = after_give_up task
+marked_by mark.Doomed = after_doom
 marked_by (mark.Granted granted) = with_granted granted
-marked_by mark.FaultTold = fault_told
-marked_by mark.SpillBegun = spilling_if
-marked_by (mark.Written number failed) = written number failed
-marked_by mark.Restored = restored
-marked_by (mark.Lost fault) = lost fault
-marked_by (mark.Placed offset awaited) = placed_for awaited offset
-marked_by mark.Unplaced = unplaced
-marked_by (mark.GapClosed number from index n) = gap_closed number from index n
-marked_by mark.Brought = brought
-marked_by (mark.FetchFailed fault) = unfetched fault
+marked_by mark.FaultTold = after_fault_told
+marked_by mark.SpillBegun = spill_begun_if
+marked_by (mark.Written number failed) = after_write number failed
+marked_by mark.Restored = after_restore
+marked_by (mark.Lost fault) = after_failed_restore fault
+marked_by (mark.Placed offset awaited) = after_placing awaited offset
+marked_by mark.Unplaced = after_eviction
+marked_by (mark.GapClosed number from index n) = after_chunk number from index n
+marked_by mark.Brought = after_last_chunk
+marked_by (mark.FetchFailed fault) = after_failed_fetch fault
 
 -- when the copy can take it: always, but for these
-abbrev pub CanTake : Mark → Kept → Type 0
+abbrev pub CanTake : Mark → CopyView → Type 0
 CanTake (mark.Sealed digest) kept = is_created kept.copy.state ≡ true
 CanTake (mark.Written number failed) kept = is_spilling kept ≡ true
 CanTake mark.Restored kept = is_restoring kept.copy.state ≡ true

@@ -4,44 +4,44 @@ use Rattle.std.specs.Prelude.{◌≡◌, ℕ, ◌==◌, Bool, not, List, [], map
 use Rattle.obj_id.specs.declared.ids.ObjectId.{ObjectId}
 use Rattle.private_store.specs.declared.inputs.Input.{Input}
 use Rattle.private_store.specs.declared.inputs.Input.TheVariants as input
-use Rattle.private_store.specs.Tables.{ById}
-use Rattle.private_store.specs.Shape.{Life, Shape, Seen, unbegun}
-use Rattle.private_store.specs.Contents.{View}
-use Rattle.private_store.specs.Hands.{Hand}
+use Rattle.private_store.specs.rules.Tables.{ById}
+use Rattle.private_store.specs.rules.Shape.{Life, Shape, Seen, unbegun}
+use Rattle.private_store.specs.rules.Contents.{View}
+use Rattle.private_store.specs.rules.Hands.{Hand}
 use Rattle.grants.specs.Table.{given_by as hands_given}
 use Rattle.grants.specs.Private.{as_given}
 use Rattle.spill_work.specs.Line.{WorkLine}
-use Rattle.node_table.specs.Row.{Row, Beside, beside_of, shape_of}
+use Rattle.node_table.specs.Row.{Row, SharedTables, beside_of, shape_of}
 use Rattle.node_table.specs.Shown.{IsShown}
 
 -- the row and what stands beside it show the view
-pub record IsSeen (row : Row) (beside : Beside) (view : View) : Type 0 where
+pub record IsSeen (row : Row) (beside : SharedTables) (view : View) : Type 0 where
   pub shape : view.shape ≡ shape_of row beside
   pub order : view.order ≡ row.order
   pub shown : IsShown row beside view.contents
 
--- the end of a hand, as its taker is told of it
+-- the end of a hand, as its grantee is told of it
 abbrev pub end_of_hand : Hand → Input
-end_of_hand hand = input.Withdrawn hand.id (record { 0 = hand.giver }) hand.depth
+end_of_hand hand = input.Withdrawn hand.id (record { 0 = hand.grantor }) hand.depth
 
 -- of the hands that ended those to the job, as it is told of them
 abbrev pub ends_to : ℕ → List Hand → List Input
-ends_to job ended = map end_of_hand (filter (λ hand. hand.taker == job) ended)
+ends_to job ended = map end_of_hand (filter (λ hand. hand.grantee == job) ended)
 
 -- beside the row of a job after the own step of the one that ends hands: of what it gave, those that don't end by
 -- themselves
-abbrev pub beside_rest : WorkLine → (Hand → Bool) → List Hand → (ObjectId → List ℕ) → ℕ → Beside
+abbrev pub beside_rest : WorkLine → (Hand → Bool) → List Hand → (ObjectId → List ℕ) → ℕ → SharedTables
 beside_rest line test hands bytes job =
     record (beside_of line hands bytes job) { given = map as_given (filter (λ hand. not (test hand)) (hands_given job hands)) }
 
 -- a store that isn't live: nothing but what it was granted, where objects have these bytes
-abbrev pub bare_shape : ℕ → Life → ById Seen → Shape
-bare_shape job life received = record (unbegun job) { life = life; received = received }
+abbrev pub received_shape : ℕ → Life → ById Seen → Shape
+received_shape job life received = record (unbegun job) { life = life; received = received }
 
-abbrev pub bare_view : ℕ → Life → (ObjectId → List ℕ) → ById Seen → View
-bare_view job life bytes received =
+abbrev pub received_view : ℕ → Life → (ObjectId → List ℕ) → ById Seen → View
+received_view job life bytes received =
     record {
-      shape = bare_shape job life received;
+      shape = received_shape job life received;
       order = [];
       contents = record { bytes = []; digests = []; received = map (λ e. (e.0, bytes e.0)) received };
     }

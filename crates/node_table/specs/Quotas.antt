@@ -3,9 +3,9 @@ use Rattle.std.specs.Prelude.{nat_le, Bool, not, ◌&&◌, if◌then◌else◌, 
 use Rattle.obj_id.specs.declared.refusals.Refusal.{Refusal}
 use Rattle.obj_id.specs.declared.refusals.Refusal.TheVariants.{BadSize, Full}
 use Rattle.obj_id.specs.declared.works.Quota.{Quota}
-use Rattle.private_store.specs.Limits.{is_quota}
-use Rattle.private_store.specs.Copies.{fits_quota}
-use Rattle.private_store.specs.Shape.{Shape}
+use Rattle.private_store.specs.rules.Limits.{is_quota}
+use Rattle.private_store.specs.rules.Copies.{fits_quota}
+use Rattle.private_store.specs.rules.Shape.{Shape}
 use Rattle.job_region.specs.Region.{are_within}
 use Rattle.node_table.specs.Row.{Row}
 use Rattle.node_table.specs.Usages.{total, device_bytes}
@@ -18,8 +18,8 @@ fits row quota = are_within quota.window row.window.placed && nat_le (total devi
 abbrev pub refusal_by : Bool → Quota → Option Refusal
 refusal_by fits quota = if not (is_quota quota) then Some BadSize else (if fits then None else Some Full)
 
-abbrev pub requota_check : Row → Quota → Option Refusal
-requota_check row quota = refusal_by (fits row quota) quota
+abbrev pub row_requota_check : Row → Quota → Option Refusal
+row_requota_check row quota = refusal_by (fits row quota) quota
 
 -- the same of the job's store
 abbrev pub store_check : Shape → Quota → Option Refusal

@@ -4,34 +4,34 @@ use Rattle.std.specs.List.{list_all}
 use Rattle.std.specs.Option.{option_map_or}
 use Rattle.obj_id.specs.declared.ids.ObjectId.{ObjectId}
 use Rattle.obj_id.specs.declared.refusals.Refusal.TheVariants.{Pending, Full, Busy, DeviceFailed, TooMany}
-use Rattle.private_store.specs.Limits.{has_numbers}
-use Rattle.private_store.specs.Tables.{at}
-use Rattle.private_store.specs.Extents.{rounded}
-use Rattle.private_store.specs.Shape.{Copy, Shape}
-use Rattle.private_store.specs.Copies.{extent_of, is_held, may_evict, may_spill, may_pass, is_evictable, is_spillable}
-use Rattle.private_store.specs.Kept.{IsOrderOfUse}
-use Rattle.private_store.specs.Room.{Room, Plan, works_left, offset_without, asked, evict_room, no_room, plan}
+use Rattle.private_store.specs.rules.Limits.{has_numbers}
+use Rattle.private_store.specs.rules.Tables.{at}
+use Rattle.private_store.specs.rules.Extents.{rounded}
+use Rattle.private_store.specs.rules.Shape.{Copy, Shape}
+use Rattle.private_store.specs.rules.Copies.{extent_of, is_held, may_evict, may_spill, may_drain, is_evictable, is_spillable}
+use Rattle.private_store.specs.laws.Invariants.{IsOrderOfUse}
+use Rattle.private_store.specs.rules.Room.{Room, Plan, works_left, offset_without, asked, evict_room, no_room, plan}
 use Rattle.lru_evictor.specs.declared.facts.CopyFacts.{CopyFacts}
 use Rattle.lru_evictor.specs.declared.facts.Plan.{Plan as Kind}
 use Rattle.lru_evictor.specs.declared.facts.Plan.TheVariants as kind
-use Rattle.lru_evictor.specs.Plans.{kind_of}
-use Rattle.node_table.specs.Kept.{Kept}
+use Rattle.lru_evictor.specs.Plans.{plan_kind_of}
+use Rattle.node_table.specs.CopyViews.{CopyView}
 use Rattle.node_table.specs.declared.room.RoomPlan.{RoomPlan}
 use Rattle.node_table.specs.declared.room.RoomPlan.TheVariants.{Fits, Evict, Ask, TellFailedSpill, Refuse}
 
 -- ---- what a plan reads
 
 -- neither held nor granted nor working
-abbrev pub is_idle : Kept → Bool
+abbrev pub is_idle : CopyView → Bool
 is_idle kept = not (is_held kept.copy) && not kept.granted && is_none kept.working
 
-abbrev pub facts_of : Kept → CopyFacts
-facts_of kept =
+abbrev pub row_facts_of : CopyView → CopyFacts
+row_facts_of kept =
     record {
       extent = extent_of kept.copy;
       bytes = rounded kept.copy.length;
       evictable = may_evict kept.copy.state kept.copy.kind kept.copy.backed (is_idle kept);
-      passing = may_pass (is_some kept.working) (is_some kept.copy.offset) (is_held kept.copy) kept.granted;
+      draining = may_drain (is_some kept.working) (is_some kept.copy.offset) (is_held kept.copy) kept.granted;
       spillable = may_spill kept.copy.state kept.copy.kind kept.copy.backed kept.copy.doomed (is_idle kept);
     }
 
@@ -49,7 +49,7 @@ by_kind used failed offset (kind.Spill count) = if failed then TellFailedSpill e
 
 -- and a plan
 abbrev pub plan_by : ℕ → Bool → ℕ → Plan → RoomPlan
-plan_by used failed offset plan = by_kind used failed offset (kind_of plan)
+plan_by used failed offset plan = by_kind used failed offset (plan_kind_of plan)
 
 -- where n bytes go in this store as it is, or 0 if they go nowhere
 abbrev pub place_as_it_is : Shape → ℕ → ℕ
@@ -59,7 +59,7 @@ place_as_it_is store n = unwrap_or (offset_without store n []) 0
 abbrev pub planned_by : List ObjectId → Shape → ℕ → RoomPlan
 planned_by order store n = plan_by store.works_asked store.spill_failed (place_as_it_is store n) (plan order store n)
 
--- whether it is that a refusal is told, and nothing grows
+-- whether it is that a refusal is answered, and nothing grows
 abbrev pub refuses : RoomPlan → Bool
 refuses (Fits offset) = false
 refuses Evict = false

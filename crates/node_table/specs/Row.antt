@@ -5,22 +5,22 @@ use Rattle.obj_id.specs.declared.ids.TaskNo.{TaskNo}
 use Rattle.obj_id.specs.declared.ids.ObjectId.{ObjectId}
 use Rattle.obj_id.specs.declared.works.Extent.{Extent}
 use Rattle.obj_id.specs.declared.works.Quota.{Quota}
-use Rattle.private_store.specs.Tables.{ById, at}
-use Rattle.private_store.specs.Shape.{Copy, Shape, WorkInFlight, HandGiven, Seen, live}
-use Rattle.private_store.specs.Copies.{extent_of}
-use Rattle.private_store.specs.Hands.{Hand}
+use Rattle.private_store.specs.rules.Tables.{ById, at}
+use Rattle.private_store.specs.rules.Shape.{Copy, Shape, WorkInFlight, HandGiven, Seen, live}
+use Rattle.private_store.specs.rules.Copies.{extent_of}
+use Rattle.private_store.specs.rules.Hands.{Hand}
 use Rattle.grants.specs.Table.{given_by as hands_given}
 use Rattle.grants.specs.Private.{as_given, taken_by}
 use Rattle.job_region.specs.Region.{Region, extents_of, IsAt}
 use Rattle.spill_work.specs.Line.{WorkLine, works_of, used_by}
-use Rattle.node_table.specs.Kept.{Kept}
+use Rattle.node_table.specs.CopyViews.{CopyView}
 
 pub record Row : Type 0 where
   pub job : ℕ
   pub window : Region
   -- the bytes that it may have on the device
   pub device : ℕ
-  pub copies : ById Kept
+  pub copies : ById CopyView
   -- least recently used first
   pub order : List ObjectId
   -- the last number that a fetch had
@@ -31,7 +31,7 @@ pub record Row : Type 0 where
   pub ended_tasks : List TaskNo
 
 -- what a row is shown beside: what else the node keeps of the job
-pub record Beside : Type 0 where
+pub record SharedTables : Type 0 where
   -- the works in flight, in the order asked
   pub works : List WorkInFlight
   -- the last number that a work had
@@ -59,8 +59,8 @@ new_row job quota =
 -- ---- of the node's tables
 
 -- the hands that the job gave
-abbrev pub given_by : List Hand → ℕ → List HandGiven
-given_by hands job = map as_given (hands_given job hands)
+abbrev pub row_given_by : List Hand → ℕ → List HandGiven
+row_given_by hands job = map as_given (hands_given job hands)
 
 -- what the job was granted, where objects have these bytes
 abbrev pub received_by : (ObjectId → List ℕ) → List Hand → ℕ → ById Seen
@@ -68,27 +68,27 @@ received_by bytes hands job = taken_by (λ id. length (bytes id)) job hands
 
 -- of one job: its works in the line of all jobs, and what it gave and received by the hands that stand, where objects
 -- have these bytes
-abbrev pub beside_of : WorkLine → List Hand → (ObjectId → List ℕ) → ℕ → Beside
+abbrev pub beside_of : WorkLine → List Hand → (ObjectId → List ℕ) → ℕ → SharedTables
 beside_of line hands bytes job =
     record {
       works = works_of line (record { 0 = job });
       used = used_by line (record { 0 = job });
-      given = given_by hands job;
+      given = row_given_by hands job;
       received = received_by bytes hands job;
       bytes = bytes;
     }
 
 -- the bytes of what others granted
-abbrev pub received_bytes : Beside → ById (List ℕ)
+abbrev pub received_bytes : SharedTables → ById (List ℕ)
 received_bytes beside = map (λ e. (e.0, beside.bytes e.0)) beside.received
 
 -- ---- the store
 
-abbrev pub copies_of : ById Kept → ById Copy
+abbrev pub copies_of : ById CopyView → ById Copy
 copies_of table = map (λ e. (e.0, e.1.copy)) table
 
 -- the job's store without contents
-abbrev pub shape_of : Row → Beside → Shape
+abbrev pub shape_of : Row → SharedTables → Shape
 shape_of row beside =
     record {
       job = row.job;
@@ -105,7 +105,7 @@ shape_of row beside =
     }
 
 -- where a copy lies in the window, if it is there and resident
-abbrev pub place_of : ById Kept → ObjectId → Option Extent
+abbrev pub place_of : ById CopyView → ObjectId → Option Extent
 place_of table id = option_and_then (λ kept. extent_of kept.copy) (at table id)
 
 -- the window's extents are those of the copies, each its own

@@ -5,29 +5,29 @@ use Rattle.obj_id.specs.declared.ids.ObjectId.{ObjectId}
 use Rattle.obj_id.specs.declared.messages.DirectoryMessage.{DirectoryMessage}
 use Rattle.obj_id.specs.declared.messages.DirectoryMessage.TheVariants.{RemoveLocation, Free}
 use Rattle.obj_id.specs.Kinds.{is_primary}
-use Rattle.private_store.specs.Copies.{in_scope, was_sealed}
-use Rattle.private_store.specs.Private.{Post, to_directory}
-use Rattle.private_store.specs.Tables.{ById, at}
+use Rattle.private_store.specs.rules.Copies.{in_scope, was_sealed}
+use Rattle.private_store.specs.rules.Private.{Post, to_directory}
+use Rattle.private_store.specs.rules.Tables.{ById, at}
 use Rattle.node_table.specs.Entries.{changed}
-use Rattle.node_table.specs.Kept.{Kept}
+use Rattle.node_table.specs.CopyViews.{CopyView}
 use Rattle.node_table.specs.Row.{Row}
 
 -- what the directory is told of a copy once it is doomed: nothing, unless it was sealed
-abbrev pub farewell : ℕ → ObjectId → Kept → Option DirectoryMessage
-farewell node id kept =
+abbrev pub removal_notice : ℕ → ObjectId → CopyView → Option DirectoryMessage
+removal_notice node id kept =
     if was_sealed kept.copy.state then Some (if is_primary kept.copy.kind then Free id else RemoveLocation id node) else None
 
 -- the same of the copy of the id, where it is doomed or isn't
-abbrev pub farewell_at : ℕ → ById Kept → ObjectId → Bool → Option DirectoryMessage
-farewell_at node copies id dooms = if dooms then option_and_then (farewell node id) (at copies id) else None
+abbrev pub removal_notice_at : ℕ → ById CopyView → ObjectId → Bool → Option DirectoryMessage
+removal_notice_at node copies id dooms = if dooms then option_and_then (removal_notice node id) (at copies id) else None
 
 -- whether the copy of the id is in scope if its owner task keeps it no longer
-abbrev pub stays_unpinned : ById Kept → ObjectId → Bool
+abbrev pub stays_unpinned : ById CopyView → ObjectId → Bool
 stays_unpinned copies id = option_map_or (λ kept. in_scope (record kept.copy { pinned = false })) (at copies id) false
 
-abbrev pub posted : Option DirectoryMessage → List Post
-posted o = option_map_or to_directory o []
+abbrev pub notice_posts : Option DirectoryMessage → List Post
+notice_posts o = option_map_or to_directory o []
 
 -- the row with one copy changed
-abbrev pub with_copy : (Kept → Kept) → Row → ObjectId → Row
+abbrev pub with_copy : (CopyView → CopyView) → Row → ObjectId → Row
 with_copy f row id = record row { copies = changed f row.copies id }

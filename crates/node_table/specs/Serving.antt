@@ -5,15 +5,15 @@ use Rattle.obj_id.specs.declared.commands.CopyState.{CopyState}
 use Rattle.obj_id.specs.declared.commands.CopyState.TheVariants.{Sealed, Restoring, Away}
 use Rattle.obj_id.specs.declared.messages.Digest.{Digest}
 use Rattle.private_store.specs.declared.faults.Fault.{Fault}
-use Rattle.private_store.specs.Contents.{same_digest, no_digest}
-use Rattle.private_store.specs.Copies.{was_sealed}
-use Rattle.private_store.specs.Private.{Post, to_peer, chunks_asked}
-use Rattle.node_table.specs.Kept.{Kept}
+use Rattle.private_store.specs.rules.Contents.{same_digest, no_digest}
+use Rattle.private_store.specs.rules.Copies.{was_sealed}
+use Rattle.private_store.specs.rules.Private.{Post, to_peer, chunks_asked}
+use Rattle.node_table.specs.CopyViews.{CopyView}
 use Rattle.node_table.specs.declared.serve_pull.PullAnswer.{PullAnswer}
 use Rattle.node_table.specs.declared.serve_pull.PullAnswer.TheVariants.{NotHere, Chunks, Nothing, Restore}
 
 -- whether it was sealed with this length and digest
-abbrev pub was_sealed_with : ℕ → Digest → Kept → Bool
+abbrev pub was_sealed_with : ℕ → Digest → CopyView → Bool
 was_sealed_with n digest kept = was_sealed kept.copy.state && kept.copy.length == n && same_digest digest (unwrap_or kept.digest no_digest)
 
 -- of the copy that is asked for, by its state and what its last restore came to
@@ -24,9 +24,9 @@ answer_by Away fault = if is_none fault then Restore else NotHere
 answer_by _ fault = NotHere
 
 -- of a Pull by length and digest, by the copy that is there
-abbrev pub pull_answer : ℕ → Digest → Option Kept → PullAnswer
-pull_answer n digest None = NotHere
-pull_answer n digest (Some kept) =
+abbrev pub row_pull_answer : ℕ → Digest → Option CopyView → PullAnswer
+row_pull_answer n digest None = NotHere
+row_pull_answer n digest (Some kept) =
     if not kept.copy.doomed && was_sealed_with n digest kept then answer_by kept.copy.state kept.copy.fault else NotHere
 
 -- the chunks of an object with these bytes that were asked for, to the node

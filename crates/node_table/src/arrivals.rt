@@ -4,12 +4,12 @@ ghost use Rattle.obj_id.specs.declared.commands.Reply.TheVariants as reply;
 ghost use Rattle.obj_id.specs.declared.messages.Arrival.TheVariants as arrival;
 ghost use Rattle.obj_id.specs.declared.messages.PeerMessage.TheVariants as peer;
 ghost use Rattle.private_store.specs.declared.inputs.Input.TheVariants as input;
-ghost use Rattle.private_store.specs.Contents.{Contents};
-ghost use Rattle.node_table.specs.Outcomes.{given_of};
-ghost use Rattle.node_table.specs.Row.{Beside};
-ghost use Rattle.node_table.specs.Shown.{IsShown, TakesStep, only};
+ghost use Rattle.private_store.specs.rules.Contents.{Contents};
+ghost use Rattle.node_table.specs.Outcomes.{row_given_of};
+ghost use Rattle.node_table.specs.Row.{SharedTables};
+ghost use Rattle.node_table.specs.Shown.{IsShown, RowStep, only};
 
-use crate::outcome::{Erase, Outcome};
+use crate::outcome::{Erase, RowOutcome};
 use crate::row::JobRow;
 use obj_id::{DirectoryMessage, Location, ObjectId, Reply};
 use private_store::FetchFault;
@@ -19,8 +19,8 @@ impl JobRow {
     /// The directory's answer to a fetch of this number: the first entry of another node is its source, and without one
     /// it has failed. It counts while the source isn't known; otherwise nothing changes. The reply is Ok. Takes no memory.
     pub fn located(&mut self, node: u32, id: &ObjectId, number: u64, entries: &[Location])
-        ensures { (beside : Beside) (contents : Contents) → IsShown self.old beside contents
-            → TakesStep node self.old beside contents (input.Arrive (arrival.Located id.now number entries.now)) (only reply.Ok) self.new beside }
+        ensures { (beside : SharedTables) (contents : Contents) → IsShown self.old beside contents
+            → RowStep node self.old beside contents (input.Arrive (arrival.Located id.now number entries.now)) (only reply.Ok) self.new beside }
     {
         self.locate_copy(id, node, number, entries);
     }
@@ -34,20 +34,20 @@ impl JobRow {
         from: u32,
         id: &ObjectId,
         number: u64,
-    ) -> Result<Outcome, AllocError>
-        ensures ok { IfOk result (λ o. (node : ℕ) (beside : Beside) (contents : Contents) → IsShown self.old beside contents
-            → TakesStep node self.old beside contents (input.Arrive (arrival.FromPeer from (peer.NotHere id.now number))) (given_of o) self.new beside) }
+    ) -> Result<RowOutcome, AllocError>
+        ensures ok { IfOk result (λ o. (node : ℕ) (beside : SharedTables) (contents : Contents) → IsShown self.old beside contents
+            → RowStep node self.old beside contents (input.Arrive (arrival.FromPeer from (peer.NotHere id.now number))) (row_given_of o) self.new beside) }
         ensures told { IfOk result (λ o. o.reply ≡ reply.Ok) }
-        ensures few { IfOk result (λ o. length o.messages ≤ 1) }
+        ensures bounded { IfOk result (λ o. length o.messages ≤ 1) }
         ensures err { OnErr result (self.new ≡ self.old) }
     {
         if !self.copies().asks(id, number, from) {
-            return Ok(Outcome::only(alloc, Reply::Ok));
+            return Ok(RowOutcome::only(alloc, Reply::Ok));
         }
         let message = DirectoryMessage::RemoveLocation(*id, from);
-        let messages = Outcome::to_directory(alloc, Some(message))?;
+        let messages = RowOutcome::to_directory(alloc, Some(message))?;
         self.fail_fetch(id, FetchFault::Absent);
-        Ok(Outcome {
+        Ok(RowOutcome {
             reply: Reply::Ok,
             messages,
             erase: Erase::NoKey,

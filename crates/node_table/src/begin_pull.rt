@@ -4,37 +4,37 @@ ghost use Rattle.obj_id.specs.declared.ids.JobNo.{JobNo};
 ghost use Rattle.obj_id.specs.declared.commands.CopyState.TheVariants.{Fetching};
 ghost use Rattle.obj_id.specs.declared.commands.Command.TheVariants as command;
 ghost use Rattle.private_store.specs.declared.inputs.Input.TheVariants as input;
-ghost use Rattle.private_store.specs.Tables.{at};
-ghost use Rattle.private_store.specs.Kept.{is_remembered};
-ghost use Rattle.private_store.specs.Hands.{Hand};
-ghost use Rattle.private_store.specs.Contents.{Contents};
-ghost use Rattle.spill_work.specs.Line.{same_job, IsSameFor};
+ghost use Rattle.private_store.specs.rules.Tables.{at};
+ghost use Rattle.private_store.specs.laws.Invariants.{is_remembered};
+ghost use Rattle.private_store.specs.rules.Hands.{Hand};
+ghost use Rattle.private_store.specs.rules.Contents.{Contents};
+ghost use Rattle.spill_work.specs.Line.{same_work_job, IsSameFor};
 ghost use Rattle.node_table.specs.Asked.{HasAsked};
 ghost use Rattle.node_table.specs.Checks.{can_pull_at, visible_state};
-ghost use Rattle.node_table.specs.Outcomes.{given_of};
+ghost use Rattle.node_table.specs.Outcomes.{row_given_of};
 ghost use Rattle.std.specs.Option.{option_map_or};
 ghost use Rattle.std.specs.Prelude.{unwrap_or};
 ghost use Rattle.obj_id.specs.declared.messages.PeerMessage.TheVariants.{Pull};
 ghost use Rattle.node_table.specs.Evicting.{IsPlacement, MayGo};
-ghost use Rattle.private_store.specs.Commands.{counted, chunk_count};
-ghost use Rattle.private_store.specs.Contents.{no_digest};
-ghost use Rattle.private_store.specs.Private.{to_peer};
-ghost use Rattle.private_store.specs.Room.{make_room};
-ghost use Rattle.private_store.specs.Shape.{Fetch, sized};
-ghost use Rattle.node_table.specs.Kept.{Kept, is_unasked, waits_for_place};
-ghost use Rattle.node_table.specs.Late.{IsDueMore};
+ghost use Rattle.private_store.specs.rules.Commands.{counted, chunk_count};
+ghost use Rattle.private_store.specs.rules.Contents.{no_digest};
+ghost use Rattle.private_store.specs.rules.Private.{to_peer};
+ghost use Rattle.private_store.specs.rules.Room.{make_room};
+ghost use Rattle.private_store.specs.rules.Shape.{Fetch, sized};
+ghost use Rattle.node_table.specs.CopyViews.{CopyView, is_unasked, waits_for_place};
+ghost use Rattle.node_table.specs.MemoryLast.{IsDueMore};
 ghost use Rattle.node_table.specs.RoomPlans.{MakesPlace};
-ghost use Rattle.node_table.specs.Row.{Beside, beside_of, shape_of};
-ghost use Rattle.node_table.specs.Shown.{IsShown, TakesStep};
+ghost use Rattle.node_table.specs.Row.{SharedTables, beside_of, shape_of};
+ghost use Rattle.node_table.specs.Shown.{IsShown, RowStep};
 
 use crate::copy::{Awaited, RowCopy};
 use crate::create_command::removals;
-use crate::get_command::{pending, told};
-use crate::outcome::Outcome;
+use crate::get_command::{pending, refuse};
+use crate::outcome::RowOutcome;
 use crate::room::{MadeRoom, Placement};
 use crate::row::JobRow;
 use fetch_core::{Stage, all_chunks};
-use obj_id::{Items, Message, ObjectId, PeerMessage, Place};
+use obj_id::{Endpoint, Items, Message, ObjectId, PeerMessage};
 use spill_work::Works;
 use std::alloc::{AllocError, Global};
 
@@ -49,16 +49,16 @@ impl JobRow {
         node: u32,
         works: &mut Works,
         id: &ObjectId,
-    ) -> Result<Outcome, AllocError>
+    ) -> Result<RowOutcome, AllocError>
         requires alive { is_remembered self.old.ended_tasks id.now.task ≡ false }
         requires visible { visible_state (at self.old.copies id.now) ≡ Ok (Some Fetching) }
         requires sized { can_pull_at self.old id.now ≡ true }
         ensures ok { IfOk result (λ o. (session : ℕ) (hands : List Hand) (bytes : ObjectId → List ℕ) (contents : Contents) → (id.now.job.0 == self.old.job) ≡ true → IsShown self.old (beside_of works.old hands bytes self.old.job) contents
-            → TakesStep node self.old (beside_of works.old hands bytes self.old.job) contents (input.Call session (command.Get id.now)) (given_of o) self.new (beside_of works.new hands bytes self.old.job)) }
-        ensures few { IfOk result (λ o. length o.messages ≤ length self.old.copies + 1) }
+            → RowStep node self.old (beside_of works.old hands bytes self.old.job) contents (input.Call session (command.Get id.now)) (row_given_of o) self.new (beside_of works.new hands bytes self.old.job)) }
+        ensures bounded { IfOk result (λ o. length o.messages ≤ length self.old.copies + 1) }
         ensures line { OnOk result (HasAsked works.old id.now.job works.new) }
-        ensures late { OnErr result ((id.now.job.0 == self.old.job) ≡ true → IsDueMore node self.old works.old (command.Get id.now)) }
-        ensures others { (other : JobNo) → same_job id.now.job other ≡ false → IsSameFor other works.old works.new }
+        ensures memory_last { OnErr result ((id.now.job.0 == self.old.job) ≡ true → IsDueMore node self.old works.old (command.Get id.now)) }
+        ensures others { (other : JobNo) → same_work_job id.now.job other ≡ false → IsSameFor other works.old works.new }
         ensures err { OnErr result (self.new ≡ self.old) }
         ensures works { OnErr result (works.new ≡ works.old) }
     {
@@ -70,7 +70,7 @@ impl JobRow {
         let len = copy.length();
         match self.room_for(alloc, works, id.job(), len)? {
             MadeRoom::Place(placement) => self.pull_in_place(alloc, node, id, len, &placement),
-            MadeRoom::Told(refusal) => told(alloc, refusal),
+            MadeRoom::Told(refusal) => refuse(alloc, refusal),
         }
     }
 
@@ -82,17 +82,17 @@ impl JobRow {
         id: &ObjectId,
         len: u32,
         placement: &Placement,
-    ) -> Result<Outcome, AllocError>
+    ) -> Result<RowOutcome, AllocError>
         requires alive { is_remembered self.old.ended_tasks id.now.task ≡ false }
         requires visible { visible_state (at self.old.copies id.now) ≡ Ok (Some Fetching) }
         requires sized { can_pull_at self.old id.now ≡ true }
         requires waits { option_map_or (waits_for_place len) (at self.old.copies id.now) false ≡ true }
         requires may_go { MayGo self.old.copies placement.now.victims }
         requires place { IsPlacement self.old len placement.now }
-        ensures ok { IfOk result (λ o. (session : ℕ) (beside : Beside) (contents : Contents) → (id.now.job.0 == self.old.job) ≡ true → IsShown self.old beside contents
+        ensures ok { IfOk result (λ o. (session : ℕ) (beside : SharedTables) (contents : Contents) → (id.now.job.0 == self.old.job) ≡ true → IsShown self.old beside contents
             → MakesPlace (make_room self.old.order (shape_of self.old beside) len) (shape_of self.old beside) len placement.now.victims
-            → TakesStep node self.old beside contents (input.Call session (command.Get id.now)) (given_of o) self.new beside) }
-        ensures few { IfOk result (λ o. length o.messages ≤ length self.old.copies + 1) }
+            → RowStep node self.old beside contents (input.Call session (command.Get id.now)) (row_given_of o) self.new beside) }
+        ensures bounded { IfOk result (λ o. length o.messages ≤ length self.old.copies + 1) }
         ensures err { OnErr result (self.new ≡ self.old) }
     {
         let victims = placement.victims.as_slice();
@@ -105,10 +105,10 @@ impl JobRow {
     }
 
     /// The question for all chunks of the object, at the source of its fetch.
-    fn question(&self, alloc: Global, id: &ObjectId) -> Result<(Place, Message), AllocError>
+    fn question(&self, alloc: Global, id: &ObjectId) -> Result<(Endpoint, Message), AllocError>
         requires visible { visible_state (at self.now.copies id.now) ≡ Ok (Some Fetching) }
         requires sized { can_pull_at self.now id.now ≡ true }
-        ensures { IfOk result (λ message. (k : Kept) (f : Fetch) (source : ℕ) → at self.now.copies id.now ≡ Some k → k.copy.fetch ≡ Some f → f.phase ≡ sized source
+        ensures { IfOk result (λ message. (k : CopyView) (f : Fetch) (source : ℕ) → at self.now.copies id.now ≡ Some k → k.copy.fetch ≡ Some f → f.phase ≡ sized source
             → message ≡ to_peer source (Pull id.now f.number k.copy.length (unwrap_or k.digest no_digest) (counted 0 (chunk_count k.copy.length)))) }
     {
         let Some(copy) = self.copies().get(id) else {
@@ -119,7 +119,11 @@ impl JobRow {
 }
 
 /// The question for all chunks of the object, at the source of its fetch.
-fn question_of(alloc: Global, id: ObjectId, copy: &RowCopy) -> Result<(Place, Message), AllocError>
+fn question_of(
+    alloc: Global,
+    id: ObjectId,
+    copy: &RowCopy,
+) -> Result<(Endpoint, Message), AllocError>
     requires { option_map_or (λ f. is_unasked f.phase) copy.now.copy.fetch false ≡ true }
     ensures { IfOk result (λ message. (f : Fetch) (source : ℕ) → copy.now.copy.fetch ≡ Some f → f.phase ≡ sized source
         → message ≡ to_peer source (Pull id f.number copy.now.copy.length (unwrap_or copy.now.digest no_digest) (counted 0 (chunk_count copy.now.copy.length)))) }
@@ -141,5 +145,5 @@ fn question_of(alloc: Global, id: ObjectId, copy: &RowCopy) -> Result<(Place, Me
         digest,
         indexes: Items::from_vec(indexes),
     });
-    Ok((Place::Node(source), message))
+    Ok((Endpoint::Node(source), message))
 }

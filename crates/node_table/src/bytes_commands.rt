@@ -1,23 +1,23 @@
 //! The commands that move bytes, Write, Seal and Read; and bytes that are lent.
 ghost use Rattle.std.specs.Prelude.{◌≡◌, ◌≤◌, length, ◌==◌, ℕ, true, Some, None, take, IfOk, IfErr, IsOk, OnErr};
 ghost use Rattle.obj_id.specs.declared.works.Extent.{Extent};
-ghost use Rattle.private_store.specs.Tables.{at};
-ghost use Rattle.private_store.specs.Copies.{extent_of};
+ghost use Rattle.private_store.specs.rules.Tables.{at};
+ghost use Rattle.private_store.specs.rules.Copies.{extent_of};
 ghost use Rattle.obj_id.specs.declared.commands.Command.TheVariants as command;
 ghost use Rattle.private_store.specs.declared.inputs.Input.TheVariants as input;
-ghost use Rattle.private_store.specs.Contents.{Contents, digest_of};
-ghost use Rattle.job_region.specs.Region.{bytes_at as placed_bytes};
+ghost use Rattle.private_store.specs.rules.Contents.{Contents, digest_of};
+ghost use Rattle.job_region.specs.Region.{region_bytes_at as placed_bytes};
 ghost use Rattle.node_table.specs.Checks.{lend_check, read_check as read_check_lem, seal_check as seal_check_lem};
-ghost use Rattle.node_table.specs.Kept.{Kept};
-ghost use Rattle.node_table.specs.Outcomes.{given_of};
-ghost use Rattle.node_table.specs.Row.{Beside, copies_of};
-ghost use Rattle.node_table.specs.Shown.{IsShown, IsLent, TakesStep, only};
+ghost use Rattle.node_table.specs.CopyViews.{CopyView};
+ghost use Rattle.node_table.specs.Outcomes.{row_given_of};
+ghost use Rattle.node_table.specs.Row.{SharedTables, copies_of};
+ghost use Rattle.node_table.specs.Shown.{IsShown, IsLent, RowStep, only};
 
 use crate::marks::Mark;
-use crate::outcome::{Erase, Outcome};
+use crate::outcome::{Erase, RowOutcome};
 use crate::row::JobRow;
 use bytes::Bytes;
-use obj_id::{DirectoryMessage, Location, Message, ObjectId, Place, Refusal, Reply};
+use obj_id::{DirectoryMessage, Endpoint, Location, Message, ObjectId, Refusal, Reply};
 use std::alloc::{AllocError, Global};
 
 impl JobRow {
@@ -25,8 +25,8 @@ impl JobRow {
     /// more than 65,536 bytes, `Absent`, `AlreadySealed`, `OutOfBounds`; a refusal changes nothing.
     /// Takes no memory.
     pub fn write(&mut self, session: u32, id: &ObjectId, offset: u32, bytes: &[u8]) -> Reply<Bytes>
-        ensures { (node : ℕ) (beside : Beside) (contents : Contents) → (id.now.job.0 == self.old.job) ≡ true → IsShown self.old beside contents
-            → TakesStep node self.old beside contents (input.Call session (command.Write id.now offset bytes.now)) (only result) self.new beside }
+        ensures { (node : ℕ) (beside : SharedTables) (contents : Contents) → (id.now.job.0 == self.old.job) ≡ true → IsShown self.old beside contents
+            → RowStep node self.old beside contents (input.Call session (command.Write id.now offset bytes.now)) (only result) self.new beside }
     {
         if let Some(refusal) = self.copies().write_check(id, offset, bytes.len()) {
             return Reply::Refused(refusal);
@@ -44,22 +44,22 @@ impl JobRow {
         node: u32,
         session: u32,
         id: &ObjectId,
-    ) -> Result<Outcome, AllocError>
-        ensures ok { IfOk result (λ o. (beside : Beside) (contents : Contents) → (id.now.job.0 == self.old.job) ≡ true → IsShown self.old beside contents
-            → TakesStep node self.old beside contents (input.Call session (command.Seal id.now)) (given_of o) self.new beside) }
-        ensures few { IfOk result (λ o. length o.messages ≤ 1) }
-        ensures late { OnErr result (seal_check_lem self.old.copies id.now ≡ None) }
+    ) -> Result<RowOutcome, AllocError>
+        ensures ok { IfOk result (λ o. (beside : SharedTables) (contents : Contents) → (id.now.job.0 == self.old.job) ≡ true → IsShown self.old beside contents
+            → RowStep node self.old beside contents (input.Call session (command.Seal id.now)) (row_given_of o) self.new beside) }
+        ensures bounded { IfOk result (λ o. length o.messages ≤ 1) }
+        ensures memory_last { OnErr result (seal_check_lem self.old.copies id.now ≡ None) }
         ensures err { OnErr result (self.new ≡ self.old) }
     {
         let entry = match self.sealing(node, id) {
-            Err(refusal) => return Ok(Outcome::only(alloc, Reply::Refused(refusal))),
+            Err(refusal) => return Ok(RowOutcome::only(alloc, Reply::Refused(refusal))),
             Ok(entry) => entry,
         };
         let message = Message::ToDirectory(DirectoryMessage::AddLocation(*id, entry));
-        let messages = Outcome::one_message(alloc, Place::Directory, message)?;
+        let messages = RowOutcome::one_message(alloc, Endpoint::Directory, message)?;
         let after = self.apply(id, Mark::Sealed(entry.digest));
-        self.freeze_at(after.standing.extent);
-        Ok(Outcome {
+        self.freeze_at(after.eviction_info.extent);
+        Ok(RowOutcome {
             reply: Reply::Ok,
             messages,
             erase: Erase::NoKey,
@@ -76,9 +76,9 @@ impl JobRow {
         offset: u32,
         len: u32,
     ) -> Result<Reply<Bytes>, AllocError>
-        ensures ok { IfOk result (λ told. (node : ℕ) (beside : Beside) (contents : Contents) → (id.now.job.0 == self.now.job) ≡ true → IsShown self.now beside contents
-            → TakesStep node self.now beside contents (input.Call session (command.Read id.now offset len)) (only told) self.now beside) }
-        ensures late { OnErr result (read_check_lem self.now.copies session id.now offset len ≡ None) }
+        ensures ok { IfOk result (λ told. (node : ℕ) (beside : SharedTables) (contents : Contents) → (id.now.job.0 == self.now.job) ≡ true → IsShown self.now beside contents
+            → RowStep node self.now beside contents (input.Call session (command.Read id.now offset len)) (only told) self.now beside) }
+        ensures memory_last { OnErr result (read_check_lem self.now.copies session id.now offset len ≡ None) }
     {
         if let Some(refusal) = self.copies().read_check(session, id, offset, len) {
             return Ok(Reply::Refused(refusal));
@@ -90,7 +90,7 @@ impl JobRow {
     /// The bytes of an object that the session holds, all of them, lent without a copy. `Absent`,
     /// `NotSealed`, `NotHeld`. Changes nothing, and takes no memory.
     pub fn lend(&self, session: u32, id: &ObjectId) -> Result<&[u8], Refusal>
-        ensures ok { IfOk result (λ bytes. (beside : Beside) (contents : Contents) → IsShown self.now beside contents → IsLent (copies_of self.now.copies) contents session id.now bytes.now) }
+        ensures ok { IfOk result (λ bytes. (beside : SharedTables) (contents : Contents) → IsShown self.now beside contents → IsLent (copies_of self.now.copies) contents session id.now bytes.now) }
         ensures refused { IfErr result (λ refusal. lend_check (copies_of self.now.copies) session id.now ≡ Some refusal) }
     {
         if let Some(refusal) = self.copies().lend_check(session, id) {
@@ -104,8 +104,8 @@ impl JobRow {
     /// The copy as the directory is to know it once it is sealed. `Absent`, `AlreadySealed` if it can't be.
     fn sealing(&self, node: u32, id: &ObjectId) -> Result<Location, Refusal>
         ensures node { IfOk result (λ entry. entry.node ≡ node) }
-        ensures length { IfOk result (λ entry. (k : Kept) → at self.now.copies id.now ≡ Some k → entry.length ≡ k.copy.length) }
-        ensures digest { IfOk result (λ entry. (k : Kept) (e : Extent) → at self.now.copies id.now ≡ Some k → extent_of k.copy ≡ Some e
+        ensures length { IfOk result (λ entry. (k : CopyView) → at self.now.copies id.now ≡ Some k → entry.length ≡ k.copy.length) }
+        ensures digest { IfOk result (λ entry. (k : CopyView) (e : Extent) → at self.now.copies id.now ≡ Some k → extent_of k.copy ≡ Some e
             → entry.digest ≡ digest_of (take k.copy.length (placed_bytes e self.now.window.placed))) }
         ensures passed { IsOk result → seal_check_lem self.now.copies id.now ≡ None }
         ensures refused { IfErr result (λ refusal. seal_check_lem self.now.copies id.now ≡ Some refusal) }

@@ -4,9 +4,9 @@ ghost use Rattle.obj_id.specs.declared.refusals.Refusal.TheVariants.{Absent, Gra
 ghost use Rattle.node_table.specs.Checks.{write_check_of, write_check as write_check_lem, seal_check_of, read_check_of, read_check as read_check_lem, lend_check_of, lend_check as lend_check_lem, fetch_check as fetch_check_lem, create_check as create_check_lem, end_task_check as end_task_check_lem, unpin_check_of, unpin_check as unpin_check_lem, give_up_check_of, give_up_check as give_up_check_lem, delete_check as delete_check_lem, visible_state as visible_state_lem, fault_at};
 ghost use Rattle.node_table.specs.EndingTasks.{stays_at};
 ghost use Rattle.node_table.specs.Granting.{grant_check_of};
-ghost use Rattle.private_store.specs.Tables.{at};
+ghost use Rattle.private_store.specs.rules.Tables.{at};
 ghost use Rattle.node_table.specs.Row.{copies_of};
-ghost use Rattle.node_table.specs.Scope.{farewell_at, stays_unpinned};
+ghost use Rattle.node_table.specs.Scope.{removal_notice_at, stays_unpinned};
 
 use crate::copies::Copies;
 use crate::copy::RowCopy;
@@ -142,7 +142,7 @@ impl Copies {
         id: &ObjectId,
         task: TaskNo,
     ) -> Result<Option<DirectoryMessage>, Refusal>
-        ensures ok { IfOk result (λ message. message ≡ farewell_at node self.now id.now (not (stays_unpinned self.now id.now))) }
+        ensures ok { IfOk result (λ message. message ≡ removal_notice_at node self.now id.now (not (stays_unpinned self.now id.now))) }
         ensures passed { IsOk result → unpin_check_lem self.now id.now task ≡ None }
         ensures refused { IfErr result (λ refusal. unpin_check_lem self.now id.now task ≡ Some refusal) }
     {
@@ -152,7 +152,7 @@ impl Copies {
         if let Some(refusal) = copy.unpin_check(task == id.task()) {
             return Err(refusal);
         }
-        Ok(copy.farewell(node, *id, !copy.in_scope_unpinned()))
+        Ok(copy.removal_notice(node, *id, !copy.in_scope_unpinned()))
     }
 
     /// What the directory is told if the task gives the copy up: nothing if it stays in scope then, or wasn't sealed.
@@ -163,7 +163,7 @@ impl Copies {
         id: &ObjectId,
         task: TaskNo,
     ) -> Result<Option<DirectoryMessage>, Refusal>
-        ensures ok { IfOk result (λ message. message ≡ farewell_at node self.now id.now (not (stays_at task self.now id.now))) }
+        ensures ok { IfOk result (λ message. message ≡ removal_notice_at node self.now id.now (not (stays_at task self.now id.now))) }
         ensures passed { IsOk result → give_up_check_lem self.now id.now task ≡ None }
         ensures refused { IfErr result (λ refusal. give_up_check_lem self.now id.now task ≡ Some refusal) }
     {
@@ -173,7 +173,7 @@ impl Copies {
         if let Some(refusal) = copy.give_up_check(task) {
             return Err(refusal);
         }
-        Ok(copy.farewell(node, *id, !copy.in_scope_without(task)))
+        Ok(copy.removal_notice(node, *id, !copy.in_scope_without(task)))
     }
 
     /// What the directory is told if the copy is deleted: nothing unless it was sealed. `Absent`, `Granted` if it can't be.
@@ -182,7 +182,7 @@ impl Copies {
         node: u32,
         id: &ObjectId,
     ) -> Result<Option<DirectoryMessage>, Refusal>
-        ensures ok { IfOk result (λ message. message ≡ farewell_at node self.now id.now true) }
+        ensures ok { IfOk result (λ message. message ≡ removal_notice_at node self.now id.now true) }
         ensures passed { IsOk result → delete_check_lem self.now id.now ≡ None }
         ensures refused { IfErr result (λ refusal. delete_check_lem self.now id.now ≡ Some refusal) }
     {
@@ -192,7 +192,7 @@ impl Copies {
         if let Some(refusal) = copy.delete_check() {
             return Err(refusal);
         }
-        Ok(copy.farewell(node, *id, true))
+        Ok(copy.removal_notice(node, *id, true))
     }
 
     /// Why the session can't read `len` bytes of the copy: `BadSize`, `Absent`, `NotSealed`, `NotHeld`,

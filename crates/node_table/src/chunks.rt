@@ -7,18 +7,18 @@ ghost use Rattle.obj_id.specs.declared.messages.PeerMessage.TheVariants as peer;
 ghost use Rattle.obj_id.specs.declared.messages.Digest.{Digest};
 ghost use Rattle.obj_id.specs.declared.works.Extent.{Extent};
 ghost use Rattle.private_store.specs.declared.inputs.Input.TheVariants as input;
-ghost use Rattle.private_store.specs.Tables.{at};
-ghost use Rattle.private_store.specs.Copies.{extent_of};
-ghost use Rattle.private_store.specs.Contents.{Contents, has_digest, chunk_verdict};
-ghost use Rattle.job_region.specs.Region.{bytes_at as placed_bytes};
+ghost use Rattle.private_store.specs.rules.Tables.{at};
+ghost use Rattle.private_store.specs.rules.Copies.{extent_of};
+ghost use Rattle.private_store.specs.rules.Contents.{Contents, has_digest, chunk_verdict};
+ghost use Rattle.job_region.specs.Region.{region_bytes_at as placed_bytes};
 ghost use Rattle.node_table.specs.Arriving.{fills, lacks_only, row_written};
-ghost use Rattle.node_table.specs.Kept.{Kept};
-ghost use Rattle.node_table.specs.Outcomes.{given_of};
-ghost use Rattle.node_table.specs.Row.{Beside, place_of};
-ghost use Rattle.node_table.specs.Shown.{seen, IsShown, TakesStep};
+ghost use Rattle.node_table.specs.CopyViews.{CopyView};
+ghost use Rattle.node_table.specs.Outcomes.{row_given_of};
+ghost use Rattle.node_table.specs.Row.{SharedTables, place_of};
+ghost use Rattle.node_table.specs.Shown.{seen, IsShown, RowStep};
 
 use crate::marks::Mark;
-use crate::outcome::{Erase, Outcome};
+use crate::outcome::{Erase, RowOutcome};
 use crate::row::JobRow;
 use hashed_bytes::digest_by;
 use obj_id::limits::CHUNK_SIZE;
@@ -29,7 +29,7 @@ use std::alloc::{AllocError, Global};
 /// What a chunk gave, and what it was to the fetch that it names.
 #[derive(Drop)]
 pub struct ChunkTaken {
-    pub outcome: Outcome,
+    pub outcome: RowOutcome,
     pub verdict: ChunkVerdict,
 }
 
@@ -48,12 +48,12 @@ impl JobRow {
         index: u32,
         bytes: &[u8],
     ) -> Result<ChunkTaken, AllocError>
-        ensures ok { IfOk result (λ t. (beside : Beside) (contents : Contents) → IsShown self.old beside contents
-            → TakesStep node self.old beside contents (input.Arrive (arrival.FromPeer from (peer.Chunk id.now number index bytes.now))) (given_of t.outcome) self.new beside) }
-        ensures verdict { IfOk result (λ t. (beside : Beside) (contents : Contents) → IsShown self.old beside contents
+        ensures ok { IfOk result (λ t. (beside : SharedTables) (contents : Contents) → IsShown self.old beside contents
+            → RowStep node self.old beside contents (input.Arrive (arrival.FromPeer from (peer.Chunk id.now number index bytes.now))) (row_given_of t.outcome) self.new beside) }
+        ensures verdict { IfOk result (λ t. (beside : SharedTables) (contents : Contents) → IsShown self.old beside contents
             → t.verdict ≡ chunk_verdict (seen self.old beside contents) id.now number index bytes.now from) }
         ensures told { IfOk result (λ t. t.outcome.reply ≡ reply.Ok) }
-        ensures few { IfOk result (λ t. length t.outcome.messages ≤ 1) }
+        ensures bounded { IfOk result (λ t. length t.outcome.messages ≤ 1) }
         ensures err { OnErr result (self.new ≡ self.old) }
     {
         let fit = self
@@ -61,7 +61,7 @@ impl JobRow {
             .chunk_fit(id, number, from, index, bytes.len());
         if !fit.fills {
             return Ok(ChunkTaken {
-                outcome: Outcome::only(alloc, Reply::Ok),
+                outcome: RowOutcome::only(alloc, Reply::Ok),
                 verdict: ChunkVerdict::Ignored,
             });
         }
@@ -79,7 +79,7 @@ impl JobRow {
             },
         );
         Ok(ChunkTaken {
-            outcome: Outcome::only(alloc, Reply::Ok),
+            outcome: RowOutcome::only(alloc, Reply::Ok),
             verdict: ChunkVerdict::Part,
         })
     }
@@ -97,12 +97,12 @@ impl JobRow {
     ) -> Result<ChunkTaken, AllocError>
         requires fills { option_map_or (fills number from index (length bytes.now)) (at self.old.copies id.now) false ≡ true }
         requires last { option_map_or (lacks_only index) (at self.old.copies id.now) false ≡ true }
-        ensures ok { IfOk result (λ t. (beside : Beside) (contents : Contents) → IsShown self.old beside contents
-            → TakesStep node self.old beside contents (input.Arrive (arrival.FromPeer from (peer.Chunk id.now number index bytes.now))) (given_of t.outcome) self.new beside) }
-        ensures verdict { IfOk result (λ t. (beside : Beside) (contents : Contents) → IsShown self.old beside contents
+        ensures ok { IfOk result (λ t. (beside : SharedTables) (contents : Contents) → IsShown self.old beside contents
+            → RowStep node self.old beside contents (input.Arrive (arrival.FromPeer from (peer.Chunk id.now number index bytes.now))) (row_given_of t.outcome) self.new beside) }
+        ensures verdict { IfOk result (λ t. (beside : SharedTables) (contents : Contents) → IsShown self.old beside contents
             → t.verdict ≡ chunk_verdict (seen self.old beside contents) id.now number index bytes.now from) }
         ensures told { IfOk result (λ t. t.outcome.reply ≡ reply.Ok) }
-        ensures few { IfOk result (λ t. length t.outcome.messages ≤ 1) }
+        ensures bounded { IfOk result (λ t. length t.outcome.messages ≤ 1) }
         ensures err { OnErr result (self.new ≡ self.old) }
     {
         let Some(copy) = self.copies().get(id) else {
@@ -117,18 +117,18 @@ impl JobRow {
             digest,
         };
         let message = DirectoryMessage::AddLocation(*id, entry);
-        let messages = Outcome::to_directory(alloc, Some(message))?;
+        let messages = RowOutcome::to_directory(alloc, Some(message))?;
         self.put_chunk(id, index, bytes);
         if !self.has_digest(id, &digest) {
             self.fail_fetch(id, FetchFault::Damaged);
             return Ok(ChunkTaken {
-                outcome: Outcome::only(alloc, Reply::Ok),
+                outcome: RowOutcome::only(alloc, Reply::Ok),
                 verdict: ChunkVerdict::Damaged,
             });
         }
         let after = self.apply(id, Mark::Brought);
-        self.freeze_at(after.standing.extent);
-        let outcome = Outcome {
+        self.freeze_at(after.eviction_info.extent);
+        let outcome = RowOutcome {
             reply: Reply::Ok,
             messages,
             erase: Erase::NoKey,
@@ -150,7 +150,7 @@ impl JobRow {
 
     /// Whether the bytes of the copy have the digest, if it is resident. Hashes them once, if theirs isn't known.
     fn has_digest(&self, id: &ObjectId, digest: &Digest) -> bool
-        ensures { (k : Kept) (e : Extent) → at self.now.copies id.now ≡ Some k → extent_of k.copy ≡ Some e
+        ensures { (k : CopyView) (e : Extent) → at self.now.copies id.now ≡ Some k → extent_of k.copy ≡ Some e
             → result ≡ has_digest (take k.copy.length (placed_bytes e self.now.window.placed)) digest.now }
     {
         digest_by(self.bytes(id), self.hashed()) == *digest

@@ -1,34 +1,34 @@
 //! The copies of a job, by their ids.
 ghost use Rattle.std.specs.Option.{option_copied, option_map_or};
 ghost use Rattle.std.specs.Borrow.{MutBor};
-ghost use Rattle.private_store.specs.Tables.{ById, at, with_entry, without_entry};
+ghost use Rattle.private_store.specs.rules.Tables.{ById, at, with_entry, without_entry};
 ghost use Rattle.node_table.specs.Entries.{changed, all_changed, each_changed};
-ghost use Rattle.node_table.specs.Kept.{released, left, spilling_if, borrowed, Kept};
+ghost use Rattle.node_table.specs.CopyViews.{after_release, after_leave, spill_begun_if, after_borrow, CopyView};
 ghost use Rattle.node_table.specs.Marks.{marked_by, CanTake};
-ghost use Rattle.private_store.specs.Copies.{in_scope};
-ghost use Rattle.private_store.specs.Commands.{without_borrower};
+ghost use Rattle.private_store.specs.rules.Copies.{in_scope};
+ghost use Rattle.private_store.specs.rules.Commands.{without_borrower};
 ghost use Rattle.node_table.specs.Evicting.{has_secondary, evicted_one, all_evicted};
 ghost use Rattle.obj_id.specs.declared.refusals.Refusal.{Refusal};
 ghost use Rattle.obj_id.specs.declared.refusals.Refusal.TheVariants.{NoMemory};
 ghost use Rattle.node_table.specs.Checks.{release_check, borrow_check};
 ghost use Rattle.node_table.specs.Dropping.{is_over_at};
-ghost use Rattle.node_table.specs.Scope.{farewell_at};
-ghost use Rattle.node_table.specs.EndingTasks.{hands_ended, is_doomed_at, borrows_at};
+ghost use Rattle.node_table.specs.Scope.{removal_notice_at};
+ghost use Rattle.node_table.specs.EndingTasks.{copies_ungranted, is_doomed_at, borrows_at};
 ghost use Rattle.node_table.specs.Holding.{IsHeldAt, IsUnreadyAt, IsHoldRefusedAt};
 ghost use Rattle.std.specs.Prelude.{◌≡◌, ◌≢◌, ◌<◌, ◌^◌, [], true, false, Some, None, OnOk, OnErr, IsOk, IsErrOf, IfOk, IfErr, IfSome, IfNone, map, length, is_some, IsTrue};
 ghost use Rattle.std.specs.FinMap.{is_sorted};
 ghost use Rattle.obj_id.specs.Ids.{id_cmp};
-ghost use Rattle.node_table.specs.Usages.{item_of, total, window_bytes as window_bytes_lem, device_bytes as device_bytes_lem, doomed_one};
-ghost use Rattle.node_table.specs.Followed.{facts_in, AreFollowed, NoneIsGone, KeepPlaces};
-ghost use Rattle.lru_evictor.specs.Facts.{standing_at};
-ghost use Rattle.lru_evictor.specs.Orders.{ids_of};
-ghost use Rattle.node_table.specs.Arriving.{located, asks, fills, lacks_only};
+ghost use Rattle.node_table.specs.Usages.{own_item_of, total, window_bytes as window_bytes_lem, device_bytes as device_bytes_lem, doomed_one};
+ghost use Rattle.node_table.specs.InSync.{facts_in, InSync, NoneIsGone, KeepPlaces};
+ghost use Rattle.lru_evictor.specs.Facts.{info_at};
+ghost use Rattle.lru_evictor.specs.Orders.{order_ids};
+ghost use Rattle.node_table.specs.Arriving.{after_located, asks, fills, lacks_only};
 
 use crate::copy::{AfterChange, ChunkFit, Held, RowCopy};
+use crate::footprint::{Footprint, to_u64};
 use crate::marks::Mark;
-use crate::taken::{Taken, to_u64};
 use indexmap::IndexMap;
-use lru_evictor::{Standing, UseOrder};
+use lru_evictor::{EvictionInfo, UseOrder};
 use obj_id::{DirectoryMessage, Items, Location, ObjectId, OwnItem, Refusal, TaskNo};
 use std::alloc::{AllocError, Global};
 use std::marker::Model;
@@ -39,21 +39,21 @@ pub struct Copies {
     // in no order, so that a look-up costs the same whatever their number
     by_id: IndexMap<ObjectId, RowCopy>,
     // what they take together, counted at each change, so that nobody walks over them for it
-    taken: Taken,
+    taken: Footprint,
 }
 
 impl Model for Copies {
-    ghost use Rattle.private_store.specs.Tables.{ById};
+    ghost use Rattle.private_store.specs.rules.Tables.{ById};
     ghost use Rattle.node_table.specs.Entries.{by_rising_id};
-    ghost use Rattle.node_table.specs.Kept.{Kept};
+    ghost use Rattle.node_table.specs.CopyViews.{CopyView};
     ghost use Rattle.std.specs.Prelude.{◌≡◌};
-    ghost use Rattle.node_table.specs.Counted.{taken_of};
+    ghost use Rattle.node_table.specs.Counted.{footprint_of};
 
-    ghost Value = { ById Kept };
+    ghost Value = { ById CopyView };
 
     ghost view = { λ c. by_rising_id c.by_id.entries };
 
-    ghost invariant = { λ c. c.taken ≡ taken_of c.by_id.entries };
+    ghost invariant = { λ c. c.taken ≡ footprint_of c.by_id.entries };
 }
 
 impl Copies {
@@ -63,7 +63,7 @@ impl Copies {
     {
         Copies {
             by_id: IndexMap::new(alloc),
-            taken: Taken::nothing(),
+            taken: Footprint::nothing(),
         }
     }
 
@@ -84,7 +84,7 @@ impl Copies {
 
     /// The copies as List shows them, by rising id. Takes a walk over them, a sort, and memory for each.
     pub fn items(&self, alloc: Global) -> Result<Items<OwnItem>, AllocError>
-        ensures items { IfOk result (λ items. items ≡ map item_of self.now) }
+        ensures items { IfOk result (λ items. items ≡ map own_item_of self.now) }
         ensures rising { IfOk result (λ _. IsTrue (is_sorted id_cmp self.now)) }
     {
         let mut items = Vec::new(alloc);
@@ -113,24 +113,24 @@ impl Copies {
         to_u64(self.taken.device)
     }
 
-    /// Where the copy of the id lies, and the walks for room that choose it; nowhere and none if there is no copy.
-    pub fn standing(&self, id: &ObjectId) -> Standing
-        ensures { result ≡ standing_at (facts_in self.now) id.now }
+    /// Where the copy of the id lies, and the classes of victims that it is in; nowhere and in none if there is no copy.
+    pub fn eviction_info(&self, id: &ObjectId) -> EvictionInfo
+        ensures { result ≡ info_at (facts_in self.now) id.now }
     {
         let Some(copy) = self.get(id) else {
-            return Standing::nowhere();
+            return EvictionInfo::nowhere();
         };
-        copy.facts().standing()
+        copy.facts().eviction_info()
     }
 
     /// After changes of any of them, where none is gone, and each lies where it lay, or nowhere any more: the order of use
     /// follows. Takes a walk over them, and no memory.
-    pub fn follow_all(&self, order: &mut UseOrder)
-        ensures ids { ids_of order.new ≡ ids_of order.old }
-        ensures standings { (before : ById Kept) → NoneIsGone before self.now → KeepPlaces before self.now → AreFollowed before order.old → AreFollowed self.now order.new }
+    pub fn sync_all(&self, order: &mut UseOrder)
+        ensures ids { order_ids order.new ≡ order_ids order.old }
+        ensures infos { (before : ById CopyView) → NoneIsGone before self.now → KeepPlaces before self.now → InSync before order.old → InSync self.now order.new }
     {
         for (id, _) in &self.by_id {
-            order.choose(id, self.standing(id));
+            order.set_info(id, self.eviction_info(id));
         }
     }
 
@@ -153,9 +153,9 @@ impl Copies {
     {
         // so many copies take no more than 128 bits have room for
         let _count = self.by_id.len();
-        let after = Taken::by(&copy);
+        let after = Footprint::by(&copy);
         let replaced = self.by_id.insert(id, copy)?;
-        let before = Taken::by_any(replaced.as_ref());
+        let before = Footprint::by_any(replaced.as_ref());
         self.taken = self.taken.exchanged(before, after);
         Ok(())
     }
@@ -175,30 +175,30 @@ impl Copies {
         // as for `insert`
         let _count = self.by_id.len();
         let copy = self.by_id.swap_remove(id);
-        let before = Taken::by_any(copy.as_ref());
-        self.taken = self.taken.exchanged(before, Taken::nothing());
+        let before = Footprint::by_any(copy.as_ref());
+        self.taken = self.taken.exchanged(before, Footprint::nothing());
         copy
     }
 
     /// Does this to the copy, if it is there, and counts what it takes anew. Answers what the copy is then: where there is
     /// none, it lies nowhere.
     fn update<F: FnOnce(&mut RowCopy)>(&mut self, id: &ObjectId, change: F) -> AfterChange
-        requires { (p : MutBor Kept) → at self.old id.now ≡ Some p.now → F.pre change p }
-        ensures copies { (f : Kept → Kept) → ((p q : MutBor Kept) → F.post change p tt q → q.now ≡ f p.now) → self.new ≡ changed f self.old id.now }
-        ensures standing { result.standing ≡ standing_at (facts_in self.new) id.now }
+        requires { (p : MutBor CopyView) → at self.old id.now ≡ Some p.now → F.pre change p }
+        ensures copies { (f : CopyView → CopyView) → ((p q : MutBor CopyView) → F.post change p tt q → q.now ≡ f p.now) → self.new ≡ changed f self.old id.now }
+        ensures eviction_info { result.eviction_info ≡ info_at (facts_in self.new) id.now }
         ensures over { result.over ≡ is_over_at self.new id.now }
     {
         // as for `insert`
         let _count = self.by_id.len();
         let Some(copy) = self.by_id.get_mut(id) else {
             return AfterChange {
-                standing: Standing::nowhere(),
+                eviction_info: EvictionInfo::nowhere(),
                 over: false,
             };
         };
-        let before = Taken::by(copy);
+        let before = Footprint::by(copy);
         change(copy);
-        let after = Taken::by(copy);
+        let after = Footprint::by(copy);
         let told = copy.after_change();
         self.taken = self.taken.exchanged(before, after);
         told
@@ -206,9 +206,9 @@ impl Copies {
 
     /// This happens to the copy, if it is there. Answers what the copy is then. Takes no memory.
     pub(crate) fn apply(&mut self, id: &ObjectId, mark: Mark) -> AfterChange
-        requires { (k : Kept) → at self.old id.now ≡ Some k → CanTake mark k }
+        requires { (k : CopyView) → at self.old id.now ≡ Some k → CanTake mark k }
         ensures copies { self.new ≡ changed (marked_by mark) self.old id.now }
-        ensures standing { result.standing ≡ standing_at (facts_in self.new) id.now }
+        ensures eviction_info { result.eviction_info ≡ info_at (facts_in self.new) id.now }
         ensures over { result.over ≡ is_over_at self.new id.now }
     {
         self.update(id, move |copy| copy.apply(mark))
@@ -277,9 +277,9 @@ impl Copies {
     /// One hold of the session on the copy less, and what the copy is then. `Absent`, `NotHeld` if it has none; a refusal
     /// changes nothing. Takes no memory.
     pub fn release(&mut self, id: &ObjectId, session: u32) -> Result<AfterChange, Refusal>
-        ensures ok { OnOk result (self.new ≡ changed (released session) self.old id.now) }
-        ensures standing { IfOk result (λ r. r.standing ≡ standing_at (facts_in (changed (released session) self.old id.now)) id.now) }
-        ensures over { IfOk result (λ r. r.over ≡ is_over_at (changed (released session) self.old id.now) id.now) }
+        ensures ok { OnOk result (self.new ≡ changed (after_release session) self.old id.now) }
+        ensures eviction_info { IfOk result (λ r. r.eviction_info ≡ info_at (facts_in (changed (after_release session) self.old id.now)) id.now) }
+        ensures over { IfOk result (λ r. r.over ≡ is_over_at (changed (after_release session) self.old id.now) id.now) }
         ensures passed { IsOk result → release_check self.old session id.now ≡ None }
         ensures refused { (r : Refusal) → IsErrOf result r → release_check self.old session id.now ≡ Some r }
         ensures err { OnErr result (self.new ≡ self.old) }
@@ -292,7 +292,7 @@ impl Copies {
 
     /// No hold of the session on any copy. Takes a walk over them, and no memory.
     pub fn leave_all(&mut self, session: u32)
-        ensures { self.new ≡ all_changed (left session) self.old }
+        ensures { self.new ≡ all_changed (after_leave session) self.old }
     {
         self.by_id.retain(|_, copy| {
             copy.apply(Mark::Left(session));
@@ -343,8 +343,8 @@ impl Copies {
         number: u64,
         entries: &[Location],
     ) -> AfterChange
-        ensures copies { self.new ≡ changed (located node number entries.now) self.old id.now }
-        ensures standing { result.standing ≡ standing_at (facts_in self.new) id.now }
+        ensures copies { self.new ≡ changed (after_located node number entries.now) self.old id.now }
+        ensures eviction_info { result.eviction_info ≡ info_at (facts_in self.new) id.now }
         ensures over { result.over ≡ is_over_at self.new id.now }
     {
         self.update(id, |copy| copy.locate(node, number, entries))
@@ -353,9 +353,9 @@ impl Copies {
     /// The task borrows the copy, as the last one, and what the copy is then. `Absent`, also if it is doomed, `NotOwner`, `Exists`, `TooMany`,
     /// `NoMemory` last; a refusal changes nothing.
     pub fn borrow(&mut self, id: &ObjectId, task: TaskNo) -> Result<AfterChange, Refusal>
-        ensures ok { OnOk result (self.new ≡ changed (borrowed task) self.old id.now) }
-        ensures standing { IfOk result (λ after. after.standing ≡ standing_at (facts_in (changed (borrowed task) self.old id.now)) id.now) }
-        ensures over { IfOk result (λ after. after.over ≡ is_over_at (changed (borrowed task) self.old id.now) id.now) }
+        ensures ok { OnOk result (self.new ≡ changed (after_borrow task) self.old id.now) }
+        ensures eviction_info { IfOk result (λ after. after.eviction_info ≡ info_at (facts_in (changed (after_borrow task) self.old id.now)) id.now) }
+        ensures over { IfOk result (λ after. after.over ≡ is_over_at (changed (after_borrow task) self.old id.now) id.now) }
         ensures passed { IsOk result → borrow_check self.old id.now task ≡ None }
         ensures refused { (r : Refusal) → r ≢ NoMemory → IsErrOf result r → borrow_check self.old id.now task ≡ Some r }
         ensures memory { IsErrOf result NoMemory → borrow_check self.old id.now task ≡ None }
@@ -372,7 +372,7 @@ impl Copies {
 
     /// No hand stands any more of the copies of the task's objects. Takes a walk over the copies, and no memory.
     pub fn end_hands(&mut self, task: TaskNo)
-        ensures { self.new ≡ hands_ended task self.old }
+        ensures { self.new ≡ copies_ungranted task self.old }
     {
         self.by_id.retain(|id, copy| {
             copy.end_hands(id, task);
@@ -411,15 +411,15 @@ impl Copies {
     }
 
     /// What the directory is told of the copy if it is doomed now: nothing, unless it was sealed.
-    pub fn farewell(&self, node: u32, id: &ObjectId, dooms: bool) -> Option<DirectoryMessage>
-        ensures { result ≡ farewell_at node self.now id.now dooms }
+    pub fn removal_notice(&self, node: u32, id: &ObjectId, dooms: bool) -> Option<DirectoryMessage>
+        ensures { result ≡ removal_notice_at node self.now id.now dooms }
     {
-        self.get(id)?.farewell(node, *id, dooms)
+        self.get(id)?.removal_notice(node, *id, dooms)
     }
 
     /// Writes of these copies are in flight, if they can be.
     pub fn begin_spills(&mut self, ids: &[ObjectId])
-        ensures { self.new ≡ each_changed spilling_if self.old ids.now }
+        ensures { self.new ≡ each_changed spill_begun_if self.old ids.now }
     {
         for id in ids {
             self.apply(id, Mark::SpillBegun);

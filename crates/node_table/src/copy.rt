@@ -6,29 +6,29 @@ ghost use Rattle.obj_id.specs.declared.refusals.Refusal.{Refusal};
 ghost use Rattle.obj_id.specs.declared.refusals.Refusal.TheVariants.{NoMemory};
 ghost use Rattle.obj_id.specs.Ids.{same_task};
 ghost use Rattle.obj_id.specs.Kinds.{is_primary};
-ghost use Rattle.private_store.specs.Copies.{extent_of, is_away, is_held, in_scope, was_sealed};
-ghost use Rattle.private_store.specs.Commands.{holds_of as holds_of_lem, has_borrower, without_borrower};
-ghost use Rattle.private_store.specs.Extents.{rounded as rounded_lem};
-ghost use Rattle.node_table.specs.RoomPlans.{facts_of};
-ghost use Rattle.node_table.specs.Kept.{new_kept, fetched_kept, released, spilling_if, unpinned, borrowed, given_up, ungranted, scoped, fetch_of, unplaced, is_unasked, pulled, restoring, placed_for, CanAwait, lost};
+ghost use Rattle.private_store.specs.rules.Copies.{extent_of, is_away, is_held, in_scope, was_sealed};
+ghost use Rattle.private_store.specs.rules.Commands.{holds_of as holds_of_lem, has_borrower, without_borrower};
+ghost use Rattle.private_store.specs.rules.Extents.{rounded as rounded_lem};
+ghost use Rattle.node_table.specs.RoomPlans.{row_facts_of};
+ghost use Rattle.node_table.specs.CopyViews.{new_copy_view, fetched_copy_view, after_release, spill_begun_if, after_unpin, after_borrow, after_give_up, after_grants_ended, view_in_scope, store_fetch_of, after_eviction, is_unasked, after_pull, after_restore_begun, after_placing, CanAwait, after_failed_restore};
 ghost use Rattle.node_table.specs.Marks.{marked_by, CanTake};
 ghost use Rattle.node_table.specs.declared.copy.Awaited.TheVariants.{Chunks, Device};
-ghost use Rattle.private_store.specs.Kept.{is_restoring};
+ghost use Rattle.private_store.specs.laws.Invariants.{is_restoring};
 ghost use Rattle.node_table.specs.Answering.{has_bytes as has_bytes_lem};
 ghost use Rattle.node_table.specs.Checks.{release_check_of as release_check, borrow_check_of};
-ghost use Rattle.node_table.specs.Scope.{farewell as farewell_of};
-ghost use Rattle.private_store.specs.Contents.{is_sized};
+ghost use Rattle.node_table.specs.Scope.{removal_notice as farewell_of};
+ghost use Rattle.private_store.specs.rules.Contents.{is_sized};
 ghost use Rattle.node_table.specs.Holding.{IsHeld, IsUnready, IsHoldRefused};
 ghost use Rattle.node_table.specs.Usages.{is_spilling as is_spilling_lem};
 ghost use Rattle.node_table.specs.Dropping.{is_over as is_over_lem, after_change as after_change_lem};
-ghost use Rattle.private_store.specs.Kept.{is_fetching};
+ghost use Rattle.private_store.specs.laws.Invariants.{is_fetching};
 ghost use Rattle.node_table.specs.Serving.{was_sealed_with as was_sealed_with_lem};
-ghost use Rattle.node_table.specs.Arriving.{awaits_source, located, asks, fills, lacks_only, gap_closed, brought, unfetched};
+ghost use Rattle.node_table.specs.Arriving.{awaits_source, after_located, asks, fills, lacks_only, after_chunk, after_last_chunk, after_failed_fetch};
 
 use crate::marks::Mark;
 use fetch_core::{FetchIn, Stage};
 use hashed_bytes::{Hashed, digest_by};
-use lru_evictor::{CopyFacts, Standing};
+use lru_evictor::{CopyFacts, EvictionInfo};
 use obj_id::{
     CopyState, Digest, DirectoryMessage, Extent, Kind, Location, ObjectId, Refusal, TaskNo,
     WorkKind,
@@ -62,13 +62,13 @@ pub struct RowCopy {
 }
 
 impl Model for RowCopy {
-    ghost use Rattle.node_table.specs.Kept.{Kept, kept_of, Agrees};
+    ghost use Rattle.node_table.specs.CopyViews.{CopyView, copy_view_of, PartsAgree};
 
-    ghost Value = { Kept };
+    ghost Value = { CopyView };
 
-    ghost view = { λ c. kept_of c.marks c.pins c.offset c.fetch c.granted };
+    ghost view = { λ c. copy_view_of c.marks c.pins c.offset c.fetch c.granted };
 
-    ghost invariant = { λ c. Agrees c.marks c.pins c.offset c.fetch };
+    ghost invariant = { λ c. PartsAgree c.marks c.pins c.offset c.fetch };
 }
 
 /// A copy after one more hold of it.
@@ -76,15 +76,15 @@ impl Model for RowCopy {
 pub struct Held {
     /// The object's bytes.
     pub length: u32,
-    /// Where it lies, and the walks for room that choose it now.
-    pub standing: Standing,
+    /// Where it lies, and the classes of victims that it is in now.
+    pub eviction_info: EvictionInfo,
 }
 
 /// A copy after a change of it.
 #[derive(Clone, Copy, Drop)]
 pub struct AfterChange {
-    /// Where it lies, and the walks for room that choose it now.
-    pub standing: Standing,
+    /// Where it lies, and the classes of victims that it is in now.
+    pub eviction_info: EvictionInfo,
     /// Whether nothing keeps it any more: it is doomed, and neither held nor granted nor working.
     pub over: bool,
 }
@@ -101,7 +101,7 @@ pub struct ChunkFit {
 impl RowCopy {
     /// A copy to be written, of `len` bytes, at an offset of the window. Takes no memory.
     pub fn created(alloc: Global, kind: Kind, len: u32, offset: u64) -> RowCopy
-        ensures { result ≡ new_kept kind len offset }
+        ensures { result ≡ new_copy_view kind len offset }
     {
         RowCopy {
             marks: ObjectCopy::created(kind, len),
@@ -114,7 +114,7 @@ impl RowCopy {
 
     /// A copy that is fetched under this number. Takes no memory.
     pub fn fetching(alloc: Global, number: u64) -> RowCopy
-        ensures { result ≡ fetched_kept number }
+        ensures { result ≡ fetched_copy_view number }
     {
         RowCopy {
             marks: ObjectCopy::fetching(),
@@ -182,7 +182,7 @@ impl RowCopy {
 
     /// The fetch that brings it, if it is on its way.
     pub fn fetch(&self) -> Option<&FetchIn>
-        ensures { option_map fetch_of (option_copied result) ≡ self.now.copy.fetch }
+        ensures { option_map store_fetch_of (option_copied result) ≡ self.now.copy.fetch }
     {
         self.fetch.as_ref()
     }
@@ -195,7 +195,7 @@ impl RowCopy {
         self.marks.digest()
     }
 
-    /// What the next Get is told of its last restore, if that failed and no Get was told since.
+    /// What the next Get answers of its last restore, if that failed and no Get has answered it since.
     pub fn fault(&self) -> Option<Fault>
         ensures { result ≡ self.now.copy.fault }
     {
@@ -232,16 +232,16 @@ impl RowCopy {
 
     /// What a plan for room reads of it.
     pub fn facts(&self) -> CopyFacts
-        ensures { result ≡ facts_of self.now }
+        ensures { result ≡ row_facts_of self.now }
     {
         let held = self.is_held();
         CopyFacts {
             extent: self.extent(),
             bytes: self.rounded_length(),
             evictable: self.marks.is_evictable(held, self.granted),
-            passing: self
+            draining: self
                 .marks
-                .is_passing(self.offset.is_some(), held, self.granted),
+                .is_draining(self.offset.is_some(), held, self.granted),
             spillable: self.marks.is_spillable(held, self.granted),
         }
     }
@@ -318,15 +318,15 @@ impl RowCopy {
         self.pins.hold(session)?;
         Ok(Some(Held {
             length: self.length(),
-            standing: self.facts().standing(),
+            eviction_info: self.facts().eviction_info(),
         }))
     }
 
     /// One hold of the session less, and what the copy is then. `NotHeld` if it has none, and then nothing changes. Takes
     /// no memory.
     pub fn release(&mut self, session: u32) -> Result<AfterChange, Refusal>
-        ensures ok { OnOk result (self.new ≡ released session self.old) }
-        ensures after { IfOk result (λ after. after ≡ after_change_lem (released session self.old)) }
+        ensures ok { OnOk result (self.new ≡ after_release session self.old) }
+        ensures after { IfOk result (λ after. after ≡ after_change_lem (after_release session self.old)) }
         ensures passed { IsOk result → release_check self.old session ≡ None }
         ensures refused { (r : Refusal) → IsErrOf result r → release_check self.old session ≡ Some r }
         ensures err { OnErr result (self.new ≡ self.old) }
@@ -340,7 +340,7 @@ impl RowCopy {
         ensures { result ≡ after_change_lem self.now }
     {
         AfterChange {
-            standing: self.facts().standing(),
+            eviction_info: self.facts().eviction_info(),
             over: self.is_over(),
         }
     }
@@ -348,8 +348,8 @@ impl RowCopy {
     /// The task borrows it, as the last one, and what it is then. `NotOwner` for a secondary, `Exists` if the task borrows it already,
     /// `TooMany` at 64 borrowers, `NoMemory` last; a refusal changes nothing.
     pub fn borrow(&mut self, task: TaskNo) -> Result<AfterChange, Refusal>
-        ensures ok { OnOk result (self.new ≡ borrowed task self.old) }
-        ensures after { IfOk result (λ after. after ≡ after_change_lem (borrowed task self.old)) }
+        ensures ok { OnOk result (self.new ≡ after_borrow task self.old) }
+        ensures after { IfOk result (λ after. after ≡ after_change_lem (after_borrow task self.old)) }
         ensures passed { IsOk result → borrow_check_of self.old task ≡ None }
         ensures refused { (r : Refusal) → r ≢ NoMemory → IsErrOf result r → borrow_check_of self.old task ≡ Some r }
         ensures memory { IsErrOf result NoMemory → borrow_check_of self.old task ≡ None }
@@ -361,7 +361,7 @@ impl RowCopy {
 
     /// No hand stands any more of the copy of this id, if it is of the task.
     pub fn end_hands(&mut self, id: &ObjectId, task: TaskNo)
-        ensures { self.new ≡ if same_task task id.now.task then ungranted self.old else self.old }
+        ensures { self.new ≡ if same_task task id.now.task then after_grants_ended self.old else self.old }
     {
         let own = task == id.task();
         if own {
@@ -370,7 +370,7 @@ impl RowCopy {
     }
 
     /// What the directory is told of it if it is doomed now: nothing, unless it was sealed.
-    pub fn farewell(&self, node: u32, id: ObjectId, dooms: bool) -> Option<DirectoryMessage>
+    pub fn removal_notice(&self, node: u32, id: ObjectId, dooms: bool) -> Option<DirectoryMessage>
         ensures { result ≡ if dooms then farewell_of node id self.now else None }
     {
         if !dooms {
@@ -426,7 +426,7 @@ impl RowCopy {
     /// The directory's answer at this node: the first entry of another node is the source of its fetch. Without one the
     /// fetch has failed. Does nothing unless it is of this fetch, and the source isn't known.
     pub fn locate(&mut self, node: u32, number: u64, entries: &[Location])
-        ensures { self.new ≡ located node number entries.now self.old }
+        ensures { self.new ≡ after_located node number entries.now self.old }
     {
         if !self.awaits_source(number) {
             return;
@@ -519,7 +519,7 @@ impl RowCopy {
 
     /// The owner task keeps it no longer: it is doomed unless a task borrows it.
     fn unpin(&mut self)
-        ensures { self.new ≡ unpinned self.old }
+        ensures { self.new ≡ after_unpin self.old }
     {
         self.pins.remove_pin();
         self.doom_out_of_scope();
@@ -527,7 +527,7 @@ impl RowCopy {
 
     /// The task borrows it no longer: it is doomed unless it is pinned or another task borrows it.
     fn give_up(&mut self, task: TaskNo)
-        ensures { self.new ≡ given_up task self.old }
+        ensures { self.new ≡ after_give_up task self.old }
     {
         self.pins.forget(task);
         self.doom_out_of_scope();
@@ -535,7 +535,7 @@ impl RowCopy {
 
     /// It is doomed unless it is in scope.
     fn doom_out_of_scope(&mut self)
-        ensures { self.new ≡ scoped self.old }
+        ensures { self.new ≡ view_in_scope self.old }
     {
         if !self.pins.in_scope() {
             self.marks.doom();
@@ -544,17 +544,17 @@ impl RowCopy {
 
     /// A write of it is in flight, if one can be.
     fn begin_spill(&mut self)
-        ensures { self.new ≡ spilling_if self.old }
+        ensures { self.new ≡ spill_begun_if self.old }
     {
         if self.marks.can_spill() {
             self.marks.begin_spill();
         }
     }
 
-    /// Its read ended without its bytes: it is away again, without a place, and the next Get is told the fault.
+    /// Its read ended without its bytes: it is away again, without a place, and the next Get answers the fault.
     fn lose(&mut self, fault: Fault)
         requires { is_restoring self.old.copy.state ≡ true }
-        ensures { self.new ≡ lost fault self.old }
+        ensures { self.new ≡ after_failed_restore fault self.old }
     {
         self.marks.end_restore(match fault {
             Fault::DeviceFailed => WorkVerdict::Failed,
@@ -565,7 +565,7 @@ impl RowCopy {
 
     /// It has no place in the window any more, and is away if it is sealed and its bytes are on the device.
     fn give_up_place(&mut self)
-        ensures { self.new ≡ unplaced self.old }
+        ensures { self.new ≡ after_eviction self.old }
     {
         if self.marks.can_go_away() {
             self.marks.mark_away();
@@ -576,7 +576,7 @@ impl RowCopy {
     /// It has a place at the offset, and waits for this there.
     fn take_place(&mut self, offset: u64, awaited: Awaited)
         requires { CanAwait awaited self.old }
-        ensures { self.new ≡ placed_for awaited offset self.old }
+        ensures { self.new ≡ after_placing awaited offset self.old }
     {
         match awaited {
             Awaited::Chunks(missing) => self.begin_pull(offset, missing),
@@ -587,7 +587,7 @@ impl RowCopy {
     /// It has a place at the offset, and all chunks of its bytes are missing.
     fn begin_pull(&mut self, offset: u64, missing: Vec<u32>)
         requires { CanAwait (Chunks missing) self.old }
-        ensures { self.new ≡ pulled offset self.old }
+        ensures { self.new ≡ after_pull offset self.old }
     {
         let Some(fetch) = self.fetch.as_mut() else {
             unreachable!()
@@ -599,7 +599,7 @@ impl RowCopy {
     /// It has a place at the offset again, and the read of its bytes is in flight.
     fn begin_restore(&mut self, offset: u64)
         requires { CanAwait Device self.old }
-        ensures { self.new ≡ restoring offset self.old }
+        ensures { self.new ≡ after_restore_begun offset self.old }
     {
         self.marks.begin_restore();
         self.offset = Some(offset);
@@ -607,7 +607,7 @@ impl RowCopy {
 
     /// A chunk of `len` bytes came: the gap that it fills is closed.
     fn take_chunk(&mut self, number: u64, from: u32, index: u32, len: usize)
-        ensures { self.new ≡ gap_closed number from index len self.old }
+        ensures { self.new ≡ after_chunk number from index len self.old }
     {
         if let Some(fetch) = self.fetch.as_mut() {
             fetch.take_chunk(number, from, index, len);
@@ -617,16 +617,16 @@ impl RowCopy {
     /// All its bytes are there: it is sealed.
     fn bring(&mut self)
         requires { is_fetching self.old.copy.state && is_some self.old.digest ≡ true }
-        ensures { self.new ≡ brought self.old }
+        ensures { self.new ≡ after_last_chunk self.old }
     {
         self.marks.fetched();
         self.fetch = None;
     }
 
-    /// Its fetch is over without it: it has no place, and the next Get is told why.
+    /// Its fetch is over without it: it has no place, and the next Get answers why.
     fn fail_fetch(&mut self, fault: FetchFault)
         requires { is_fetching self.old.copy.state ≡ true }
-        ensures { self.new ≡ unfetched fault self.old }
+        ensures { self.new ≡ after_failed_fetch fault self.old }
     {
         if let Some(fetch) = self.fetch.as_mut() {
             fetch.fail(fault);

@@ -7,34 +7,34 @@ ghost use Rattle.obj_id.specs.declared.refusals.Refusal.TheVariants.{Stale};
 ghost use Rattle.obj_id.specs.declared.works.Extent.{Extent};
 ghost use Rattle.private_store.specs.declared.inputs.Input.TheVariants as input;
 ghost use Rattle.obj_id.specs.declared.works.WorkKind.TheVariants.{Read};
-ghost use Rattle.private_store.specs.Tables.{at};
-ghost use Rattle.private_store.specs.Copies.{extent_of};
-ghost use Rattle.private_store.specs.Kept.{is_restoring};
-ghost use Rattle.private_store.specs.Contents.{Contents, work_verdict, write_verdict};
-ghost use Rattle.private_store.specs.Hands.{Hand};
-ghost use Rattle.spill_work.specs.Line.{same_job, is_at, IsSameFor, is_write, shown, finish_check};
-ghost use Rattle.node_table.specs.Answering.{is_in_work, verdict_of, read_verdict, has_failed, written_row, read_row, ended_row};
-ghost use Rattle.job_region.specs.Region.{bytes_at as placed_bytes};
-ghost use Rattle.node_table.specs.Handed.{work_of};
-ghost use Rattle.node_table.specs.Kept.{Kept};
-ghost use Rattle.node_table.specs.Outcomes.{given_of};
-ghost use Rattle.node_table.specs.Row.{Beside, beside_of, place_of, ArePlaced};
-ghost use Rattle.node_table.specs.Shown.{seen, only, IsShown, TakesStep};
+ghost use Rattle.private_store.specs.rules.Tables.{at};
+ghost use Rattle.private_store.specs.rules.Copies.{extent_of};
+ghost use Rattle.private_store.specs.laws.Invariants.{is_restoring};
+ghost use Rattle.private_store.specs.rules.Contents.{Contents, work_verdict, write_verdict};
+ghost use Rattle.private_store.specs.rules.Hands.{Hand};
+ghost use Rattle.spill_work.specs.Line.{same_work_job, is_at, IsSameFor, is_write_work, shown, finish_check};
+ghost use Rattle.node_table.specs.Answering.{is_in_work, work_verdict_of, view_read_verdict, has_failed, written_row, read_row, ended_row};
+ghost use Rattle.job_region.specs.Region.{region_bytes_at as placed_bytes};
+ghost use Rattle.node_table.specs.Handed.{row_work_of};
+ghost use Rattle.node_table.specs.CopyViews.{CopyView};
+ghost use Rattle.node_table.specs.Outcomes.{row_given_of};
+ghost use Rattle.node_table.specs.Row.{SharedTables, beside_of, place_of, ArePlaced};
+ghost use Rattle.node_table.specs.Shown.{seen, only, IsShown, RowStep};
 ghost use Rattle.node_table.specs.Usages.{is_spilling};
 
 use crate::copy::RowCopy;
-use crate::outcome::{Erase, Outcome};
+use crate::outcome::{Erase, RowOutcome};
 use crate::row::JobRow;
 use bytes::Bytes;
 use obj_id::{CopyState, DeviceAnswer, DeviceKey, Items, ObjectId, Refusal, Reply, Work, WorkKind};
 use private_store::{Fault, WorkVerdict};
-use spill_work::{Asked, Works};
+use spill_work::{IoRequest, Works};
 use std::alloc::{AllocError, Global};
 
 /// What the answer to a work gave, and what it was to the work.
 #[derive(Drop)]
 pub struct Answered {
-    pub outcome: Outcome,
+    pub outcome: RowOutcome,
     pub verdict: WorkVerdict,
 }
 
@@ -52,19 +52,19 @@ impl JobRow {
         answer: &DeviceAnswer,
     ) -> Answered
         ensures step { finish_check works.old (record { 0 = self.old.job }) number ≡ None → (node : ℕ) (hands : List Hand) (bytes : ObjectId → List ℕ) (contents : Contents) → IsShown self.old (beside_of works.old hands bytes self.old.job) contents
-            → TakesStep node self.old (beside_of works.old hands bytes self.old.job) contents (input.Answer number answer.now) (given_of result.outcome) self.new (beside_of works.new hands bytes self.old.job) }
+            → RowStep node self.old (beside_of works.old hands bytes self.old.job) contents (input.Answer number answer.now) (row_given_of result.outcome) self.new (beside_of works.new hands bytes self.old.job) }
         ensures verdict { finish_check works.old (record { 0 = self.old.job }) number ≡ None → (hands : List Hand) (bytes : ObjectId → List ℕ) (contents : Contents) → IsShown self.old (beside_of works.old hands bytes self.old.job) contents
             → result.verdict ≡ work_verdict (seen self.old (beside_of works.old hands bytes self.old.job) contents) number answer.now }
         ensures line { finish_check works.old (record { 0 = self.old.job }) number ≡ None → works.new ≡ record works.old { works = filter (λ work. not (is_at (record { 0 = self.old.job }) number work)) works.old.works } }
-        ensures others { (other : JobNo) → same_job (record { 0 = self.old.job }) other ≡ false → IsSameFor other works.old works.new }
-        ensures stale { (r : Refusal) → finish_check works.old (record { 0 = self.old.job }) number ≡ Some r → given_of result.outcome ≡ only (reply.Refused Stale) }
+        ensures others { (other : JobNo) → same_work_job (record { 0 = self.old.job }) other ≡ false → IsSameFor other works.old works.new }
+        ensures stale { (r : Refusal) → finish_check works.old (record { 0 = self.old.job }) number ≡ Some r → row_given_of result.outcome ≡ only (reply.Refused Stale) }
         ensures same { (r : Refusal) → finish_check works.old (record { 0 = self.old.job }) number ≡ Some r → self.new ≡ self.old }
         ensures works { (r : Refusal) → finish_check works.old (record { 0 = self.old.job }) number ≡ Some r → works.new ≡ works.old }
         ensures silent { result.outcome.messages ≡ [] }
     {
         match works.finish(self.job(), number) {
             Err(_) => Answered {
-                outcome: Outcome::only(alloc, Reply::Refused(Refusal::Stale)),
+                outcome: RowOutcome::only(alloc, Reply::Refused(Refusal::Stale)),
                 verdict: WorkVerdict::Failed,
             },
             Ok(asked) => {
@@ -78,12 +78,12 @@ impl JobRow {
 
     /// What a worker is given of a work: its key, which is that of the write that backed the copy if it is a read, the
     /// length, and a write's bytes. `None` if its copy isn't there. The error is out of memory, which a read never is.
-    pub fn work(&self, alloc: Global, asked: &Asked) -> Result<Option<Work<Bytes>>, AllocError>
-        ensures ok { IfOk result (λ work. (beside : Beside) (contents : Contents) → asked.now.job.0 ≡ self.now.job → IsShown self.now beside contents → find (λ w. w.number == asked.now.number) beside.works ≡ Some (shown asked.now)
-            → work ≡ work_of self.now.job asked.now.number (seen self.now beside contents)) }
+    pub fn work(&self, alloc: Global, asked: &IoRequest) -> Result<Option<Work<Bytes>>, AllocError>
+        ensures ok { IfOk result (λ work. (beside : SharedTables) (contents : Contents) → asked.now.job.0 ≡ self.now.job → IsShown self.now beside contents → find (λ w. w.number == asked.now.number) beside.works ≡ Some (shown asked.now)
+            → work ≡ row_work_of self.now.job asked.now.number (seen self.now beside contents)) }
         ensures job { IfOk result (λ work. IfSome work (λ w. w.job ≡ asked.now.job)) }
         ensures number { IfOk result (λ work. IfSome work (λ w. w.number ≡ asked.now.number)) }
-        ensures frugal { asked.now.kind ≡ Read → IsOk result }
+        ensures without_memory { asked.now.kind ≡ Read → IsOk result }
     {
         let Some(copy) = self.copies().get(&asked.id) else {
             return Ok(None);
@@ -102,10 +102,10 @@ impl JobRow {
     }
 
     /// A write's bytes, and nothing for a read, which takes no memory.
-    fn payload(&self, alloc: Global, asked: &Asked) -> Result<Option<Bytes>, AllocError>
-        ensures ok { IfOk result (λ payload. (k : Kept) (e : Extent) → at self.now.copies asked.now.id ≡ Some k → extent_of k.copy ≡ Some e
-            → payload ≡ (if is_write asked.now.kind then Some (take k.copy.length (placed_bytes e self.now.window.placed)) else None)) }
-        ensures frugal { asked.now.kind ≡ Read → IsOk result }
+    fn payload(&self, alloc: Global, asked: &IoRequest) -> Result<Option<Bytes>, AllocError>
+        ensures ok { IfOk result (λ payload. (k : CopyView) (e : Extent) → at self.now.copies asked.now.id ≡ Some k → extent_of k.copy ≡ Some e
+            → payload ≡ (if is_write_work asked.now.kind then Some (take k.copy.length (placed_bytes e self.now.window.placed)) else None)) }
+        ensures without_memory { asked.now.kind ≡ Read → IsOk result }
     {
         match asked.kind {
             WorkKind::Read => Ok(None),
@@ -114,9 +114,9 @@ impl JobRow {
     }
 
     /// The work of a copy ended, if one of its kind is in flight for it. Answers what the answer was to it. Takes no memory.
-    fn end_work(&mut self, asked: &Asked, answer: &DeviceAnswer) -> WorkVerdict
-        ensures row { (k : Kept) (e : Extent) → at self.old.copies asked.now.id ≡ Some k → extent_of k.copy ≡ Some e → is_in_work asked.now.kind k ≡ true → self.new ≡ ended_row asked.now e k answer.now self.old }
-        ensures verdict { (k : Kept) → at self.old.copies asked.now.id ≡ Some k → is_in_work asked.now.kind k ≡ true → result ≡ verdict_of asked.now.kind k answer.now }
+    fn end_work(&mut self, asked: &IoRequest, answer: &DeviceAnswer) -> WorkVerdict
+        ensures row { (k : CopyView) (e : Extent) → at self.old.copies asked.now.id ≡ Some k → extent_of k.copy ≡ Some e → is_in_work asked.now.kind k ≡ true → self.new ≡ ended_row asked.now e k answer.now self.old }
+        ensures verdict { (k : CopyView) → at self.old.copies asked.now.id ≡ Some k → is_in_work asked.now.kind k ≡ true → result ≡ work_verdict_of asked.now.kind k answer.now }
         ensures placed { ArePlaced self.old.window.placed (place_of self.old.copies) }
     {
         match asked.kind {
@@ -127,8 +127,8 @@ impl JobRow {
 
     /// The write of a copy under this number ended, if there is one. Takes no memory.
     fn end_write(&mut self, id: &ObjectId, number: u64, answer: &DeviceAnswer) -> WorkVerdict
-        ensures row { (k : Kept) → at self.old.copies id.now ≡ Some k → is_spilling k ≡ true → self.new ≡ written_row number (has_failed (write_verdict answer.now)) self.old id.now }
-        ensures verdict { (k : Kept) → at self.old.copies id.now ≡ Some k → is_spilling k ≡ true → result ≡ write_verdict answer.now }
+        ensures row { (k : CopyView) → at self.old.copies id.now ≡ Some k → is_spilling k ≡ true → self.new ≡ written_row number (has_failed (write_verdict answer.now)) self.old id.now }
+        ensures verdict { (k : CopyView) → at self.old.copies id.now ≡ Some k → is_spilling k ≡ true → result ≡ write_verdict answer.now }
         ensures placed { ArePlaced self.old.window.placed (place_of self.old.copies) }
     {
         let Some(copy) = self.copies().get(id) else {
@@ -151,8 +151,8 @@ impl JobRow {
 
     /// The read of a copy ended, if it is being read back. Takes no memory.
     fn end_read(&mut self, id: &ObjectId, answer: &DeviceAnswer) -> WorkVerdict
-        ensures row { (k : Kept) (e : Extent) → at self.old.copies id.now ≡ Some k → extent_of k.copy ≡ Some e → is_restoring k.copy.state ≡ true → self.new ≡ read_row e k answer.now self.old id.now }
-        ensures verdict { (k : Kept) → at self.old.copies id.now ≡ Some k → is_restoring k.copy.state ≡ true → result ≡ read_verdict k answer.now }
+        ensures row { (k : CopyView) (e : Extent) → at self.old.copies id.now ≡ Some k → extent_of k.copy ≡ Some e → is_restoring k.copy.state ≡ true → self.new ≡ read_row e k answer.now self.old id.now }
+        ensures verdict { (k : CopyView) → at self.old.copies id.now ≡ Some k → is_restoring k.copy.state ≡ true → result ≡ view_read_verdict k answer.now }
         ensures placed { ArePlaced self.old.window.placed (place_of self.old.copies) }
     {
         let Some(copy) = self.copies().get(id) else {
@@ -179,8 +179,8 @@ impl JobRow {
 }
 
 /// The number of the write whose key the work has: its own, or that of the write that backed the copy.
-fn key_number(copy: &RowCopy, asked: &Asked) -> u64
-    ensures { result ≡ (if is_write asked.now.kind then asked.now.number else unwrap_or copy.now.copy.backed 0) }
+fn key_number(copy: &RowCopy, asked: &IoRequest) -> u64
+    ensures { result ≡ (if is_write_work asked.now.kind then asked.now.number else unwrap_or copy.now.copy.backed 0) }
 {
     match asked.kind {
         WorkKind::Write => asked.number,

@@ -4,21 +4,21 @@ ghost use Rattle.std.specs.Option.{option_map_or};
 ghost use Rattle.obj_id.specs.declared.commands.Command.TheVariants as command;
 ghost use Rattle.obj_id.specs.declared.commands.Reply.TheVariants as reply;
 ghost use Rattle.private_store.specs.declared.inputs.Input.TheVariants as input;
-ghost use Rattle.private_store.specs.Contents.{Contents};
+ghost use Rattle.private_store.specs.rules.Contents.{Contents};
 ghost use Rattle.node_table.specs.Checks.{end_task_check as end_task_check_lem};
 ghost use Rattle.node_table.specs.EndingTasks.{beside_after, doomed_row, doom_posts, given_up_row, give_up_posts, told_each, keys_of_copies, gone_key, gone_keys as gone_keys_lem};
 ghost use Rattle.node_table.specs.Ending.{key_at};
-ghost use Rattle.node_table.specs.Outcomes.{given_of};
-ghost use Rattle.node_table.specs.Row.{Beside};
-ghost use Rattle.node_table.specs.Scope.{posted};
-ghost use Rattle.node_table.specs.Shown.{IsShown, TakesStep};
+ghost use Rattle.node_table.specs.Outcomes.{row_given_of};
+ghost use Rattle.node_table.specs.Row.{SharedTables};
+ghost use Rattle.node_table.specs.Scope.{notice_posts};
+ghost use Rattle.node_table.specs.Shown.{IsShown, RowStep};
 
 use crate::hold_commands::push_key;
 use crate::marks::Mark;
-use crate::outcome::{Erase, Outcome};
+use crate::outcome::{Erase, RowOutcome};
 use crate::row::JobRow;
 use obj_id::{
-    DeviceKey, DirectoryMessage, Items, Message, ObjectId, OwnItem, Place, Reply, TaskNo,
+    DeviceKey, DirectoryMessage, Endpoint, Items, Message, ObjectId, OwnItem, Reply, TaskNo,
 };
 use std::alloc::{AllocError, Global};
 
@@ -32,16 +32,16 @@ impl JobRow {
         node: u32,
         session: u32,
         task: TaskNo,
-    ) -> Result<Outcome, AllocError>
-        ensures ok { IfOk result (λ o. (beside : Beside) (contents : Contents) → IsShown self.old beside contents
-            → TakesStep node self.old beside contents (input.Call session (command.EndTask task)) (given_of o) self.new (beside_after self.old task beside)) }
+    ) -> Result<RowOutcome, AllocError>
+        ensures ok { IfOk result (λ o. (beside : SharedTables) (contents : Contents) → IsShown self.old beside contents
+            → RowStep node self.old beside contents (input.Call session (command.EndTask task)) (row_given_of o) self.new (beside_after self.old task beside)) }
         ensures reply { IfOk result (λ o. o.reply ≡ option_map_or reply.Refused (end_task_check_lem self.old task) reply.Ok) }
-        ensures few { IfOk result (λ o. length o.messages ≤ 2 * length self.old.copies) }
-        ensures late { OnErr result (end_task_check_lem self.old task ≡ None) }
+        ensures bounded { IfOk result (λ o. length o.messages ≤ 2 * length self.old.copies) }
+        ensures memory_last { OnErr result (end_task_check_lem self.old task ≡ None) }
         ensures err { OnErr result (self.new ≡ self.old) }
     {
         if let Some(refusal) = self.end_task_check(task) {
-            return Ok(Outcome::only(alloc, Reply::Refused(refusal)));
+            return Ok(RowOutcome::only(alloc, Reply::Refused(refusal)));
         }
         let items = self.copies().items(alloc)?;
         let keys = self.keys_with_ids(alloc, items.as_slice())?;
@@ -51,7 +51,7 @@ impl JobRow {
         self.doom_each(node, task, items.as_slice(), &mut messages);
         self.give_up_each(node, task, items.as_slice(), &mut messages);
         self.push_gone(keys.as_slice(), &mut erased);
-        Ok(Outcome {
+        Ok(RowOutcome {
             reply: Reply::Ok,
             messages: Items::from_vec(messages),
             erase: Erase::Many(Items::from_vec(erased)),
@@ -109,7 +109,7 @@ impl JobRow {
         node: u32,
         task: TaskNo,
         items: &[OwnItem],
-        messages: &mut Vec<(Place, Message)>,
+        messages: &mut Vec<(Endpoint, Message)>,
     )
         requires { vec_len messages.old + length items.now ≤ vec_capacity messages.old }
         ensures row { self.new ≡ fold (doomed_row task) self.old (map (λ item. item.id) items.now) }
@@ -129,7 +129,7 @@ impl JobRow {
         node: u32,
         task: TaskNo,
         items: &[OwnItem],
-        messages: &mut Vec<(Place, Message)>,
+        messages: &mut Vec<(Endpoint, Message)>,
     )
         requires { vec_len messages.old + length items.now ≤ vec_capacity messages.old }
         ensures row { self.new ≡ fold (given_up_row task) self.old (map (λ item. item.id) items.now) }
@@ -148,7 +148,7 @@ impl JobRow {
         node: u32,
         task: TaskNo,
         id: &ObjectId,
-        messages: &mut Vec<(Place, Message)>,
+        messages: &mut Vec<(Endpoint, Message)>,
     )
         requires { vec_len messages.old < vec_capacity messages.old }
         ensures row { self.new ≡ doomed_row task self.old id.now }
@@ -161,7 +161,10 @@ impl JobRow {
             return;
         }
         let copies = self.copies();
-        push_message(messages, copies.farewell(node, id, !copies.is_doomed(id)));
+        push_message(
+            messages,
+            copies.removal_notice(node, id, !copies.is_doomed(id)),
+        );
         let after = self.apply(id, Mark::Doomed);
         self.settle(id, after.over);
     }
@@ -173,7 +176,7 @@ impl JobRow {
         node: u32,
         task: TaskNo,
         id: &ObjectId,
-        messages: &mut Vec<(Place, Message)>,
+        messages: &mut Vec<(Endpoint, Message)>,
     )
         requires { vec_len messages.old < vec_capacity messages.old }
         ensures row { self.new ≡ given_up_row task self.old id.now }
@@ -189,22 +192,22 @@ impl JobRow {
             return;
         }
         let stays = self.copies().in_scope_without(id, task);
-        push_message(messages, self.copies().farewell(node, id, !stays));
+        push_message(messages, self.copies().removal_notice(node, id, !stays));
         let after = self.apply(id, Mark::GivenUp(task));
         self.settle(id, after.over);
     }
 }
 
 /// The message to the directory comes last, if there is one. There is room for it.
-fn push_message(messages: &mut Vec<(Place, Message)>, message: Option<DirectoryMessage>)
+fn push_message(messages: &mut Vec<(Endpoint, Message)>, message: Option<DirectoryMessage>)
     requires { vec_len messages.old < vec_capacity messages.old }
-    ensures items { messages.new.items ≡ messages.old.items ++ posted message }
+    ensures items { messages.new.items ≡ messages.old.items ++ notice_posts message }
     ensures len { vec_len messages.new ≤ vec_len messages.old + 1 }
     ensures capacity { vec_capacity messages.old ≤ vec_capacity messages.new }
 {
     if let Some(message) = message {
         messages
-            .push((Place::Directory, Message::ToDirectory(message)))
+            .push((Endpoint::Directory, Message::ToDirectory(message)))
             .unwrap();
     }
 }

@@ -1,6 +1,6 @@
 //! What the end of a job leaves to be erased.
 ghost use Rattle.std.specs.Prelude.{◌≡◌, map, IfOk};
-ghost use Rattle.private_store.specs.Tables.{ids_of};
+ghost use Rattle.private_store.specs.rules.Tables.{ids_of};
 ghost use Rattle.node_table.specs.Ending.{key_at, keys_backed};
 ghost use Rattle.node_table.specs.Erased.{keys_of};
 

@@ -6,24 +6,24 @@ ghost use Rattle.obj_id.specs.declared.refusals.Refusal.TheVariants.{Pending};
 ghost use Rattle.obj_id.specs.declared.commands.Command.TheVariants as command;
 ghost use Rattle.obj_id.specs.declared.commands.Reply.TheVariants as reply;
 ghost use Rattle.private_store.specs.declared.inputs.Input.TheVariants as input;
-ghost use Rattle.private_store.specs.Tables.{at};
-ghost use Rattle.private_store.specs.Kept.{is_remembered};
-ghost use Rattle.private_store.specs.Contents.{Contents};
-ghost use Rattle.private_store.specs.Private.{to_directory};
+ghost use Rattle.private_store.specs.rules.Tables.{at};
+ghost use Rattle.private_store.specs.laws.Invariants.{is_remembered};
+ghost use Rattle.private_store.specs.rules.Contents.{Contents};
+ghost use Rattle.private_store.specs.rules.Private.{to_directory};
 ghost use Rattle.obj_id.specs.declared.messages.DirectoryMessage.TheVariants.{Locate};
-ghost use Rattle.private_store.specs.Hands.{Hand};
-ghost use Rattle.spill_work.specs.Line.{WorkLine, same_job, IsSameFor};
+ghost use Rattle.private_store.specs.rules.Hands.{Hand};
+ghost use Rattle.spill_work.specs.Line.{WorkLine, same_work_job, IsSameFor};
 ghost use Rattle.node_table.specs.Asked.{HasAsked};
-ghost use Rattle.node_table.specs.Row.{Beside, beside_of};
-ghost use Rattle.node_table.specs.Kept.{is_ready};
-ghost use Rattle.node_table.specs.Late.{IsDueMore};
-ghost use Rattle.node_table.specs.Outcomes.{given_of};
-ghost use Rattle.node_table.specs.Shown.{IsShown, TakesStep, only};
+ghost use Rattle.node_table.specs.Row.{SharedTables, beside_of};
+ghost use Rattle.node_table.specs.CopyViews.{is_ready};
+ghost use Rattle.node_table.specs.MemoryLast.{IsDueMore};
+ghost use Rattle.node_table.specs.Outcomes.{row_given_of};
+ghost use Rattle.node_table.specs.Shown.{IsShown, RowStep, only};
 
-use crate::outcome::{Erase, Outcome};
+use crate::outcome::{Erase, RowOutcome};
 use crate::row::JobRow;
 use bytes::Bytes;
-use obj_id::{CopyState, DirectoryMessage, Items, Message, ObjectId, Place, Refusal, Reply};
+use obj_id::{CopyState, DirectoryMessage, Endpoint, Items, Message, ObjectId, Refusal, Reply};
 use spill_work::Works;
 use std::alloc::{AllocError, Global};
 
@@ -36,11 +36,11 @@ impl JobRow {
         id: &ObjectId,
     ) -> Result<Option<Reply<Bytes>>, AllocError>
         requires { is_remembered self.old.ended_tasks id.now.task ≡ false }
-        ensures some { IfOk result (λ o. IfSome o (λ reply. (node : ℕ) (beside : Beside) (contents : Contents) → (id.now.job.0 == self.old.job) ≡ true → IsShown self.old beside contents
-            → TakesStep node self.old beside contents (input.Call session (command.Get id.now)) (only reply) self.new beside)) }
+        ensures some { IfOk result (λ o. IfSome o (λ reply. (node : ℕ) (beside : SharedTables) (contents : Contents) → (id.now.job.0 == self.old.job) ≡ true → IsShown self.old beside contents
+            → RowStep node self.old beside contents (input.Call session (command.Get id.now)) (only reply) self.new beside)) }
         ensures none { IfOk result (λ o. IfNone o (option_map_or (λ k. is_ready k.copy) (at self.old.copies id.now) false ≡ false)) }
         ensures same { IfOk result (λ o. IfNone o (self.new ≡ self.old)) }
-        ensures late { OnErr result ((node : ℕ) (line : WorkLine) → (id.now.job.0 == self.old.job) ≡ true → IsDueMore node self.old line (command.Get id.now)) }
+        ensures memory_last { OnErr result ((node : ℕ) (line : WorkLine) → (id.now.job.0 == self.old.job) ≡ true → IsDueMore node self.old line (command.Get id.now)) }
         ensures err { OnErr result (self.new ≡ self.old) }
     {
         match self.hold_copy(id, session) {
@@ -60,18 +60,18 @@ impl JobRow {
         alloc: Global,
         node: u32,
         id: &ObjectId,
-    ) -> Result<Outcome, AllocError>
+    ) -> Result<RowOutcome, AllocError>
         requires alive { is_remembered self.old.ended_tasks id.now.task ≡ false }
         requires none { at self.old.copies id.now ≡ None }
-        ensures ok { IfOk result (λ o. (session : ℕ) (beside : Beside) (contents : Contents) → (id.now.job.0 == self.old.job) ≡ true → IsShown self.old beside contents
-            → TakesStep node self.old beside contents (input.Call session (command.Get id.now)) (given_of o) self.new beside) }
-        ensures few { IfOk result (λ o. length o.messages ≤ 1) }
-        ensures late { OnErr result ((line : WorkLine) → (id.now.job.0 == self.old.job) ≡ true → IsDueMore node self.old line (command.Get id.now)) }
+        ensures ok { IfOk result (λ o. (session : ℕ) (beside : SharedTables) (contents : Contents) → (id.now.job.0 == self.old.job) ≡ true → IsShown self.old beside contents
+            → RowStep node self.old beside contents (input.Call session (command.Get id.now)) (row_given_of o) self.new beside) }
+        ensures bounded { IfOk result (λ o. length o.messages ≤ 1) }
+        ensures memory_last { OnErr result ((line : WorkLine) → (id.now.job.0 == self.old.job) ≡ true → IsDueMore node self.old line (command.Get id.now)) }
         ensures err { OnErr result (self.new ≡ self.old) }
     {
         let begun = self.fetches_begun();
         if let Some(refusal) = self.copies().fetch_check(begun) {
-            return Ok(Outcome::only(alloc, Reply::Refused(refusal)));
+            return Ok(RowOutcome::only(alloc, Reply::Refused(refusal)));
         }
         let messages = locate(alloc, node, *id, begun + 1)?;
         self.enter_fetch(alloc, id, begun + 1)?;
@@ -88,27 +88,27 @@ impl JobRow {
         node: u32,
         works: &mut Works,
         id: &ObjectId,
-    ) -> Result<Outcome, AllocError>
+    ) -> Result<RowOutcome, AllocError>
         requires alive { is_remembered self.old.ended_tasks id.now.task ≡ false }
         requires unready { option_map_or (λ k. is_ready k.copy) (at self.old.copies id.now) false ≡ false }
         ensures ok { IfOk result (λ o. (session : ℕ) (hands : List Hand) (bytes : ObjectId → List ℕ) (contents : Contents) → (id.now.job.0 == self.old.job) ≡ true → IsShown self.old (beside_of works.old hands bytes self.old.job) contents
-            → TakesStep node self.old (beside_of works.old hands bytes self.old.job) contents (input.Call session (command.Get id.now)) (given_of o) self.new (beside_of works.new hands bytes self.old.job)) }
-        ensures few { IfOk result (λ o. length o.messages ≤ length self.old.copies + 1) }
+            → RowStep node self.old (beside_of works.old hands bytes self.old.job) contents (input.Call session (command.Get id.now)) (row_given_of o) self.new (beside_of works.new hands bytes self.old.job)) }
+        ensures bounded { IfOk result (λ o. length o.messages ≤ length self.old.copies + 1) }
         ensures line { OnOk result (HasAsked works.old id.now.job works.new) }
-        ensures late { OnErr result ((id.now.job.0 == self.old.job) ≡ true → IsDueMore node self.old works.old (command.Get id.now)) }
-        ensures others { (other : JobNo) → same_job id.now.job other ≡ false → IsSameFor other works.old works.new }
+        ensures memory_last { OnErr result ((id.now.job.0 == self.old.job) ≡ true → IsDueMore node self.old works.old (command.Get id.now)) }
+        ensures others { (other : JobNo) → same_work_job id.now.job other ≡ false → IsSameFor other works.old works.new }
         ensures err { OnErr result (self.new ≡ self.old) }
         ensures works { OnErr result (works.new ≡ works.old) }
     {
         let state = match self.copies().visible_state(id) {
-            Err(refusal) => return told(alloc, refusal),
+            Err(refusal) => return refuse(alloc, refusal),
             Ok(None) => return self.begin_fetch(alloc, node, id),
             Ok(Some(state)) => state,
         };
         match state {
             CopyState::Fetching => self.get_fetching(alloc, node, works, id),
-            CopyState::Created => told(alloc, Refusal::NotSealed),
-            CopyState::Restoring => told(alloc, Refusal::Pending),
+            CopyState::Created => refuse(alloc, Refusal::NotSealed),
+            CopyState::Restoring => refuse(alloc, Refusal::Pending),
             CopyState::Away => self.get_away(alloc, node, works, id),
             CopyState::Sealed => unreachable!(),
         }
@@ -127,39 +127,39 @@ impl JobRow {
         works: &mut Works,
         session: u32,
         id: &ObjectId,
-    ) -> Result<Outcome, AllocError>
+    ) -> Result<RowOutcome, AllocError>
         ensures ok { IfOk result (λ o. (hands : List Hand) (bytes : ObjectId → List ℕ) (contents : Contents) → (id.now.job.0 == self.old.job) ≡ true → IsShown self.old (beside_of works.old hands bytes self.old.job) contents
-            → TakesStep node self.old (beside_of works.old hands bytes self.old.job) contents (input.Call session (command.Get id.now)) (given_of o) self.new (beside_of works.new hands bytes self.old.job)) }
-        ensures few { IfOk result (λ o. length o.messages ≤ length self.old.copies + 1) }
+            → RowStep node self.old (beside_of works.old hands bytes self.old.job) contents (input.Call session (command.Get id.now)) (row_given_of o) self.new (beside_of works.new hands bytes self.old.job)) }
+        ensures bounded { IfOk result (λ o. length o.messages ≤ length self.old.copies + 1) }
         ensures line { OnOk result (HasAsked works.old id.now.job works.new) }
-        ensures late { OnErr result ((id.now.job.0 == self.old.job) ≡ true → IsDueMore node self.old works.old (command.Get id.now)) }
-        ensures others { (other : JobNo) → same_job id.now.job other ≡ false → IsSameFor other works.old works.new }
+        ensures memory_last { OnErr result ((id.now.job.0 == self.old.job) ≡ true → IsDueMore node self.old works.old (command.Get id.now)) }
+        ensures others { (other : JobNo) → same_work_job id.now.job other ≡ false → IsSameFor other works.old works.new }
         ensures err { OnErr result (self.new ≡ self.old) }
         ensures works { OnErr result (works.new ≡ works.old) }
     {
         if self.has_ended(id.task()) {
-            return told(alloc, Refusal::Gone);
+            return refuse(alloc, Refusal::Gone);
         }
         if let Some(reply) = self.get_sealed(session, id)? {
-            return Ok(Outcome::only(alloc, reply));
+            return Ok(RowOutcome::only(alloc, reply));
         }
         self.get_unsealed(alloc, node, works, id)
     }
 }
 
-/// A refusal that is told, and nothing else.
-pub(crate) fn told(alloc: Global, refusal: Refusal) -> Result<Outcome, AllocError>
-    ensures ok { IfOk result (λ o. given_of o ≡ only (reply.Refused refusal)) }
+/// A refusal, and nothing else.
+pub(crate) fn refuse(alloc: Global, refusal: Refusal) -> Result<RowOutcome, AllocError>
+    ensures ok { IfOk result (λ o. row_given_of o ≡ only (reply.Refused refusal)) }
     ensures told { IsOk result }
 {
-    Ok(Outcome::only(alloc, Reply::Refused(refusal)))
+    Ok(RowOutcome::only(alloc, Reply::Refused(refusal)))
 }
 
 /// The answer `Pending`, and these messages.
-pub(crate) fn pending(messages: Items<(Place, Message)>) -> Outcome
-    ensures { given_of result ≡ record { reply = reply.Refused Pending; posts = messages; erased = [] } }
+pub(crate) fn pending(messages: Items<(Endpoint, Message)>) -> RowOutcome
+    ensures { row_given_of result ≡ record { reply = reply.Refused Pending; posts = messages; erased = [] } }
 {
-    Outcome {
+    RowOutcome {
         reply: Reply::Refused(Refusal::Pending),
         messages,
         erase: Erase::NoKey,
@@ -172,9 +172,9 @@ pub(crate) fn locate(
     node: u32,
     id: ObjectId,
     number: u64,
-) -> Result<Items<(Place, Message)>, AllocError>
+) -> Result<Items<(Endpoint, Message)>, AllocError>
     ensures { IfOk result (λ messages. messages ≡ to_directory (Locate id node number)) }
 {
     let message = Message::ToDirectory(DirectoryMessage::Locate { id, node, number });
-    Outcome::one_message(alloc, Place::Directory, message)
+    RowOutcome::one_message(alloc, Endpoint::Directory, message)
 }

@@ -4,30 +4,30 @@ ghost use Rattle.obj_id.specs.declared.ids.JobNo.{JobNo};
 ghost use Rattle.obj_id.specs.declared.commands.CopyState.TheVariants.{Fetching};
 ghost use Rattle.obj_id.specs.declared.commands.Command.TheVariants as command;
 ghost use Rattle.private_store.specs.declared.inputs.Input.TheVariants as input;
-ghost use Rattle.private_store.specs.Tables.{at};
-ghost use Rattle.private_store.specs.Kept.{is_remembered};
-ghost use Rattle.private_store.specs.Hands.{Hand};
-ghost use Rattle.private_store.specs.Contents.{Contents};
-ghost use Rattle.spill_work.specs.Line.{same_job, IsSameFor};
+ghost use Rattle.private_store.specs.rules.Tables.{at};
+ghost use Rattle.private_store.specs.laws.Invariants.{is_remembered};
+ghost use Rattle.private_store.specs.rules.Hands.{Hand};
+ghost use Rattle.private_store.specs.rules.Contents.{Contents};
+ghost use Rattle.spill_work.specs.Line.{same_work_job, IsSameFor};
 ghost use Rattle.node_table.specs.Asked.{HasAsked};
 ghost use Rattle.node_table.specs.Checks.{visible_state, IsInPhase};
-ghost use Rattle.node_table.specs.Late.{IsDueMore};
-ghost use Rattle.node_table.specs.Outcomes.{given_of};
-ghost use Rattle.node_table.specs.Row.{Beside, beside_of};
-ghost use Rattle.node_table.specs.Shown.{IsShown, TakesStep};
+ghost use Rattle.node_table.specs.MemoryLast.{IsDueMore};
+ghost use Rattle.node_table.specs.Outcomes.{row_given_of};
+ghost use Rattle.node_table.specs.Row.{SharedTables, beside_of};
+ghost use Rattle.node_table.specs.Shown.{IsShown, RowStep};
 ghost use Rattle.obj_id.specs.declared.messages.PeerMessage.TheVariants.{Pull};
-ghost use Rattle.private_store.specs.Shape.{sized, pulling, failed};
-ghost use Rattle.private_store.specs.Contents.{no_digest};
-ghost use Rattle.private_store.specs.Private.{to_peer};
+ghost use Rattle.private_store.specs.rules.Shape.{sized, pulling, failed};
+ghost use Rattle.private_store.specs.rules.Contents.{no_digest};
+ghost use Rattle.private_store.specs.rules.Private.{to_peer};
 ghost use Rattle.fetch_core.specs.Fetching.{missing_of};
-ghost use Rattle.node_table.specs.Kept.{Kept, fetch_of};
+ghost use Rattle.node_table.specs.CopyViews.{CopyView, store_fetch_of};
 
 use crate::copy::RowCopy;
-use crate::get_command::{locate, pending, told};
-use crate::outcome::Outcome;
+use crate::get_command::{locate, pending, refuse};
+use crate::outcome::RowOutcome;
 use crate::row::JobRow;
 use fetch_core::{FetchIn, Stage};
-use obj_id::{Items, Message, ObjectId, PeerMessage, Place, Refusal, Reply};
+use obj_id::{Endpoint, Items, Message, ObjectId, PeerMessage, Refusal, Reply};
 use private_store::FetchFault;
 use spill_work::Works;
 use std::alloc::{AllocError, Global};
@@ -41,15 +41,15 @@ impl JobRow {
         node: u32,
         works: &mut Works,
         id: &ObjectId,
-    ) -> Result<Outcome, AllocError>
+    ) -> Result<RowOutcome, AllocError>
         requires alive { is_remembered self.old.ended_tasks id.now.task ≡ false }
         requires visible { visible_state (at self.old.copies id.now) ≡ Ok (Some Fetching) }
         ensures ok { IfOk result (λ o. (session : ℕ) (hands : List Hand) (bytes : ObjectId → List ℕ) (contents : Contents) → (id.now.job.0 == self.old.job) ≡ true → IsShown self.old (beside_of works.old hands bytes self.old.job) contents
-            → TakesStep node self.old (beside_of works.old hands bytes self.old.job) contents (input.Call session (command.Get id.now)) (given_of o) self.new (beside_of works.new hands bytes self.old.job)) }
-        ensures few { IfOk result (λ o. length o.messages ≤ length self.old.copies + 1) }
+            → RowStep node self.old (beside_of works.old hands bytes self.old.job) contents (input.Call session (command.Get id.now)) (row_given_of o) self.new (beside_of works.new hands bytes self.old.job)) }
+        ensures bounded { IfOk result (λ o. length o.messages ≤ length self.old.copies + 1) }
         ensures line { OnOk result (HasAsked works.old id.now.job works.new) }
-        ensures late { OnErr result ((id.now.job.0 == self.old.job) ≡ true → IsDueMore node self.old works.old (command.Get id.now)) }
-        ensures others { (other : JobNo) → same_job id.now.job other ≡ false → IsSameFor other works.old works.new }
+        ensures memory_last { OnErr result ((id.now.job.0 == self.old.job) ≡ true → IsDueMore node self.old works.old (command.Get id.now)) }
+        ensures others { (other : JobNo) → same_work_job id.now.job other ≡ false → IsSameFor other works.old works.new }
         ensures err { OnErr result (self.new ≡ self.old) }
         ensures works { OnErr result (works.new ≡ works.old) }
     {
@@ -57,7 +57,7 @@ impl JobRow {
             unreachable!()
         };
         let Some(fetch) = copy.fetch() else {
-            return told(alloc, Refusal::Absent);
+            return refuse(alloc, Refusal::Absent);
         };
         let len = copy.length();
         match fetch.stage() {
@@ -77,37 +77,37 @@ impl JobRow {
         works: &mut Works,
         id: &ObjectId,
         len: u32,
-    ) -> Result<Outcome, AllocError>
+    ) -> Result<RowOutcome, AllocError>
         requires alive { is_remembered self.old.ended_tasks id.now.task ≡ false }
         requires visible { visible_state (at self.old.copies id.now) ≡ Ok (Some Fetching) }
-        requires sized { (k : Kept) → at self.old.copies id.now ≡ Some k → (source : ℕ) × IsInPhase k.copy (sized source) }
-        requires length { (k : Kept) → at self.old.copies id.now ≡ Some k → len ≡ k.copy.length }
+        requires sized { (k : CopyView) → at self.old.copies id.now ≡ Some k → (source : ℕ) × IsInPhase k.copy (sized source) }
+        requires length { (k : CopyView) → at self.old.copies id.now ≡ Some k → len ≡ k.copy.length }
         ensures ok { IfOk result (λ o. (session : ℕ) (hands : List Hand) (bytes : ObjectId → List ℕ) (contents : Contents) → (id.now.job.0 == self.old.job) ≡ true → IsShown self.old (beside_of works.old hands bytes self.old.job) contents
-            → TakesStep node self.old (beside_of works.old hands bytes self.old.job) contents (input.Call session (command.Get id.now)) (given_of o) self.new (beside_of works.new hands bytes self.old.job)) }
-        ensures few { IfOk result (λ o. length o.messages ≤ length self.old.copies + 1) }
+            → RowStep node self.old (beside_of works.old hands bytes self.old.job) contents (input.Call session (command.Get id.now)) (row_given_of o) self.new (beside_of works.new hands bytes self.old.job)) }
+        ensures bounded { IfOk result (λ o. length o.messages ≤ length self.old.copies + 1) }
         ensures line { OnOk result (HasAsked works.old id.now.job works.new) }
-        ensures late { OnErr result ((id.now.job.0 == self.old.job) ≡ true → IsDueMore node self.old works.old (command.Get id.now)) }
-        ensures others { (other : JobNo) → same_job id.now.job other ≡ false → IsSameFor other works.old works.new }
+        ensures memory_last { OnErr result ((id.now.job.0 == self.old.job) ≡ true → IsDueMore node self.old works.old (command.Get id.now)) }
+        ensures others { (other : JobNo) → same_work_job id.now.job other ≡ false → IsSameFor other works.old works.new }
         ensures err { OnErr result (self.new ≡ self.old) }
         ensures works { OnErr result (works.new ≡ works.old) }
     {
         if !self.window().may_have(len) {
-            return told(alloc, Refusal::BadSize);
+            return refuse(alloc, Refusal::BadSize);
         }
         self.begin_pull(alloc, node, works, id)
     }
 
-    /// Get of an object whose fetch failed: what it came to is told, and the copy is removed.
-    fn tell_failed(&mut self, alloc: Global, id: &ObjectId, fault: FetchFault) -> Outcome
+    /// Get of an object whose fetch failed: what it came to is answered, and the copy is removed.
+    fn tell_failed(&mut self, alloc: Global, id: &ObjectId, fault: FetchFault) -> RowOutcome
         requires alive { is_remembered self.old.ended_tasks id.now.task ≡ false }
         requires visible { visible_state (at self.old.copies id.now) ≡ Ok (Some Fetching) }
-        requires failed { (k : Kept) → at self.old.copies id.now ≡ Some k → IsInPhase k.copy (failed fault) }
-        ensures step { (node session : ℕ) (beside : Beside) (contents : Contents) → (id.now.job.0 == self.old.job) ≡ true → IsShown self.old beside contents
-            → TakesStep node self.old beside contents (input.Call session (command.Get id.now)) (given_of result) self.new beside }
+        requires failed { (k : CopyView) → at self.old.copies id.now ≡ Some k → IsInPhase k.copy (failed fault) }
+        ensures step { (node session : ℕ) (beside : SharedTables) (contents : Contents) → (id.now.job.0 == self.old.job) ≡ true → IsShown self.old beside contents
+            → RowStep node self.old beside contents (input.Call session (command.Get id.now)) (row_given_of result) self.new beside }
         ensures silent { result.messages ≡ [] }
     {
         self.drop_copy(id);
-        Outcome::only(alloc, Reply::Refused(fault.refusal()))
+        RowOutcome::only(alloc, Reply::Refused(fault.refusal()))
     }
 }
 
@@ -118,8 +118,8 @@ fn pull(
     copy: &RowCopy,
     fetch: &FetchIn,
     source: u32,
-) -> Result<Items<(Place, Message)>, AllocError>
-    requires own { copy.now.copy.fetch ≡ Some (fetch_of fetch.now) }
+) -> Result<Items<(Endpoint, Message)>, AllocError>
+    requires own { copy.now.copy.fetch ≡ Some (store_fetch_of fetch.now) }
     requires pulled { fetch.now.phase ≡ pulling source (missing_of fetch.now.phase) }
     ensures { IfOk result (λ messages. messages ≡ to_peer source (Pull id fetch.now.number copy.now.copy.length (unwrap_or copy.now.digest no_digest) (missing_of fetch.now.phase)) ∷ []) }
 {
@@ -135,5 +135,5 @@ fn pull(
         digest,
         indexes: Items::from_vec(indexes),
     });
-    Outcome::one_message(alloc, Place::Node(source), message)
+    RowOutcome::one_message(alloc, Endpoint::Node(source), message)
 }

@@ -7,19 +7,19 @@ ghost use Rattle.obj_id.specs.declared.ids.ObjectId.{ObjectId};
 ghost use Rattle.obj_id.specs.declared.commands.Command.TheVariants as command;
 ghost use Rattle.obj_id.specs.declared.commands.Reply.TheVariants as reply;
 ghost use Rattle.private_store.specs.declared.inputs.Input.TheVariants as input;
-ghost use Rattle.private_store.specs.Contents.{Contents};
-ghost use Rattle.private_store.specs.Hands.{Hand, hands_left, is_withdrawn};
+ghost use Rattle.private_store.specs.rules.Contents.{Contents};
+ghost use Rattle.private_store.specs.rules.Hands.{Hand, hands_left, is_withdrawn};
 ghost use Rattle.grants.specs.Table.{AreHands, is_first, grant_check as table_check, withdraw_check};
 ghost use Rattle.spill_work.specs.Line.{WorkLine};
-ghost use Rattle.node_table.specs.Granting.{grant_check as grant_check_lem, hands_granted, row_bytes};
+ghost use Rattle.node_table.specs.Granting.{row_grant_check as grant_check_lem, hands_granted, row_bytes};
 ghost use Rattle.node_table.specs.Notes.{beside_rest};
-ghost use Rattle.node_table.specs.Outcomes.{given_of};
+ghost use Rattle.node_table.specs.Outcomes.{row_given_of};
 ghost use Rattle.node_table.specs.Row.{beside_of};
-ghost use Rattle.node_table.specs.Shown.{IsShown, TakesStep};
+ghost use Rattle.node_table.specs.Shown.{IsShown, RowStep};
 
 use crate::lent::Lent;
 use crate::marks::Mark;
-use crate::outcome::Outcome;
+use crate::outcome::RowOutcome;
 use crate::row::JobRow;
 use obj_id::{Items, JobNo, ObjectId, Refusal, Reply};
 use std::alloc::Global;
@@ -57,19 +57,19 @@ impl JobRow {
         id: &ObjectId,
         target: JobNo,
         table: Option<Refusal>,
-    ) -> Outcome
+    ) -> RowOutcome
         ensures step { (node : ℕ) (line : WorkLine) (hands : List Hand) (bytes : ObjectId → List ℕ) (contents : Contents) → (id.now.job.0 == self.old.job) ≡ true
             → table ≡ table_check hands self.old.job id.now target.0 → IsShown self.old (beside_of line hands bytes self.old.job) contents
-            → TakesStep node self.old (beside_of line hands bytes self.old.job) contents (input.Call session (command.Grant id.now target)) (given_of result) self.new
+            → RowStep node self.old (beside_of line hands bytes self.old.job) contents (input.Call session (command.Grant id.now target)) (row_given_of result) self.new
             (beside_of line (hands_granted (grant_check_lem self.old id.now target.0 table) hands id.now self.old.job target.0) bytes self.old.job) }
         ensures reply { result.reply ≡ option_map_or reply.Refused (grant_check_lem self.old id.now target.0 table) reply.Ok }
         ensures silent { result.messages ≡ [] }
     {
         if let Some(refusal) = self.grant_check(id, target, table) {
-            return Outcome::only(alloc, Reply::Refused(refusal));
+            return RowOutcome::only(alloc, Reply::Refused(refusal));
         }
         self.apply(id, Mark::Granted(true));
-        Outcome::only(alloc, Reply::Ok)
+        RowOutcome::only(alloc, Reply::Ok)
     }
 
     /// Withdraw of the job's own object, if a hand of it to the target stood, and hands of it from the job are left
@@ -81,11 +81,11 @@ impl JobRow {
         id: &ObjectId,
         target: JobNo,
         granted: bool,
-    ) -> Outcome
+    ) -> RowOutcome
         ensures step { (node : ℕ) (line : WorkLine) (hands : List Hand) (bytes : ObjectId → List ℕ) (contents : Contents) → AreHands hands → (id.now.job.0 == self.old.job) ≡ true
             → withdraw_check hands self.old.job id.now target.0 ≡ None → granted ≡ list_any (is_first id.now) (hands_left (is_withdrawn self.old.job id.now target.0) hands)
             → IsShown self.old (beside_of line hands bytes self.old.job) contents
-            → TakesStep node self.old (beside_of line hands bytes self.old.job) contents (input.Call session (command.Withdraw id.now target)) (given_of result) self.new
+            → RowStep node self.old (beside_of line hands bytes self.old.job) contents (input.Call session (command.Withdraw id.now target)) (row_given_of result) self.new
             (beside_rest line (is_withdrawn self.old.job id.now target.0) hands bytes self.old.job) }
         ensures reply { result.reply ≡ reply.Ok }
         ensures silent { result.messages ≡ [] }

@@ -2,15 +2,15 @@
 ghost use Rattle.std.specs.Prelude.{◌≡◌, ◌==◌, ℕ, [], true, map, fold, IfOk, IsOk, OnOk, OnErr, ◌++◌, ◌+◌, ◌<◌, ◌≤◌, option_to_list, vec_len, vec_capacity};
 ghost use Rattle.obj_id.specs.declared.commands.Command.TheVariants as command;
 ghost use Rattle.private_store.specs.declared.inputs.Input.TheVariants as input;
-ghost use Rattle.private_store.specs.Contents.{Contents};
-ghost use Rattle.node_table.specs.Row.{Beside};
+ghost use Rattle.private_store.specs.rules.Contents.{Contents};
+ghost use Rattle.node_table.specs.Row.{SharedTables};
 ghost use Rattle.node_table.specs.Dropping.{left_row, keys_left};
-ghost use Rattle.node_table.specs.Outcomes.{given_of};
+ghost use Rattle.node_table.specs.Outcomes.{row_given_of};
 ghost use Rattle.node_table.specs.Usages.{total, doomed_one};
-ghost use Rattle.node_table.specs.Shown.{IsShown, TakesStep};
+ghost use Rattle.node_table.specs.Shown.{IsShown, RowStep};
 
 use crate::marks::Mark;
-use crate::outcome::{Erase, Outcome};
+use crate::outcome::{Erase, RowOutcome};
 use crate::row::JobRow;
 use obj_id::{DeviceKey, Items, ObjectId, OwnItem, Reply};
 use std::alloc::{AllocError, Global};
@@ -18,34 +18,34 @@ use std::alloc::{AllocError, Global};
 impl JobRow {
     /// Release: one hold of the session on the copy less, which is removed if it is doomed and nothing else keeps it.
     /// `Absent`, `NotHeld`; a refusal changes nothing. Takes no memory.
-    pub fn release(&mut self, alloc: Global, session: u32, id: &ObjectId) -> Outcome
-        ensures step { (node : ℕ) (beside : Beside) (contents : Contents) → (id.now.job.0 == self.old.job) ≡ true → IsShown self.old beside contents
-            → TakesStep node self.old beside contents (input.Call session (command.Release id.now)) (given_of result) self.new beside }
+    pub fn release(&mut self, alloc: Global, session: u32, id: &ObjectId) -> RowOutcome
+        ensures step { (node : ℕ) (beside : SharedTables) (contents : Contents) → (id.now.job.0 == self.old.job) ≡ true → IsShown self.old beside contents
+            → RowStep node self.old beside contents (input.Call session (command.Release id.now)) (row_given_of result) self.new beside }
         ensures silent { result.messages ≡ [] }
     {
         match self.release_copy(id, session) {
             Ok(over) => self.settle_after(id, over, Items::new(alloc)),
-            Err(refusal) => Outcome::only(alloc, Reply::Refused(refusal)),
+            Err(refusal) => RowOutcome::only(alloc, Reply::Refused(refusal)),
         }
     }
 
     /// Leave: no hold of the session on any copy, and a doomed one that nothing else keeps is removed. Takes two walks
     /// over the job's copies. The error is out of memory, which only a job with a doomed copy takes, and then nothing has
     /// changed.
-    pub fn leave(&mut self, alloc: Global, session: u32) -> Result<Outcome, AllocError>
-        ensures ok { IfOk result (λ o. (node : ℕ) (beside : Beside) (contents : Contents) → IsShown self.old beside contents
-            → TakesStep node self.old beside contents (input.Call session command.Leave) (given_of o) self.new beside) }
+    pub fn leave(&mut self, alloc: Global, session: u32) -> Result<RowOutcome, AllocError>
+        ensures ok { IfOk result (λ o. (node : ℕ) (beside : SharedTables) (contents : Contents) → IsShown self.old beside contents
+            → RowStep node self.old beside contents (input.Call session command.Leave) (row_given_of o) self.new beside) }
         ensures silent { IfOk result (λ o. o.messages ≡ []) }
-        ensures frugal { total doomed_one self.old.copies ≡ 0 → IsOk result }
+        ensures without_memory { total doomed_one self.old.copies ≡ 0 → IsOk result }
         ensures err { OnErr result (self.new ≡ self.old) }
     {
         if self.copies().doomed_count() == 0 {
             self.leave_copies(session);
-            return Ok(Outcome::only(alloc, Reply::Ok));
+            return Ok(RowOutcome::only(alloc, Reply::Ok));
         }
         let items = self.copies().items(alloc)?;
         let keys = self.leave_each(alloc, session, items.as_slice())?;
-        Ok(Outcome {
+        Ok(RowOutcome {
             reply: Reply::Ok,
             messages: Items::new(alloc),
             erase: Erase::Many(keys),

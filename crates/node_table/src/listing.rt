@@ -3,12 +3,12 @@ ghost use Rattle.std.specs.Prelude.{◌≡◌, ℕ, List, IfOk};
 ghost use Rattle.obj_id.specs.declared.ids.ObjectId.{ObjectId};
 ghost use Rattle.obj_id.specs.declared.commands.Command.TheVariants as command;
 ghost use Rattle.private_store.specs.declared.inputs.Input.TheVariants as input;
-ghost use Rattle.private_store.specs.Commands.{usage_of, granted_items};
-ghost use Rattle.private_store.specs.Contents.{Contents};
-ghost use Rattle.private_store.specs.Hands.{Hand};
-ghost use Rattle.node_table.specs.Row.{Beside, beside_of, shape_of};
-ghost use Rattle.node_table.specs.Shown.{IsShown, TakesStep, only};
-ghost use Rattle.node_table.specs.Usages.{item_of, window_bytes as window_bytes_lem, device_bytes as device_bytes_lem, doomed_one as doomed_one_lem, used};
+ghost use Rattle.private_store.specs.rules.Commands.{usage_of, granted_items};
+ghost use Rattle.private_store.specs.rules.Contents.{Contents};
+ghost use Rattle.private_store.specs.rules.Hands.{Hand};
+ghost use Rattle.node_table.specs.Row.{SharedTables, beside_of, shape_of};
+ghost use Rattle.node_table.specs.Shown.{IsShown, RowStep, only};
+ghost use Rattle.node_table.specs.Usages.{own_item_of, window_bytes as window_bytes_lem, device_bytes as device_bytes_lem, doomed_one as doomed_one_lem, used};
 
 use crate::copy::RowCopy;
 use crate::row::JobRow;
@@ -20,7 +20,7 @@ use std::alloc::{AllocError, Global};
 impl RowCopy {
     /// The copy of the id, as List shows it.
     pub fn item(&self, id: &ObjectId) -> OwnItem
-        ensures { result ≡ item_of (id.now, self.now) }
+        ensures { result ≡ own_item_of (id.now, self.now) }
     {
         OwnItem {
             id: *id,
@@ -67,16 +67,16 @@ impl JobRow {
         alloc: Global,
         granted: Items<GrantedItem>,
     ) -> Result<Reply<Bytes>, AllocError>
-        ensures { IfOk result (λ told. (node session : ℕ) (beside : Beside) (contents : Contents) → IsShown self.now beside contents
+        ensures { IfOk result (λ told. (node session : ℕ) (beside : SharedTables) (contents : Contents) → IsShown self.now beside contents
             → granted ≡ granted_items (shape_of self.now beside)
-            → TakesStep node self.now beside contents (input.Call session command.List) (only told) self.now beside) }
+            → RowStep node self.now beside contents (input.Call session command.List) (only told) self.now beside) }
     {
         let own = self.copies().items(alloc)?;
         Ok(Reply::List(own, granted))
     }
 
     /// The job's quotas and what is used of them, in bytes and in numbers. Takes no walk, as all is counted,
-    /// one look-up of the job among the works, and no memory. A sum that passes `u64::MAX` is told as that,
+    /// one look-up of the job among the works, and no memory. A sum that passes `u64::MAX` is shown as that,
     /// which no row of a node has.
     pub fn usage(&self, works: &Works) -> Usage
         ensures told { result ≡ used self.now works.now }
@@ -97,7 +97,7 @@ impl JobRow {
     /// Usage: what `usage` says. Changes nothing, and takes no memory.
     pub fn tell_usage(&self, works: &Works) -> Reply<Bytes>
         ensures { (node session : ℕ) (hands : List Hand) (bytes : ObjectId → List ℕ) (contents : Contents) → IsShown self.now (beside_of works.now hands bytes self.now.job) contents
-            → TakesStep node self.now (beside_of works.now hands bytes self.now.job) contents (input.Call session command.Usage) (only result) self.now (beside_of works.now hands bytes self.now.job) }
+            → RowStep node self.now (beside_of works.now hands bytes self.now.job) contents (input.Call session command.Usage) (only result) self.now (beside_of works.now hands bytes self.now.job) }
     {
         Reply::Usage(self.usage(works))
     }

@@ -2,19 +2,19 @@
 ghost use Rattle.std.specs.Prelude.{◌≡◌, ◌∷◌, [], IfOk, option_to_list};
 ghost use Rattle.node_table.specs.Shown.{only as only_lem};
 ghost use Rattle.node_table.specs.Erased.{keys_of};
-ghost use Rattle.node_table.specs.Outcomes.{given_of};
-ghost use Rattle.node_table.specs.Scope.{posted};
+ghost use Rattle.node_table.specs.Outcomes.{row_given_of};
+ghost use Rattle.node_table.specs.Scope.{notice_posts};
 
 use bytes::Bytes;
-use obj_id::{DeviceKey, DirectoryMessage, Items, Message, Place, Reply};
+use obj_id::{DeviceKey, DirectoryMessage, Endpoint, Items, Message, Reply};
 use std::alloc::{AllocError, Global};
 
 /// What an event gave: the answer, the messages that are to be sent, in their order and each with its
 /// place, and the device keys that are to be erased, in order of id.
 #[derive(Drop)]
-pub struct Outcome {
+pub struct RowOutcome {
     pub reply: Reply<Bytes>,
-    pub messages: Items<(Place, Message)>,
+    pub messages: Items<(Endpoint, Message)>,
     pub erase: Erase,
 }
 
@@ -38,12 +38,12 @@ impl Erase {
     }
 }
 
-impl Outcome {
+impl RowOutcome {
     /// A reply, and nothing else. Takes no memory.
-    pub fn only(alloc: Global, reply: Reply<Bytes>) -> Outcome
-        ensures { given_of result ≡ only_lem reply }
+    pub fn only(alloc: Global, reply: Reply<Bytes>) -> RowOutcome
+        ensures { row_given_of result ≡ only_lem reply }
     {
-        Outcome {
+        RowOutcome {
             reply,
             messages: Items::new(alloc),
             erase: Erase::NoKey,
@@ -54,13 +54,13 @@ impl Outcome {
     pub fn to_directory(
         alloc: Global,
         message: Option<DirectoryMessage>,
-    ) -> Result<Items<(Place, Message)>, AllocError>
-        ensures { IfOk result (λ messages. messages ≡ posted message) }
+    ) -> Result<Items<(Endpoint, Message)>, AllocError>
+        ensures { IfOk result (λ messages. messages ≡ notice_posts message) }
     {
         match message {
             None => Ok(Items::new(alloc)),
             Some(message) => {
-                Outcome::one_message(alloc, Place::Directory, Message::ToDirectory(message))
+                RowOutcome::one_message(alloc, Endpoint::Directory, Message::ToDirectory(message))
             }
         }
     }
@@ -68,9 +68,9 @@ impl Outcome {
     /// A list of one message, with room for no more: who keeps what was sent keeps no idle memory.
     pub fn one_message(
         alloc: Global,
-        to: Place,
+        to: Endpoint,
         message: Message,
-    ) -> Result<Items<(Place, Message)>, AllocError>
+    ) -> Result<Items<(Endpoint, Message)>, AllocError>
         ensures { IfOk result (λ messages. messages ≡ (to, message) ∷ []) }
     {
         let mut messages = Vec::with_capacity(alloc, 1)?;

@@ -1,6 +1,6 @@
 //! What is made for a step before its node is locked, and what is let go after it.
 ghost use Rattle.std.specs.Prelude.{◌≡◌, true, length, IfSome};
-ghost use Rattle.private_store.specs.Contents.{overwritten};
+ghost use Rattle.private_store.specs.rules.Contents.{overwritten};
 
 use bytes::Bytes;
 use hashed_bytes::{Hashed, are_same};

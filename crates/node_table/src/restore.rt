@@ -4,32 +4,32 @@ ghost use Rattle.obj_id.specs.declared.ids.JobNo.{JobNo};
 ghost use Rattle.obj_id.specs.declared.commands.CopyState.TheVariants.{Away};
 ghost use Rattle.obj_id.specs.declared.commands.Command.TheVariants as command;
 ghost use Rattle.private_store.specs.declared.inputs.Input.TheVariants as input;
-ghost use Rattle.private_store.specs.Tables.{at};
-ghost use Rattle.private_store.specs.Kept.{is_remembered};
-ghost use Rattle.private_store.specs.Hands.{Hand};
-ghost use Rattle.private_store.specs.Contents.{Contents};
-ghost use Rattle.spill_work.specs.Line.{Asks, ask_check, same_job, in_flight, used_by, room_for, IsSameFor};
+ghost use Rattle.private_store.specs.rules.Tables.{at};
+ghost use Rattle.private_store.specs.laws.Invariants.{is_remembered};
+ghost use Rattle.private_store.specs.rules.Hands.{Hand};
+ghost use Rattle.private_store.specs.rules.Contents.{Contents};
+ghost use Rattle.spill_work.specs.Line.{AsksWork, ask_check, same_work_job, in_flight, used_by, room_for, IsSameFor};
 ghost use Rattle.obj_id.specs.declared.works.WorkKind.TheVariants.{Read};
 ghost use Rattle.std.specs.Map.{lookup};
 ghost use Rattle.std.specs.Option.{option_map_or};
-ghost use Rattle.private_store.specs.Limits.{most_works, has_numbers};
-ghost use Rattle.private_store.specs.Room.{make_room};
+ghost use Rattle.private_store.specs.rules.Limits.{most_works, has_numbers};
+ghost use Rattle.private_store.specs.rules.Room.{make_room};
 ghost use Rattle.node_table.specs.Evicting.{IsPlacement, MayGo};
-ghost use Rattle.node_table.specs.Kept.{waits_for_place};
-ghost use Rattle.node_table.specs.Late.{IsDueMore};
+ghost use Rattle.node_table.specs.CopyViews.{waits_for_place};
+ghost use Rattle.node_table.specs.MemoryLast.{IsDueMore};
 ghost use Rattle.node_table.specs.RoomPlans.{MakesPlace, planned_by, refuses, makes_place};
 ghost use Rattle.node_table.specs.declared.room.RoomPlan.TheVariants.{Fits, Ask};
 ghost use Rattle.job_region.specs.Region.{place_for};
 ghost use Rattle.node_table.specs.Asked.{HasAsked};
 ghost use Rattle.node_table.specs.Checks.{fault_at, visible_state};
-ghost use Rattle.node_table.specs.Outcomes.{given_of};
+ghost use Rattle.node_table.specs.Outcomes.{row_given_of};
 ghost use Rattle.node_table.specs.Row.{beside_of, shape_of};
-ghost use Rattle.node_table.specs.Shown.{IsShown, TakesStep};
+ghost use Rattle.node_table.specs.Shown.{IsShown, RowStep};
 
 use crate::copy::Awaited;
 use crate::create_command::removals;
-use crate::get_command::{pending, told};
-use crate::outcome::Outcome;
+use crate::get_command::{pending, refuse};
+use crate::outcome::RowOutcome;
 use crate::room::{MadeRoom, Placement, RoomPlan};
 use crate::row::JobRow;
 use obj_id::limits::MOST_WORKS;
@@ -49,21 +49,21 @@ impl JobRow {
         works: &mut Works,
         job: JobNo,
         id: &ObjectId,
-    ) -> Result<Outcome, AllocError>
+    ) -> Result<RowOutcome, AllocError>
         requires visible { visible_state (at self.old.copies id.now) ≡ Ok (Some Away) }
         requires sound { fault_at self.old.copies id.now ≡ None }
         ensures ok { IfOk result (λ o. (session : ℕ) (hands : List Hand) (bytes : ObjectId → List ℕ) (contents : Contents) → job ≡ record { 0 = self.old.job } → (id.now.job.0 == self.old.job) ≡ true
             → is_remembered self.old.ended_tasks id.now.task ≡ false → IsShown self.old (beside_of works.old hands bytes self.old.job) contents
-            → TakesStep node self.old (beside_of works.old hands bytes self.old.job) contents (input.Call session (command.Get id.now)) (given_of o) self.new (beside_of works.new hands bytes self.old.job)) }
-        ensures few { IfOk result (λ o. length o.messages ≤ length self.old.copies + 1) }
+            → RowStep node self.old (beside_of works.old hands bytes self.old.job) contents (input.Call session (command.Get id.now)) (row_given_of o) self.new (beside_of works.new hands bytes self.old.job)) }
+        ensures bounded { IfOk result (λ o. length o.messages ≤ length self.old.copies + 1) }
         ensures line { OnOk result (HasAsked works.old job works.new) }
-        ensures late { OnErr result (job ≡ record { 0 = self.old.job } → (id.now.job.0 == self.old.job) ≡ true → is_remembered self.old.ended_tasks id.now.task ≡ false → IsDueMore node self.old works.old (command.Get id.now)) }
-        ensures others { (other : JobNo) → same_job job other ≡ false → IsSameFor other works.old works.new }
+        ensures memory_last { OnErr result (job ≡ record { 0 = self.old.job } → (id.now.job.0 == self.old.job) ≡ true → is_remembered self.old.ended_tasks id.now.task ≡ false → IsDueMore node self.old works.old (command.Get id.now)) }
+        ensures others { (other : JobNo) → same_work_job job other ≡ false → IsSameFor other works.old works.new }
         ensures err { OnErr result (self.new ≡ self.old) }
         ensures works { OnErr result (works.new ≡ works.old) }
     {
         if works.in_flight(job) >= MOST_WORKS {
-            return told(alloc, Refusal::Busy);
+            return refuse(alloc, Refusal::Busy);
         }
         let Some(copy) = self.copies().get(id) else {
             unreachable!()
@@ -75,7 +75,7 @@ impl JobRow {
         let asked = works.asked(job);
         // before anything grows
         if plan.makes_place() && asked == u64::MAX {
-            return told(alloc, Refusal::TooMany);
+            return refuse(alloc, Refusal::TooMany);
         }
         self.restore_by(alloc, node, works, job, id, len, plan)
     }
@@ -90,7 +90,7 @@ impl JobRow {
         id: &ObjectId,
         len: u32,
         plan: RoomPlan,
-    ) -> Result<Outcome, AllocError>
+    ) -> Result<RowOutcome, AllocError>
         requires visible { visible_state (at self.old.copies id.now) ≡ Ok (Some Away) }
         requires sound { fault_at self.old.copies id.now ≡ None }
         requires idle { in_flight works.old job < most_works }
@@ -98,15 +98,15 @@ impl JobRow {
         requires fits { (offset : ℕ) → plan ≡ Fits offset → place_for self.old.window len ≡ Some offset }
         requires asks { (count : ℕ) → plan ≡ Ask count → room_for works.old job count ≡ true }
         requires numbered { makes_place plan ≡ true → has_numbers (used_by works.old job) 1 ≡ true }
-        requires fresh { used_by works.old job ≡ 0 → lookup (same_job job) works.old.used ≡ None }
+        requires fresh { used_by works.old job ≡ 0 → lookup (same_work_job job) works.old.used ≡ None }
         ensures ok { IfOk result (λ o. (session : ℕ) (hands : List Hand) (bytes : ObjectId → List ℕ) (contents : Contents) → job ≡ record { 0 = self.old.job } → (id.now.job.0 == self.old.job) ≡ true
             → is_remembered self.old.ended_tasks id.now.task ≡ false → IsShown self.old (beside_of works.old hands bytes self.old.job) contents
             → plan ≡ planned_by self.old.order (shape_of self.old (beside_of works.old hands bytes self.old.job)) len
-            → TakesStep node self.old (beside_of works.old hands bytes self.old.job) contents (input.Call session (command.Get id.now)) (given_of o) self.new (beside_of works.new hands bytes self.old.job)) }
-        ensures few { IfOk result (λ o. length o.messages ≤ length self.old.copies + 1) }
+            → RowStep node self.old (beside_of works.old hands bytes self.old.job) contents (input.Call session (command.Get id.now)) (row_given_of o) self.new (beside_of works.new hands bytes self.old.job)) }
+        ensures bounded { IfOk result (λ o. length o.messages ≤ length self.old.copies + 1) }
         ensures line { OnOk result (HasAsked works.old job works.new) }
-        ensures late { OnErr result (refuses plan ≡ false) }
-        ensures others { (other : JobNo) → same_job job other ≡ false → IsSameFor other works.old works.new }
+        ensures memory_last { OnErr result (refuses plan ≡ false) }
+        ensures others { (other : JobNo) → same_work_job job other ≡ false → IsSameFor other works.old works.new }
         ensures err { OnErr result (self.new ≡ self.old) }
         ensures works { OnErr result (works.new ≡ works.old) }
     {
@@ -114,7 +114,7 @@ impl JobRow {
             MadeRoom::Place(placement) => {
                 self.restore_in_place(alloc, node, works, job, id, len, &placement)
             }
-            MadeRoom::Told(refusal) => told(alloc, refusal),
+            MadeRoom::Told(refusal) => refuse(alloc, refusal),
         }
     }
 
@@ -128,7 +128,7 @@ impl JobRow {
         id: &ObjectId,
         len: u32,
         placement: &Placement,
-    ) -> Result<Outcome, AllocError>
+    ) -> Result<RowOutcome, AllocError>
         requires visible { visible_state (at self.old.copies id.now) ≡ Ok (Some Away) }
         requires sound { fault_at self.old.copies id.now ≡ None }
         requires idle { in_flight works.old job < most_works }
@@ -136,14 +136,14 @@ impl JobRow {
         requires may_go { MayGo self.old.copies placement.now.victims }
         requires place { IsPlacement self.old len placement.now }
         requires numbered { has_numbers (used_by works.old job) 1 ≡ true }
-        requires fresh { used_by works.old job ≡ 0 → lookup (same_job job) works.old.used ≡ None }
+        requires fresh { used_by works.old job ≡ 0 → lookup (same_work_job job) works.old.used ≡ None }
         ensures ok { IfOk result (λ o. (session : ℕ) (hands : List Hand) (bytes : ObjectId → List ℕ) (contents : Contents) → job ≡ record { 0 = self.old.job } → (id.now.job.0 == self.old.job) ≡ true
             → is_remembered self.old.ended_tasks id.now.task ≡ false → IsShown self.old (beside_of works.old hands bytes self.old.job) contents
             → MakesPlace (make_room self.old.order (shape_of self.old (beside_of works.old hands bytes self.old.job)) len) (shape_of self.old (beside_of works.old hands bytes self.old.job)) len placement.now.victims
-            → TakesStep node self.old (beside_of works.old hands bytes self.old.job) contents (input.Call session (command.Get id.now)) (given_of o) self.new (beside_of works.new hands bytes self.old.job)) }
-        ensures few { IfOk result (λ o. length o.messages ≤ length self.old.copies + 1) }
+            → RowStep node self.old (beside_of works.old hands bytes self.old.job) contents (input.Call session (command.Get id.now)) (row_given_of o) self.new (beside_of works.new hands bytes self.old.job)) }
+        ensures bounded { IfOk result (λ o. length o.messages ≤ length self.old.copies + 1) }
         ensures line { OnOk result (HasAsked works.old job works.new) }
-        ensures others { (other : JobNo) → same_job job other ≡ false → IsSameFor other works.old works.new }
+        ensures others { (other : JobNo) → same_work_job job other ≡ false → IsSameFor other works.old works.new }
         ensures err { OnErr result (self.new ≡ self.old) }
         ensures works { OnErr result (works.new ≡ works.old) }
     {
@@ -151,7 +151,7 @@ impl JobRow {
         let messages = removals(alloc, node, self.copies(), victims)?;
         // a copy that is away has some bytes, and the plan found a place for them
         if !self.window().may_have(len) {
-            return told(alloc, Refusal::Full);
+            return refuse(alloc, Refusal::Full);
         }
         let number = ask_read(works, job, *id)?;
         match self.place_copy(alloc, id, len, placement, Awaited::Device) {
@@ -167,7 +167,7 @@ impl JobRow {
 /// Asks for a read of the job, whose works and numbers aren't at their end. The error is out of memory, and then nothing has changed.
 fn ask_read(works: &mut Works, job: JobNo, id: ObjectId) -> Result<u64, AllocError>
     requires { ask_check works.old job ≡ None }
-    ensures ok { IfOk result (λ number. Asks works.old (record { job = job; number = number; id = id; kind = Read }) works.new) }
+    ensures ok { IfOk result (λ number. AsksWork works.old (record { job = job; number = number; id = id; kind = Read }) works.new) }
     ensures err { OnErr result (works.new ≡ works.old) }
 {
     match works.ask(job, id, WorkKind::Read) {

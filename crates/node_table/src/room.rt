@@ -1,15 +1,15 @@
 //! How room is made in a row's window.
 ghost use Rattle.std.specs.Prelude.{◌≡◌, ◌≢◌, ℕ, ◌≤◌, List, Some, true, false, length, IfOk, OnOk, OnErr};
 ghost use Rattle.obj_id.specs.declared.ids.JobNo.{JobNo};
-ghost use Rattle.spill_work.specs.Line.{same_job, IsSameFor, room_for as room_for_lem};
+ghost use Rattle.spill_work.specs.Line.{same_work_job, IsSameFor, room_for as room_for_lem};
 ghost use Rattle.node_table.specs.Asked.{HasAsked};
-ghost use Rattle.node_table.specs.MadeRooms.{IsMade, IsPlannedFor, WaitsForPlace, is_told};
+ghost use Rattle.node_table.specs.MadeRooms.{IsRoomMade, IsPlannedFor, WaitsForPlace, tells_refusal};
 ghost use Rattle.node_table.specs.Evicting.{MayGo};
 ghost use Rattle.obj_id.specs.declared.ids.ObjectId.{ObjectId};
-ghost use Rattle.private_store.specs.Room.{make_room, plan};
-ghost use Rattle.private_store.specs.Hands.{Hand};
-ghost use Rattle.private_store.specs.Contents.{Contents};
-ghost use Rattle.node_table.specs.Row.{Beside, beside_of, shape_of};
+ghost use Rattle.private_store.specs.rules.Room.{make_room, plan};
+ghost use Rattle.private_store.specs.rules.Hands.{Hand};
+ghost use Rattle.private_store.specs.rules.Contents.{Contents};
+ghost use Rattle.node_table.specs.Row.{SharedTables, beside_of, shape_of};
 ghost use Rattle.node_table.specs.Shown.{IsShown};
 ghost use Rattle.node_table.specs.RoomPlans.{AsksWrites, MakesPlace, by_kind, planned_by, refuses, makes_place as makes_place_lem};
 ghost use Rattle.lru_evictor.specs.Plans.{listed};
@@ -34,7 +34,7 @@ pub(crate) enum RoomPlan {
     Evict,
     /// Writes of so many copies are to be asked for, and the answer is `Pending`.
     Ask(usize),
-    /// Nothing: `DeviceFailed` is to be told, since a spill failed, and then forgotten.
+    /// Nothing: `DeviceFailed` is to be answered, since a spill failed, and then forgotten.
     TellFailedSpill,
     /// Nothing: `Pending` if works that are in flight will make room, `Full` if nothing would,
     /// `Busy` if as many works are in flight as may be, `TooMany` if the job has too few numbers of
@@ -58,7 +58,7 @@ pub(crate) struct Placement {
 pub(crate) enum MadeRoom {
     /// There is this place. Nothing has changed yet.
     Place(Placement),
-    /// There is none: this is to be told, and nothing else is to be done.
+    /// There is none: this is to be answered, and nothing else is to be done.
     Told(Refusal),
 }
 
@@ -73,10 +73,10 @@ impl RoomPlan {
 
 impl CopyLookup for Copies {
     ghost use Rattle.std.specs.Option.{option_map};
-    ghost use Rattle.private_store.specs.Tables.{at};
-    ghost use Rattle.node_table.specs.RoomPlans.{facts_of};
+    ghost use Rattle.private_store.specs.rules.Tables.{at};
+    ghost use Rattle.node_table.specs.RoomPlans.{row_facts_of};
 
-    ghost facts = { λ copies id. option_map facts_of (at copies id) };
+    ghost facts = { λ copies id. option_map row_facts_of (at copies id) };
 
     fn facts(&self, id: &ObjectId) -> Option<CopyFacts> {
         let copy = self.get(id)?;
@@ -124,7 +124,7 @@ impl JobRow {
     fn spillable(&self, alloc: Global, count: usize) -> Result<Items<ObjectId>, AllocError>
         ensures spillable { IfOk result (λ written. (line : WorkLine) (hands : List Hand) (bytes : ObjectId → List ℕ) (contents : Contents) (n : ℕ) → IsShown self.now (beside_of line hands bytes self.now.job) contents
             → planned_by self.now.order (shape_of self.now (beside_of line hands bytes self.now.job)) n ≡ Ask count → written ≡ listed (plan self.now.order (shape_of self.now (beside_of line hands bytes self.now.job)) n)) }
-        ensures few { IfOk result (λ written. length written ≤ count) }
+        ensures bounded { IfOk result (λ written. length written ≤ count) }
     {
         self.use_order().spillable(alloc, count)
     }
@@ -132,7 +132,7 @@ impl JobRow {
 
 impl JobRow {
     /// Room for an object of `len` bytes in the window, if the row is this job's, as far as it can be made without an eviction:
-    /// the writes that it needs are asked for, and that a spill failed is told and forgotten. The error is out of
+    /// the writes that it needs are asked for, and that a spill failed is answered and forgotten. The error is out of
     /// memory, and then the plan was no refusal, and nothing has changed. The works that it asks for come last in the
     /// line, and those before them stay.
     pub(crate) fn room_for(
@@ -143,12 +143,12 @@ impl JobRow {
         len: u32,
     ) -> Result<MadeRoom, AllocError>
         ensures ok { IfOk result (λ made. (hands : List Hand) (bytes : ObjectId → List ℕ) (contents : Contents) → job ≡ record { 0 = self.old.job } → IsShown self.old (beside_of works.old hands bytes self.old.job) contents
-            → IsMade made self.old (beside_of works.old hands bytes self.old.job) contents len self.new (beside_of works.new hands bytes self.old.job)) }
+            → IsRoomMade made self.old (beside_of works.old hands bytes self.old.job) contents len self.new (beside_of works.new hands bytes self.old.job)) }
         ensures place { IfOk result (λ made. WaitsForPlace made self.old works.old len self.new works.new) }
-        ensures made { IfOk result (λ made. is_told made ≡ false → job ≡ record { 0 = self.old.job } → IsPlannedFor self.old works.old len) }
+        ensures made { IfOk result (λ made. tells_refusal made ≡ false → job ≡ record { 0 = self.old.job } → IsPlannedFor self.old works.old len) }
         ensures line { OnOk result (HasAsked works.old job works.new) }
-        ensures others { (other : JobNo) → same_job job other ≡ false → IsSameFor other works.old works.new }
-        ensures late { OnErr result (job ≡ record { 0 = self.old.job } → IsPlannedFor self.old works.old len) }
+        ensures others { (other : JobNo) → same_work_job job other ≡ false → IsSameFor other works.old works.new }
+        ensures memory_last { OnErr result (job ≡ record { 0 = self.old.job } → IsPlannedFor self.old works.old len) }
         ensures err { OnErr result (self.new ≡ self.old) }
         ensures works { OnErr result (works.new ≡ works.old) }
     {
@@ -169,12 +169,12 @@ impl JobRow {
         requires asks { (count : ℕ) → plan ≡ Ask count → room_for_lem works.old job count ≡ true }
         ensures ok { IfOk result (λ made. (hands : List Hand) (bytes : ObjectId → List ℕ) (contents : Contents) → job ≡ record { 0 = self.old.job } → IsShown self.old (beside_of works.old hands bytes self.old.job) contents
             → plan ≡ planned_by self.old.order (shape_of self.old (beside_of works.old hands bytes self.old.job)) len
-            → IsMade made self.old (beside_of works.old hands bytes self.old.job) contents len self.new (beside_of works.new hands bytes self.old.job)) }
+            → IsRoomMade made self.old (beside_of works.old hands bytes self.old.job) contents len self.new (beside_of works.new hands bytes self.old.job)) }
         ensures place { IfOk result (λ made. WaitsForPlace made self.old works.old len self.new works.new) }
-        ensures made { IfOk result (λ made. is_told made ≡ false → makes_place_lem plan ≡ true) }
+        ensures made { IfOk result (λ made. tells_refusal made ≡ false → makes_place_lem plan ≡ true) }
         ensures line { OnOk result (HasAsked works.old job works.new) }
-        ensures others { (other : JobNo) → same_job job other ≡ false → IsSameFor other works.old works.new }
-        ensures late { OnErr result (refuses plan ≡ false) }
+        ensures others { (other : JobNo) → same_work_job job other ≡ false → IsSameFor other works.old works.new }
+        ensures memory_last { OnErr result (refuses plan ≡ false) }
         ensures err { OnErr result (self.new ≡ self.old) }
         ensures works { OnErr result (works.new ≡ works.old) }
     {
@@ -209,9 +209,9 @@ impl JobRow {
     ) -> Result<MadeRoom, AllocError>
         requires { MayGo self.now.copies victims }
         ensures place { IfOk result (λ made. (line : WorkLine) → WaitsForPlace made self.now line len self.now line) }
-        ensures ok { IfOk result (λ made. (beside : Beside) (contents : Contents) → IsShown self.now beside contents
+        ensures ok { IfOk result (λ made. (beside : SharedTables) (contents : Contents) → IsShown self.now beside contents
             → MakesPlace (make_room self.now.order (shape_of self.now beside) len) (shape_of self.now beside) len victims
-            → IsMade made self.now beside contents len self.now beside) }
+            → IsRoomMade made self.now beside contents len self.now beside) }
     {
         let gone = extents_by_offset(alloc, self.copies(), victims.as_slice())?;
         let Some(offset) = self.window().fits_without(&gone, len) else {
@@ -224,7 +224,7 @@ impl JobRow {
         }))
     }
 
-    /// Asks for the job's writes of these copies, which is told `Pending`.
+    /// Asks for the job's writes of these copies, which is answered `Pending`.
     fn ask_writes(
         &mut self,
         alloc: Global,
@@ -235,10 +235,10 @@ impl JobRow {
         requires { room_for_lem works.old job (length ids.now) ≡ true }
         ensures ok { IfOk result (λ made. (hands : List Hand) (bytes : ObjectId → List ℕ) (contents : Contents) (n : ℕ) → job ≡ record { 0 = self.old.job } → IsShown self.old (beside_of works.old hands bytes self.old.job) contents
             → AsksWrites (make_room self.old.order (shape_of self.old (beside_of works.old hands bytes self.old.job)) n) (shape_of self.old (beside_of works.old hands bytes self.old.job)) ids.now
-            → IsMade made self.old (beside_of works.old hands bytes self.old.job) contents n self.new (beside_of works.new hands bytes self.old.job)) }
-        ensures told { IfOk result (λ made. is_told made ≡ true) }
+            → IsRoomMade made self.old (beside_of works.old hands bytes self.old.job) contents n self.new (beside_of works.new hands bytes self.old.job)) }
+        ensures told { IfOk result (λ made. tells_refusal made ≡ true) }
         ensures line { OnOk result (HasAsked works.old job works.new) }
-        ensures others { (other : JobNo) → same_job job other ≡ false → IsSameFor other works.old works.new }
+        ensures others { (other : JobNo) → same_work_job job other ≡ false → IsSameFor other works.old works.new }
         ensures err { OnErr result (self.new ≡ self.old) }
         ensures works { OnErr result (works.new ≡ works.old) }
     {

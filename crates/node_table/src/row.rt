@@ -4,23 +4,23 @@ ghost use Rattle.std.specs.Map.{set_value};
 ghost use Rattle.obj_id.specs.declared.works.Extent.{Extent};
 ghost use Rattle.obj_id.specs.declared.refusals.Refusal.{Refusal};
 ghost use Rattle.obj_id.specs.declared.refusals.Refusal.TheVariants.{BadSize, NoMemory};
-ghost use Rattle.private_store.specs.Limits.{is_window, most_works};
-ghost use Rattle.private_store.specs.Tables.{at, with_entry, is_among};
-ghost use Rattle.private_store.specs.Copies.{extent_of};
-ghost use Rattle.private_store.specs.Contents.{digest_of, overwritten};
-ghost use Rattle.job_region.specs.Region.{IsAt, bytes_at as placed_bytes, resize_check};
+ghost use Rattle.private_store.specs.rules.Limits.{is_window, most_works};
+ghost use Rattle.private_store.specs.rules.Tables.{at, with_entry, is_among};
+ghost use Rattle.private_store.specs.rules.Copies.{extent_of};
+ghost use Rattle.private_store.specs.rules.Contents.{digest_of, overwritten};
+ghost use Rattle.job_region.specs.Region.{IsAt, region_bytes_at as placed_bytes, region_resize_check};
 ghost use Rattle.lru_evictor.specs.Facts.{fits_without as is_room_without};
 ghost use Rattle.std.specs.Option.{option_map_or};
-ghost use Rattle.private_store.specs.Kept.{is_remembered};
+ghost use Rattle.private_store.specs.laws.Invariants.{is_remembered};
 ghost use Rattle.node_table.specs.Answering.{written_row, refilled, lost_row};
-ghost use Rattle.lru_evictor.specs.Orders.{last_used, ids_of};
-ghost use Rattle.node_table.specs.Followed.{AreFollowed, AreListed, facts_in};
-ghost use Rattle.private_store.specs.Shape.{Shape};
-ghost use Rattle.private_store.specs.Room.{plan as room_plan};
-ghost use Rattle.lru_evictor.specs.Plans.{IsDescribed, kind_of};
+ghost use Rattle.lru_evictor.specs.Orders.{last_used, order_ids};
+ghost use Rattle.node_table.specs.InSync.{InSync, AreListed, facts_in};
+ghost use Rattle.private_store.specs.rules.Shape.{Shape};
+ghost use Rattle.private_store.specs.rules.Room.{plan as room_plan};
+ghost use Rattle.lru_evictor.specs.Plans.{IsDescribed, plan_kind_of};
 ghost use Rattle.lru_evictor.specs.declared.facts.Plan.TheVariants as plan_kind;
 ghost use Rattle.node_table.specs.Entries.{changed, all_changed, each_changed};
-ghost use Rattle.node_table.specs.Kept.{Kept, released, left, spilling_if, fetched_kept, borrowed, new_kept, waits_for_place, placed_for, CanAwait};
+ghost use Rattle.node_table.specs.CopyViews.{CopyView, after_release, after_leave, spill_begun_if, fetched_copy_view, after_borrow, new_copy_view, waits_for_place, after_placing, CanAwait};
 ghost use Rattle.node_table.specs.Marks.{marked_by, CanTake, lies_still};
 ghost use Rattle.node_table.specs.declared.marks.Mark.TheVariants.{FetchFailed, Written, Restored, Lost};
 ghost use Rattle.node_table.specs.Checks.{release_check, borrow_check};
@@ -31,17 +31,17 @@ ghost use Rattle.node_table.specs.EndingTasks.{task_row};
 ghost use Rattle.node_table.specs.Dropping.{dropped, is_over_at, settled_row, keys_settled};
 ghost use Rattle.node_table.specs.Holding.{IsUnreadyAt, IsHoldRefusedAt, IsRowHeld};
 ghost use Rattle.node_table.specs.Evicting.{IsPlacement, IsReplaced};
-ghost use Rattle.node_table.specs.Arriving.{located, unfetched_row};
+ghost use Rattle.node_table.specs.Arriving.{after_located, unfetched_row};
 
 use crate::copies::Copies;
 use crate::copy::{AfterChange, Awaited, RowCopy, extent_of_any};
-use crate::following::{evict_for, follow_each};
 use crate::lent::{Lent, first_bytes, first_shared};
 use crate::marks::Mark;
 use crate::prepared::{Prepared, filling};
 use crate::room::Placement;
+use crate::syncing::{evict_for, sync_each};
 use bytes::Bytes;
-use extent_tree::Room;
+use extent_tree::SpareNode;
 use hashed_bytes::{Hashed, digest_by};
 use indexmap::IndexSet;
 use job_region::Window;
@@ -95,14 +95,14 @@ impl Drop for JobRow {
 
 impl Model for JobRow {
     ghost use Rattle.node_table.specs.Row.{Row, place_of, ArePlaced};
-    ghost use Rattle.node_table.specs.Followed.{AreFollowed};
-    ghost use Rattle.lru_evictor.specs.Orders.{ids_of};
+    ghost use Rattle.node_table.specs.InSync.{InSync};
+    ghost use Rattle.lru_evictor.specs.Orders.{order_ids};
 
     ghost Value = { Row };
 
-    ghost view = { λ r. record { job = r.job.0; window = r.window; device = r.device; copies = r.copies; order = ids_of r.order; fetches_begun = r.fetches_begun; spill_failed = r.spill_failed; ended_tasks = r.ended_tasks.keys } };
+    ghost view = { λ r. record { job = r.job.0; window = r.window; device = r.device; copies = r.copies; order = order_ids r.order; fetches_begun = r.fetches_begun; spill_failed = r.spill_failed; ended_tasks = r.ended_tasks.keys } };
 
-    ghost invariant = { λ r. ArePlaced r.window.placed (place_of r.copies) × AreFollowed r.copies r.order };
+    ghost invariant = { λ r. ArePlaced r.window.placed (place_of r.copies) × InSync r.copies r.order };
 }
 
 impl JobRow {
@@ -148,7 +148,7 @@ impl JobRow {
     /// The job may have so many bytes in its window and on the device. The error is out of memory, which a narrower window
     /// never is, and then nothing has changed.
     pub(crate) fn set_quota(&mut self, quota: Quota) -> Result<(), AllocError>
-        requires { resize_check self.old.window quota.window ≡ None }
+        requires { region_resize_check self.old.window quota.window ≡ None }
         ensures ok { OnOk result (self.new ≡ requoted self.old quota) }
         ensures memory { IsErr result → self.old.window.quota < quota.window }
         ensures err { OnErr result (self.new ≡ self.old) }
@@ -192,10 +192,10 @@ impl JobRow {
         self.device
     }
 
-    /// The order of use of its copies, with where each lies and the walks for room that choose it.
+    /// The order of use of its copies, with where each lies and the classes of victims that it is in.
     pub fn use_order(&self) -> &UseOrder
-        ensures ids { ids_of result.now ≡ self.now.order }
-        ensures standings { AreFollowed self.now.copies result.now }
+        ensures ids { order_ids result.now ≡ self.now.order }
+        ensures infos { InSync self.now.copies result.now }
         ensures placed { ArePlaced self.now.window.placed (place_of self.now.copies) }
     {
         &self.order
@@ -205,7 +205,7 @@ impl JobRow {
     /// memory, and changes nothing in the end.
     pub(crate) fn plan(&mut self, len: u32, device: DeviceRoom) -> Plan
         ensures plan { (store : Shape) → AreListed self.old.copies self.old.order → IsDescribed store self.old.window device (facts_in self.old.copies)
-            → result ≡ kind_of (room_plan self.old.order store len) }
+            → result ≡ plan_kind_of (room_plan self.old.order store len) }
         ensures room { result ≡ plan_kind.Fits → is_room_without self.old.window (facts_in self.old.copies) len [] ≡ true }
         ensures left { (k : ℕ) → result ≡ plan_kind.Spill k → k + device.works ≤ most_works }
         ensures same { self.new ≡ self.old }
@@ -223,7 +223,7 @@ impl JobRow {
 
     /// The bytes of a copy, lent without a copy; none if it isn't resident.
     pub(crate) fn bytes(&self, id: &ObjectId) -> &[u8]
-        ensures { (k : Kept) (e : Extent) → at self.now.copies id.now ≡ Some k → extent_of k.copy ≡ Some e
+        ensures { (k : CopyView) (e : Extent) → at self.now.copies id.now ≡ Some k → extent_of k.copy ≡ Some e
             → result.now ≡ take k.copy.length (placed_bytes e self.now.window.placed) }
     {
         let Some(copy) = self.copies.get(id) else {
@@ -237,7 +237,7 @@ impl JobRow {
 
     /// The same, with what shares them, if they can be shared.
     pub(crate) fn lent(&self, id: &ObjectId) -> Lent<'_>
-        ensures bytes { (k : Kept) (e : Extent) → at self.now.copies id.now ≡ Some k → extent_of k.copy ≡ Some e
+        ensures bytes { (k : CopyView) (e : Extent) → at self.now.copies id.now ≡ Some k → extent_of k.copy ≡ Some e
             → result.bytes.now ≡ take k.copy.length (placed_bytes e self.now.window.placed) }
         ensures same { IfSome result.shared (λ shared. shared ≡ result.bytes.now) }
     {
@@ -331,14 +331,14 @@ impl JobRow {
     /// no memory.
     pub(crate) fn apply(&mut self, id: &ObjectId, mark: Mark) -> AfterChange
         requires lies { lies_still mark ≡ true }
-        requires can { (k : Kept) → at self.old.copies id.now ≡ Some k → CanTake mark k }
+        requires can { (k : CopyView) → at self.old.copies id.now ≡ Some k → CanTake mark k }
         ensures row { self.new ≡ with_copy (marked_by mark) self.old id.now }
-        ensures place { result.standing.extent ≡ place_of self.new.copies id.now }
+        ensures place { result.eviction_info.extent ≡ place_of self.new.copies id.now }
         ensures over { result.over ≡ is_over_at self.new.copies id.now }
         ensures placed { ArePlaced self.new.window.placed (place_of self.new.copies) }
     {
         let after = self.copies.apply(id, mark);
-        self.order.choose(id, after.standing);
+        self.order.set_info(id, after.eviction_info);
         after
     }
 
@@ -355,7 +355,7 @@ impl JobRow {
         let Some(held) = self.copies.hold(id, session)? else {
             return Ok(None);
         };
-        self.order.touch(*id, held.standing);
+        self.order.touch(*id, held.eviction_info);
         Ok(Some(held.length))
     }
 
@@ -422,7 +422,7 @@ impl JobRow {
     {
         self.ended_tasks.insert(task)?;
         self.copies.end_hands(task);
-        self.copies.follow_all(&mut self.order);
+        self.copies.sync_all(&mut self.order);
         Ok(())
     }
 
@@ -435,7 +435,7 @@ impl JobRow {
         number: u64,
     ) -> Result<(), AllocError>
         requires { at self.old.copies id.now ≡ None }
-        ensures ok { OnOk result (self.new ≡ record self.old { copies = with_entry self.old.copies id.now (fetched_kept number); order = last_used id.now self.old.order; fetches_begun = number }) }
+        ensures ok { OnOk result (self.new ≡ record self.old { copies = with_entry self.old.copies id.now (fetched_copy_view number); order = last_used id.now self.old.order; fetches_begun = number }) }
         ensures err { OnErr result (self.new ≡ self.old) }
     {
         self.copies.insert(*id, RowCopy::fetching(alloc, number))?;
@@ -462,11 +462,11 @@ impl JobRow {
         requires stays { is_among placement.now.victims id.now ≡ false }
         requires place { IsPlacement self.old len placement.now }
         ensures placed { OnOk result (ArePlaced self.old.window.placed (place_of self.old.copies)) }
-        ensures ok { IfOk result (λ e. is_among self.old.order id.now ≡ false → IsReplaced self.old (Some id.now) id.now (new_kept kind len) len placement.now.victims e self.new) }
+        ensures ok { IfOk result (λ e. is_among self.old.order id.now ≡ false → IsReplaced self.old (Some id.now) id.now (new_copy_view kind len) len placement.now.victims e self.new) }
         ensures small { IfOk result (λ e. e.offset + e.length < 2 ^ 32) }
         ensures err { OnErr result (self.new ≡ self.old) }
     {
-        let room = Room::new(alloc)?;
+        let room = SpareNode::new(alloc)?;
         let copy = RowCopy::created(alloc, kind, len, placement.offset);
         self.copies.insert(*id, copy)?;
         // it lies nowhere, as far as the order knows, until the victims have gone
@@ -507,12 +507,12 @@ impl JobRow {
         requires stays { is_among placement.now.victims id.now ≡ false }
         requires place { IsPlacement self.old len placement.now }
         requires waits { option_map_or (waits_for_place len) (at self.old.copies id.now) false ≡ true }
-        requires awaits { (k : Kept) → at self.old.copies id.now ≡ Some k → CanAwait awaited k }
+        requires awaits { (k : CopyView) → at self.old.copies id.now ≡ Some k → CanAwait awaited k }
         ensures placed { OnOk result (ArePlaced self.old.window.placed (place_of self.old.copies)) }
-        ensures ok { IfOk result (λ e. (k : Kept) → at self.old.copies id.now ≡ Some k → IsReplaced self.old None id.now (λ offset. placed_for awaited offset k) len placement.now.victims e self.new) }
+        ensures ok { IfOk result (λ e. (k : CopyView) → at self.old.copies id.now ≡ Some k → IsReplaced self.old None id.now (λ offset. after_placing awaited offset k) len placement.now.victims e self.new) }
         ensures err { OnErr result (self.new ≡ self.old) }
     {
-        let room = Room::new(alloc)?;
+        let room = SpareNode::new(alloc)?;
         let extent = self
             .window
             .replace(alloc, &placement.gone, len, placement.offset)?;
@@ -532,36 +532,36 @@ impl JobRow {
         number: u64,
         entries: &[Location],
     )
-        ensures { self.new ≡ with_copy (located node number entries.now) self.old id.now }
+        ensures { self.new ≡ with_copy (after_located node number entries.now) self.old id.now }
     {
         let after = self.copies.locate(id, node, number, entries);
-        self.order.choose(id, after.standing);
+        self.order.set_info(id, after.eviction_info);
     }
 
-    /// The fetch of the copy is over without it: its place is free, and the next Get is told why. Takes no memory.
+    /// The fetch of the copy is over without it: its place is free, and the next Get answers why. Takes no memory.
     pub(crate) fn fail_fetch(&mut self, id: &ObjectId, fault: FetchFault)
-        requires { (k : Kept) → at self.old.copies id.now ≡ Some k → CanTake (FetchFailed fault) k }
+        requires { (k : CopyView) → at self.old.copies id.now ≡ Some k → CanTake (FetchFailed fault) k }
         ensures row { self.new ≡ unfetched_row fault self.old id.now }
         ensures placed { ArePlaced self.old.window.placed (place_of self.old.copies) }
     {
         let gone = self.place(id);
         self.window.give_back_all(gone.as_slice());
         let after = self.copies.apply(id, Mark::FetchFailed(fault));
-        self.order.choose(id, after.standing);
+        self.order.set_info(id, after.eviction_info);
     }
 
     /// Writes of these copies are in flight, if they can be. Takes no memory.
     pub(crate) fn spill_copies(&mut self, ids: &[ObjectId])
-        ensures { self.new ≡ record self.old { copies = each_changed spilling_if self.old.copies ids.now } }
+        ensures { self.new ≡ record self.old { copies = each_changed spill_begun_if self.old.copies ids.now } }
     {
         self.copies.begin_spills(ids);
-        follow_each(&mut self.order, &self.copies, ids);
+        sync_each(&mut self.order, &self.copies, ids);
     }
 
     /// The write of the copy under this number ended: its bytes are on the device; or it failed, and the next one that
-    /// waits for room by spilling is told so. Takes no memory.
+    /// waits for room by spilling answers so. Takes no memory.
     pub(crate) fn end_spill(&mut self, id: &ObjectId, number: u64, failed: bool)
-        requires { (k : Kept) → at self.old.copies id.now ≡ Some k → CanTake (Written number failed) k }
+        requires { (k : CopyView) → at self.old.copies id.now ≡ Some k → CanTake (Written number failed) k }
         ensures { self.new ≡ written_row number failed self.old id.now }
     {
         self.spill_failed = failed || self.spill_failed;
@@ -571,7 +571,7 @@ impl JobRow {
     /// The read of the copy ended, and brought these bytes: it is sealed again, with the bytes in its place. Takes no
     /// memory.
     pub(crate) fn end_restore(&mut self, id: &ObjectId, bytes: &Bytes)
-        requires { (k : Kept) → at self.old.copies id.now ≡ Some k → CanTake Restored k }
+        requires { (k : CopyView) → at self.old.copies id.now ≡ Some k → CanTake Restored k }
         ensures { (e : Extent) → place_of self.old.copies id.now ≡ Some e → length bytes.now ≤ e.length → self.new ≡ refilled e bytes.now self.old id.now }
     {
         self.put_all_bytes(id, bytes);
@@ -581,19 +581,19 @@ impl JobRow {
     /// The read of the copy ended without its bytes: it is away again with this fault, and its place is free. Takes no
     /// memory.
     pub(crate) fn lose(&mut self, id: &ObjectId, fault: Fault)
-        requires { (k : Kept) → at self.old.copies id.now ≡ Some k → CanTake (Lost fault) k }
+        requires { (k : CopyView) → at self.old.copies id.now ≡ Some k → CanTake (Lost fault) k }
         ensures { self.new ≡ lost_row fault self.old id.now }
     {
         let gone = self.place(id);
         self.window.give_back_all(gone.as_slice());
         let after = self.copies.apply(id, Mark::Lost(fault));
-        self.order.choose(id, after.standing);
+        self.order.set_info(id, after.eviction_info);
     }
 
     /// One hold of the session on the copy less, and whether nothing keeps the copy any more. `Absent`, `NotHeld` if it has
     /// none; a refusal changes nothing. Looks the copy up once, and takes no memory.
     pub(crate) fn release_copy(&mut self, id: &ObjectId, session: u32) -> Result<bool, Refusal>
-        ensures ok { OnOk result (self.new ≡ record self.old { copies = changed (released session) self.old.copies id.now }) }
+        ensures ok { OnOk result (self.new ≡ record self.old { copies = changed (after_release session) self.old.copies id.now }) }
         ensures over { IfOk result (λ over. over ≡ is_over_at self.new.copies id.now) }
         ensures placed { ArePlaced self.new.window.placed (place_of self.new.copies) }
         ensures passed { IsOk result → release_check self.old.copies session id.now ≡ None }
@@ -601,7 +601,7 @@ impl JobRow {
         ensures err { OnErr result (self.new ≡ self.old) }
     {
         let released = self.copies.release(id, session)?;
-        self.order.choose(id, released.standing);
+        self.order.set_info(id, released.eviction_info);
         Ok(released.over)
     }
 
@@ -637,23 +637,23 @@ impl JobRow {
     /// The task borrows the copy, as the last one. `Absent`, also if it is doomed, `NotOwner`, `Exists`, `TooMany`,
     /// `NoMemory` last; a refusal changes nothing.
     pub(crate) fn borrow_copy(&mut self, id: &ObjectId, task: TaskNo) -> Result<(), Refusal>
-        ensures ok { OnOk result (self.new ≡ with_copy (borrowed task) self.old id.now) }
+        ensures ok { OnOk result (self.new ≡ with_copy (after_borrow task) self.old id.now) }
         ensures passed { IsOk result → borrow_check self.old.copies id.now task ≡ None }
         ensures refused { (r : Refusal) → r ≢ NoMemory → IsErrOf result r → borrow_check self.old.copies id.now task ≡ Some r }
         ensures memory { IsErrOf result NoMemory → borrow_check self.old.copies id.now task ≡ None }
         ensures err { OnErr result (self.new ≡ self.old) }
     {
         let after = self.copies.borrow(id, task)?;
-        self.order.choose(id, after.standing);
+        self.order.set_info(id, after.eviction_info);
         Ok(())
     }
 
     /// No hold of the session on any copy. Takes no memory.
     pub(crate) fn leave_copies(&mut self, session: u32)
-        ensures { self.new ≡ record self.old { copies = all_changed (left session) self.old.copies } }
+        ensures { self.new ≡ record self.old { copies = all_changed (after_leave session) self.old.copies } }
     {
         self.copies.leave_all(session);
-        self.copies.follow_all(&mut self.order);
+        self.copies.sync_all(&mut self.order);
     }
 
     /// Writes bytes into a resident copy from the offset on.

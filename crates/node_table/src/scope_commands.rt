@@ -3,18 +3,18 @@ ghost use Rattle.std.specs.Prelude.{◌≡◌, ◌==◌, ◌||◌, ℕ, ◌≤�
 ghost use Rattle.obj_id.specs.declared.commands.Command.TheVariants as command;
 ghost use Rattle.obj_id.specs.declared.commands.Reply.TheVariants as reply;
 ghost use Rattle.private_store.specs.declared.inputs.Input.TheVariants as input;
-ghost use Rattle.private_store.specs.Contents.{Contents};
-ghost use Rattle.private_store.specs.Kept.{is_remembered};
+ghost use Rattle.private_store.specs.rules.Contents.{Contents};
+ghost use Rattle.private_store.specs.laws.Invariants.{is_remembered};
 ghost use Rattle.node_table.specs.Checks.{unpin_check as unpin_check_lem, row_borrow_check, give_up_check as give_up_check_lem, delete_check as delete_check_lem};
 ghost use Rattle.node_table.specs.Dropping.{is_over_at, settled_row, keys_settled};
-ghost use Rattle.node_table.specs.Outcomes.{given_of};
-ghost use Rattle.node_table.specs.Row.{Beside, place_of, ArePlaced};
-ghost use Rattle.node_table.specs.Shown.{IsShown, TakesStep};
+ghost use Rattle.node_table.specs.Outcomes.{row_given_of};
+ghost use Rattle.node_table.specs.Row.{SharedTables, place_of, ArePlaced};
+ghost use Rattle.node_table.specs.Shown.{IsShown, RowStep};
 
 use crate::marks::Mark;
-use crate::outcome::{Erase, Outcome};
+use crate::outcome::{Erase, RowOutcome};
 use crate::row::JobRow;
-use obj_id::{Items, Message, ObjectId, Place, Refusal, Reply, TaskNo};
+use obj_id::{Endpoint, Items, Message, ObjectId, Refusal, Reply, TaskNo};
 use std::alloc::{AllocError, Global};
 
 impl JobRow {
@@ -28,18 +28,18 @@ impl JobRow {
         session: u32,
         id: &ObjectId,
         task: TaskNo,
-    ) -> Result<Outcome, AllocError>
-        ensures ok { IfOk result (λ o. (beside : Beside) (contents : Contents) → (id.now.job.0 == self.old.job) ≡ true → IsShown self.old beside contents
-            → TakesStep node self.old beside contents (input.Call session (command.Unpin id.now task)) (given_of o) self.new beside) }
-        ensures few { IfOk result (λ o. length o.messages ≤ 1) }
-        ensures late { OnErr result (unpin_check_lem self.old.copies id.now task ≡ None) }
+    ) -> Result<RowOutcome, AllocError>
+        ensures ok { IfOk result (λ o. (beside : SharedTables) (contents : Contents) → (id.now.job.0 == self.old.job) ≡ true → IsShown self.old beside contents
+            → RowStep node self.old beside contents (input.Call session (command.Unpin id.now task)) (row_given_of o) self.new beside) }
+        ensures bounded { IfOk result (λ o. length o.messages ≤ 1) }
+        ensures memory_last { OnErr result (unpin_check_lem self.old.copies id.now task ≡ None) }
         ensures err { OnErr result (self.new ≡ self.old) }
     {
         let message = match self.copies().unpin_farewell(node, id, task) {
-            Err(refusal) => return Ok(Outcome::only(alloc, Reply::Refused(refusal))),
+            Err(refusal) => return Ok(RowOutcome::only(alloc, Reply::Refused(refusal))),
             Ok(message) => message,
         };
-        let messages = Outcome::to_directory(alloc, message)?;
+        let messages = RowOutcome::to_directory(alloc, message)?;
         let after = self.apply(id, Mark::Unpinned);
         Ok(self.settle_after(id, after.over, messages))
     }
@@ -53,20 +53,20 @@ impl JobRow {
         session: u32,
         id: &ObjectId,
         task: TaskNo,
-    ) -> Result<Outcome, AllocError>
-        ensures ok { IfOk result (λ o. (node : ℕ) (beside : Beside) (contents : Contents) → (id.now.job.0 == self.old.job) ≡ true → IsShown self.old beside contents
-            → TakesStep node self.old beside contents (input.Call session (command.Borrow id.now task)) (given_of o) self.new beside) }
+    ) -> Result<RowOutcome, AllocError>
+        ensures ok { IfOk result (λ o. (node : ℕ) (beside : SharedTables) (contents : Contents) → (id.now.job.0 == self.old.job) ≡ true → IsShown self.old beside contents
+            → RowStep node self.old beside contents (input.Call session (command.Borrow id.now task)) (row_given_of o) self.new beside) }
         ensures silent { IfOk result (λ o. o.messages ≡ []) }
-        ensures late { OnErr result (row_borrow_check self.old id.now task ≡ None) }
+        ensures memory_last { OnErr result (row_borrow_check self.old id.now task ≡ None) }
         ensures err { OnErr result (self.new ≡ self.old) }
     {
         if self.has_either_ended(id.task(), task) {
-            return Ok(Outcome::only(alloc, Reply::Refused(Refusal::Gone)));
+            return Ok(RowOutcome::only(alloc, Reply::Refused(Refusal::Gone)));
         }
         match self.borrow_copy(id, task) {
-            Ok(()) => Ok(Outcome::only(alloc, Reply::Ok)),
+            Ok(()) => Ok(RowOutcome::only(alloc, Reply::Ok)),
             Err(refusal) if refusal == Refusal::NoMemory => Err(AllocError),
-            Err(refusal) => Ok(Outcome::only(alloc, Reply::Refused(refusal))),
+            Err(refusal) => Ok(RowOutcome::only(alloc, Reply::Refused(refusal))),
         }
     }
 
@@ -80,18 +80,18 @@ impl JobRow {
         session: u32,
         id: &ObjectId,
         task: TaskNo,
-    ) -> Result<Outcome, AllocError>
-        ensures ok { IfOk result (λ o. (beside : Beside) (contents : Contents) → (id.now.job.0 == self.old.job) ≡ true → IsShown self.old beside contents
-            → TakesStep node self.old beside contents (input.Call session (command.GiveUp id.now task)) (given_of o) self.new beside) }
-        ensures few { IfOk result (λ o. length o.messages ≤ 1) }
-        ensures late { OnErr result (give_up_check_lem self.old.copies id.now task ≡ None) }
+    ) -> Result<RowOutcome, AllocError>
+        ensures ok { IfOk result (λ o. (beside : SharedTables) (contents : Contents) → (id.now.job.0 == self.old.job) ≡ true → IsShown self.old beside contents
+            → RowStep node self.old beside contents (input.Call session (command.GiveUp id.now task)) (row_given_of o) self.new beside) }
+        ensures bounded { IfOk result (λ o. length o.messages ≤ 1) }
+        ensures memory_last { OnErr result (give_up_check_lem self.old.copies id.now task ≡ None) }
         ensures err { OnErr result (self.new ≡ self.old) }
     {
         let message = match self.copies().give_up_farewell(node, id, task) {
-            Err(refusal) => return Ok(Outcome::only(alloc, Reply::Refused(refusal))),
+            Err(refusal) => return Ok(RowOutcome::only(alloc, Reply::Refused(refusal))),
             Ok(message) => message,
         };
-        let messages = Outcome::to_directory(alloc, message)?;
+        let messages = RowOutcome::to_directory(alloc, message)?;
         let after = self.apply(id, Mark::GivenUp(task));
         Ok(self.settle_after(id, after.over, messages))
     }
@@ -104,18 +104,18 @@ impl JobRow {
         node: u32,
         session: u32,
         id: &ObjectId,
-    ) -> Result<Outcome, AllocError>
-        ensures ok { IfOk result (λ o. (beside : Beside) (contents : Contents) → (id.now.job.0 == self.old.job) ≡ true → IsShown self.old beside contents
-            → TakesStep node self.old beside contents (input.Call session (command.Delete id.now)) (given_of o) self.new beside) }
-        ensures few { IfOk result (λ o. length o.messages ≤ 1) }
-        ensures late { OnErr result (delete_check_lem self.old.copies id.now ≡ None) }
+    ) -> Result<RowOutcome, AllocError>
+        ensures ok { IfOk result (λ o. (beside : SharedTables) (contents : Contents) → (id.now.job.0 == self.old.job) ≡ true → IsShown self.old beside contents
+            → RowStep node self.old beside contents (input.Call session (command.Delete id.now)) (row_given_of o) self.new beside) }
+        ensures bounded { IfOk result (λ o. length o.messages ≤ 1) }
+        ensures memory_last { OnErr result (delete_check_lem self.old.copies id.now ≡ None) }
         ensures err { OnErr result (self.new ≡ self.old) }
     {
         let message = match self.copies().delete_farewell(node, id) {
-            Err(refusal) => return Ok(Outcome::only(alloc, Reply::Refused(refusal))),
+            Err(refusal) => return Ok(RowOutcome::only(alloc, Reply::Refused(refusal))),
             Ok(message) => message,
         };
-        let messages = Outcome::to_directory(alloc, message)?;
+        let messages = RowOutcome::to_directory(alloc, message)?;
         let after = self.apply(id, Mark::Doomed);
         Ok(self.settle_after(id, after.over, messages))
     }
@@ -132,14 +132,14 @@ impl JobRow {
         &mut self,
         id: &ObjectId,
         over: bool,
-        messages: Items<(Place, Message)>,
-    ) -> Outcome
+        messages: Items<(Endpoint, Message)>,
+    ) -> RowOutcome
         requires { over ≡ is_over_at self.old.copies id.now }
         ensures row { self.new ≡ settled_row self.old id.now }
-        ensures given { given_of result ≡ record { reply = reply.Ok; posts = messages; erased = keys_settled self.old id.now } }
+        ensures given { row_given_of result ≡ record { reply = reply.Ok; posts = messages; erased = keys_settled self.old id.now } }
         ensures placed { ArePlaced self.old.window.placed (place_of self.old.copies) }
     {
-        Outcome {
+        RowOutcome {
             reply: Reply::Ok,
             messages,
             erase: Erase::of(self.settle(id, over)),

@@ -9,28 +9,28 @@ ghost use Rattle.obj_id.specs.declared.messages.Digest.{Digest};
 ghost use Rattle.obj_id.specs.declared.messages.PeerMessage.TheVariants as peer;
 ghost use Rattle.obj_id.specs.declared.works.Extent.{Extent};
 ghost use Rattle.private_store.specs.declared.inputs.Input.TheVariants as input;
-ghost use Rattle.private_store.specs.Tables.{at};
-ghost use Rattle.private_store.specs.Contents.{Contents, pull_matches};
-ghost use Rattle.private_store.specs.Copies.{extent_of};
-ghost use Rattle.private_store.specs.Hands.{Hand};
-ghost use Rattle.private_store.specs.Private.{to_peer};
-ghost use Rattle.job_region.specs.Region.{bytes_at as placed_bytes};
-ghost use Rattle.spill_work.specs.Line.{same_job, IsSameFor};
+ghost use Rattle.private_store.specs.rules.Tables.{at};
+ghost use Rattle.private_store.specs.rules.Contents.{Contents, pull_matches};
+ghost use Rattle.private_store.specs.rules.Copies.{extent_of};
+ghost use Rattle.private_store.specs.rules.Hands.{Hand};
+ghost use Rattle.private_store.specs.rules.Private.{to_peer};
+ghost use Rattle.job_region.specs.Region.{region_bytes_at as placed_bytes};
+ghost use Rattle.spill_work.specs.Line.{same_work_job, IsSameFor};
 ghost use Rattle.node_table.specs.Asked.{HasAsked};
 ghost use Rattle.node_table.specs.Checks.{fault_at, visible_state};
-ghost use Rattle.node_table.specs.Kept.{Kept};
-ghost use Rattle.node_table.specs.Outcomes.{given_of};
-ghost use Rattle.node_table.specs.Row.{Beside, beside_of};
-ghost use Rattle.node_table.specs.Serving.{was_sealed_with, pull_answer as pull_answer_lem, chunks_to};
-ghost use Rattle.node_table.specs.Shown.{seen, IsShown, TakesStep};
+ghost use Rattle.node_table.specs.CopyViews.{CopyView};
+ghost use Rattle.node_table.specs.Outcomes.{row_given_of};
+ghost use Rattle.node_table.specs.Row.{SharedTables, beside_of};
+ghost use Rattle.node_table.specs.Serving.{was_sealed_with, row_pull_answer as pull_answer_lem, chunks_to};
+ghost use Rattle.node_table.specs.Shown.{seen, IsShown, RowStep};
 ghost use Rattle.node_table.specs.declared.serve_pull.PullAnswer.TheVariants as pull;
 
 use crate::copies::Copies;
 use crate::copy::RowCopy;
-use crate::outcome::{Erase, Outcome};
+use crate::outcome::{Erase, RowOutcome};
 use crate::row::JobRow;
 use fetch_core::chunks_asked;
-use obj_id::{CopyState, Digest, Items, Message, ObjectId, PeerMessage, Place, Reply};
+use obj_id::{CopyState, Digest, Endpoint, Items, Message, ObjectId, PeerMessage, Reply};
 use spill_work::Works;
 use std::alloc::{AllocError, Global};
 
@@ -90,7 +90,7 @@ impl JobRow {
     /// Whether a copy here was sealed with this length and digest, as a Pull asks for it, doomed or faulty as it may be. Takes
     /// no memory.
     pub fn pull_matches(&self, id: &ObjectId, length: u32, digest: &Digest) -> bool
-        ensures { (beside : Beside) (contents : Contents) → IsShown self.now beside contents → result ≡ pull_matches (seen self.now beside contents) id.now length digest.now }
+        ensures { (beside : SharedTables) (contents : Contents) → IsShown self.now beside contents → result ≡ pull_matches (seen self.now beside contents) id.now length digest.now }
     {
         self.copies().has_sealed(id, length, digest)
     }
@@ -98,7 +98,7 @@ impl JobRow {
     /// A Pull: a node asks, for its fetch of this number, for chunks of the object of this length and digest. The chunks
     /// that there are of those asked for are sent to it, in the order asked. `NotHere` is sent if no copy is shown that
     /// was sealed with that length and digest, or if it is away with a fault; nothing, while it is being read back. A
-    /// copy that is away without a fault is read back as by Get, but nobody is told of a spill that failed.
+    /// copy that is away without a fault is read back as by Get, but no answer says that a spill failed.
     ///
     /// The reply is Ok. The error is out of memory, and then nothing has changed. The works that it asks for come last in
     /// the line. It sends at most as many messages as the job has copies and indexes are asked for, and one.
@@ -113,13 +113,13 @@ impl JobRow {
         len: u32,
         digest: &Digest,
         indexes: &[u32],
-    ) -> Result<Outcome, AllocError>
+    ) -> Result<RowOutcome, AllocError>
         ensures ok { IfOk result (λ o. (hands : List Hand) (bytes : ObjectId → List ℕ) (contents : Contents) → IsShown self.old (beside_of works.old hands bytes self.old.job) contents
-            → TakesStep node self.old (beside_of works.old hands bytes self.old.job) contents (input.Arrive (arrival.FromPeer from (peer.Pull id.now number len digest.now indexes.now))) (given_of o) self.new (beside_of works.new hands bytes self.old.job)) }
+            → RowStep node self.old (beside_of works.old hands bytes self.old.job) contents (input.Arrive (arrival.FromPeer from (peer.Pull id.now number len digest.now indexes.now))) (row_given_of o) self.new (beside_of works.new hands bytes self.old.job)) }
         ensures told { IfOk result (λ o. o.reply ≡ reply.Ok) }
-        ensures few { IfOk result (λ o. length o.messages ≤ length self.old.copies + length indexes.now + 1) }
+        ensures bounded { IfOk result (λ o. length o.messages ≤ length self.old.copies + length indexes.now + 1) }
         ensures line { OnOk result (HasAsked works.old (record { 0 = self.old.job }) works.new) }
-        ensures others { (other : JobNo) → same_job (record { 0 = self.old.job }) other ≡ false → IsSameFor other works.old works.new }
+        ensures others { (other : JobNo) → same_work_job (record { 0 = self.old.job }) other ≡ false → IsSameFor other works.old works.new }
         ensures err { OnErr result (self.new ≡ self.old) }
         ensures works { OnErr result (works.new ≡ works.old) }
     {
@@ -128,7 +128,7 @@ impl JobRow {
             PullAnswer::Chunks => Ok(answered(self.chunk_messages(
                 alloc, from, id, number, indexes,
             )?)),
-            PullAnswer::Nothing => Ok(Outcome::only(alloc, Reply::Ok)),
+            PullAnswer::Nothing => Ok(RowOutcome::only(alloc, Reply::Ok)),
             PullAnswer::Restore => self.restore_quietly(alloc, node, works, id),
         }
     }
@@ -141,10 +141,10 @@ impl JobRow {
         id: &ObjectId,
         number: u64,
         indexes: &[u32],
-    ) -> Result<Items<(Place, Message)>, AllocError>
-        ensures ok { IfOk result (λ messages. (k : Kept) (e : Extent) → at self.now.copies id.now ≡ Some k → extent_of k.copy ≡ Some e
+    ) -> Result<Items<(Endpoint, Message)>, AllocError>
+        ensures ok { IfOk result (λ messages. (k : CopyView) (e : Extent) → at self.now.copies id.now ≡ Some k → extent_of k.copy ≡ Some e
             → messages ≡ chunks_to (take k.copy.length (placed_bytes e self.now.window.placed)) from id.now number indexes.now) }
-        ensures few { IfOk result (λ messages. length messages ≤ length indexes.now) }
+        ensures bounded { IfOk result (λ messages. length messages ≤ length indexes.now) }
     {
         let bytes = self.lent(id).whole(alloc)?;
         let chunks = chunks_asked(alloc, &bytes, *id, number, indexes)?;
@@ -159,16 +159,16 @@ impl JobRow {
         node: u32,
         works: &mut Works,
         id: &ObjectId,
-    ) -> Result<Outcome, AllocError>
+    ) -> Result<RowOutcome, AllocError>
         requires visible { visible_state (at self.old.copies id.now) ≡ Ok (Some Away) }
         requires sound { fault_at self.old.copies id.now ≡ None }
         ensures ok { IfOk result (λ o. (from number n : ℕ) (digest : Digest) (indexes : List ℕ) (hands : List Hand) (bytes : ObjectId → List ℕ) (contents : Contents)
             → pull_answer_lem n digest (at self.old.copies id.now) ≡ pull.Restore → IsShown self.old (beside_of works.old hands bytes self.old.job) contents
-            → TakesStep node self.old (beside_of works.old hands bytes self.old.job) contents (input.Arrive (arrival.FromPeer from (peer.Pull id.now number n digest indexes))) (given_of o) self.new (beside_of works.new hands bytes self.old.job)) }
+            → RowStep node self.old (beside_of works.old hands bytes self.old.job) contents (input.Arrive (arrival.FromPeer from (peer.Pull id.now number n digest indexes))) (row_given_of o) self.new (beside_of works.new hands bytes self.old.job)) }
         ensures told { IfOk result (λ o. o.reply ≡ reply.Ok) }
-        ensures few { IfOk result (λ o. length o.messages ≤ length self.old.copies + 1) }
+        ensures bounded { IfOk result (λ o. length o.messages ≤ length self.old.copies + 1) }
         ensures line { OnOk result (HasAsked works.old (record { 0 = self.old.job }) works.new) }
-        ensures others { (other : JobNo) → same_job (record { 0 = self.old.job }) other ≡ false → IsSameFor other works.old works.new }
+        ensures others { (other : JobNo) → same_work_job (record { 0 = self.old.job }) other ≡ false → IsSameFor other works.old works.new }
         ensures err { OnErr result (self.new ≡ self.old) }
         ensures works { OnErr result (works.new ≡ works.old) }
     {
@@ -181,10 +181,10 @@ impl JobRow {
 }
 
 /// Ok, and these messages.
-fn answered(messages: Items<(Place, Message)>) -> Outcome
-    ensures { given_of result ≡ record { reply = reply.Ok; posts = messages; erased = [] } }
+fn answered(messages: Items<(Endpoint, Message)>) -> RowOutcome
+    ensures { row_given_of result ≡ record { reply = reply.Ok; posts = messages; erased = [] } }
 {
-    Outcome {
+    RowOutcome {
         reply: Reply::Ok,
         messages,
         erase: Erase::NoKey,
@@ -197,11 +197,11 @@ fn tell_not_here(
     from: u32,
     id: &ObjectId,
     number: u64,
-) -> Result<Items<(Place, Message)>, AllocError>
+) -> Result<Items<(Endpoint, Message)>, AllocError>
     ensures { IfOk result (λ messages. messages ≡ to_peer from (peer.NotHere id.now number) ∷ []) }
 {
     let message = Message::ToPeer(PeerMessage::NotHere(*id, number));
-    Outcome::one_message(alloc, Place::Node(from), message)
+    RowOutcome::one_message(alloc, Endpoint::Node(from), message)
 }
 
 /// The messages, each to the node.
@@ -209,12 +209,12 @@ fn all_to_peer(
     alloc: Global,
     node: u32,
     messages: Vec<PeerMessage>,
-) -> Result<Items<(Place, Message)>, AllocError>
+) -> Result<Items<(Endpoint, Message)>, AllocError>
     ensures { IfOk result (λ posts. posts ≡ map (to_peer node) messages.items) }
 {
     let mut posts = Vec::with_capacity(alloc, messages.len())?;
     for message in messages {
-        posts.push((Place::Node(node), Message::ToPeer(message)))?;
+        posts.push((Endpoint::Node(node), Message::ToPeer(message)))?;
     }
     Ok(Items::from_vec(posts))
 }

@@ -3,7 +3,7 @@ ghost use Rattle.std.specs.Prelude.{◌≡◌, true};
 
 use crate::lines::event_of;
 use assertions::{holds, same};
-use node_core::{Node, Outcome};
+use node_core::{Node, NodeOutcome};
 use obj_id::{JobKey, JobNo, ObjectId, Quota, Refusal, Reply, TaskNo, Usage};
 use private_store::Event;
 use std::alloc::{AllocError, Global};
@@ -23,7 +23,7 @@ pub(crate) fn taken(
     rt: &impl Abort,
     node: &mut Node,
     event: &Event,
-) -> Result<Outcome, AllocError> {
+) -> Result<NodeOutcome, AllocError> {
     let before = usages(node);
     match node.apply(event) {
         Ok(outcome) => Ok(outcome),

@@ -3,7 +3,7 @@ use crate::calls::taken;
 use crate::lines::event_of;
 use assertions::same;
 use bytes::Bytes;
-use node_core::{Node, Outcome};
+use node_core::{Node, NodeOutcome};
 use obj_id::{Command, JobNo, Reply};
 use private_store::{Event, Judged, WorkVerdict};
 use std::alloc::{AllocError, Global};
@@ -60,7 +60,7 @@ fn reply_word(reply: &Reply<Bytes>) -> &'static str {
 
 /// How many messages were foreseen at most, how many were sent, the word of the reply, the word of what the event was to
 /// its job, and what it counts: bytes of the window, the copy, or what is written or read.
-fn described(alloc: Global, most: usize, outcome: &Outcome) -> Result<String, AllocError> {
+fn described(alloc: Global, most: usize, outcome: &NodeOutcome) -> Result<String, AllocError> {
     let sent = outcome.messages.as_slice().len();
     let told = reply_word(&outcome.reply);
     let judged = word_of(&outcome.judged);

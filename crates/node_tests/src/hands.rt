@@ -18,14 +18,14 @@ fn object(job: u32, task: u64) -> Result<ObjectId, Refusal> {
 fn grant(
     rt: &impl Abort,
     grants: &mut Grants,
-    giver: u32,
+    grantor: u32,
     id: ObjectId,
     target: u32,
 ) -> Result<(), Refusal> {
-    let given = match grants.grant(JobNo(giver), id, JobNo(target)) {
+    let given = match grants.grant(JobNo(grantor), id, JobNo(target)) {
         Err(Refusal::NoMemory) => {
-            holds!(rt; !grants.has_given(JobNo(giver), id, JobNo(target)));
-            grants.grant(JobNo(giver), id, JobNo(target))
+            holds!(rt; !grants.has_given(JobNo(grantor), id, JobNo(target)));
+            grants.grant(JobNo(grantor), id, JobNo(target))
         }
         told => told,
     };
@@ -36,30 +36,34 @@ fn grant(
 fn withdraw(
     rt: &impl Abort,
     grants: &mut Grants,
-    giver: u32,
+    grantor: u32,
     id: ObjectId,
     target: u32,
 ) -> Result<Items<Hand>, Refusal> {
-    match grants.withdraw(JobNo(giver), id, JobNo(target)) {
+    match grants.withdraw(JobNo(grantor), id, JobNo(target)) {
         Err(Refusal::NoMemory) => {
-            holds!(rt; grants.has_given(JobNo(giver), id, JobNo(target)));
-            grants.withdraw(JobNo(giver), id, JobNo(target))
+            holds!(rt; grants.has_given(JobNo(grantor), id, JobNo(target)));
+            grants.withdraw(JobNo(grantor), id, JobNo(target))
         }
         told => told,
     }
 }
 
-/// Whether these are the hands, each as giver, taker and depth.
+/// Whether these are the hands, each as grantor, grantee and depth.
 fn are(hands: &[Hand], wanted: &[(u32, u32, u32)]) -> bool {
     hands.len() == wanted.len()
-        && hands.iter().zip(wanted).all(|(hand, (giver, taker, depth))| {
-            hand.giver().0 == *giver && hand.taker().0 == *taker && hand.depth() == *depth
+        && hands.iter().zip(wanted).all(|(hand, (grantor, grantee, depth))| {
+            hand.grantor().0 == *grantor && hand.grantee().0 == *grantee && hand.depth() == *depth
         })
 }
 
-/// Whether each of these hands stands: giver, object and taker.
+/// Whether each of these hands stands: grantor, object and grantee.
 fn all_stand(grants: &Grants, hands: &[(u32, ObjectId, u32)]) -> bool {
-    hands.iter().all(|(giver, id, taker)| grants.has_given(JobNo(*giver), *id, JobNo(*taker)))
+    hands.iter().all(|(grantor, id, grantee)| grants.has_given(
+        JobNo(*grantor),
+        *id,
+        JobNo(*grantee),
+    ))
 }
 
 /// The depth of the oldest hand of the object to the job; 0 if the job doesn't see it.
@@ -80,15 +84,15 @@ fn depths(grants: &Grants, id: ObjectId) -> [u32; 4] {
     ]
 }
 
-/// Grants the object by each of these hands: giver and taker.
+/// Grants the object by each of these hands: grantor and grantee.
 fn grant_all(
     rt: &impl Abort,
     grants: &mut Grants,
     id: ObjectId,
     hands: &[(u32, u32)],
 ) -> Result<(), Refusal> {
-    for (giver, target) in hands {
-        grant(rt, grants, *giver, id, *target)?;
+    for (grantor, target) in hands {
+        grant(rt, grants, *grantor, id, *target)?;
     }
     Ok(())
 }
@@ -98,10 +102,10 @@ fn ends(
     rt: &impl Abort,
     grants: &mut Grants,
     id: ObjectId,
-    (giver, target): (u32, u32),
+    (grantor, target): (u32, u32),
     ended: &[(u32, u32, u32)],
 ) -> Result<bool, Refusal> {
-    Ok(are(withdraw(rt, grants, giver, id, target)?.as_slice(), ended))
+    Ok(are(withdraw(rt, grants, grantor, id, target)?.as_slice(), ended))
 }
 
 /// Job 3 hands on along the older of its hands, and then along the other.
@@ -143,7 +147,7 @@ fn a_withdrawal_in_the_middle_leaves_what_is_above(rt: HostRuntime) -> Result<()
     Ok(())
 }
 
-/// A withdrawal takes away a second hand to its own giver.
+/// A withdrawal takes away a second hand to its own grantor.
 fn withdraw_a_ring(rt: &impl Abort, grants: &mut Grants, id: ObjectId) -> Result<(), Refusal> {
     grant_all(rt, grants, id, &[(1, 2), (2, 3), (3, 2)])?;
     same!(rt; depths(grants, id), [0, 1, 2, 0]);
@@ -203,14 +207,14 @@ fn give_too_many(
     }
     same!(rt; grant(rt, grants, 1, own, 65), Err(Refusal::TooMany));
     same!(rt; grant(rt, grants, 1, foreign, 65), Err(Refusal::TooMany));
-    // the limit is each giver's own
+    // the limit is each grantor's own
     grant(rt, grants, 2, foreign, 65)?;
     withdraw(rt, grants, 1, foreign, 3)?;
     grant(rt, grants, 1, own, 65)
 }
 
 #[test]
-fn the_65th_hand_of_a_giver_is_refused(rt: HostRuntime) -> Result<(), Fail> {
+fn the_65th_hand_of_a_grantor_is_refused(rt: HostRuntime) -> Result<(), Fail> {
     let (own, foreign) = (object(1, 1)?, object(2, 1)?);
     let mut grants = Grants::new(rt.alloc());
     same!(rt; give_too_many(&rt, &mut grants, own, foreign), Ok(()));
@@ -239,7 +243,7 @@ fn found_with_task(grants: &Grants) -> Result<EndingHands, AllocError>
     }
 }
 
-/// The end of a job ends what it gave, by depth, object, giver and taker.
+/// The end of a job ends what it gave, by depth, object, grantor and grantee.
 fn end_job(
     rt: &impl Abort,
     grants: &mut Grants,
@@ -257,7 +261,7 @@ fn end_job(
 }
 
 #[test]
-fn ends_are_told_by_depth_object_giver_and_taker(rt: HostRuntime) -> Result<(), Fail> {
+fn ends_are_told_by_depth_object_grantor_and_grantee(rt: HostRuntime) -> Result<(), Fail> {
     let (first, second) = (object(1, 1)?, object(1, 2)?);
     let mut grants = Grants::new(rt.alloc());
     same!(rt; end_job(&rt, &mut grants, first, second), Ok(()));

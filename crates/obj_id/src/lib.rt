@@ -18,6 +18,6 @@ pub use commands::{Command, CopyState, GrantedItem, Kind, OwnItem, Reply, Usage}
 pub use ids::{JobNo, ObjectId, TaskNo};
 pub use items::Items;
 pub use laws::{a_text_names_one, ids_are_ordered_as_their_bytes};
-pub use messages::{Arrival, Digest, DirectoryMessage, Location, Message, PeerMessage, Place};
+pub use messages::{Arrival, Digest, DirectoryMessage, Endpoint, Location, Message, PeerMessage};
 pub use refusals::Refusal;
 pub use works::{DeviceAnswer, DeviceKey, Extent, JobKey, Quota, Work, WorkKind};

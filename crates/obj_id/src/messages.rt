@@ -85,7 +85,7 @@ pub enum Arrival {
 
 /// Where a message comes from or goes to.
 #[derive(Clone, Copy, Debug, PartialEq, Eq, Hash)]
-pub enum Place {
+pub enum Endpoint {
     Node(u32),
     Directory,
 }

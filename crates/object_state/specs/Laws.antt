@@ -5,8 +5,8 @@ use Rattle.obj_id.specs.declared.works.WorkKind.{WorkKind}
 use Rattle.obj_id.specs.declared.works.WorkKind.TheVariants.{Write, Read}
 use Rattle.private_store.specs.declared.inputs.WorkVerdict.{WorkVerdict}
 use Rattle.private_store.specs.declared.inputs.WorkVerdict.TheVariants as work
-use Rattle.private_store.specs.Shape.{Copy, WorkInFlight}
-use Rattle.object_state.specs.Marks.{Marks, written, read_back}
+use Rattle.private_store.specs.rules.Shape.{Copy, WorkInFlight}
+use Rattle.object_state.specs.Marks.{Marks, marks_written, marks_read_back}
 
 -- the marks of a copy with this digest, for which this work is in flight
 abbrev pub marks_of : Copy → Option Digest → Option WorkKind → Marks
@@ -23,13 +23,13 @@ marks_of copy digest working =
     }
 
 -- whether the answer is that the call failed
-abbrev pub has_failed : WorkVerdict → Bool
-has_failed work.Failed = true
-has_failed _ = false
+abbrev pub marks_have_failed : WorkVerdict → Bool
+marks_have_failed work.Failed = true
+marks_have_failed _ = false
 
 -- the marks of a copy once the work that was in flight for it is answered
-abbrev pub answered : Copy → Option Digest → WorkInFlight → WorkVerdict → Marks
-answered copy digest w verdict =
+abbrev pub marks_answered : Copy → Option Digest → WorkInFlight → WorkVerdict → Marks
+marks_answered copy digest w verdict =
     if w.writes
-    then written (marks_of copy digest (Some Write)) w.number (has_failed verdict)
-    else read_back (marks_of copy digest (Some Read)) verdict
+    then marks_written (marks_of copy digest (Some Write)) w.number (marks_have_failed verdict)
+    else marks_read_back (marks_of copy digest (Some Read)) verdict

@@ -15,8 +15,8 @@ use Rattle.private_store.specs.declared.faults.Fault.TheVariants.{DeviceFailed, 
 use Rattle.private_store.specs.declared.inputs.WorkVerdict.{WorkVerdict}
 use Rattle.private_store.specs.declared.inputs.WorkVerdict.TheVariants as work
 use Rattle.obj_id.specs.Kinds.{is_primary}
-use Rattle.private_store.specs.Copies.{is_created, is_sealed, is_away, was_sealed, may_evict, may_spill, may_pass}
-use Rattle.private_store.specs.Kept.{is_restoring, is_fetching}
+use Rattle.private_store.specs.rules.Copies.{is_created, is_sealed, is_away, was_sealed, may_evict, may_spill, may_drain}
+use Rattle.private_store.specs.laws.Invariants.{is_restoring, is_fetching}
 
 -- a copy, without what stands on it: extent, pins, holds, and the fetch that brings it
 pub record Marks : Type 0 where
@@ -32,7 +32,7 @@ pub record Marks : Type 0 where
   pub doomed : Bool
   -- the work in flight that writes it or reads it back
   pub working : Option WorkKind
-  -- of a restore, what the next Get is told
+  -- of a restore, what the next Get answers
   pub fault : Option Fault
 
 -- ---- what always holds of the marks
@@ -69,32 +69,32 @@ pub record IsMarked (copy : Marks) : Type 0 where
 -- ---- the words that are used of a copy; whether it is held, granted or resident others know
 
 -- neither held nor granted nor working
-abbrev pub is_idle : Marks → Bool → Bool → Bool
-is_idle copy held granted = not held && not granted && is_none copy.working
+abbrev pub marks_are_idle : Marks → Bool → Bool → Bool
+marks_are_idle copy held granted = not held && not granted && is_none copy.working
 
-abbrev pub is_evictable : Marks → Bool → Bool → Bool
-is_evictable copy held granted = may_evict copy.state copy.kind copy.backed (is_idle copy held granted)
+abbrev pub marks_are_evictable : Marks → Bool → Bool → Bool
+marks_are_evictable copy held granted = may_evict copy.state copy.kind copy.backed (marks_are_idle copy held granted)
 
 -- whether the end of its work, with nothing else, would let its extent go
-abbrev pub is_passing : Marks → Bool → Bool → Bool → Bool
-is_passing copy resident held granted = may_pass (is_some copy.working) resident held granted
+abbrev pub marks_are_draining : Marks → Bool → Bool → Bool → Bool
+marks_are_draining copy resident held granted = may_drain (is_some copy.working) resident held granted
 
-abbrev pub is_spillable : Marks → Bool → Bool → Bool
-is_spillable copy held granted = may_spill copy.state copy.kind copy.backed copy.doomed (is_idle copy held granted)
+abbrev pub marks_are_spillable : Marks → Bool → Bool → Bool
+marks_are_spillable copy held granted = may_spill copy.state copy.kind copy.backed copy.doomed (marks_are_idle copy held granted)
 
 -- ---- which change a copy can take
 
 -- on its way, and its digest known
-abbrev pub is_sized : Marks → Bool
-is_sized copy = is_fetching copy.state && is_some copy.digest
+abbrev pub marks_are_sized : Marks → Bool
+marks_are_sized copy = is_fetching copy.state && is_some copy.digest
 
 -- a sealed primary without bytes on the device, and no work of it
-abbrev pub can_spill : Marks → Bool
-can_spill copy = is_sealed copy.state && is_primary copy.kind && is_none copy.backed && is_none copy.working
+abbrev pub marks_can_spill : Marks → Bool
+marks_can_spill copy = is_sealed copy.state && is_primary copy.kind && is_none copy.backed && is_none copy.working
 
 -- sealed, with its bytes on the device
-abbrev pub can_go_away : Marks → Bool
-can_go_away copy = is_sealed copy.state && is_some copy.backed
+abbrev pub marks_can_go_away : Marks → Bool
+marks_can_go_away copy = is_sealed copy.state && is_some copy.backed
 
 -- on the device alone, with no fault to tell of
 abbrev pub can_restore : Marks → Bool
@@ -112,15 +112,15 @@ abbrev pub fetched_marks : Marks
 fetched_marks = record (new_marks Secondary 0) { state = Fetching }
 
 -- why a copy can't be sealed
-abbrev pub seal_check : Marks → Option Refusal
-seal_check copy = if is_created copy.state then None else Some AlreadySealed
+abbrev pub marks_seal_check : Marks → Option Refusal
+marks_seal_check copy = if is_created copy.state then None else Some AlreadySealed
 
 -- the write is over: it backs the copy, unless it failed
-abbrev pub written : Marks → ℕ → Bool → Marks
-written copy number failed = record copy { working = None; backed = if failed then copy.backed else Some number }
+abbrev pub marks_written : Marks → ℕ → Bool → Marks
+marks_written copy number failed = record copy { working = None; backed = if failed then copy.backed else Some number }
 
 -- the read is over
-abbrev pub read_back : Marks → WorkVerdict → Marks
-read_back copy work.Fine = record copy { state = Sealed; working = None }
-read_back copy work.Failed = record copy { state = Away; working = None; fault = Some DeviceFailed }
-read_back copy work.Damaged = record copy { state = Away; working = None; fault = Some Damaged }
+abbrev pub marks_read_back : Marks → WorkVerdict → Marks
+marks_read_back copy work.Fine = record copy { state = Sealed; working = None }
+marks_read_back copy work.Failed = record copy { state = Away; working = None; fault = Some DeviceFailed }
+marks_read_back copy work.Damaged = record copy { state = Away; working = None; fault = Some Damaged }

@@ -8,9 +8,9 @@ ghost use Rattle.obj_id.specs.declared.refusals.Refusal.{Refusal};
 ghost use Rattle.obj_id.specs.declared.works.WorkKind.TheVariants.{Write, Read};
 ghost use Rattle.obj_id.specs.declared.commands.CopyState.TheVariants.{Sealed, Restoring, Away};
 ghost use Rattle.obj_id.specs.Kinds.{is_primary};
-ghost use Rattle.private_store.specs.Copies.{is_sealed, was_sealed as was_sealed_lem};
-ghost use Rattle.private_store.specs.Kept.{is_fetching, is_restoring};
-ghost use Rattle.object_state.specs.Marks.{Marks, IsMarked, is_written, is_idle as is_idle_lem, is_evictable as is_evictable_lem, is_passing as is_passing_lem, is_spillable as is_spillable_lem, is_sized as is_sized_lem, can_spill as can_spill_lem, can_go_away as can_go_away_lem, can_restore as can_restore_lem, new_marks, fetched_marks, seal_check as seal_check_lem, written, read_back};
+ghost use Rattle.private_store.specs.rules.Copies.{is_sealed, was_sealed as was_sealed_lem};
+ghost use Rattle.private_store.specs.laws.Invariants.{is_fetching, is_restoring};
+ghost use Rattle.object_state.specs.Marks.{Marks, IsMarked, is_written, marks_are_idle as is_idle_lem, marks_are_evictable as is_evictable_lem, marks_are_draining as are_draining_lem, marks_are_spillable as is_spillable_lem, marks_are_sized as is_sized_lem, marks_can_spill as can_spill_lem, marks_can_go_away as can_go_away_lem, can_restore as can_restore_lem, new_marks, fetched_marks, marks_seal_check as seal_check_lem, marks_written, marks_read_back};
 
 pub mod laws;
 
@@ -129,7 +129,7 @@ impl ObjectCopy {
         self.working
     }
 
-    /// What the next Get is told of its last restore, if that failed and no Get was told since.
+    /// What the next Get answers of its last restore, if that failed and no Get has answered it since.
     pub fn fault(&self) -> Option<Fault>
         ensures { result ≡ self.now.fault }
     {
@@ -167,8 +167,8 @@ impl ObjectCopy {
     }
 
     /// Whether the end of its work, with nothing else, would let its extent go.
-    pub fn is_passing(&self, resident: bool, held: bool, granted: bool) -> bool
-        ensures { result ≡ is_passing_lem self.now resident held granted }
+    pub fn is_draining(&self, resident: bool, held: bool, granted: bool) -> bool
+        ensures { result ≡ are_draining_lem self.now resident held granted }
     {
         self.working.is_some() && resident && !held && !granted
     }
@@ -273,7 +273,7 @@ impl ObjectCopy {
     /// The write of this number was answered: it backs the copy, unless it failed.
     pub fn end_spill(&mut self, number: u64, failed: bool)
         requires { is_written self.old ≡ true }
-        ensures { self.new ≡ written self.old number failed }
+        ensures { self.new ≡ marks_written self.old number failed }
     {
         self.working = None;
         if !failed {
@@ -301,7 +301,7 @@ impl ObjectCopy {
     /// The read was answered: the copy is sealed again, or away with a fault.
     pub fn end_restore(&mut self, verdict: WorkVerdict)
         requires { is_restoring self.old.state ≡ true }
-        ensures { self.new ≡ read_back self.old verdict }
+        ensures { self.new ≡ marks_read_back self.old verdict }
     {
         self.working = None;
         match verdict {
@@ -319,7 +319,7 @@ impl ObjectCopy {
         }
     }
 
-    /// The fault of its last restore, which is told once.
+    /// The fault of its last restore, which is answered once.
     pub fn take_fault(&mut self) -> Option<Fault>
         ensures fault { result ≡ self.old.fault }
         ensures copy { self.new ≡ record self.old { fault = None } }

@@ -13,8 +13,8 @@ use Rattle.std.proofs.lemmas.Map.Steps.{set_value_same}
 use Rattle.obj_id.specs.declared.ids.ObjectId.{ObjectId}
 use Rattle.obj_id.specs.declared.messages.Location.{Location}
 use Rattle.obj_id.specs.Ids.{id_cmp}
-use Rattle.private_store.specs.Tables.{with_entry, without_entry}
-use Rattle.private_store.specs.Directory.{entries_at, entry_placed, with_entries, without_node, without_entries_at}
+use Rattle.private_store.specs.rules.Tables.{with_entry, without_entry}
+use Rattle.private_store.specs.rules.Directory.{entries_at, entry_placed, with_entries, without_node, without_entries_at}
 use Rattle.owner_directory.specs.Locations.{Locations, is_longer}
 use Rattle.store_facts.proofs.ObjectMaps.{is_id, at-lookup, with_entry-insert, with_entry-set, without_entry-absent, without_entry-set}
 use Rattle.store_facts.proofs.Tests.{true_false}

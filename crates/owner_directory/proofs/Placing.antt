@@ -5,7 +5,7 @@ use Rattle.std.proofs.Math.ListN.{set}
 use Rattle.std.proofs.lemmas.Bool.Decides.{nat_tests}
 use Rattle.std.proofs.lemmas.List.{take-append-drop, set_at, length-take-le}
 use Rattle.obj_id.specs.declared.messages.Location.{Location}
-use Rattle.private_store.specs.Directory.{entry_placed}
+use Rattle.private_store.specs.rules.Directory.{entry_placed}
 
 module _ (new : Location) where
   same_node : (x : Location) (rest : List Location) → x.node ≡ new.node → entry_placed new (x ∷ rest) ≡ new ∷ rest

@@ -3,14 +3,14 @@ use Rattle.std.specs.Prelude.{◌≡◌, Bool, true, false, List, [], ◌∷◌,
 use Rattle.std.specs.Map.{lookup}
 use Rattle.obj_id.specs.declared.ids.JobNo.{JobNo}
 use Rattle.obj_id.specs.declared.messages.Location.{Location}
-use Rattle.obj_id.specs.declared.messages.Place.TheVariants.{Node}
+use Rattle.obj_id.specs.declared.messages.Endpoint.TheVariants.{Node}
 use Rattle.obj_id.specs.declared.messages.Message.TheVariants as message
 use Rattle.obj_id.specs.declared.messages.DirectoryMessage.{DirectoryMessage}
 use Rattle.obj_id.specs.declared.messages.DirectoryMessage.TheVariants.{AddLocation, RemoveLocation, Free, EndJob, Locate}
-use Rattle.private_store.specs.Jobs.{same_job}
-use Rattle.private_store.specs.Tables.{ById}
-use Rattle.private_store.specs.Private.{Post}
-use Rattle.private_store.specs.Directory.{locations_after, entries_at, entry_placed}
+use Rattle.private_store.specs.rules.Jobs.{same_job}
+use Rattle.private_store.specs.rules.Tables.{ById}
+use Rattle.private_store.specs.rules.Private.{Post}
+use Rattle.private_store.specs.rules.Directory.{locations_after, entries_at, entry_placed}
 use Rattle.owner_directory.specs.declared.DirectoryReply.{DirectoryReply}
 use Rattle.owner_directory.specs.declared.DirectoryReply.TheVariants.{Nothing, Located}
 
@@ -19,22 +19,22 @@ abbrev pub Locations : Type 0
 Locations = ById (List Location)
 
 -- those of all jobs
-abbrev pub Rows : Type 0
-Rows = List (JobNo × Locations)
+abbrev pub DirectoryRows : Type 0
+DirectoryRows = List (JobNo × Locations)
 
 -- a job that never sent a message has no locations
-abbrev pub locations_of : Rows → JobNo → Locations
+abbrev pub locations_of : DirectoryRows → JobNo → Locations
 locations_of rows job = unwrap_or (lookup (same_job job) rows) []
 
 -- the message is applied to its own job's locations, and other jobs' stay
-pub record Applies (old new : Rows) (job : JobNo) (message : DirectoryMessage) : Type 0 where
+pub record Applies (old new : DirectoryRows) (job : JobNo) (message : DirectoryMessage) : Type 0 where
   pub own : locations_of new job ≡ locations_after (locations_of old job) message
   pub others : (other : JobNo) → same_job job other ≡ false → locations_of new other ≡ locations_of old other
 
 -- the reply as what the directory sends
-abbrev pub posts_of : DirectoryReply → List Post
-posts_of Nothing = []
-posts_of (Located to id number entries) = (Node to, message.Located id number entries) ∷ []
+abbrev pub answer_posts : DirectoryReply → List Post
+answer_posts Nothing = []
+answer_posts (Located to id number entries) = (Node to, message.Located id number entries) ∷ []
 
 -- whether memory may be wanting: what only takes entries out needs none
 abbrev pub needs_memory : DirectoryMessage → Bool

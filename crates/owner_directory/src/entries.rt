@@ -1,7 +1,7 @@
 //! The entries of one object.
 ghost use Rattle.std.specs.Prelude.{◌≡◌, ◌↔◌, [], false, IfOk, OnOk, OnErr, IsOk, IsTrue};
 ghost use Rattle.owner_directory.specs.Locations.{is_longer};
-ghost use Rattle.private_store.specs.Directory.{entry_placed, without_node};
+ghost use Rattle.private_store.specs.rules.Directory.{entry_placed, without_node};
 
 use obj_id::{Items, Location};
 use std::alloc::{AllocError, Global};

@@ -5,8 +5,8 @@
 ghost use Rattle.std.specs.Prelude.{◌≡◌, [], false, IfOk, OnOk, OnErr, IsOk};
 ghost use Rattle.obj_id.specs.declared.messages.DirectoryMessage.TheVariants.{AddLocation, RemoveLocation, Free, EndJob};
 ghost use Rattle.obj_id.specs.declared.ids.JobNo.{JobNo};
-ghost use Rattle.private_store.specs.Directory.{directory_posts, entries_at, entry_placed};
-ghost use Rattle.owner_directory.specs.Locations.{locations_of, Applies, posts_of, needs_memory, is_longer, takes_memory};
+ghost use Rattle.private_store.specs.rules.Directory.{directory_posts, entries_at, entry_placed};
+ghost use Rattle.owner_directory.specs.Locations.{locations_of, Applies, answer_posts, needs_memory, is_longer, takes_memory};
 
 mod entries;
 mod row;
@@ -48,9 +48,9 @@ impl Drop for Directory {
 }
 
 impl Model for Directory {
-    ghost use Rattle.owner_directory.specs.Locations.{Rows};
+    ghost use Rattle.owner_directory.specs.Locations.{DirectoryRows};
 
-    ghost Value = { Rows };
+    ghost Value = { DirectoryRows };
 
     ghost view = { λ d. d.rows.entries };
 }
@@ -74,7 +74,7 @@ impl Directory {
         message: DirectoryMessage,
     ) -> Result<DirectoryReply, AllocError>
         ensures locations { OnOk result (Applies self.old self.new job message) }
-        ensures posts { IfOk result (λ reply. posts_of reply ≡ directory_posts (locations_of self.old job) message) }
+        ensures posts { IfOk result (λ reply. answer_posts reply ≡ directory_posts (locations_of self.old job) message) }
         ensures succeeds { needs_memory message ≡ false → IsOk result }
         ensures grows { takes_memory (locations_of self.old job) message ≡ false → IsOk result }
         ensures err { OnErr result (self.new ≡ self.old) }

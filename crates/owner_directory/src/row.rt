@@ -1,8 +1,8 @@
 //! The locations of one job.
 ghost use Rattle.std.specs.Prelude.{◌≡◌, ◌≢◌, ◌↔◌, [], false, IsTrue, IfOk, OnOk, OnErr, IsOk};
 ghost use Rattle.owner_directory.specs.Locations.{is_longer};
-ghost use Rattle.private_store.specs.Tables.{without_entry};
-ghost use Rattle.private_store.specs.Directory.{entries_at, entry_placed, with_entries, without_entries_at, without_node};
+ghost use Rattle.private_store.specs.rules.Tables.{without_entry};
+ghost use Rattle.private_store.specs.rules.Directory.{entries_at, entry_placed, with_entries, without_entries_at, without_node};
 
 use crate::entries::Entries;
 use obj_id::{Items, Location, ObjectId};

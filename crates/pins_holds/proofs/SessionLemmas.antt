@@ -12,9 +12,9 @@ use Rattle.std.specs.BTreeMap.{is_at, insert_entry}
 use Rattle.std.proofs.lemmas.List.Sums.{sum_by-cons}
 use Rattle.std.proofs.lemmas.Bool.Decides.{nat_tests}
 use Rattle.obj_id.specs.declared.commands.CopyState.TheVariants.{Sealed}
-use Rattle.private_store.specs.Commands.{without_session}
+use Rattle.private_store.specs.rules.Commands.{without_session}
 use Rattle.store_facts.proofs.KeptHolds.{holds_keep}
-use Rattle.pins_holds.specs.Sessions.{count_of, with_count, total, AreHolds}
+use Rattle.pins_holds.specs.Sessions.{count_of, with_count, sessions_total, AreHolds}
 use Rattle.store_facts.proofs.Tests.{T_true, both_left}
 
 less_is : (r : Ordering) → T (is_lt r) → r ≡ Less
@@ -90,11 +90,11 @@ remove_entry-without k (e ∷ es) h =
 
 -- ---- the sum
 
-pub total-put : (k v : ℕ) (es : List (ℕ × ℕ)) → T (is_sorted nat_cmp es) → total (put nat_cmp k v es) + count_of es k ≡ total es + v
+pub total-put : (k v : ℕ) (es : List (ℕ × ℕ)) → T (is_sorted nat_cmp es) → sessions_total (put nat_cmp k v es) + count_of es k ≡ sessions_total es + v
 total-put k v [] h = let s = sum_by-cons {X = ℕ × ℕ} (λ e. e.1) (k, v) [] in omega (arith, s)
 total-put k v (e ∷ es) h =
     let c = sum_by-cons (λ (x : ℕ × ℕ). x.1) e es in
-    elim (nat_cmp k e.0) as (λ r. nat_cmp k e.0 ≡ r → total (by_order r ((k, v) ∷ e ∷ es) ((e.0, v) ∷ es) (e ∷ put nat_cmp k v es)) + unwrap_or (cond (is_eq r) (Some e.1) (find nat_cmp k es)) 0 ≡ total (e ∷ es) + v) [
+    elim (nat_cmp k e.0) as (λ r. nat_cmp k e.0 ≡ r → sessions_total (by_order r ((k, v) ∷ e ∷ es) ((e.0, v) ∷ es) (e ∷ put nat_cmp k v es)) + unwrap_or (cond (is_eq r) (Some e.1) (find nat_cmp k es)) 0 ≡ sessions_total (e ∷ es) + v) [
       | Less ↦ λ l.
           let s = sum_by-cons (λ (x : ℕ × ℕ). x.1) (k, v) (e ∷ es) in
           let n : unwrap_or (find nat_cmp k es) 0 ≡ 0 = ap (λ o. unwrap_or o 0) (below_none k e es l (T_left _ _ h)) in
@@ -103,21 +103,21 @@ total-put k v (e ∷ es) h =
       | Greater ↦ λ _. let s = sum_by-cons (λ (x : ℕ × ℕ). x.1) e (put nat_cmp k v es) in let i = total-put k v es (T_right (below_all nat_cmp e.0 es) _ h) in omega (arith, s, c, i)
     ] refl
 
-total-remove_entry : (k : ℕ) (es : List (ℕ × ℕ)) → total (remove_entry (is_at (nat_cmp k)) es) + count_of es k ≡ total es
+total-remove_entry : (k : ℕ) (es : List (ℕ × ℕ)) → sessions_total (remove_entry (is_at (nat_cmp k)) es) + count_of es k ≡ sessions_total es
 total-remove_entry k [] = refl
 total-remove_entry k (e ∷ es) =
     let c = sum_by-cons (λ (x : ℕ × ℕ). x.1) e es in
-    elim (is_eq (nat_cmp k e.0)) as (λ b. total (cond b es (e ∷ remove_entry (is_at (nat_cmp k)) es)) + unwrap_or (cond b (Some e.1) (find nat_cmp k es)) 0 ≡ total (e ∷ es)) [
+    elim (is_eq (nat_cmp k e.0)) as (λ b. sessions_total (cond b es (e ∷ remove_entry (is_at (nat_cmp k)) es)) + unwrap_or (cond b (Some e.1) (find nat_cmp k es)) 0 ≡ sessions_total (e ∷ es)) [
       | true ↦ omega (arith, c)
       | false ↦ let s = sum_by-cons (λ (x : ℕ × ℕ). x.1) e (remove_entry (is_at (nat_cmp k)) es) in let i = total-remove_entry k es in omega (arith, s, c, i)
     ]
 
 -- no session has more than all
-pub count-total : (k : ℕ) (es : List (ℕ × ℕ)) → count_of es k ≤ total es
+pub count-total : (k : ℕ) (es : List (ℕ × ℕ)) → count_of es k ≤ sessions_total es
 count-total k es = let i = total-remove_entry k es in omega arith
 
-pub total-without : (k : ℕ) (es : List (ℕ × ℕ)) → T (is_sorted nat_cmp es) → total (without_session es k) + count_of es k ≡ total es
-total-without k es h = ap (λ xs. total xs + count_of es k) (sym (remove_entry-without k es h)) ∙ total-remove_entry k es
+pub total-without : (k : ℕ) (es : List (ℕ × ℕ)) → T (is_sorted nat_cmp es) → sessions_total (without_session es k) + count_of es k ≡ sessions_total es
+total-without k es h = ap (λ xs. sessions_total xs + count_of es k) (sym (remove_entry-without k es h)) ∙ total-remove_entry k es
 
 -- ---- what always holds
 
@@ -131,7 +131,7 @@ not_none n some = grind (arith, nat_tests)
 pub with_count-some : (k n : ℕ) (es : List (ℕ × ℕ)) → 0 < n → with_count es k n ≡ put nat_cmp k n es
 with_count-some k n es some = ap (λ b. cond b (without_session es k) (put nat_cmp k n es)) (not_none n some)
 
-pub put_keeps : (k n : ℕ) (es : List (ℕ × ℕ)) → AreHolds es → 0 < n → n + total es ≤ 64 + count_of es k → AreHolds (put nat_cmp k n es)
+pub put_keeps : (k n : ℕ) (es : List (ℕ × ℕ)) → AreHolds es → 0 < n → n + sessions_total es ≤ 64 + count_of es k → AreHolds (put nat_cmp k n es)
 put_keeps k n es h some few = subst AreHolds (with_count-some k n es some) (holds_keep Sealed es k n h (λ _. refl) few)
 
 pub without_keeps : (k : ℕ) (es : List (ℕ × ℕ)) → AreHolds es → AreHolds (without_session es k)
@@ -139,22 +139,22 @@ without_keeps k es h = holds_keep Sealed es k 0 h (λ _. refl) (let i = h.few_ho
 
 -- ---- the three changes, with the sum that is kept beside the list
 
-pub added : (k n all : ℕ) (es new : List (ℕ × ℕ)) → AreHolds es → all ≡ total es → total es < 64 → n ≡ count_of es k → new ≡ put nat_cmp k (n + 1) es
-    → AreHolds new × (all + 1 ≡ total new)
+pub added : (k n all : ℕ) (es new : List (ℕ × ℕ)) → AreHolds es → all ≡ sessions_total es → sessions_total es < 64 → n ≡ count_of es k → new ≡ put nat_cmp k (n + 1) es
+    → AreHolds new × (all + 1 ≡ sessions_total new)
 added k n all es new kept sum few here is =
     let s = total-put k (n + 1) es (rising es kept) in
-    subst (λ xs. AreHolds xs × (all + 1 ≡ total xs)) (sym is) (put_keeps k (n + 1) es kept (omega arith) (omega arith), omega arith)
+    subst (λ xs. AreHolds xs × (all + 1 ≡ sessions_total xs)) (sym is) (put_keeps k (n + 1) es kept (omega arith) (omega arith), omega arith)
 
-pub lowered : (k n all : ℕ) (es new : List (ℕ × ℕ)) → AreHolds es → all ≡ total es → n ≡ count_of es k → 1 < n → new ≡ put nat_cmp k (n - 1) es
-    → AreHolds new × (all - 1 ≡ total new)
+pub lowered : (k n all : ℕ) (es new : List (ℕ × ℕ)) → AreHolds es → all ≡ sessions_total es → n ≡ count_of es k → 1 < n → new ≡ put nat_cmp k (n - 1) es
+    → AreHolds new × (all - 1 ≡ sessions_total new)
 lowered k n all es new kept sum here some is =
     let s = total-put k (n - 1) es (rising es kept) in
     let c = count-total k es in
-    let few : total es ≤ 64 = kept.few_holds in
-    subst (λ xs. AreHolds xs × (all - 1 ≡ total xs)) (sym is) (put_keeps k (n - 1) es kept (omega arith) (omega arith), omega arith)
+    let few : sessions_total es ≤ 64 = kept.few_holds in
+    subst (λ xs. AreHolds xs × (all - 1 ≡ sessions_total xs)) (sym is) (put_keeps k (n - 1) es kept (omega arith) (omega arith), omega arith)
 
-pub cleared : (k n all : ℕ) (es new : List (ℕ × ℕ)) → AreHolds es → all ≡ total es → n ≡ count_of es k → new ≡ without_session es k
-    → AreHolds new × (all - n ≡ total new)
+pub cleared : (k n all : ℕ) (es new : List (ℕ × ℕ)) → AreHolds es → all ≡ sessions_total es → n ≡ count_of es k → new ≡ without_session es k
+    → AreHolds new × (all - n ≡ sessions_total new)
 cleared k n all es new kept sum here is =
     let s = total-without k es (rising es kept) in
-    subst (λ xs. AreHolds xs × (all - n ≡ total xs)) (sym is) (without_keeps k es kept, omega arith)
+    subst (λ xs. AreHolds xs × (all - n ≡ sessions_total xs)) (sym is) (without_keeps k es kept, omega arith)

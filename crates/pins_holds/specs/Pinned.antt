@@ -4,11 +4,11 @@ use Rattle.obj_id.specs.declared.ids.TaskNo.{TaskNo}
 use Rattle.obj_id.specs.declared.commands.Kind.{Kind}
 use Rattle.obj_id.specs.declared.refusals.Refusal.{Refusal}
 use Rattle.obj_id.specs.declared.refusals.Refusal.TheVariants.{Exists, Absent, NotHeld, TooMany, NotOwner}
-use Rattle.private_store.specs.Limits.{most_holds, most_borrowers}
-use Rattle.private_store.specs.Shape.{Copy}
+use Rattle.private_store.specs.rules.Limits.{most_holds, most_borrowers}
+use Rattle.private_store.specs.rules.Shape.{Copy}
 use Rattle.obj_id.specs.Kinds.{is_primary}
-use Rattle.private_store.specs.Copies as copies
-use Rattle.private_store.specs.Commands as commands
+use Rattle.private_store.specs.rules.Copies as copies
+use Rattle.private_store.specs.rules.Commands as commands
 
 pub record Pinned : Type 0 where
   pub kind : Kind
@@ -34,55 +34,55 @@ copy_of pins = record (commands.new_copy pins.kind 0 0) { pinned = pins.pinned; 
 
 -- ---- the words for copies
 
-abbrev pub in_scope : Pinned → Bool
-in_scope pins = copies.in_scope (copy_of pins)
+abbrev pub pins_in_scope : Pinned → Bool
+pins_in_scope pins = copies.in_scope (copy_of pins)
 
-abbrev pub is_held : Pinned → Bool
-is_held pins = copies.is_held (copy_of pins)
+abbrev pub pins_are_held : Pinned → Bool
+pins_are_held pins = copies.is_held (copy_of pins)
 
-abbrev pub holds_of : Pinned → ℕ → ℕ
-holds_of pins session = commands.holds_of (copy_of pins) session
+abbrev pub pins_holds_of : Pinned → ℕ → ℕ
+pins_holds_of pins session = commands.holds_of (copy_of pins) session
 
-abbrev pub all_holds : Pinned → ℕ
-all_holds pins = commands.all_holds (copy_of pins)
+abbrev pub pins_all_holds : Pinned → ℕ
+pins_all_holds pins = commands.all_holds (copy_of pins)
 
-abbrev pub has_borrower : Pinned → TaskNo → Bool
-has_borrower pins task = commands.has_borrower (copy_of pins) task
+abbrev pub pins_have_borrower : Pinned → TaskNo → Bool
+pins_have_borrower pins task = commands.has_borrower (copy_of pins) task
 
 -- n holds of the session, where none means no entry
-abbrev pub with_holds : Pinned → ℕ → ℕ → Pinned
-with_holds pins session n = record pins { holds = (commands.with_holds (copy_of pins) session n).holds }
+abbrev pub pins_with_holds : Pinned → ℕ → ℕ → Pinned
+pins_with_holds pins session n = record pins { holds = (commands.with_holds (copy_of pins) session n).holds }
 
 abbrev pub with_borrower : Pinned → TaskNo → Pinned
 with_borrower pins task = record pins { borrowers = pins.borrowers ++ task ∷ [] }
 
-abbrev pub without_borrower : Pinned → TaskNo → Pinned
-without_borrower pins task = record pins { borrowers = (commands.without_borrower (copy_of pins) task).borrowers }
+abbrev pub pins_without_borrower : Pinned → TaskNo → Pinned
+pins_without_borrower pins task = record pins { borrowers = (commands.without_borrower (copy_of pins) task).borrowers }
 
 -- ---- the checks
 
 -- whether the owner task may unpin it
-abbrev pub unpin_check : Pinned → Bool → Option Refusal
-unpin_check pins owner =
+abbrev pub pins_unpin_check : Pinned → Bool → Option Refusal
+pins_unpin_check pins owner =
     if not (is_primary pins.kind && owner) then Some NotOwner else
     (if not pins.pinned then Some NotHeld else None)
 
-abbrev pub borrow_check : Pinned → TaskNo → Option Refusal
-borrow_check pins task =
+abbrev pub pins_borrow_check : Pinned → TaskNo → Option Refusal
+pins_borrow_check pins task =
     if not (is_primary pins.kind) then Some NotOwner else
-    (if has_borrower pins task then Some Exists else
+    (if pins_have_borrower pins task then Some Exists else
     (if nat_le most_borrowers (length pins.borrowers) then Some TooMany else None))
 
-abbrev pub give_up_check : Pinned → TaskNo → Option Refusal
-give_up_check pins task =
+abbrev pub pins_give_up_check : Pinned → TaskNo → Option Refusal
+pins_give_up_check pins task =
     if not (is_primary pins.kind) then Some NotOwner else
-    (if not (has_borrower pins task) then Some Absent else None)
+    (if not (pins_have_borrower pins task) then Some Absent else None)
 
 abbrev pub hold_check : Pinned → Option Refusal
-hold_check pins = if nat_le most_holds (all_holds pins) then Some TooMany else None
+hold_check pins = if nat_le most_holds (pins_all_holds pins) then Some TooMany else None
 
-abbrev pub release_check : Pinned → ℕ → Option Refusal
-release_check pins session = if holds_of pins session == 0 then Some NotHeld else None
+abbrev pub pins_release_check : Pinned → ℕ → Option Refusal
+pins_release_check pins session = if pins_holds_of pins session == 0 then Some NotHeld else None
 
 -- ---- what always holds
 

@@ -3,8 +3,8 @@ use Rattle.std.specs.Prelude.{ℕ, ◌+◌, ◌==◌, if◌then◌else◌, List,
 use Rattle.std.specs.Ordering.{nat_cmp}
 use Rattle.std.specs.FinMap.{find, put}
 use Rattle.obj_id.specs.declared.commands.CopyState.TheVariants.{Sealed}
-use Rattle.private_store.specs.Commands.{without_session}
-use Rattle.private_store.specs.Kept.{AreHoldsKept}
+use Rattle.private_store.specs.rules.Commands.{without_session}
+use Rattle.private_store.specs.laws.Invariants.{AreHoldsKept}
 
 -- how many the session has
 abbrev pub count_of : List (ℕ × ℕ) → ℕ → ℕ
@@ -15,8 +15,8 @@ abbrev pub with_count : List (ℕ × ℕ) → ℕ → ℕ → List (ℕ × ℕ)
 with_count holds session n = if n == 0 then without_session holds session else put nat_cmp session n holds
 
 -- how many all sessions have
-abbrev pub total : List (ℕ × ℕ) → ℕ
-total holds = fold (λ n e. n + e.1) 0 holds
+abbrev pub sessions_total : List (ℕ × ℕ) → ℕ
+sessions_total holds = fold (λ n e. n + e.1) 0 holds
 
 -- sessions rise, each has a hold at least, and all together at most 64: what a sealed copy keeps
 abbrev pub AreHolds : List (ℕ × ℕ) → Type 0

@@ -2,9 +2,9 @@
 ghost use Rattle.std.specs.Prelude.{◌≡◌, ◌+◌, ◌-◌, ◌<◌, ◌≤◌, [], not, IfOk, OnOk, OnErr, IsOk, IsTrue};
 ghost use Rattle.std.specs.Ordering.{nat_cmp};
 ghost use Rattle.std.specs.FinMap.{put, is_sorted};
-ghost use Rattle.private_store.specs.Kept.{are_held};
-ghost use Rattle.private_store.specs.Commands.{without_session};
-ghost use Rattle.pins_holds.specs.Sessions.{AreHolds, count_of, with_count, total};
+ghost use Rattle.private_store.specs.laws.Invariants.{are_held};
+ghost use Rattle.private_store.specs.rules.Commands.{without_session};
+ghost use Rattle.pins_holds.specs.Sessions.{AreHolds, count_of, with_count, sessions_total};
 
 use obj_id::Items;
 use std::alloc::{AllocError, Global};
@@ -22,13 +22,13 @@ pub struct Holds {
 
 impl Model for Holds {
     ghost use Rattle.std.specs.Prelude.{◌≡◌, ℕ, List};
-    ghost use Rattle.pins_holds.specs.Sessions.{AreHolds, total};
+    ghost use Rattle.pins_holds.specs.Sessions.{AreHolds, sessions_total};
 
     ghost Value = { List (ℕ × ℕ) };
 
     ghost view = { λ h. h.by_session.entries };
 
-    ghost invariant = { λ h. AreHolds h.by_session.entries × (h.all ≡ total h.by_session.entries) };
+    ghost invariant = { λ h. AreHolds h.by_session.entries × (h.all ≡ sessions_total h.by_session.entries) };
 }
 
 impl Holds {
@@ -45,7 +45,7 @@ impl Holds {
     /// How many the session has.
     pub fn of(&self, session: u32) -> u32
         ensures of { result ≡ count_of self.now session }
-        ensures few { result ≤ total self.now }
+        ensures few { result ≤ sessions_total self.now }
     {
         let _all = self.all;
         count_in(&self.by_session, session)
@@ -53,7 +53,7 @@ impl Holds {
 
     /// How many all sessions have.
     pub fn all(&self) -> u32
-        ensures all { result ≡ total self.now }
+        ensures all { result ≡ sessions_total self.now }
         ensures kept { AreHolds self.now }
     {
         self.all
@@ -79,7 +79,7 @@ impl Holds {
 
     /// One more of the session. A failure changes nothing, and there is none if the session has one already.
     pub fn add(&mut self, session: u32) -> Result<(), AllocError>
-        requires { total self.old < 64 }
+        requires { sessions_total self.old < 64 }
         ensures ok { OnOk result (self.new ≡ with_count self.old session (count_of self.old session + 1)) }
         ensures succeeds { 0 < count_of self.old session → IsOk result }
         ensures err { OnErr result (self.new ≡ self.old) }

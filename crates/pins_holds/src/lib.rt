@@ -7,7 +7,7 @@ ghost use Rattle.obj_id.specs.declared.refusals.Refusal.{Refusal};
 ghost use Rattle.obj_id.specs.declared.refusals.Refusal.TheVariants.{NoMemory};
 ghost use Rattle.obj_id.specs.Kinds.{is_primary as is_primary_lem};
 ghost use Rattle.pins_holds.specs.Sessions.{AreHolds};
-ghost use Rattle.pins_holds.specs.Pinned.{unheld, in_scope as in_scope_lem, is_held as is_held_lem, holds_of as holds_of_lem, has_borrower, with_holds, with_borrower, without_borrower, unpin_check as unpin_check_lem, borrow_check as borrow_check_lem, give_up_check as give_up_check_lem, hold_check as hold_check_lem, release_check as release_check_lem, IsPinned};
+ghost use Rattle.pins_holds.specs.Pinned.{unheld, pins_in_scope as in_scope_lem, pins_are_held as is_held_lem, pins_holds_of as holds_of_lem, pins_have_borrower, pins_with_holds, with_borrower, pins_without_borrower, pins_unpin_check as unpin_check_lem, pins_borrow_check as borrow_check_lem, pins_give_up_check as give_up_check_lem, hold_check as hold_check_lem, pins_release_check as release_check_lem, IsPinned};
 
 mod borrowers;
 mod holds;
@@ -93,7 +93,7 @@ impl Pins {
 
     /// Whether it would be in scope if the task borrowed it no longer.
     pub fn in_scope_without(&self, task: TaskNo) -> bool
-        ensures { result ≡ in_scope_lem (without_borrower self.now task) }
+        ensures { result ≡ in_scope_lem (pins_without_borrower self.now task) }
     {
         self.pinned || self.borrowers.has_other(task)
     }
@@ -130,7 +130,7 @@ impl Pins {
 
     /// Whether the task borrows it.
     pub fn borrows(&self, task: TaskNo) -> bool
-        ensures { result ≡ has_borrower self.now task }
+        ensures { result ≡ pins_have_borrower self.now task }
     {
         self.borrowers.has(task)
     }
@@ -215,7 +215,7 @@ impl Pins {
     /// The task borrows it no longer. `NotOwner` for a secondary, `Absent` if it doesn't borrow it. A
     /// refusal changes nothing. Takes no memory.
     pub fn give_up(&mut self, task: TaskNo) -> Result<(), Refusal>
-        ensures ok { OnOk result (self.new ≡ without_borrower self.old task) }
+        ensures ok { OnOk result (self.new ≡ pins_without_borrower self.old task) }
         ensures passed { IsOk result → give_up_check_lem self.old task ≡ None }
         ensures refused { (r : Refusal) → IsErrOf result r → give_up_check_lem self.old task ≡ Some r }
         ensures err { OnErr result (self.new ≡ self.old) }
@@ -243,7 +243,7 @@ impl Pins {
 
     /// The task borrows it no longer, if it did. Takes no memory.
     pub fn forget(&mut self, task: TaskNo)
-        ensures { self.new ≡ without_borrower self.old task }
+        ensures { self.new ≡ pins_without_borrower self.old task }
     {
         self.borrowers.remove(task);
     }
@@ -251,7 +251,7 @@ impl Pins {
     /// One hold more of the session. `TooMany` at 64 holds of all sessions, `NoMemory` last. A refusal
     /// changes nothing. Takes no memory if the session holds it already.
     pub fn hold(&mut self, session: u32) -> Result<(), Refusal>
-        ensures ok { OnOk result (self.new ≡ with_holds self.old session (holds_of_lem self.old session + 1)) }
+        ensures ok { OnOk result (self.new ≡ pins_with_holds self.old session (holds_of_lem self.old session + 1)) }
         ensures passed { IsOk result → hold_check_lem self.old ≡ None }
         ensures refused { (r : Refusal) → r ≢ NoMemory → IsErrOf result r → hold_check_lem self.old ≡ Some r }
         ensures memory { IsErrOf result NoMemory → hold_check_lem self.old ≡ None }
@@ -279,7 +279,7 @@ impl Pins {
     /// One hold less of the session. `NotHeld` if it has none, and then nothing changes. Takes no
     /// memory.
     pub fn release(&mut self, session: u32) -> Result<(), Refusal>
-        ensures ok { OnOk result (self.new ≡ with_holds self.old session (holds_of_lem self.old session - 1)) }
+        ensures ok { OnOk result (self.new ≡ pins_with_holds self.old session (holds_of_lem self.old session - 1)) }
         ensures passed { IsOk result → release_check_lem self.old session ≡ None }
         ensures refused { (r : Refusal) → IsErrOf result r → release_check_lem self.old session ≡ Some r }
         ensures err { OnErr result (self.new ≡ self.old) }
@@ -304,7 +304,7 @@ impl Pins {
 
     /// The session has no holds any more. Takes no memory.
     pub fn leave(&mut self, session: u32)
-        ensures { self.new ≡ with_holds self.old session 0 }
+        ensures { self.new ≡ pins_with_holds self.old session 0 }
     {
         self.holds.clear(session);
     }

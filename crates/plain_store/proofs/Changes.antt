@@ -1,9 +1,9 @@
 -- What a change leaves and answers, past its checks and the room that was made for it.
 use Rattle.std.proofs.Common.{◌≡◌, ℕ, Bool, true, false, cond, List, [], ◌∷◌, Some, None, Result, Ok, Err, refl, sym, ap}
 use Rattle.obj_id.specs.declared.refusals.Refusal.{Refusal}
-use Rattle.private_store.specs.Shape.{Shape, Change}
-use Rattle.private_store.specs.Room.{Room}
-use Rattle.private_store.specs.Change.{checked, refused, in_room, sending}
+use Rattle.private_store.specs.rules.Shape.{Shape, Change}
+use Rattle.private_store.specs.rules.Room.{Room}
+use Rattle.private_store.specs.rules.Change.{checked, refused, in_room, sending}
 use Rattle.store_facts.proofs.Tests.{none_some, some_value}
 use Rattle.plain_store.specs.Checks.{first_of}
 

@@ -2,9 +2,9 @@
 use Rattle.std.proofs.Common.{◌≡◌, ap, inl, inr, refl, Option, Some, None, MutBor}
 use Rattle.std.specs.Option.{ghost_name_of}
 use borrow.Follows.Closed.{read_of}
-use Rattle.private_store.specs.Tables.{ById}
-use Rattle.private_store.specs.Shape.{Copy}
-use Rattle.private_store.specs.Replay.{Brief}
+use Rattle.private_store.specs.rules.Tables.{ById}
+use Rattle.private_store.specs.rules.Shape.{Copy}
+use Rattle.private_store.specs.rules.Replay.{Brief}
 
 abbrev pub with_copies : Brief → ById Copy → Brief
 with_copies brief copies = record brief { shape = record brief.shape { copies = copies } }

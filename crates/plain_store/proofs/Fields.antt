@@ -1,9 +1,9 @@
 -- A store, or what is seen of an object, with another list.
 use Rattle.std.proofs.Common.{List}
 use Rattle.obj_id.specs.declared.ids.TaskNo.{TaskNo}
-use Rattle.private_store.specs.Tables.{ById}
-use Rattle.private_store.specs.Shape.{HandGiven, HandTaken, Seen, WorkInFlight}
-use Rattle.private_store.specs.Replay.{Brief}
+use Rattle.private_store.specs.rules.Tables.{ById}
+use Rattle.private_store.specs.rules.Shape.{HandGiven, HandTaken, Seen, WorkInFlight}
+use Rattle.private_store.specs.rules.Replay.{Brief}
 
 abbrev pub with_given : Brief → List HandGiven → Brief
 with_given brief given = record brief { shape = record brief.shape { given = given } }

@@ -4,11 +4,11 @@ use Rattle.std.specs.Prelude.{nat_le}
 use Rattle.std.specs.List.{list_all, list_any}
 use Rattle.std.specs.List.Sorted.{IsNonDecreasingBy, IsPermutation}
 use Rattle.std.proofs.lemmas.List.Sorted.{list_any-IsPermutation}
-use Rattle.private_store.specs.Limits.{widest_window}
+use Rattle.private_store.specs.rules.Limits.{widest_window}
 use Rattle.std.proofs.lemmas.List.Folds.{list_all_at}
 use Rattle.std.proofs.lemmas.Bool.{leb-false, leb-true, le-leb, lt-leb}
 use Rattle.obj_id.specs.declared.works.Extent.{Extent}
-use Rattle.private_store.specs.Extents.{rounded, end_of, is_apart, is_free, first_from, first}
+use Rattle.private_store.specs.rules.Extents.{rounded, end_of, is_apart, is_free, first_from, first}
 use Rattle.store_facts.proofs.Tests.{both, or_right, false_true, neither, or_false_left, or_false_right}
 use Rattle.plain_store.specs.Fits.{is_apart_at, IsEnd, IsPastMet}
 

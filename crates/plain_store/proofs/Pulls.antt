@@ -3,15 +3,15 @@ use Rattle.std.proofs.Common.{◌≡◌, ℕ, suc, ◌+◌, ◌-◌, ◌<◌, tr
 use Rattle.std.specs.Option.{option_map_or}
 use Rattle.obj_id.specs.declared.ids.ObjectId.{ObjectId}
 use Rattle.obj_id.specs.declared.refusals.Refusal.TheVariants.{Absent, BadSize}
-use Rattle.private_store.specs.Tables.{at}
-use Rattle.private_store.specs.Shape.{Copy, Fetch, Shape, sized, pulling}
-use Rattle.private_store.specs.Replay.{Brief}
-use Rattle.private_store.specs.Listed.{IsBriefKept}
-use Rattle.private_store.specs.Copies.{is_sealed}
-use Rattle.private_store.specs.Events.{is_live}
-use Rattle.private_store.specs.Room.{make_room, set_copy}
-use Rattle.private_store.specs.Change.{needing, in_room, sending}
-use Rattle.private_store.specs.Commands.{is_length, begin_pull, get_fetching, counted, chunk_count, set_phase}
+use Rattle.private_store.specs.rules.Tables.{at}
+use Rattle.private_store.specs.rules.Shape.{Copy, Fetch, Shape, sized, pulling}
+use Rattle.private_store.specs.rules.Replay.{Brief}
+use Rattle.private_store.specs.laws.Listed.{IsBriefKept}
+use Rattle.private_store.specs.rules.Copies.{is_sealed}
+use Rattle.private_store.specs.rules.Events.{is_live}
+use Rattle.private_store.specs.rules.Room.{make_room, set_copy}
+use Rattle.private_store.specs.rules.Change.{needing, in_room, sending}
+use Rattle.private_store.specs.rules.Commands.{is_length, begin_pull, get_fetching, counted, chunk_count, set_phase}
 use Rattle.store_facts.proofs.Checks.{needing-some}
 use Rattle.store_facts.proofs.Tests.{false_true}
 use Rattle.plain_store.specs.Fetches.{get_sized, pulled, pulled_copy}

@@ -4,15 +4,15 @@ use Rattle.obj_id.specs.declared.ids.ObjectId.{ObjectId}
 use Rattle.obj_id.specs.declared.refusals.Refusal.{Refusal}
 use Rattle.obj_id.specs.declared.refusals.Refusal.TheVariants.{Absent}
 use Rattle.std.specs.Option.{option_map_or}
-use Rattle.private_store.specs.Tables.{at}
-use Rattle.private_store.specs.Shape.{Copy, Shape}
-use Rattle.private_store.specs.Replay.{Brief}
-use Rattle.private_store.specs.Listed.{IsBriefKept}
-use Rattle.private_store.specs.Copies.{is_sealed}
-use Rattle.private_store.specs.Events.{is_live}
-use Rattle.private_store.specs.Room.{make_room}
-use Rattle.private_store.specs.Change.{checked, needing, refused, in_room}
-use Rattle.private_store.specs.Commands.{restore, restoring}
+use Rattle.private_store.specs.rules.Tables.{at}
+use Rattle.private_store.specs.rules.Shape.{Copy, Shape}
+use Rattle.private_store.specs.rules.Replay.{Brief}
+use Rattle.private_store.specs.laws.Listed.{IsBriefKept}
+use Rattle.private_store.specs.rules.Copies.{is_sealed}
+use Rattle.private_store.specs.rules.Events.{is_live}
+use Rattle.private_store.specs.rules.Room.{make_room}
+use Rattle.private_store.specs.rules.Change.{checked, needing, refused, in_room}
+use Rattle.private_store.specs.rules.Commands.{restore, restoring}
 use Rattle.store_facts.proofs.Checks.{needing-some}
 use Rattle.plain_store.specs.Checks.{first_of, restore_checks, restored}
 use Rattle.plain_store.proofs.Changes.{checked-refused, checked-passed, in_room-ok}

@@ -7,15 +7,15 @@ use Rattle.std.specs.FinMap.{find}
 use Rattle.std.proofs.lemmas.List.Sums.{sum_by-cons}
 use Rattle.std.proofs.lemmas.Bool.{leb-false}
 use Rattle.obj_id.specs.declared.ids.ObjectId.{ObjectId}
-use Rattle.private_store.specs.Tables.{at}
-use Rattle.private_store.specs.Limits.{is_quota, most_holds}
-use Rattle.private_store.specs.Shape.{Copy}
-use Rattle.private_store.specs.Replay.{Brief}
-use Rattle.private_store.specs.Listed.{IsBriefKept}
-use Rattle.private_store.specs.Copies.{is_sealed}
-use Rattle.private_store.specs.Events.{is_live}
-use Rattle.private_store.specs.Room.{make_room}
-use Rattle.private_store.specs.Commands.{holds_of, all_holds}
+use Rattle.private_store.specs.rules.Tables.{at}
+use Rattle.private_store.specs.rules.Limits.{is_quota, most_holds}
+use Rattle.private_store.specs.rules.Shape.{Copy}
+use Rattle.private_store.specs.rules.Replay.{Brief}
+use Rattle.private_store.specs.laws.Listed.{IsBriefKept}
+use Rattle.private_store.specs.rules.Copies.{is_sealed}
+use Rattle.private_store.specs.rules.Events.{is_live}
+use Rattle.private_store.specs.rules.Room.{make_room}
+use Rattle.private_store.specs.rules.Commands.{holds_of, all_holds}
 use Rattle.store_facts.proofs.BriefKept.{order_once}
 use Rattle.store_facts.proofs.KeptRows.{to_live}
 use Rattle.store_facts.proofs.KeptRoom.{IsMade}

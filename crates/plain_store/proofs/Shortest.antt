@@ -5,8 +5,8 @@ use Rattle.std.proofs.lemmas.List.{drop_more}
 use Rattle.obj_id.specs.declared.ids.ObjectId.{ObjectId}
 use Rattle.obj_id.specs.Ids.{id_eq, same_id}
 use Rattle.store_facts.proofs.Ids.{same_id-id_eq, same_id-flip}
-use Rattle.private_store.specs.Tables.{is_among}
-use Rattle.private_store.specs.Room.{shortest_from}
+use Rattle.private_store.specs.rules.Tables.{is_among}
+use Rattle.private_store.specs.rules.Room.{shortest_from}
 
 pub among-contains : (ids : List ObjectId) (id : ObjectId) → list_any (λ y. id_eq y id) ids ≡ is_among ids id
 among-contains [] id = refl

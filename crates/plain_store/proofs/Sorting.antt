@@ -7,7 +7,7 @@ use Rattle.std.specs.FinMap.Entries.{below_all, by_order}
 use Rattle.obj_id.specs.declared.ids.ObjectId.{ObjectId}
 use Rattle.obj_id.specs.Ids.{id_cmp}
 use Rattle.store_facts.proofs.Ids.{id_cmp-IsTotalOrder}
-use Rattle.private_store.specs.Tables.{ById, with_entry}
+use Rattle.private_store.specs.rules.Tables.{ById, with_entry}
 use Rattle.store_facts.proofs.Tests.{and_left, and_right, less_is}
 
 module _ {X : Type 0} (k : ObjectId) (v : X) (rest : ById X) where

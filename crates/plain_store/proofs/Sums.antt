@@ -3,10 +3,10 @@ use Rattle.std.proofs.Common.{cond, true, false, ◌||◌, filter, is_some, ◌�
 use Rattle.std.specs.Prelude.{sum, min, if◌then◌else◌}
 use Rattle.std.proofs.lemmas.List.Sums.{sum_by-cons}
 use Rattle.obj_id.specs.declared.ids.ObjectId.{ObjectId}
-use Rattle.private_store.specs.Tables.{ById}
-use Rattle.private_store.specs.Shape.{Copy, Shape}
-use Rattle.private_store.specs.Extents.{rounded}
-use Rattle.private_store.specs.Copies.{is_writing, device_used}
+use Rattle.private_store.specs.rules.Tables.{ById}
+use Rattle.private_store.specs.rules.Shape.{Copy, Shape}
+use Rattle.private_store.specs.rules.Extents.{rounded}
+use Rattle.private_store.specs.rules.Copies.{is_writing, device_used}
 
 sum-cons : (n : ℕ) (ns : List ℕ) → sum (n ∷ ns) ≡ n + sum ns
 sum-cons n ns = sum_by-cons (λ m. m) n ns

@@ -7,9 +7,9 @@ use Rattle.std.specs.List.{list_all, cons_option}
 use Rattle.std.specs.Option.{option_map_or}
 use Rattle.std.specs.Map.{values_of}
 use Rattle.obj_id.specs.declared.ids.ObjectId.{ObjectId}
-use Rattle.private_store.specs.Shape.{Copy}
-use Rattle.private_store.specs.Extents.{rounded, end_of}
-use Rattle.private_store.specs.Copies.{extent_of}
+use Rattle.private_store.specs.rules.Shape.{Copy}
+use Rattle.private_store.specs.rules.Extents.{rounded, end_of}
+use Rattle.private_store.specs.rules.Copies.{extent_of}
 use Rattle.plain_store.specs.Using.{has_extent_within}
 
 abbrev pub rounded_length : ObjectId × Copy → ℕ

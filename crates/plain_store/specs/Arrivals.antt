@@ -8,10 +8,10 @@ use Rattle.private_store.specs.declared.faults.FetchFault.TheVariants as fetch_f
 use Rattle.private_store.specs.declared.inputs.ChunkVerdict.{ChunkVerdict}
 use Rattle.private_store.specs.declared.inputs.ChunkVerdict.TheVariants as chunk
 use Rattle.obj_id.specs.declared.commands.CopyState.TheVariants.{Sealed}
-use Rattle.private_store.specs.Tables.{at}
-use Rattle.private_store.specs.Shape.{Copy, Fetch, Phase, Shape, locating, pulling, failed}
-use Rattle.private_store.specs.Room.{set_copy}
-use Rattle.private_store.specs.Events.{is_missing, located_copy}
+use Rattle.private_store.specs.rules.Tables.{at}
+use Rattle.private_store.specs.rules.Shape.{Copy, Fetch, Phase, Shape, locating, pulling, failed}
+use Rattle.private_store.specs.rules.Room.{set_copy}
+use Rattle.private_store.specs.rules.Events.{is_missing, located_copy}
 
 abbrev pub is_locating_phase : Phase → Bool
 is_locating_phase locating = true
@@ -30,8 +30,8 @@ abbrev pub is_fetched : ℕ → (Phase → Bool) → Copy → Bool
 is_fetched number test copy = option_map_or (λ fetch. fetch.number == number && test fetch.phase) copy.fetch false
 
 -- whether its source isn't known
-abbrev pub is_locating : ℕ → Copy → Bool
-is_locating number copy = is_fetched number is_locating_phase copy
+abbrev pub awaits_location : ℕ → Copy → Bool
+awaits_location number copy = is_fetched number is_locating_phase copy
 
 -- whether it pulls from this node
 abbrev pub awaits_from : ℕ → ℕ → Copy → Bool

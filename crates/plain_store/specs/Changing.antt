@@ -3,16 +3,16 @@ use Rattle.std.specs.Prelude.{if◌then◌else◌}
 use Rattle.std.specs.Option.{option_map_or}
 use Rattle.obj_id.specs.declared.ids.ObjectId.{ObjectId}
 use Rattle.obj_id.specs.declared.ids.TaskNo.{TaskNo}
-use Rattle.private_store.specs.Tables.{at, ids_of}
-use Rattle.private_store.specs.Shape.{Copy, Shape, Change}
-use Rattle.private_store.specs.Copies.{in_scope}
-use Rattle.private_store.specs.Room.{set_copy}
-use Rattle.private_store.specs.Change.{done, doom, doomed}
-use Rattle.private_store.specs.Commands.{at_each, give_up_one, of_task, task_ended}
+use Rattle.private_store.specs.rules.Tables.{at, ids_of}
+use Rattle.private_store.specs.rules.Shape.{Copy, Shape, Change}
+use Rattle.private_store.specs.rules.Copies.{in_scope}
+use Rattle.private_store.specs.rules.Room.{set_copy}
+use Rattle.private_store.specs.rules.Change.{done, doom, doomed}
+use Rattle.private_store.specs.rules.Commands.{at_each, give_up_one, of_task, task_ended}
 
 -- another copy in place of the id's own, if there is one
-abbrev pub changed : (Copy → Copy) → Shape → ObjectId → Shape
-changed f store id = option_map_or (λ copy. set_copy store id (f copy)) (at store.copies id) store
+abbrev pub store_changed : (Copy → Copy) → Shape → ObjectId → Shape
+store_changed f store id = option_map_or (λ copy. set_copy store id (f copy)) (at store.copies id) store
 
 -- and doomed, if it is out of scope then
 abbrev pub scoped_by : (Copy → Copy) → Shape → ObjectId → Shape

@@ -3,13 +3,13 @@ use Rattle.std.specs.Prelude.{ℕ, ◌+◌, Bool, not, if◌then◌else◌, List
 use Rattle.obj_id.specs.declared.ids.ObjectId.{ObjectId}
 use Rattle.obj_id.specs.declared.refusals.Refusal.{Refusal}
 use Rattle.obj_id.specs.declared.refusals.Refusal.TheVariants.{BadSize, Gone, Exists, TooMany, Busy}
-use Rattle.private_store.specs.Tables.{at}
-use Rattle.private_store.specs.Shape.{Shape}
-use Rattle.private_store.specs.Limits.{has_numbers}
-use Rattle.private_store.specs.Room.{make_room, works_left, set_copy}
-use Rattle.private_store.specs.Change.{has_ended}
+use Rattle.private_store.specs.rules.Tables.{at}
+use Rattle.private_store.specs.rules.Shape.{Shape}
+use Rattle.private_store.specs.rules.Limits.{has_numbers}
+use Rattle.private_store.specs.rules.Room.{make_room, works_left, set_copy}
+use Rattle.private_store.specs.rules.Change.{has_ended}
 use Rattle.std.specs.Option.{option_map_or}
-use Rattle.private_store.specs.Commands.{is_length, is_full_of_copies, restoring, holds_of, with_holds}
+use Rattle.private_store.specs.rules.Commands.{is_length, is_full_of_copies, restoring, holds_of, with_holds}
 
 -- the refusal of the first test that holds
 abbrev pub first_of : List (Bool × Refusal) → Option Refusal

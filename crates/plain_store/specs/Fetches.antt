@@ -3,11 +3,11 @@ use Rattle.std.specs.Prelude.{ℕ, List, Some}
 use Rattle.std.specs.Option.{option_map_or}
 use Rattle.obj_id.specs.declared.ids.ObjectId.{ObjectId}
 use Rattle.obj_id.specs.declared.refusals.Refusal.TheVariants.{Absent}
-use Rattle.private_store.specs.Tables.{at}
-use Rattle.private_store.specs.Shape.{Copy, Shape, Change, Phase, locating, sized, pulling, failed}
-use Rattle.private_store.specs.Room.{set_copy}
-use Rattle.private_store.specs.Change.{needing}
-use Rattle.private_store.specs.Commands.{get_fetching, counted, chunk_count}
+use Rattle.private_store.specs.rules.Tables.{at}
+use Rattle.private_store.specs.rules.Shape.{Copy, Shape, Change, Phase, locating, sized, pulling, failed}
+use Rattle.private_store.specs.rules.Room.{set_copy}
+use Rattle.private_store.specs.rules.Change.{needing}
+use Rattle.private_store.specs.rules.Commands.{get_fetching, counted, chunk_count}
 use Rattle.plain_store.specs.declared.fetching.NextStep.{NextStep}
 use Rattle.plain_store.specs.declared.fetching.NextStep.TheVariants.{Wait, Pull, Tell}
 

@@ -3,11 +3,11 @@ use Rattle.std.specs.Prelude.{◌≡◌, ℕ, ◌%◌, ◌^◌, ◌<◌, ◌≤�
 use Rattle.std.specs.List.{list_all}
 use Rattle.obj_id.specs.declared.works.Extent.{Extent}
 use Rattle.obj_id.specs.declared.ids.ObjectId.{ObjectId}
-use Rattle.private_store.specs.Extents.{is_apart}
-use Rattle.private_store.specs.Tables.{ById, is_among}
-use Rattle.private_store.specs.Shape.{Copy, Shape}
-use Rattle.private_store.specs.Copies.{extent_of}
-use Rattle.private_store.specs.Room.{offset_without}
+use Rattle.private_store.specs.rules.Extents.{is_apart}
+use Rattle.private_store.specs.rules.Tables.{ById, is_among}
+use Rattle.private_store.specs.rules.Shape.{Copy, Shape}
+use Rattle.private_store.specs.rules.Copies.{extent_of}
+use Rattle.private_store.specs.rules.Room.{offset_without}
 
 -- whether n bytes at the offset meet nothing of the extent
 abbrev pub is_apart_at : Extent → ℕ → ℕ → Bool

@@ -1,16 +1,16 @@
 -- How far a fetch is, and how far a job, as the private store says it.
 use Rattle.std.specs.Prelude.{Bool, true, false}
-use Rattle.private_store.specs.Shape.{Phase, locating, sized, pulling, failed, Life as StoreLife, not_begun, live, ended}
+use Rattle.private_store.specs.rules.Shape.{Phase, locating, sized, pulling, failed, Life as StoreLife, not_begun, live, ended}
 use Rattle.plain_store.specs.declared.copies.FetchPhase.{FetchPhase}
 use Rattle.plain_store.specs.declared.copies.FetchPhase.TheVariants as phase
 use Rattle.plain_store.specs.declared.store.Life.{Life}
 use Rattle.plain_store.specs.declared.store.Life.TheVariants as life
 
-abbrev pub phase_of : FetchPhase → Phase
-phase_of phase.Locating = locating
-phase_of (phase.Sized source) = sized source
-phase_of (phase.Pulling source missing) = pulling source missing.items
-phase_of (phase.Failed fault) = failed fault
+abbrev pub plain_phase_of : FetchPhase → Phase
+plain_phase_of phase.Locating = locating
+plain_phase_of (phase.Sized source) = sized source
+plain_phase_of (phase.Pulling source missing) = pulling source missing.items
+plain_phase_of (phase.Failed fault) = failed fault
 
 abbrev pub life_of : Life → StoreLife
 life_of life.NotBegun = not_begun

@@ -6,8 +6,8 @@ use Rattle.obj_id.specs.declared.commands.Command.{Command}
 use Rattle.obj_id.specs.declared.commands.Command.TheVariants as command
 use Rattle.private_store.specs.declared.inputs.Judged.{Judged}
 use Rattle.private_store.specs.declared.inputs.Judged.TheVariants as judged
-use Rattle.private_store.specs.Shape.{Shape, Change}
-use Rattle.private_store.specs.Commands.{create, write, seal, get, read, release, unpin, borrow, give_up, delete, end_task, grant, withdraw, peek, list, usage, leave}
+use Rattle.private_store.specs.rules.Shape.{Shape, Change}
+use Rattle.private_store.specs.rules.Commands.{create, write, seal, get, read, release, unpin, borrow, give_up, delete, end_task, grant, withdraw, peek, list, usage, leave}
 
 -- the object of a command that is refused for another job's
 abbrev pub own_id : Command ℕ → Option ObjectId

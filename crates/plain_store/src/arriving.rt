@@ -1,9 +1,9 @@
 //! What arrives for a fetch: its source, its chunks, or that its source has no copy.
-#![tactic(auto, unfolding(private_store::specs::Change::checked, private_store::specs::Change::needing, private_store::specs::Change::sending))]
+#![tactic(auto, unfolding(private_store::specs::rules::Change::checked, private_store::specs::rules::Change::needing, private_store::specs::rules::Change::sending))]
 
 ghost use Rattle.std.specs.Prelude.{◌≡◌, ◌==◌, filter, not};
-ghost use Rattle.private_store.specs.Events.{chunk_arrived, is_missing as is_missing_lem, located, not_here_arrived};
-ghost use Rattle.plain_store.specs.Arrivals.{awaits, awaits_from, changed_if, chunked, filled, is_locating, located_under, lost};
+ghost use Rattle.private_store.specs.rules.Events.{chunk_arrived, is_missing as is_missing_lem, located, not_here_arrived};
+ghost use Rattle.plain_store.specs.Arrivals.{awaits, awaits_from, changed_if, chunked, filled, awaits_location, located_under, lost};
 
 use crate::copies::{FetchPhase, PlainCopy, PlainFetch};
 use crate::store::PlainStore;
@@ -13,7 +13,7 @@ use private_store::{ChunkVerdict, FetchFault, Source};
 impl PlainCopy {
     /// Whether it is in the fetch of this number, whose source isn't known.
     pub(crate) fn is_locating(&self, number: u64) -> bool
-        ensures { result ≡ is_locating number self.now }
+        ensures { result ≡ awaits_location number self.now }
     {
         match &self.fetch {
             Some(fetch) => { fetch.number == number && matches!(fetch.phase, FetchPhase::Locating) }
@@ -138,7 +138,7 @@ fn is_missing(missing: &Vec<u32>, index: u32) -> bool
 impl PlainStore {
     /// The copy's fetch under this number has a source, if its source isn't known. Takes no memory.
     fn locate(&mut self, id: ObjectId, number: u64, source: Option<Source>)
-        ensures { self.new ≡ record self.old { shape = changed_if (is_locating number) (located_under number source) self.old.shape id } }
+        ensures { self.new ≡ record self.old { shape = changed_if (awaits_location number) (located_under number source) self.old.shape id } }
     {
         let Some(copy) = self.copy(id) else {
             return;

@@ -1,8 +1,8 @@
 //! The commands of a session on its job's own objects.
-#![tactic(auto, unfolding(private_store::specs::Change::checked, private_store::specs::Change::needing, private_store::specs::Change::sending))]
+#![tactic(auto, unfolding(private_store::specs::rules::Change::checked, private_store::specs::rules::Change::needing, private_store::specs::rules::Change::sending))]
 
 ghost use Rattle.std.specs.Prelude.{◌≡◌, IfOk, OnOk};
-ghost use Rattle.private_store.specs.Commands.{borrow, delete, give_up, is_unsealed as is_unsealed_lem, read, release, seal, unpin, write};
+ghost use Rattle.private_store.specs.rules.Commands.{borrow, delete, give_up, is_unsealed as is_unsealed_lem, read, release, seal, unpin, write};
 
 use crate::marks::{is_created, same_task};
 use crate::store::PlainStore;

@@ -24,13 +24,13 @@ pub struct PlainFetch {
 }
 
 impl Model for PlainFetch {
-    ghost use Rattle.private_store.specs.Shape.{Fetch};
+    ghost use Rattle.private_store.specs.rules.Shape.{Fetch};
 
     ghost Value = { Fetch };
 
-    ghost use Rattle.plain_store.specs.Parts.{phase_of};
+    ghost use Rattle.plain_store.specs.Parts.{plain_phase_of};
 
-    ghost view = { λ f. record { number = f.number; phase = phase_of f.phase } };
+    ghost view = { λ f. record { number = f.number; phase = plain_phase_of f.phase } };
 }
 
 /// A copy of an object. A contract sees the private store's.
@@ -52,13 +52,13 @@ pub struct PlainCopy {
     pub backed: Option<u64>,
     /// Whether it is removed as soon as nothing keeps it.
     pub doomed: bool,
-    /// Of a restore, what the next Get is told.
+    /// Of a restore, what the next Get answers.
     pub fault: Option<Fault>,
     pub fetch: Option<PlainFetch>,
 }
 
 impl Model for PlainCopy {
-    ghost use Rattle.private_store.specs.Shape.{Copy};
+    ghost use Rattle.private_store.specs.rules.Shape.{Copy};
 
     ghost Value = { Copy };
 
@@ -76,7 +76,7 @@ pub struct PlainWork {
 }
 
 impl Model for PlainWork {
-    ghost use Rattle.private_store.specs.Shape.{WorkInFlight};
+    ghost use Rattle.private_store.specs.rules.Shape.{WorkInFlight};
 
     ghost Value = { WorkInFlight };
 

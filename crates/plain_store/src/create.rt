@@ -1,9 +1,9 @@
 //! Create: an extent of zeros.
 ghost use Rattle.std.specs.Prelude.{◌≡◌, ◌∷◌, [], not, true, is_some, IfOk, OnOk};
-ghost use Rattle.private_store.specs.Tables.{at};
-ghost use Rattle.private_store.specs.Limits.{is_quota};
-ghost use Rattle.private_store.specs.Change.{has_ended};
-ghost use Rattle.private_store.specs.Commands.{is_length, is_full_of_copies, new_copy as new_copy_lem, create};
+ghost use Rattle.private_store.specs.rules.Tables.{at};
+ghost use Rattle.private_store.specs.rules.Limits.{is_quota};
+ghost use Rattle.private_store.specs.rules.Change.{has_ended};
+ghost use Rattle.private_store.specs.rules.Commands.{is_length, is_full_of_copies, new_copy as new_copy_lem, create};
 ghost use Rattle.plain_store.specs.Checks.{first_of, create_checks};
 
 use crate::copies::PlainCopy;
@@ -49,7 +49,7 @@ impl PlainStore {
         None
     }
 
-    #[tactic(auto, unfolding(private_store::specs::Change::checked, private_store::specs::Change::in_room, private_store::specs::Change::sending))]
+    #[tactic(auto, unfolding(private_store::specs::rules::Change::checked, private_store::specs::rules::Change::in_room, private_store::specs::rules::Change::sending))]
     /// Create: a copy to be written of `length` bytes, and where it lies in the window. `BadSize`, `Gone`, `Exists`,
     /// `TooMany`, and as `make_room`. The error is out of memory.
     pub(crate) fn create(

@@ -1,7 +1,7 @@
 //! What a job uses of the device.
 ghost use Rattle.std.specs.Prelude.{◌≡◌, ◌-◌, ◌^◌, ◌||◌, min, if◌then◌else◌, is_some};
-ghost use Rattle.private_store.specs.Extents.{rounded as rounded_lem};
-ghost use Rattle.private_store.specs.Copies.{is_writing, device_used};
+ghost use Rattle.private_store.specs.rules.Extents.{rounded as rounded_lem};
+ghost use Rattle.private_store.specs.rules.Copies.{is_writing, device_used};
 
 use crate::copies::PlainCopy;
 use crate::store::PlainStore;

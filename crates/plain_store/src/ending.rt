@@ -1,8 +1,8 @@
 //! How a copy ends.
 ghost use Rattle.std.specs.Prelude.{◌≡◌, OnOk, false};
-ghost use Rattle.private_store.specs.Commands.{with_holds, without_borrower};
-ghost use Rattle.plain_store.specs.Changing.{changed, scoped_by};
-ghost use Rattle.private_store.specs.Change.{doomed, settled};
+ghost use Rattle.private_store.specs.rules.Commands.{with_holds, without_borrower};
+ghost use Rattle.plain_store.specs.Changing.{store_changed, scoped_by};
+ghost use Rattle.private_store.specs.rules.Change.{doomed, settled};
 
 use crate::store::PlainStore;
 use obj_id::{ObjectId, TaskNo};
@@ -39,7 +39,7 @@ impl PlainStore {
         session: u32,
         count: u32,
     ) -> Result<(), AllocError>
-        ensures { OnOk result (self.new ≡ record self.old { shape = changed (λ copy. with_holds copy session count) self.old.shape id }) }
+        ensures { OnOk result (self.new ≡ record self.old { shape = store_changed (λ copy. with_holds copy session count) self.old.shape id }) }
     {
         let Some(copy) = self.copy_mut(id) else {
             return Ok(());
@@ -80,7 +80,7 @@ impl PlainStore {
 
     /// The task refers to the copy no longer, if there is one. Takes no memory.
     pub(crate) fn forget_borrower(&mut self, id: ObjectId, task: TaskNo)
-        ensures { self.new ≡ record self.old { shape = changed (λ copy. without_borrower copy task) self.old.shape id } }
+        ensures { self.new ≡ record self.old { shape = store_changed (λ copy. without_borrower copy task) self.old.shape id } }
     {
         if let Some(copy) = self.copy_mut(id) {
             copy.remove_borrower(task);

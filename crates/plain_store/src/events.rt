@@ -1,12 +1,12 @@
 //! Admission, change of quota and end, and the answers of the device.
-#![tactic(auto, unfolding(private_store::specs::Change::checked, private_store::specs::Change::needing, private_store::specs::Change::sending))]
+#![tactic(auto, unfolding(private_store::specs::rules::Change::checked, private_store::specs::rules::Change::needing, private_store::specs::rules::Change::sending))]
 
 ghost use Rattle.std.specs.Prelude.{◌≡◌, ◌≤◌, length, option_map, IfOk};
 ghost use Rattle.std.specs.Option.{option_copied};
-ghost use Rattle.private_store.specs.Limits.{is_quota as is_quota_lem, most_copies};
-ghost use Rattle.private_store.specs.Events.{begin, is_live, over, requota, without_work, work_of};
-ghost use Rattle.private_store.specs.Events.{answer, read_back, written};
-ghost use Rattle.plain_store.specs.Changing.{changed};
+ghost use Rattle.private_store.specs.rules.Limits.{is_quota as is_quota_lem, most_copies};
+ghost use Rattle.private_store.specs.rules.Events.{begin, is_live, over, requota, without_work, work_of};
+ghost use Rattle.private_store.specs.rules.Events.{answer, read_back, written};
+ghost use Rattle.plain_store.specs.Changing.{store_changed};
 
 use crate::copies::{PlainCopy, PlainWork};
 use crate::store::{Life, PlainStore};
@@ -117,7 +117,7 @@ impl PlainStore {
 
     /// The copy's bytes are on the device, under the number of the write. Takes no memory.
     fn back(&mut self, id: ObjectId, number: u64)
-        ensures { self.new ≡ record self.old { shape = changed (λ copy. record copy { backed = Some number }) self.old.shape id } }
+        ensures { self.new ≡ record self.old { shape = store_changed (λ copy. record copy { backed = Some number }) self.old.shape id } }
     {
         if let Some(copy) = self.copy_mut(id) {
             copy.backed = Some(number);
@@ -126,7 +126,7 @@ impl PlainStore {
 
     /// The copy is as the answer of its read leaves it. Takes no memory.
     fn bring_back(&mut self, id: ObjectId, verdict: WorkVerdict)
-        ensures { self.new ≡ record self.old { shape = changed (λ copy. read_back copy verdict) self.old.shape id } }
+        ensures { self.new ≡ record self.old { shape = store_changed (λ copy. read_back copy verdict) self.old.shape id } }
     {
         if let Some(copy) = self.copy_mut(id) {
             copy.read_back(verdict);

@@ -1,14 +1,14 @@
 //! Get of a copy that is on its way.
 ghost use Rattle.std.specs.Prelude.{◌≡◌, true, false, Some, IfOk, OnOk};
 ghost use Rattle.obj_id.specs.declared.refusals.Refusal.TheVariants.{Absent};
-ghost use Rattle.private_store.specs.Tables.{at};
-ghost use Rattle.private_store.specs.Listed.{IsBriefKept};
-ghost use Rattle.private_store.specs.Shape.{Copy};
-ghost use Rattle.private_store.specs.Copies.{is_sealed};
-ghost use Rattle.private_store.specs.Events.{is_live};
-ghost use Rattle.private_store.specs.Change.{needing};
-ghost use Rattle.private_store.specs.Commands.{chunk_count as chunk_count_lem, counted, fetch_refusal as fetch_refusal_lem};
-ghost use Rattle.plain_store.specs.Parts.{phase_of};
+ghost use Rattle.private_store.specs.rules.Tables.{at};
+ghost use Rattle.private_store.specs.laws.Listed.{IsBriefKept};
+ghost use Rattle.private_store.specs.rules.Shape.{Copy};
+ghost use Rattle.private_store.specs.rules.Copies.{is_sealed};
+ghost use Rattle.private_store.specs.rules.Events.{is_live};
+ghost use Rattle.private_store.specs.rules.Change.{needing};
+ghost use Rattle.private_store.specs.rules.Commands.{chunk_count as chunk_count_lem, counted, fetch_refusal as fetch_refusal_lem};
+ghost use Rattle.plain_store.specs.Parts.{plain_phase_of};
 ghost use Rattle.plain_store.specs.Fetches.{next_step_of, get_fetch, get_sized, pulled, pulled_copy};
 
 use crate::copies::{FetchPhase, PlainCopy};
@@ -61,7 +61,7 @@ impl PlainStore {
     /// Get of a copy whose source is known: its extent is taken, if there is room, and its chunks asked for, so that the
     /// answer is `Pending`. `BadSize` of an object that the window can't have, `Absent` if there is no copy, and as
     /// `make_room`. The error is out of memory.
-    #[tactic(auto, using(crate::proofs::RoomLeaves::room_leaves, crate::proofs::RoomLeaves::quota_kept), unfolding(private_store::specs::Change::checked, private_store::specs::Change::needing, private_store::specs::Change::in_room, private_store::specs::Change::sending))]
+    #[tactic(auto, using(crate::proofs::RoomLeaves::room_leaves, crate::proofs::RoomLeaves::quota_kept), unfolding(private_store::specs::rules::Change::checked, private_store::specs::rules::Change::needing, private_store::specs::rules::Change::in_room, private_store::specs::rules::Change::sending))]
     fn get_sized(&mut self, alloc: Global, id: ObjectId, source: u32) -> Result<Told, AllocError>
         requires kept { IsBriefKept self.old }
         requires live { is_live self.old.shape ≡ true }
@@ -90,7 +90,7 @@ impl PlainStore {
 
     /// Get of a copy that is on its way: its fetch goes one step on, or what it came to is the answer, and then it is
     /// removed. `Pending`, `Absent`, `Damaged`, and as `get_sized`. The error is out of memory.
-    #[tactic(auto, unfolding(private_store::specs::Change::checked, private_store::specs::Change::needing, private_store::specs::Change::sending))]
+    #[tactic(auto, unfolding(private_store::specs::rules::Change::checked, private_store::specs::rules::Change::needing, private_store::specs::rules::Change::sending))]
     pub(crate) fn get_fetching(&mut self, alloc: Global, id: ObjectId) -> Result<Told, AllocError>
         requires kept { IsBriefKept self.old }
         requires live { is_live self.old.shape ≡ true }
@@ -118,7 +118,7 @@ impl PlainStore {
 
 /// What the next Get does in the phase.
 fn next_step(phase: &FetchPhase) -> NextStep
-    ensures { result ≡ next_step_of (phase_of phase.now) }
+    ensures { result ≡ next_step_of (plain_phase_of phase.now) }
 {
     match phase {
         FetchPhase::Locating | FetchPhase::Pulling(_, _) => NextStep::Wait,

@@ -2,8 +2,8 @@
 ghost use Rattle.std.specs.Prelude.{◌≡◌, ◌+◌, ◌^◌, ◌<◌, ◌≤◌, not};
 ghost use Rattle.std.specs.List.Sorted.{IsNonDecreasingBy};
 ghost use Rattle.obj_id.specs.declared.works.Extent.{Extent};
-ghost use Rattle.private_store.specs.Extents.{end_of, first as first_lem};
-ghost use Rattle.private_store.specs.Limits.{widest_window};
+ghost use Rattle.private_store.specs.rules.Extents.{end_of, first as first_lem};
+ghost use Rattle.private_store.specs.rules.Limits.{widest_window};
 ghost use Rattle.plain_store.specs.Fits.{is_apart_at, IsEnd};
 
 use obj_id::Extent;

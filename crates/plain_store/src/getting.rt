@@ -1,14 +1,14 @@
 //! Get: a hold on a copy that is here, and otherwise what brings it here.
 ghost use Rattle.std.specs.Prelude.{◌≡◌, ◌+◌, ◌<◌, ◌^◌, true, false, Some, IfOk, OnOk};
 ghost use Rattle.obj_id.specs.declared.refusals.Refusal.TheVariants.{Absent};
-ghost use Rattle.private_store.specs.Tables.{at};
-ghost use Rattle.private_store.specs.Limits.{has_numbers};
-ghost use Rattle.private_store.specs.Listed.{IsBriefKept};
-ghost use Rattle.private_store.specs.Shape.{Copy};
-ghost use Rattle.private_store.specs.Copies.{is_sealed};
-ghost use Rattle.private_store.specs.Events.{is_live};
-ghost use Rattle.private_store.specs.Change.{needing};
-ghost use Rattle.private_store.specs.Commands.{holds_of, fetched_copy as fetched_copy_lem, begin_fetch, get_sealed, get_away, get};
+ghost use Rattle.private_store.specs.rules.Tables.{at};
+ghost use Rattle.private_store.specs.rules.Limits.{has_numbers};
+ghost use Rattle.private_store.specs.laws.Listed.{IsBriefKept};
+ghost use Rattle.private_store.specs.rules.Shape.{Copy};
+ghost use Rattle.private_store.specs.rules.Copies.{is_sealed};
+ghost use Rattle.private_store.specs.rules.Events.{is_live};
+ghost use Rattle.private_store.specs.rules.Change.{needing};
+ghost use Rattle.private_store.specs.rules.Commands.{holds_of, fetched_copy as fetched_copy_lem, begin_fetch, get_sealed, get_away, get};
 ghost use Rattle.plain_store.specs.Checks.{fault_forgotten, held_more};
 
 use crate::copies::{FetchPhase, PlainCopy, PlainFetch};
@@ -27,7 +27,7 @@ impl PlainStore {
 
     /// A copy that isn't here is fetched: the answer is `Pending`. `TooMany` at 1,024 copies, and if no number of a fetch is
     /// left. The error is out of memory.
-    #[tactic(auto, unfolding(private_store::specs::Change::checked, private_store::specs::Change::sending))]
+    #[tactic(auto, unfolding(private_store::specs::rules::Change::checked, private_store::specs::rules::Change::sending))]
     fn begin_fetch(&mut self, alloc: Global, id: ObjectId) -> Result<Told, AllocError>
         ensures reply { IfOk result (λ told. told.reply ≡ (begin_fetch self.old.shape id).reply) }
         ensures used { IfOk result (λ told. told.used ≡ (begin_fetch self.old.shape id).used) }
@@ -58,7 +58,7 @@ impl PlainStore {
 
     /// Get of a sealed copy: one more hold of the session, and the copy is the most recently used one. `TooMany` at 64 holds,
     /// `Absent` if there is no copy. The error is out of memory.
-    #[tactic(auto, using(crate::proofs::RoomLeaves::holds_fit), unfolding(private_store::specs::Change::checked, private_store::specs::Change::needing, private_store::specs::Change::sending))]
+    #[tactic(auto, using(crate::proofs::RoomLeaves::holds_fit), unfolding(private_store::specs::rules::Change::checked, private_store::specs::rules::Change::needing, private_store::specs::rules::Change::sending))]
     fn get_sealed(&mut self, session: u32, id: ObjectId) -> Result<Told, AllocError>
         ensures reply { IfOk result (λ told. told.reply ≡ (needing self.old.shape (at self.old.shape.copies id) Absent (get_sealed self.old.shape session id)).reply) }
         ensures used { IfOk result (λ told. told.used ≡ (needing self.old.shape (at self.old.shape.copies id) Absent (get_sealed self.old.shape session id)).used) }
@@ -90,7 +90,7 @@ impl PlainStore {
 
     /// Get of a copy that is away: its fault is the answer, once; otherwise it is read back. `DeviceFailed`, `Damaged`, and as
     /// `restore`. The error is out of memory.
-    #[tactic(auto, unfolding(private_store::specs::Change::needing))]
+    #[tactic(auto, unfolding(private_store::specs::rules::Change::needing))]
     fn get_away(&mut self, alloc: Global, id: ObjectId) -> Result<Told, AllocError>
         requires kept { IsBriefKept self.old }
         requires live { is_live self.old.shape ≡ true }
@@ -113,7 +113,7 @@ impl PlainStore {
 
     /// Get: a hold on a copy that is here, and otherwise what brings it here. `Gone`, `Absent`, `NotSealed`, `Pending`,
     /// `TooMany`, and as `get_fetching` and `get_away`. The error is out of memory.
-    #[tactic(auto, unfolding(private_store::specs::Change::checked, private_store::specs::Change::needing))]
+    #[tactic(auto, unfolding(private_store::specs::rules::Change::checked, private_store::specs::rules::Change::needing))]
     pub(crate) fn get(
         &mut self,
         alloc: Global,

@@ -1,14 +1,14 @@
 //! What others granted to the job.
-#![tactic(auto, unfolding(private_store::specs::Change::checked, private_store::specs::Change::needing, private_store::specs::Change::sending))]
+#![tactic(auto, unfolding(private_store::specs::rules::Change::checked, private_store::specs::rules::Change::needing, private_store::specs::rules::Change::sending))]
 
 ghost use Rattle.std.specs.Prelude.{◌≡◌, ◌&&◌, filter, not, is_some, true, IfOk, OnOk};
 ghost use Rattle.std.specs.Borrow.{sem};
 ghost use Rattle.std.specs.List.{list_any};
 ghost use Rattle.std.specs.Option.{option_copied, option_copied_mut};
-ghost use Rattle.private_store.specs.Tables.{at};
-ghost use Rattle.private_store.specs.Commands.{oldest};
-ghost use Rattle.private_store.specs.Events.{hangs_on, is_hand, received, withdrawn, without_hand};
-ghost use Rattle.plain_store.specs.Granted.{with_seen, without_seen, with_other_hands, without_hanging, forgotten};
+ghost use Rattle.private_store.specs.rules.Tables.{at};
+ghost use Rattle.private_store.specs.rules.Commands.{oldest};
+ghost use Rattle.private_store.specs.rules.Events.{is_child_of, is_hand, received, withdrawn, without_hand};
+ghost use Rattle.plain_store.specs.Granted.{store_with_seen, without_seen, with_other_hands, without_hanging, forgotten};
 
 use crate::hands::{GivenHand, SeenObject, TakenHand};
 use crate::marks::same_id;
@@ -17,45 +17,45 @@ use obj_id::{JobNo, ObjectId, Reply};
 use std::alloc::{AllocError, Global};
 
 impl TakenHand {
-    /// Whether the giver gave it at this depth.
-    pub(crate) fn is_hand(&self, giver: JobNo, depth: u32) -> bool
-        ensures { result ≡ is_hand giver.0 depth self.now }
+    /// Whether the grantor gave it at this depth.
+    pub(crate) fn is_hand(&self, grantor: JobNo, depth: u32) -> bool
+        ensures { result ≡ is_hand grantor.0 depth self.now }
     {
-        self.giver.0 == giver.0 && self.depth == depth
+        self.grantor.0 == grantor.0 && self.depth == depth
     }
 }
 
 impl SeenObject {
-    /// Whether the giver's hand at this depth stands.
-    pub(crate) fn has_hand(&self, giver: JobNo, depth: u32) -> bool
-        ensures { result ≡ list_any (is_hand giver.0 depth) self.now.hands }
+    /// Whether the grantor's hand at this depth stands.
+    pub(crate) fn has_hand(&self, grantor: JobNo, depth: u32) -> bool
+        ensures { result ≡ list_any (is_hand grantor.0 depth) self.now.hands }
     {
-        self.hands.iter().any(|hand| hand.is_hand(giver, depth))
+        self.hands.iter().any(|hand| hand.is_hand(grantor, depth))
     }
 
     /// Whether another hand stands.
-    pub(crate) fn has_other_hand(&self, giver: JobNo, depth: u32) -> bool
-        ensures { result ≡ list_any (λ hand. not (is_hand giver.0 depth hand)) self.now.hands }
+    pub(crate) fn has_other_hand(&self, grantor: JobNo, depth: u32) -> bool
+        ensures { result ≡ list_any (λ hand. not (is_hand grantor.0 depth hand)) self.now.hands }
     {
-        self.hands.iter().any(|hand| !hand.is_hand(giver, depth))
+        self.hands.iter().any(|hand| !hand.is_hand(grantor, depth))
     }
 
-    /// The giver's hands at this depth end. Takes no memory.
-    pub(crate) fn remove_hand(&mut self, giver: JobNo, depth: u32)
-        ensures { self.new ≡ with_other_hands self.old giver.0 depth }
+    /// The grantor's hands at this depth end. Takes no memory.
+    pub(crate) fn remove_hand(&mut self, grantor: JobNo, depth: u32)
+        ensures { self.new ≡ with_other_hands self.old grantor.0 depth }
     {
-        self.hands.retain(|hand| !hand.is_hand(giver, depth));
+        self.hands.retain(|hand| !hand.is_hand(grantor, depth));
     }
 }
 
 impl GivenHand {
-    /// Whether it is a hand of the object that hangs on one by the giver.
-    pub(crate) fn hangs_on(&self, id: ObjectId, giver: JobNo) -> bool
-        ensures { result ≡ hangs_on id giver.0 self.now }
+    /// Whether it is a hand of the object that hangs on one by the grantor.
+    pub(crate) fn is_child_of(&self, id: ObjectId, grantor: JobNo) -> bool
+        ensures { result ≡ is_child_of id grantor.0 self.now }
     {
         same_id(&id, &self.id)
-            && match self.hangs_on {
-                Some(job) => job.0 == giver.0,
+            && match self.parent {
+                Some(job) => job.0 == grantor.0,
                 None => false,
             }
     }
@@ -88,7 +88,7 @@ impl PlainStore {
 
     /// The object as it is seen, in place of what was seen of it. The error is out of memory.
     pub(crate) fn insert_seen(&mut self, id: ObjectId, seen: SeenObject) -> Result<(), AllocError>
-        ensures { OnOk result (self.new ≡ with_seen self.old id seen) }
+        ensures { OnOk result (self.new ≡ store_with_seen self.old id seen) }
     {
         self.received.insert(id, seen)?;
         Ok(())
@@ -109,14 +109,14 @@ impl PlainStore {
         alloc: Global,
         id: ObjectId,
         length: u32,
-        giver: JobNo,
+        grantor: JobNo,
         depth: u32,
     ) -> Result<Reply<u64>, AllocError>
-        ensures reply { IfOk result (λ reply. reply ≡ (received self.old.shape id length giver.0 depth).reply) }
-        ensures store { OnOk result (self.new ≡ record self.old { shape = (received self.old.shape id length giver.0 depth).shape }) }
-        ensures used { (received self.old.shape id length giver.0 depth).used ≡ None }
+        ensures reply { IfOk result (λ reply. reply ≡ (received self.old.shape id length grantor.0 depth).reply) }
+        ensures store { OnOk result (self.new ≡ record self.old { shape = (received self.old.shape id length grantor.0 depth).shape }) }
+        ensures used { (received self.old.shape id length grantor.0 depth).used ≡ None }
     {
-        let hand = TakenHand { giver, depth };
+        let hand = TakenHand { grantor, depth };
         if let Some(seen) = self.seen_mut(id) {
             seen.add(hand, length)?;
             return Ok(Reply::Ok);
@@ -127,43 +127,43 @@ impl PlainStore {
         Ok(Reply::Ok)
     }
 
-    /// The giver's hand of the object at this depth ends, if it stands. Takes no memory.
-    fn forget_hand(&mut self, id: ObjectId, giver: JobNo, depth: u32)
-        ensures { self.new ≡ forgotten self.old id giver.0 depth }
+    /// The grantor's hand of the object at this depth ends, if it stands. Takes no memory.
+    fn forget_hand(&mut self, id: ObjectId, grantor: JobNo, depth: u32)
+        ensures { self.new ≡ forgotten self.old id grantor.0 depth }
     {
         let Some(seen) = self.seen(id) else {
             return;
         };
-        if !seen.has_other_hand(giver, depth) {
+        if !seen.has_other_hand(grantor, depth) {
             self.remove_seen(id);
             return;
         }
         if let Some(seen) = self.seen_mut(id) {
-            seen.remove_hand(giver, depth);
+            seen.remove_hand(grantor, depth);
         }
     }
 
-    /// The given hands end that hang on the giver's hand of the object. Takes no memory.
-    fn drop_hanging(&mut self, id: ObjectId, giver: JobNo)
-        ensures { self.new ≡ without_hanging self.old id giver.0 }
+    /// The given hands end that hang on the grantor's hand of the object. Takes no memory.
+    fn drop_hanging(&mut self, id: ObjectId, grantor: JobNo)
+        ensures { self.new ≡ without_hanging self.old id grantor.0 }
     {
-        self.given.retain(|hand| !hand.hangs_on(id, giver));
+        self.given.retain(|hand| !hand.is_child_of(id, grantor));
     }
 
     /// Withdrawn: a hand that stands ends, and with it those given here that hang on it. Takes no memory.
-    pub(crate) fn withdrawn(&mut self, id: ObjectId, giver: JobNo, depth: u32) -> Reply<u64>
-        ensures reply { result ≡ (withdrawn self.old.shape id giver.0 depth).reply }
-        ensures store { self.new ≡ record self.old { shape = (withdrawn self.old.shape id giver.0 depth).shape } }
-        ensures used { (withdrawn self.old.shape id giver.0 depth).used ≡ None }
+    pub(crate) fn withdrawn(&mut self, id: ObjectId, grantor: JobNo, depth: u32) -> Reply<u64>
+        ensures reply { result ≡ (withdrawn self.old.shape id grantor.0 depth).reply }
+        ensures store { self.new ≡ record self.old { shape = (withdrawn self.old.shape id grantor.0 depth).shape } }
+        ensures used { (withdrawn self.old.shape id grantor.0 depth).used ≡ None }
     {
         let Some(seen) = self.seen(id) else {
             return Reply::Ok;
         };
-        if !seen.has_hand(giver, depth) {
+        if !seen.has_hand(grantor, depth) {
             return Reply::Ok;
         }
-        self.forget_hand(id, giver, depth);
-        self.drop_hanging(id, giver);
+        self.forget_hand(id, grantor, depth);
+        self.drop_hanging(id, grantor);
         Reply::Ok
     }
 }

@@ -1,9 +1,9 @@
 //! The hands that a job gives, and what others granted to it.
-#![tactic(auto, unfolding(private_store::specs::Change::checked, private_store::specs::Change::needing, private_store::specs::Change::sending))]
+#![tactic(auto, unfolding(private_store::specs::rules::Change::checked, private_store::specs::rules::Change::needing, private_store::specs::rules::Change::sending))]
 
 ghost use Rattle.std.specs.Prelude.{◌≡◌, ◌++◌, ◌∷◌, [], filter, not, option_map, ◌&&◌, ◌==◌, IfOk, OnOk};
 ghost use Rattle.obj_id.specs.Ids.{same_id as same_id_lem};
-ghost use Rattle.private_store.specs.Commands.{grant, grant_foreign, grant_own, has_given, is_sealed_primary, peek, withdraw};
+ghost use Rattle.private_store.specs.rules.Commands.{grant, grant_foreign, grant_own, has_given, is_sealed_primary, peek, withdraw};
 
 use crate::copies::PlainCopy;
 use crate::hands::GivenHand;
@@ -33,19 +33,10 @@ impl PlainStore {
     }
 
     /// The hand is given, as the youngest. The error is out of memory.
-    fn give(
-        &mut self,
-        id: ObjectId,
-        target: JobNo,
-        hangs_on: Option<JobNo>,
-    ) -> Result<(), AllocError>
-        ensures { OnOk result (self.new ≡ record self.old { shape = record self.old.shape { given = self.old.shape.given ++ record { id = id; target = target.0; hangs_on = option_map (λ giver. giver.0) hangs_on } ∷ [] } }) }
+    fn give(&mut self, id: ObjectId, target: JobNo, parent: Option<JobNo>) -> Result<(), AllocError>
+        ensures { OnOk result (self.new ≡ record self.old { shape = record self.old.shape { given = self.old.shape.given ++ record { id = id; target = target.0; parent = option_map (λ grantor. grantor.0) parent } ∷ [] } }) }
     {
-        self.given.push(GivenHand {
-            id,
-            target,
-            hangs_on,
-        })?;
+        self.given.push(GivenHand { id, target, parent })?;
         Ok(())
     }
 
@@ -103,8 +94,8 @@ impl PlainStore {
         if hand.depth >= GREATEST_DEPTH || self.given.len() >= MOST_HANDS {
             return Ok(Reply::Refused(Refusal::TooMany));
         }
-        let giver = hand.giver;
-        self.give(id, target, Some(giver))?;
+        let grantor = hand.grantor;
+        self.give(id, target, Some(grantor))?;
         Ok(Reply::Ok)
     }
 

@@ -10,33 +10,33 @@ use std::marker::Model;
 pub struct GivenHand {
     pub id: ObjectId,
     pub target: JobNo,
-    /// Of another job's object the giver of the hand that it hangs on.
-    pub hangs_on: Option<JobNo>,
+    /// Of another job's object the grantor of the hand that it hangs on.
+    pub parent: Option<JobNo>,
 }
 
 impl Model for GivenHand {
     ghost use Rattle.std.specs.Prelude.{option_map};
-    ghost use Rattle.private_store.specs.Shape.{HandGiven};
+    ghost use Rattle.private_store.specs.rules.Shape.{HandGiven};
 
     ghost Value = { HandGiven };
 
-    ghost view = { λ h. record { id = h.id; target = h.target.0; hangs_on = option_map (λ giver. giver.0) h.hangs_on } };
+    ghost view = { λ h. record { id = h.id; target = h.target.0; parent = option_map (λ grantor. grantor.0) h.parent } };
 }
 
 /// A hand that was given to the job. A contract sees the private store's.
 #[derive(Debug, Drop)]
 pub struct TakenHand {
-    pub giver: JobNo,
+    pub grantor: JobNo,
     /// From 1 on: how often the object was handed on up to here.
     pub depth: u32,
 }
 
 impl Model for TakenHand {
-    ghost use Rattle.private_store.specs.Shape.{HandTaken};
+    ghost use Rattle.private_store.specs.rules.Shape.{HandTaken};
 
     ghost Value = { HandTaken };
 
-    ghost view = { λ h. record { giver = h.giver.0; depth = h.depth } };
+    ghost view = { λ h. record { grantor = h.grantor.0; depth = h.depth } };
 }
 
 /// An object of another job that the job may peek at. A contract sees the private store's.
@@ -49,7 +49,7 @@ pub struct SeenObject {
 }
 
 impl Model for SeenObject {
-    ghost use Rattle.private_store.specs.Shape.{Seen};
+    ghost use Rattle.private_store.specs.rules.Shape.{Seen};
 
     ghost Value = { Seen };
 

@@ -3,9 +3,9 @@ ghost use Rattle.std.specs.Prelude.{◌≡◌, ◌+◌, ◌<◌, ◌≤◌, ◌^
 ghost use Rattle.std.specs.Option.{unwrap_or};
 ghost use Rattle.std.specs.Ordering.{nat_cmp};
 ghost use Rattle.std.specs.FinMap.{find, put};
-ghost use Rattle.private_store.specs.Limits.{most_holds};
-ghost use Rattle.private_store.specs.Commands.{holds_of as holds_of_lem, all_holds, with_holds};
-ghost use Rattle.plain_store.specs.Sessions.{IsPlace};
+ghost use Rattle.private_store.specs.rules.Limits.{most_holds};
+ghost use Rattle.private_store.specs.rules.Commands.{holds_of as holds_of_lem, all_holds, with_holds};
+ghost use Rattle.plain_store.specs.Sessions.{IsHoldPlace};
 
 use crate::copies::PlainCopy;
 use obj_id::limits::MOST_HOLDS;
@@ -76,7 +76,7 @@ fn all_in(holds: &[(u32, u32)]) -> u32
 
 /// Where the session's entry is, or would be.
 fn place_of(holds: &[(u32, u32)], session: u32) -> usize
-    ensures { IsPlace holds.now session result }
+    ensures { IsHoldPlace holds.now session result }
 {
     let mut place = 0;
     while place < holds.len() && holds[place].0 < session {

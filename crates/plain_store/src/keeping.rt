@@ -1,7 +1,7 @@
 //! The tasks that keep a copy, and those that ended.
 ghost use Rattle.std.specs.Prelude.{◌≡◌};
-ghost use Rattle.private_store.specs.Commands.{has_borrower, without_borrower};
-ghost use Rattle.private_store.specs.Change.{has_ended};
+ghost use Rattle.private_store.specs.rules.Commands.{has_borrower, without_borrower};
+ghost use Rattle.private_store.specs.rules.Change.{has_ended};
 
 use crate::copies::PlainCopy;
 use crate::marks::same_task;

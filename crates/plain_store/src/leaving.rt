@@ -1,10 +1,10 @@
 //! Leave and EndTask, which change each copy in order of id.
-#![tactic(auto, unfolding(private_store::specs::Change::checked, private_store::specs::Change::needing, private_store::specs::Change::sending))]
+#![tactic(auto, unfolding(private_store::specs::rules::Change::checked, private_store::specs::rules::Change::needing, private_store::specs::rules::Change::sending))]
 
 ghost use Rattle.std.specs.Prelude.{◌≡◌, fold, IfOk, OnOk};
-ghost use Rattle.private_store.specs.Tables.{ids_of};
-ghost use Rattle.private_store.specs.Change.{doom};
-ghost use Rattle.private_store.specs.Commands.{end_task, give_up_one, leave, leave_one, of_task, task_ended};
+ghost use Rattle.private_store.specs.rules.Tables.{ids_of};
+ghost use Rattle.private_store.specs.rules.Change.{doom};
+ghost use Rattle.private_store.specs.rules.Commands.{end_task, give_up_one, leave, leave_one, of_task, task_ended};
 ghost use Rattle.plain_store.specs.Changing.{task_over};
 
 use crate::marks::same_task;

@@ -1,9 +1,9 @@
 //! What List and Usage show.
-#![tactic(auto, unfolding(private_store::specs::Change::checked, private_store::specs::Change::needing, private_store::specs::Change::sending))]
+#![tactic(auto, unfolding(private_store::specs::rules::Change::checked, private_store::specs::rules::Change::needing, private_store::specs::rules::Change::sending))]
 
 ghost use Rattle.std.specs.Prelude.{◌≡◌, ◌≤◌, IfOk, length};
-ghost use Rattle.private_store.specs.Limits.{most_copies};
-ghost use Rattle.private_store.specs.Commands.{granted_items, list, own_items, usage};
+ghost use Rattle.private_store.specs.rules.Limits.{most_copies};
+ghost use Rattle.private_store.specs.rules.Commands.{granted_items, list, own_items, usage};
 
 use crate::store::PlainStore;
 use obj_id::{GrantedItem, Items, OwnItem, Reply, Usage};

@@ -2,7 +2,7 @@
 ghost use Rattle.std.specs.Prelude.{◌≡◌};
 ghost use Rattle.std.specs.Option.{option_copied};
 ghost use Rattle.obj_id.specs.Ids.{same_id as same_id_lem, same_task as same_task_lem};
-ghost use Rattle.private_store.specs.Copies.{extent_of, in_scope, is_created as is_created_lem, is_evictable, is_granted, is_held, is_idle, is_passing, is_sealed as is_sealed_lem, is_spillable, is_working, is_writing, visible};
+ghost use Rattle.private_store.specs.rules.Copies.{extent_of, in_scope, is_created as is_created_lem, is_evictable, is_granted, is_held, is_idle, is_draining, is_sealed as is_sealed_lem, is_spillable, is_working, is_writing, visible};
 
 use crate::copies::PlainCopy;
 use crate::store::PlainStore;
@@ -105,8 +105,8 @@ impl PlainStore {
     }
 
     /// Whether the end of a work, with nothing else, would let its extent go.
-    pub(crate) fn is_passing(&self, id: ObjectId, copy: &PlainCopy) -> bool
-        ensures { result ≡ is_passing self.now.shape id copy.now }
+    pub(crate) fn is_draining(&self, id: ObjectId, copy: &PlainCopy) -> bool
+        ensures { result ≡ is_draining self.now.shape id copy.now }
     {
         self.is_working(id) && copy.offset.is_some() && !copy.is_held() && !self.is_granted(id)
     }

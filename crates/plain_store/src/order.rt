@@ -1,7 +1,7 @@
 //! The order of use.
 ghost use Rattle.std.specs.Prelude.{◌≡◌, ◌&&◌, not, filter, is_some, OnOk};
-ghost use Rattle.private_store.specs.Tables.{at};
-ghost use Rattle.private_store.specs.Step.{is_used, reordered};
+ghost use Rattle.private_store.specs.rules.Tables.{at};
+ghost use Rattle.private_store.specs.rules.Step.{is_used, reordered};
 
 use crate::copies::PlainCopy;
 use crate::marks::same_id;

@@ -1,10 +1,10 @@
 //! The plan for room: which copies go, and what is asked of the device if none that may go would be enough.
 ghost use Rattle.std.specs.Prelude.{◌≡◌, true, false, IfOk};
 ghost use Rattle.std.specs.Option.{option_map_or};
-ghost use Rattle.private_store.specs.Tables.{at};
-ghost use Rattle.private_store.specs.Limits.{is_quota};
-ghost use Rattle.private_store.specs.Room.{in_order as in_order_lem, plan as plan_lem};
-ghost use Rattle.plain_store.specs.Plans.{chosen_by, shown, evict_plan, works_plan, spill_or_wait};
+ghost use Rattle.private_store.specs.rules.Tables.{at};
+ghost use Rattle.private_store.specs.rules.Limits.{is_quota};
+ghost use Rattle.private_store.specs.rules.Room.{in_order as in_order_lem, plan as plan_lem};
+ghost use Rattle.plain_store.specs.Plans.{chosen_by, shown_plan, evict_plan, works_plan, spill_or_wait};
 
 use crate::store::PlainStore;
 use obj_id::ObjectId;
@@ -44,7 +44,7 @@ impl PlainStore {
         };
         match choice {
             Choice::Evictable => self.is_evictable(id, copy),
-            Choice::Passing => self.is_passing(id, copy),
+            Choice::Passing => self.is_draining(id, copy),
             Choice::Spillable => self.is_spillable(id, copy),
         }
     }
@@ -66,7 +66,7 @@ impl PlainStore {
     /// the square of their number. The error is out of memory.
     pub(crate) fn plan(&self, alloc: Global, length: u32) -> Result<Plan, AllocError>
         requires { is_quota self.now.shape.quota ≡ true }
-        ensures { IfOk result (λ p. shown p ≡ plan_lem self.now.order self.now.shape length) }
+        ensures { IfOk result (λ p. shown_plan p ≡ plan_lem self.now.order self.now.shape length) }
     {
         let evictable = self.in_order(alloc, Choice::Evictable)?;
         let victims = self.shortest(alloc, length, &[], &evictable)?;
@@ -85,7 +85,7 @@ impl PlainStore {
     ) -> Result<Plan, AllocError>
         requires quota { is_quota self.now.shape.quota ≡ true }
         requires evictable { evictable.items ≡ in_order_lem self.now.shape self.now.order (chosen_by Choice.Evictable self.now.shape) }
-        ensures { IfOk result (λ p. shown p ≡ works_plan self.now.order self.now.shape length) }
+        ensures { IfOk result (λ p. shown_plan p ≡ works_plan self.now.order self.now.shape length) }
     {
         let mut passing = evictable;
         passing.extend_from_slice(&self.in_order(alloc, Choice::Passing)?)?;
@@ -100,7 +100,7 @@ impl PlainStore {
     /// works left are asked for.
     fn spilling(&self, ids: Vec<ObjectId>) -> Plan
         requires { is_quota self.now.shape.quota ≡ true }
-        ensures { shown result ≡ spill_or_wait self.now.shape ids.items }
+        ensures { shown_plan result ≡ spill_or_wait self.now.shape ids.items }
     {
         if ids.is_empty() {
             return Plan::Wait;
@@ -120,7 +120,7 @@ impl PlainStore {
 
 /// The plan that evicts these copies, if there are any.
 fn evicting(ids: Vec<ObjectId>) -> Plan
-    ensures { shown result ≡ evict_plan ids.items }
+    ensures { shown_plan result ≡ evict_plan ids.items }
 {
     if ids.is_empty() {
         return Plan::Fits;

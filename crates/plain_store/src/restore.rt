@@ -1,15 +1,15 @@
 //! A copy that is away is read back.
 ghost use Rattle.std.specs.Prelude.{◌≡◌, ◌+◌, ◌^◌, ◌<◌, true, false, is_ok, Some, IfOk, OnOk};
 ghost use Rattle.obj_id.specs.declared.refusals.Refusal.TheVariants.{Absent};
-ghost use Rattle.private_store.specs.Tables.{at};
-ghost use Rattle.private_store.specs.Limits.{is_quota};
-ghost use Rattle.private_store.specs.Listed.{IsBriefKept};
-ghost use Rattle.private_store.specs.Shape.{Copy};
-ghost use Rattle.private_store.specs.Copies.{is_sealed};
-ghost use Rattle.private_store.specs.Events.{is_live};
-ghost use Rattle.private_store.specs.Room.{make_room};
-ghost use Rattle.private_store.specs.Change.{needing};
-ghost use Rattle.private_store.specs.Commands.{restore};
+ghost use Rattle.private_store.specs.rules.Tables.{at};
+ghost use Rattle.private_store.specs.rules.Limits.{is_quota};
+ghost use Rattle.private_store.specs.laws.Listed.{IsBriefKept};
+ghost use Rattle.private_store.specs.rules.Shape.{Copy};
+ghost use Rattle.private_store.specs.rules.Copies.{is_sealed};
+ghost use Rattle.private_store.specs.rules.Events.{is_live};
+ghost use Rattle.private_store.specs.rules.Room.{make_room};
+ghost use Rattle.private_store.specs.rules.Change.{needing};
+ghost use Rattle.private_store.specs.rules.Commands.{restore};
 ghost use Rattle.plain_store.specs.Checks.{first_of, restore_checks, restored};
 
 use crate::planning::Plan;
@@ -61,7 +61,7 @@ impl PlainStore {
 
     /// A copy that is away is read back, if there is room for it: the answer is `Pending` then. `Busy` at 8 works, `TooMany`
     /// if no numbers of works are left, `Absent` if there is no copy, and as `make_room`. The error is out of memory.
-    #[tactic(auto, using(crate::proofs::RoomLeaves::room_leaves, crate::proofs::RoomLeaves::room_numbers, crate::proofs::RoomLeaves::quota_kept), unfolding(private_store::specs::Change::checked, private_store::specs::Change::needing, private_store::specs::Change::in_room, private_store::specs::Change::sending))]
+    #[tactic(auto, using(crate::proofs::RoomLeaves::room_leaves, crate::proofs::RoomLeaves::room_numbers, crate::proofs::RoomLeaves::quota_kept), unfolding(private_store::specs::rules::Change::checked, private_store::specs::rules::Change::needing, private_store::specs::rules::Change::in_room, private_store::specs::rules::Change::sending))]
     pub(crate) fn restore(&mut self, alloc: Global, id: ObjectId) -> Result<Told, AllocError>
         requires kept { IsBriefKept self.old }
         requires live { is_live self.old.shape ≡ true }

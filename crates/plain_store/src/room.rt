@@ -2,10 +2,10 @@
 ghost use Rattle.std.specs.Prelude.{◌≡◌, ◌+◌, ◌<◌, ◌≤◌, ◌^◌, fold, length, not, true, false, Err, nat_lt, IfOk, OnOk};
 ghost use Rattle.std.specs.Option.{option_map_or};
 ghost use Rattle.obj_id.specs.Kinds.{is_primary};
-ghost use Rattle.private_store.specs.Tables.{at};
-ghost use Rattle.private_store.specs.Limits.{widest_window, has_numbers, is_quota};
-ghost use Rattle.private_store.specs.Extents.{rounded as rounded_lem};
-ghost use Rattle.private_store.specs.Room.{evicted, asked, evict_room, spill_room, make_room, works_left, bytes_of_copies};
+ghost use Rattle.private_store.specs.rules.Tables.{at};
+ghost use Rattle.private_store.specs.rules.Limits.{widest_window, has_numbers, is_quota};
+ghost use Rattle.private_store.specs.rules.Extents.{rounded as rounded_lem};
+ghost use Rattle.private_store.specs.rules.Room.{evicted, asked, evict_room, spill_room, make_room, works_left, bytes_of_copies};
 
 use crate::copies::PlainWork;
 use crate::planning::Plan;

@@ -1,10 +1,10 @@
 //! One input of a job's store.
 ghost use Rattle.std.specs.Prelude.{◌≡◌, None, true, IfOk, OnOk};
-ghost use Rattle.private_store.specs.Listed.{IsBriefKept};
-ghost use Rattle.private_store.specs.Replay.{brief_step, brief_after};
-ghost use Rattle.private_store.specs.Copies.{is_away as is_away_lem};
-ghost use Rattle.private_store.specs.Events.{is_live as is_live_lem, over, pull_arrived};
-ghost use Rattle.private_store.specs.Step.{commanded, step};
+ghost use Rattle.private_store.specs.laws.Listed.{IsBriefKept};
+ghost use Rattle.private_store.specs.rules.Replay.{brief_step, brief_after};
+ghost use Rattle.private_store.specs.rules.Copies.{is_away as is_away_lem};
+ghost use Rattle.private_store.specs.rules.Events.{is_live as is_live_lem, over, pull_arrived};
+ghost use Rattle.private_store.specs.rules.Step.{commanded, step};
 ghost use Rattle.plain_store.specs.Steps.{is_foreign as is_foreign_lem, is_timely, own_command, own_id as own_id_lem, uses_none};
 
 use crate::store::PlainStore;
@@ -32,7 +32,7 @@ impl PlainStore {
     }
 
     /// The same, but for the order of use.
-    #[tactic(auto, unfolding(private_store::specs::Change::checked, private_store::specs::Change::needing, private_store::specs::Change::sending))]
+    #[tactic(auto, unfolding(private_store::specs::rules::Change::checked, private_store::specs::rules::Change::needing, private_store::specs::rules::Change::sending))]
     fn take(&mut self, alloc: Global, input: &Judged) -> Result<Told, AllocError>
         requires kept { IsBriefKept self.old }
         ensures reply { IfOk result (λ told. told.reply ≡ (step self.old.order self.old.shape input.now).reply) }
@@ -46,11 +46,11 @@ impl PlainStore {
             Judged::Received {
                 id,
                 length,
-                giver,
+                grantor,
                 depth,
-            } => Ok(Told::only(self.received(alloc, *id, *length, *giver, *depth)?)),
-            Judged::Withdrawn { id, giver, depth } => {
-                Ok(Told::only(self.withdrawn(*id, *giver, *depth)))
+            } => Ok(Told::only(self.received(alloc, *id, *length, *grantor, *depth)?)),
+            Judged::Withdrawn { id, grantor, depth } => {
+                Ok(Told::only(self.withdrawn(*id, *grantor, *depth)))
             }
             Judged::Requota(_)
             | Judged::Located { .. }
@@ -62,7 +62,7 @@ impl PlainStore {
     }
 
     /// A change of quota, the end, or a message: `Stale` unless the job is live.
-    #[tactic(auto, unfolding(private_store::specs::Change::checked, private_store::specs::Change::needing, private_store::specs::Change::sending))]
+    #[tactic(auto, unfolding(private_store::specs::rules::Change::checked, private_store::specs::rules::Change::needing, private_store::specs::rules::Change::sending))]
     fn take_if_live(&mut self, alloc: Global, input: &Judged) -> Result<Told, AllocError>
         requires kept { IsBriefKept self.old }
         requires timely { is_timely input.now ≡ true }
@@ -97,7 +97,7 @@ impl PlainStore {
     }
 
     /// A session's command: `NotAdmitted` unless the job is live, `NotGranted` of another job's object.
-    #[tactic(auto, unfolding(private_store::specs::Change::checked, private_store::specs::Change::needing, private_store::specs::Change::sending))]
+    #[tactic(auto, unfolding(private_store::specs::rules::Change::checked, private_store::specs::rules::Change::needing, private_store::specs::rules::Change::sending))]
     fn call(
         &mut self,
         alloc: Global,
@@ -187,7 +187,7 @@ impl PlainStore {
 
     /// A Pull of another node, if the copy had the length and the digest: a copy that is away is read back, without an answer, and a
     /// spill that failed is still to be told of. The error is out of memory.
-    #[tactic(auto, unfolding(private_store::specs::Change::checked, private_store::specs::Change::needing, private_store::specs::Change::sending))]
+    #[tactic(auto, unfolding(private_store::specs::rules::Change::checked, private_store::specs::rules::Change::needing, private_store::specs::rules::Change::sending))]
     fn pull_arrived(
         &mut self,
         alloc: Global,

@@ -1,6 +1,6 @@
 //! A job's store without contents.
 ghost use Rattle.std.specs.Prelude.{◌≡◌};
-ghost use Rattle.private_store.specs.Replay.{unbegun_brief};
+ghost use Rattle.private_store.specs.rules.Replay.{unbegun_brief};
 ghost use Rattle.plain_store.specs.Parts.{has_begun as has_begun_lem};
 
 use crate::copies::{PlainCopy, PlainWork};
@@ -45,7 +45,7 @@ pub struct PlainStore {
 }
 
 impl Model for PlainStore {
-    ghost use Rattle.private_store.specs.Replay.{Brief};
+    ghost use Rattle.private_store.specs.rules.Replay.{Brief};
 
     ghost Value = { Brief };
 

@@ -4,8 +4,8 @@ ghost use Rattle.std.specs.Option.{option_copied, option_copied_mut};
 ghost use Rattle.std.specs.Borrow.{sem};
 ghost use Rattle.std.specs.FinMap.{is_sorted};
 ghost use Rattle.obj_id.specs.Ids.{id_cmp};
-ghost use Rattle.private_store.specs.Tables.{at, with_entry};
-ghost use Rattle.private_store.specs.Room.{set_copy, drop_copy};
+ghost use Rattle.private_store.specs.rules.Tables.{at, with_entry};
+ghost use Rattle.private_store.specs.rules.Room.{set_copy, drop_copy};
 
 use crate::copies::PlainCopy;
 use crate::store::PlainStore;

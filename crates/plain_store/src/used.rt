@@ -2,9 +2,9 @@
 ghost use Rattle.std.specs.Prelude.{◌≡◌, ◌≤◌, filter, is_some, length, map, nat_le, sum};
 ghost use Rattle.std.specs.List.{list_all};
 ghost use Rattle.std.specs.Map.{values_of};
-ghost use Rattle.private_store.specs.Extents.{end_of, rounded as rounded_lem};
-ghost use Rattle.private_store.specs.Limits.{most_copies};
-ghost use Rattle.private_store.specs.Copies.{device_used, window_used, is_within, fits_quota};
+ghost use Rattle.private_store.specs.rules.Extents.{end_of, rounded as rounded_lem};
+ghost use Rattle.private_store.specs.rules.Limits.{most_copies};
+ghost use Rattle.private_store.specs.rules.Copies.{device_used, window_used, is_range_within, fits_quota};
 ghost use Rattle.plain_store.specs.Using.{has_extent_within};
 
 use crate::copies::PlainCopy;
@@ -74,7 +74,7 @@ impl PlainStore {
 
     /// Whether no extent reaches past this end of a window.
     pub(crate) fn is_within(&self, window: u64) -> bool
-        ensures { result ≡ is_within self.now.shape window }
+        ensures { result ≡ is_range_within self.now.shape window }
     {
         are_within(&self.copies, window)
     }

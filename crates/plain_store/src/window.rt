@@ -4,10 +4,10 @@ ghost use Rattle.obj_id.specs.declared.works.Extent.{Extent};
 ghost use Rattle.std.specs.Prelude.{◌≡◌, ◌++◌, ◌≤◌, if◌then◌else◌, None, is_some, take, IfOk, OnOk};
 ghost use Rattle.std.specs.Option.{option_map};
 ghost use Rattle.obj_id.specs.declared.ids.ObjectId.{ObjectId};
-ghost use Rattle.private_store.specs.Tables.{is_among as is_among_lem};
-ghost use Rattle.private_store.specs.Copies.{extent_of as extent_of_lem};
-ghost use Rattle.private_store.specs.Limits.{widest_window};
-ghost use Rattle.private_store.specs.Room.{offset_without, shortest as shortest_lem};
+ghost use Rattle.private_store.specs.rules.Tables.{is_among as is_among_lem};
+ghost use Rattle.private_store.specs.rules.Copies.{extent_of as extent_of_lem};
+ghost use Rattle.private_store.specs.rules.Limits.{widest_window};
+ghost use Rattle.private_store.specs.rules.Room.{offset_without, shortest as shortest_lem};
 ghost use Rattle.plain_store.specs.Fits.{extents_left as extents_left_lem, is_room_without};
 
 use crate::copies::PlainCopy;

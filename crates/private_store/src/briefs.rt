@@ -1,7 +1,7 @@
 //! Works without their bytes.
 ghost use Rattle.std.specs.Prelude.{◌≡◌};
 ghost use Rattle.obj_id.specs.declared.commands.Reply.TheVariants as reply;
-ghost use Rattle.private_store.specs.Answers.{brief_reply};
+ghost use Rattle.private_store.specs.laws.Answers.{brief_reply};
 
 use bytes::Bytes;
 use obj_id::Work;

@@ -15,17 +15,17 @@ pub enum Input {
     Answer(u64, DeviceAnswer),
     /// A message of the job arrived here.
     Arrive(Arrival),
-    /// Another job granted an object: its bytes, the giver, and the depth of the hand.
+    /// Another job granted an object: its bytes, the grantor, and the depth of the hand.
     Received {
         id: ObjectId,
         bytes: Bytes,
-        giver: JobNo,
+        grantor: JobNo,
         depth: u32,
     },
     /// A hand to this job ended.
     Withdrawn {
         id: ObjectId,
-        giver: JobNo,
+        grantor: JobNo,
         depth: u32,
     },
     /// The job ended here.
@@ -69,12 +69,12 @@ pub enum Judged {
     Received {
         id: ObjectId,
         length: u32,
-        giver: JobNo,
+        grantor: JobNo,
         depth: u32,
     },
     Withdrawn {
         id: ObjectId,
-        giver: JobNo,
+        grantor: JobNo,
         depth: u32,
     },
     End,

@@ -1,6 +1,6 @@
 //! How many bytes an object takes.
 ghost use Rattle.std.specs.Prelude.{◌≡◌};
-ghost use Rattle.private_store.specs.Extents.{rounded as rounded_lem};
+ghost use Rattle.private_store.specs.rules.Extents.{rounded as rounded_lem};
 
 use obj_id::limits::UNIT;
 

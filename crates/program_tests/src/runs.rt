@@ -5,9 +5,9 @@ use std::alloc::Global;
 use std::io::{self, BufReader, BufWriter, ErrorKind};
 use std::test::Fail;
 use store_program::{Fault, Keep, RunJournal, run_text};
-use world_core::Shape;
+use world_core::ClusterSize;
 
-const SHAPE: Shape = Shape {
+const SHAPE: ClusterSize = ClusterSize {
     nodes: 1,
     memory: 1_048_576,
 };

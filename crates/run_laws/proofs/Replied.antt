@@ -8,23 +8,23 @@ use Rattle.private_store.specs.declared.schedules.StepAnswer.{StepAnswer}
 use Rattle.private_store.specs.declared.schedules.StepAnswer.TheVariants.{Told}
 use Rattle.private_store.specs.declared.schedules.Traced.{Traced}
 use Rattle.store_facts.proofs.Tests.{both, both_left, both_right}
-use Rattle.hand_laws.specs.Standing.{is_told, ArePrivate}
+use Rattle.hand_laws.specs.Standing.{is_told_of, ArePrivate}
 use Rattle.hand_laws.specs.Moments.{AtEachMoment}
 use Rattle.hand_laws.specs.Telling.{heard_where_due, counting, ShowsAlike}
 use Rattle.hand_laws.proofs.ForCallers.{each_moment, others_dont_show_where_due}
 use Rattle.world_core.specs.Runs.{is_replied, all_replied, IsRun}
 
 -- a command is an event at a node
-one_told : (step : Step) (answer : StepAnswer) → is_replied step answer ≡ true → is_told step answer ≡ true
+one_told : (step : Step) (answer : StepAnswer) → is_replied step answer ≡ true → is_told_of step answer ≡ true
 one_told (At node (Call job session c)) (Told reply) e = refl
 one_told (At node (Call job session c)) answer e = e
 one_told (At node event) answer e = refl
 one_told (Deliver job from to m damage) answer e = refl
 
-all_told : (trace : List Traced) → all_replied trace ≡ true → list_all (λ entry. is_told entry.step entry.answer) trace ≡ true
+all_told : (trace : List Traced) → all_replied trace ≡ true → list_all (λ entry. is_told_of entry.step entry.answer) trace ≡ true
 all_told [] e = refl
 all_told (entry ∷ trace) e =
-    both (is_told entry.step entry.answer) (list_all (λ entry. is_told entry.step entry.answer) trace)
+    both (is_told_of entry.step entry.answer) (list_all (λ entry. is_told_of entry.step entry.answer) trace)
     (one_told entry.step entry.answer (both_left (is_replied entry.step entry.answer) (all_replied trace) e))
     (all_told trace (both_right (is_replied entry.step entry.answer) (all_replied trace) e))
 

@@ -6,7 +6,7 @@ ghost use Rattle.std.specs.Prelude.{◌≡◌, ℕ, List, true, filter, IfOk};
 ghost use Rattle.std.specs.List.{list_all};
 ghost use Rattle.private_store.specs.declared.schedules.Step.{Step};
 ghost use Rattle.private_store.specs.declared.schedules.Traced.{Traced};
-ghost use Rattle.private_store.specs.Trace.{replies_of, is_answered, Agree};
+ghost use Rattle.private_store.specs.rules.Trace.{replies_of, is_answered, Agree};
 ghost use Rattle.hand_laws.specs.Moments.{AtEachMoment};
 ghost use Rattle.hand_laws.specs.Telling.{heard_where_due, counting, ShowsAlike};
 ghost use Rattle.world_core.specs.Worlds.{is_shape, is_within};
@@ -14,7 +14,7 @@ ghost use Rattle.world_core.specs.Runs.{IsRun};
 
 use private_store::Step;
 use std::alloc::{AllocError, Global};
-use world_core::{Shape, Trace, run};
+use world_core::{ClusterSize, Trace, run};
 
 /// The laws of hands hold at every moment of every run: the standing hands of a node are a table; a job sees an object
 /// exactly if a chain of at most three of them leads to it; a withdrawal ends in its one step all that hangs on it, and
@@ -26,7 +26,7 @@ pub fn hands_of_a_run()
 /// What other jobs do with the hands of a job's objects doesn't show to it: two runs in worlds of one shape, whose schedules
 /// are the same but for other jobs' Grants, Withdraws and Peeks of its objects, give the job the same inputs and the same
 /// replies, if other jobs' other Grants are answered the same in both and no step has memory in one of them alone. Such a
-/// Grant need not be: a hand of one object more can be a hand of another less, for a giver has only so many.
+/// Grant need not be: a hand of one object more can be a hand of another less, for a grantor has only so many.
 pub fn others_hands_dont_show_in_runs()
     ensures { (nodes memory job : ℕ) (first second : List Step) (a b : List Traced)
         → IsRun nodes memory first a → IsRun nodes memory second b
@@ -39,7 +39,7 @@ pub fn others_hands_dont_show_in_runs()
 /// memory for a world or a trace.
 pub fn run_two(
     alloc: Global,
-    shape: Shape,
+    shape: ClusterSize,
     first: Vec<Step>,
     second: Vec<Step>,
 ) -> Result<(Trace, Trace), AllocError>

@@ -7,23 +7,23 @@ use Rattle.schedule_text.specs.Fields.{Reads}
 use Rattle.schedule_text.specs.Reading.{IsCommand, IsPlainCommand}
 
 -- every word but `write` is read as in a text of another form
-pub Reads-plain_command : (job : ℕ) (word : Word) (fields : List (List ℕ)) (read : Option (Command (List ℕ))) → (word ≡ Write → ⊥)
+pub Reads-command_without_payload : (job : ℕ) (word : Word) (fields : List (List ℕ)) (read : Option (Command (List ℕ))) → (word ≡ Write → ⊥)
     → Reads read (IsPlainCommand job word fields) → Reads read (IsCommand job word fields)
-Reads-plain_command job Write fields read other reads = absurd (other refl)
-Reads-plain_command job Create fields read other reads = reads
-Reads-plain_command job Copy fields read other reads = reads
-Reads-plain_command job Seal fields read other reads = reads
-Reads-plain_command job Get fields read other reads = reads
-Reads-plain_command job Read fields read other reads = reads
-Reads-plain_command job Release fields read other reads = reads
-Reads-plain_command job Unpin fields read other reads = reads
-Reads-plain_command job Borrow fields read other reads = reads
-Reads-plain_command job GiveUp fields read other reads = reads
-Reads-plain_command job Delete fields read other reads = reads
-Reads-plain_command job EndTask fields read other reads = reads
-Reads-plain_command job Grant fields read other reads = reads
-Reads-plain_command job Withdraw fields read other reads = reads
-Reads-plain_command job Peek fields read other reads = reads
-Reads-plain_command job ListWord fields read other reads = reads
-Reads-plain_command job Usage fields read other reads = reads
-Reads-plain_command job Leave fields read other reads = reads
+Reads-command_without_payload job Write fields read other reads = absurd (other refl)
+Reads-command_without_payload job Create fields read other reads = reads
+Reads-command_without_payload job Copy fields read other reads = reads
+Reads-command_without_payload job Seal fields read other reads = reads
+Reads-command_without_payload job Get fields read other reads = reads
+Reads-command_without_payload job Read fields read other reads = reads
+Reads-command_without_payload job Release fields read other reads = reads
+Reads-command_without_payload job Unpin fields read other reads = reads
+Reads-command_without_payload job Borrow fields read other reads = reads
+Reads-command_without_payload job GiveUp fields read other reads = reads
+Reads-command_without_payload job Delete fields read other reads = reads
+Reads-command_without_payload job EndTask fields read other reads = reads
+Reads-command_without_payload job Grant fields read other reads = reads
+Reads-command_without_payload job Withdraw fields read other reads = reads
+Reads-command_without_payload job Peek fields read other reads = reads
+Reads-command_without_payload job ListWord fields read other reads = reads
+Reads-command_without_payload job Usage fields read other reads = reads
+Reads-command_without_payload job Leave fields read other reads = reads

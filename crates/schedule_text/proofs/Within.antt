@@ -5,14 +5,14 @@ use Rattle.std.specs.Prelude.{nat_le, nat_lt, not, ◌&&◌}
 use Rattle.std.proofs.lemmas.Bool.Decides.{nat_tests}
 use Rattle.obj_id.specs.declared.works.Quota.{Quota}
 use Rattle.obj_id.specs.declared.ids.JobNo.{JobNo}
-use Rattle.obj_id.specs.declared.messages.Place.{Place}
-use Rattle.obj_id.specs.declared.messages.Place.TheVariants.{Node, Directory}
+use Rattle.obj_id.specs.declared.messages.Endpoint.{Endpoint}
+use Rattle.obj_id.specs.declared.messages.Endpoint.TheVariants.{Node, Directory}
 use Rattle.private_store.specs.declared.schedules.Event.{Event}
 use Rattle.private_store.specs.declared.schedules.Event.TheVariants as event
 use Rattle.private_store.specs.declared.schedules.Step.TheVariants.{At, Deliver}
 use Rattle.schedule_text.specs.declared.line.Line.{Line}
 use Rattle.schedule_text.specs.declared.line.Line.TheVariants as line
-use Rattle.schedule_text.specs.declared.line.Outcome.{Outcome}
+use Rattle.schedule_text.specs.declared.line.FinishWord.{FinishWord}
 use Rattle.schedule_text.specs.declared.lines.JobAt.{JobAt}
 use Rattle.schedule_text.specs.declared.words.Verb.{Verb}
 use Rattle.schedule_text.specs.declared.words.Verb.TheVariants as verb
@@ -20,7 +20,7 @@ use Rattle.schedule_text.specs.Fields.{fields_of}
 use Rattle.schedule_text.specs.Reading.{IsJobQuota, IsJobAlone, IsNodeAlone, IsCallLine, IsFinish, IsPlaceUnless, IsDeliver, IsStep, IsStepLine, IsLine, IsLineUnless, is_skipped}
 
 -- one of the nodes, or the directory
-abbrev pub is_there : ℕ → Place → Bool
+abbrev pub is_there : ℕ → Endpoint → Bool
 is_there nodes (Node place) = nat_lt place nodes
 is_there nodes Directory = true
 
@@ -66,7 +66,7 @@ call_within nodes (a ∷ b ∷ []) x h = absurd h
 call_within nodes (a ∷ b ∷ c ∷ []) x h = absurd h
 call_within nodes (a ∷ b ∷ c ∷ d ∷ fields) x h = sym (ap (line_within nodes) h.made) ∙ below h.speaker.at.node nodes h.speaks.at.0.exists
 
-finish_within : (nodes : ℕ) (fields : List (List ℕ)) (x : JobAt × (ℕ × Outcome)) → IsFinish nodes fields x → nat_lt x.0.node nodes ≡ true
+finish_within : (nodes : ℕ) (fields : List (List ℕ)) (x : JobAt × (ℕ × FinishWord)) → IsFinish nodes fields x → nat_lt x.0.node nodes ≡ true
 finish_within nodes [] x h = absurd h
 finish_within nodes (a ∷ []) x h = absurd h
 finish_within nodes (a ∷ b ∷ []) x h = absurd h
@@ -74,11 +74,11 @@ finish_within nodes (a ∷ b ∷ c ∷ []) x h = absurd h
 finish_within nodes (a ∷ b ∷ c ∷ d ∷ []) x h = below x.0.node nodes h.0.0.exists
 finish_within nodes (a ∷ b ∷ c ∷ d ∷ e ∷ fields) x h = absurd h
 
-place_within : (is_directory : Bool) (nodes : ℕ) (field : List ℕ) (x : Place) → IsPlaceUnless is_directory nodes field x → is_there nodes x ≡ true
+place_within : (is_directory : Bool) (nodes : ℕ) (field : List ℕ) (x : Endpoint) → IsPlaceUnless is_directory nodes field x → is_there nodes x ≡ true
 place_within true nodes field x h = sym (ap (is_there nodes) h)
 place_within false nodes field x h = sym (ap (is_there nodes) h.made) ∙ below h.part nodes h.spelled.exists
 
-delivery_within : (nodes : ℕ) (fields : List (List ℕ)) (x : ((Place × Place) × (JobNo × ℕ)) × Bool) → IsDeliver nodes fields x → is_there nodes x.0.0.1 ≡ true
+delivery_within : (nodes : ℕ) (fields : List (List ℕ)) (x : ((Endpoint × Endpoint) × (JobNo × ℕ)) × Bool) → IsDeliver nodes fields x → is_there nodes x.0.0.1 ≡ true
 delivery_within nodes [] x h = absurd h
 delivery_within nodes (a ∷ []) x h = absurd h
 delivery_within nodes (a ∷ b ∷ []) x h = absurd h

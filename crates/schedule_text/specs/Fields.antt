@@ -14,7 +14,7 @@ pub record Reads {X : Type 0} (result : Option X) (IsSpelled : X → Type 0) : T
   pub whole : (x : X) → IsSpelled x → result ≡ Some x
 
 -- made of something that is spelled
-pub record IsMade {A X : Type 0} (IsSpelled : A → Type 0) (make : A → X) (x : X) : Type 0 where
+pub record IsFieldMade {A X : Type 0} (IsSpelled : A → Type 0) (make : A → X) (x : X) : Type 0 where
   pub part : A
   pub spelled : IsSpelled part
   pub made : make part ≡ x

@@ -4,8 +4,8 @@ use Rattle.schedule_text.specs.declared.words.Word.{Word}
 use Rattle.schedule_text.specs.declared.words.Word.TheVariants.{Create, Copy, Write, Seal, Get, Read, Release, Unpin, Borrow, GiveUp, Delete, EndTask, Grant, Withdraw, Peek, List as ListWord, Usage, Leave}
 use Rattle.schedule_text.specs.declared.words.Verb.{Verb}
 use Rattle.schedule_text.specs.declared.words.Verb.TheVariants.{Admit, Quota, End, Cmd, Take, Finish, Deliver}
-use Rattle.schedule_text.specs.declared.line.Outcome.{Outcome}
-use Rattle.schedule_text.specs.declared.line.Outcome.TheVariants as outcome
+use Rattle.schedule_text.specs.declared.line.FinishWord.{FinishWord}
+use Rattle.schedule_text.specs.declared.line.FinishWord.TheVariants as outcome
 
 -- what a command begins with
 abbrev pub word_text : Word → List ℕ
@@ -38,7 +38,7 @@ verb_text Take = codes "take"
 verb_text Finish = codes "finish"
 verb_text Deliver = codes "deliver"
 
-abbrev pub outcome_text : Outcome → List ℕ
+abbrev pub outcome_text : FinishWord → List ℕ
 outcome_text outcome.Ok = codes "ok"
 outcome_text outcome.Fail = codes "fail"
 outcome_text outcome.Damage = codes "damage"

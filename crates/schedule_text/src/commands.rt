@@ -41,13 +41,17 @@ fn command_of(
             offset,
             bytes,
         })),
-        _ => Ok(plain_command(word, fields, job)),
+        _ => Ok(command_without_payload(word, fields, job)),
     }
 }
 
 /// The command that a word and the fields after it spell, if the job speaks, unless it carries
 /// bytes: `None` at `write`, whose last field is spelled differently in different texts.
-pub fn plain_command<P: Drop>(word: Word, fields: &[&str], job: JobNo) -> Option<Command<P>>
+pub fn command_without_payload<P: Drop>(
+    word: Word,
+    fields: &[&str],
+    job: JobNo,
+) -> Option<Command<P>>
     ensures { Reads result (IsPlainCommand job.0 word (map (λ field. field.now) fields.now)) }
 {
     match word {

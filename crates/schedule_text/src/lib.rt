@@ -13,7 +13,7 @@ mod printing;
 pub mod words;
 
 pub use items::list_text;
-pub use line::{Line, Outcome};
+pub use line::{FinishWord, Line};
 pub use lines::{JobAt, fields_of, is_skipped, quota, read_line};
 pub use prefixes::Prefix;
 pub use printing::{answer_line, answer_text, placed_text, refusal_text, usage_text};

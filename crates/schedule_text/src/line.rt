@@ -19,7 +19,7 @@ pub enum Line {
         node: u32,
         job: JobNo,
         number: u64,
-        outcome: Outcome,
+        outcome: FinishWord,
     },
 }
 
@@ -38,7 +38,7 @@ impl Line {
 
 /// What becomes of a work that is finished.
 #[derive(Clone, Copy, Debug, PartialEq, Eq)]
-pub enum Outcome {
+pub enum FinishWord {
     /// The device is called, and its answer handed in.
     Ok,
     /// The work failed, without a call.

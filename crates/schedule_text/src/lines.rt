@@ -5,9 +5,9 @@ ghost use Rattle.schedule_text.specs.Reading.{IsCall, IsCallLine, IsDamage, IsDa
 
 use crate::commands::command;
 use crate::fields::{job, long_number, node, number};
-use crate::line::{Line, Outcome};
+use crate::line::{FinishWord, Line};
 use crate::words::{Verb, read_outcome};
-use obj_id::{JobKey, JobNo, Place, Quota};
+use obj_id::{Endpoint, JobKey, JobNo, Quota};
 use private_store::{Event, Step};
 use std::alloc::{AllocError, Global};
 
@@ -230,14 +230,14 @@ fn call_line(
 }
 
 /// `NUMBER` and the outcome.
-fn ending(number: &str, outcome: &str) -> Option<(u64, Outcome)>
+fn ending(number: &str, outcome: &str) -> Option<(u64, FinishWord)>
     ensures { Reads result (IsEnding number.now outcome.now) }
 {
     Some((long_number(number)?, read_outcome(outcome)?))
 }
 
 /// `NODE JOB NUMBER` and the outcome.
-fn finish(fields: &[&str], nodes: u32) -> Option<(JobAt, (u64, Outcome))>
+fn finish(fields: &[&str], nodes: u32) -> Option<(JobAt, (u64, FinishWord))>
     ensures { Reads result (IsFinish nodes (map (λ field. field.now) fields.now)) }
 {
     let [node, job, number, outcome] = fields else {
@@ -253,24 +253,24 @@ fn ending_at(
     number: &str,
     outcome: &str,
     nodes: u32,
-) -> Option<(JobAt, (u64, Outcome))>
+) -> Option<(JobAt, (u64, FinishWord))>
     ensures { Reads result (IsEndingAt nodes at.now name.now number.now outcome.now) }
 {
     Some((job_at(at, name, nodes)?, ending(number, outcome)?))
 }
 
 /// A node's number, or `d`.
-fn place(field: &str, nodes: u32) -> Option<Place>
+fn place(field: &str, nodes: u32) -> Option<Endpoint>
     ensures { Reads result (IsPlace nodes field.now) }
 {
     if field == "d" {
-        return Some(Place::Directory);
+        return Some(Endpoint::Directory);
     }
-    node(field, nodes).map(Place::Node)
+    node(field, nodes).map(Endpoint::Node)
 }
 
 /// `FROM TO`.
-fn way(sender: &str, receiver: &str, nodes: u32) -> Option<(Place, Place)>
+fn way(sender: &str, receiver: &str, nodes: u32) -> Option<(Endpoint, Endpoint)>
     ensures { Reads result (IsWay nodes sender.now receiver.now) }
 {
     Some((place(sender, nodes)?, place(receiver, nodes)?))
@@ -290,14 +290,14 @@ fn delivery(
     receiver: &str,
     number: &str,
     nodes: u32,
-) -> Option<((Place, Place), (JobNo, u64))>
+) -> Option<((Endpoint, Endpoint), (JobNo, u64))>
     ensures { Reads result (IsDelivery nodes name.now sender.now receiver.now number.now) }
 {
     Some((way(sender, receiver, nodes)?, message(name, number)?))
 }
 
 /// `JOB FROM TO M`, and perhaps `damage`.
-fn deliver(fields: &[&str], nodes: u32) -> Option<(((Place, Place), (JobNo, u64)), bool)>
+fn deliver(fields: &[&str], nodes: u32) -> Option<(((Endpoint, Endpoint), (JobNo, u64)), bool)>
     ensures { Reads result (IsDeliver nodes (map (λ field. field.now) fields.now)) }
 {
     let [job, sender, receiver, number, fields @ ..] = fields else {
@@ -314,7 +314,7 @@ fn delivery_line(
     number: &str,
     fields: &[&str],
     nodes: u32,
-) -> Option<(((Place, Place), (JobNo, u64)), bool)>
+) -> Option<(((Endpoint, Endpoint), (JobNo, u64)), bool)>
     ensures { Reads result (IsDeliveryLine nodes name.now sender.now receiver.now number.now
         (map (λ field. field.now) fields.now)) }
 {

@@ -3,7 +3,7 @@ ghost use Rattle.std.specs.Prelude.{◌≡◌};
 ghost use Rattle.schedule_text.specs.Fields.{Reads};
 ghost use Rattle.schedule_text.specs.Words.{outcome_text, verb_text, word_text};
 
-use crate::line::Outcome;
+use crate::line::FinishWord;
 
 /// What a line begins with.
 #[derive(Clone, Copy, Debug, PartialEq, Eq)]
@@ -130,13 +130,13 @@ impl Word {
 }
 
 /// The outcome that the field is.
-pub(crate) fn read_outcome(field: &str) -> Option<Outcome>
+pub(crate) fn read_outcome(field: &str) -> Option<FinishWord>
     ensures { Reads result (λ outcome. outcome_text outcome ≡ field.now) }
 {
     match field {
-        "ok" => Some(Outcome::Ok),
-        "fail" => Some(Outcome::Fail),
-        "damage" => Some(Outcome::Damage),
+        "ok" => Some(FinishWord::Ok),
+        "fail" => Some(FinishWord::Fail),
+        "damage" => Some(FinishWord::Damage),
         _ => None,
     }
 }

@@ -2,14 +2,14 @@
 use Rattle.std.proofs.Common.{◌≡◌, true, ℕ, List, Option, None, Some, Result, Ok, Err, is_some, sym, ap, ◌∙◌}
 use Rattle.std.specs.Prelude.{if◌then◌else◌, IfOk}
 use Rattle.store_facts.proofs.Tests.{true_false}
-use Rattle.journal_text.specs.declared.saved.Mark.{Mark}
+use Rattle.journal_text.specs.declared.saved.JournalItem.{JournalItem}
 use Rattle.journal_text.specs.Saved.{Saved, is_folded, saved_text}
 use Rattle.store_program.specs.declared.fault.Fault.{Fault}
 use Rattle.store_program.specs.declared.fault.Fault.TheVariants.{Folded}
-use Rattle.store_program.specs.Kept.{IsKept}
+use Rattle.store_program.specs.SavedRuns.{IsSavedStep}
 use Rattle.schedules.specs.Transcripts.{IsJournalEnding, run_ending}
 
-pub folded_ending : (journal : Option Saved) (fault : Fault) (text : List ℕ) → fault ≡ Folded → is_some journal ≡ true → ((marks : List Mark) → IsKept true journal marks → is_folded marks ≡ true)
+pub folded_ending : (journal : Option Saved) (fault : Fault) (text : List ℕ) → fault ≡ Folded → is_some journal ≡ true → ((marks : List JournalItem) → IsSavedStep true journal marks → is_folded marks ≡ true)
     → text ≡ run_ending fault → IsJournalEnding journal text
 folded_ending None fault text is asked full told = true_false asked
 folded_ending (Some saved) fault text is asked full told =

@@ -7,13 +7,13 @@ use Rattle.std.proofs.lemmas.List.Sums.{list_all-from_AllPass}
 use Rattle.obj_id.specs.declared.commands.OwnItem.{OwnItem}
 use Rattle.obj_id.specs.declared.commands.GrantedItem.{GrantedItem}
 use Rattle.obj_id.specs.declared.commands.Reply.TheVariants as reply
-use Rattle.private_store.specs.Limits.{most_copies, most_granted, greatest_depth}
+use Rattle.private_store.specs.rules.Limits.{most_copies, most_granted, greatest_depth}
 use Rattle.store_facts.proofs.Tests.{both}
-use Rattle.wire_frames.specs.Replies.{IsGrantedItem, IsOwnItem}
+use Rattle.wire_frames.specs.Replies.{IsGrantedItemBytes, IsOwnItemBytes}
 use Rattle.wire_frames.specs.Writing.{has_reply_frame}
 use Rattle.wire_frames.proofs.ForCallers.{small_has_frame}
 
-pub list_framed : (own : List OwnItem) (granted : List GrantedItem) → All IsOwnItem own → All IsGrantedItem granted → AllPass (λ i. nat_le i.depth greatest_depth) granted
+pub list_framed : (own : List OwnItem) (granted : List GrantedItem) → All IsOwnItemBytes own → All IsGrantedItemBytes granted → AllPass (λ i. nat_le i.depth greatest_depth) granted
     → length own ≤ 1024 → length granted ≤ 4032 → has_reply_frame (reply.List own granted) ≡ true
 list_framed own granted own_are granted_are shallow few_own few_granted =
     small_has_frame (reply.List own granted)

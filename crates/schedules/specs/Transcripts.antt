@@ -1,6 +1,6 @@
 -- What a run prints and says at its end.
 use Rattle.std.specs.Prelude.{◌≡◌, ℕ, Bool, if◌then◌else◌, List, [], ◌++◌, codes, decimal, Option, None, Some, Result, Ok, Err, ⊤}
-use Rattle.journal_text.specs.declared.saved.Mark.{Mark}
+use Rattle.journal_text.specs.declared.saved.JournalItem.{JournalItem}
 use Rattle.journal_text.specs.Saved.{Saved, IsSaved, is_folded, saved_text}
 use Rattle.store_program.specs.declared.fault.Fault.TheVariants.{Folded}
 use Rattle.store_program.specs.declared.fault.Fault.{Fault}
@@ -9,7 +9,7 @@ use Rattle.store_program.specs.Runs.{Ran}
 use Rattle.journal_replay.specs.declared.fault.ReplayFault.{ReplayFault}
 use Rattle.journal_replay.specs.declared.program.Verdict.{Verdict}
 use Rattle.journal_replay.specs.declared.program.Verdict.TheVariants.{Agrees, Differs}
-use Rattle.journal_replay.specs.Texts.{Replays, fault_text as replay_fault_text, status_of as status_of_replay}
+use Rattle.journal_replay.specs.Texts.{Replays, replay_fault_text, replay_status_of as status_of_replay}
 
 -- of a fault its line and the status
 abbrev pub run_ending : Fault → List ℕ
@@ -18,12 +18,12 @@ run_ending fault = fault_text fault ++ codes "\nstatus " ++ decimal (status_of (
 -- the text of a journal, if one was kept, or that it was folded
 abbrev pub IsJournalEnding : Option Saved → List ℕ → Type 0
 IsJournalEnding None text = text ≡ []
-IsJournalEnding (Some saved) text = (marks : List Mark) → IsSaved saved marks → text ≡ (if is_folded marks then run_ending Folded else saved_text marks)
+IsJournalEnding (Some saved) text = (marks : List JournalItem) → IsSaved saved marks → text ≡ (if is_folded marks then run_ending Folded else saved_text marks)
 
 -- how a run ended
-abbrev pub IsEnding : Result ⊤ Fault → Option Saved → List ℕ → Type 0
-IsEnding (Ok u) journal text = IsJournalEnding journal text
-IsEnding (Err fault) journal text = text ≡ run_ending fault
+abbrev pub IsTranscriptEnding : Result ⊤ Fault → Option Saved → List ℕ → Type 0
+IsTranscriptEnding (Ok u) journal text = IsJournalEnding journal text
+IsTranscriptEnding (Err fault) journal text = text ≡ run_ending fault
 
 -- the text is what a run of the schedule printed, and how it ended
 pub record Transcribes (nodes memory : ℕ) (asked : Bool) (schedule text : List ℕ) : Type 0 where
@@ -33,7 +33,7 @@ pub record Transcribes (nodes memory : ℕ) (asked : Bool) (schedule text : List
   pub printed : List ℕ
   pub ending : List ℕ
   pub ran : Ran nodes memory asked journal (Some schedule) left (Some []) (Some printed) outcome
-  pub ends : IsEnding outcome journal ending
+  pub ends : IsTranscriptEnding outcome journal ending
   pub whole : text ≡ printed ++ ending
 
 -- of a difference the status, and of a fault its line and the status

@@ -12,7 +12,7 @@ use Rattle.private_store.specs.declared.frames.Awaited.{Awaited}
 use Rattle.private_store.specs.declared.frames.Awaited.TheVariants as awaited
 use Rattle.private_store.specs.declared.frames.Item.{Item}
 use Rattle.private_store.specs.declared.frames.Item.TheVariants as item
-use Rattle.private_store.specs.Frames.{item_frame, reply_frame}
+use Rattle.private_store.specs.rules.Frames.{item_frame, reply_frame}
 use Rattle.schedule_text.specs.declared.line.Line.{Line}
 use Rattle.schedule_text.specs.declared.line.Line.TheVariants as line
 use Rattle.schedule_text.specs.Fields.{IsJob, fields_of}
@@ -21,15 +21,15 @@ use Rattle.schedule_text.specs.Reading.{IsLine}
 use Rattle.wire_frames.specs.Reading.{fed, unfinished}
 
 -- the job that speaks
-abbrev pub speaker : JobNo
-speaker = record { 0 = 1 }
+abbrev pub vector_speaker : JobNo
+vector_speaker = record { 0 = 1 }
 
 -- this command of its session 1, at node 0
 abbrev pub line_calling : Command (List ℕ) → Line
-line_calling c = line.Step («step».At 0 (event.Call speaker 1 c))
+line_calling c = line.Step («step».At 0 (event.Call vector_speaker 1 c))
 
 -- `cmd 0 1 1 TEXT` is a schedule's line of this command
-pub record Calls (text : List ℕ) (c : Command (List ℕ)) : Type 0 where
+pub record VectorCalls (text : List ℕ) (c : Command (List ℕ)) : Type 0 where
   pub spelled : IsLine 1 (codes "cmd 0 1 1 " ++ text) (line_calling c)
 
 -- `JOB KEY`, each in its field
@@ -47,18 +47,18 @@ command_awaited (awaited.Get id) = command.Get id
 command_awaited (awaited.Create id kind n) = command.Create id kind n
 
 -- the text of that command, with `wait` after its word
-pub record IsAwaited (text : List ℕ) (c : Command (List ℕ)) : Type 0 where
+pub record IsAwaitedVector (text : List ℕ) (c : Command (List ℕ)) : Type 0 where
   pub word : List ℕ
   pub rest : List ℕ
   pub waits : text ≡ word ++ codes "wait " ++ rest
-  pub calling : Calls (word ++ codes " " ++ rest) c
+  pub calling : VectorCalls (word ++ codes " " ++ rest) c
 
 -- what a session of job 1 says by a text
-abbrev pub Says : List ℕ → Item → Type 0
-Says text (item.Hello job key) = IsHello (fields_of text) (job, key)
-Says text (item.Command c) = Calls text c
-Says text (item.Wait a) = IsAwaited text (command_awaited a)
-Says text item.BadId = ⊥
+abbrev pub VectorSays : List ℕ → Item → Type 0
+VectorSays text (item.Hello job key) = IsHello (fields_of text) (job, key)
+VectorSays text (item.Command c) = VectorCalls text c
+VectorSays text (item.Wait a) = IsAwaitedVector text (command_awaited a)
+VectorSays text item.BadId = ⊥
 
 -- there is one item, and the bytes are its frame
 abbrev pub IsFrameAlone : List Item → List ℕ → Type 0
@@ -79,7 +79,7 @@ pub record IsFrameOf (digits : List ℕ) (item : Item) : Type 0 where
 -- the same, of what the text says
 pub record IsCommandFrame (digits text : List ℕ) : Type 0 where
   pub item : Item
-  pub said : Says text item
+  pub said : VectorSays text item
   pub framed : IsFrameOf digits item
 
 -- the digits are those of the frame of the reply that is printed so for job 1

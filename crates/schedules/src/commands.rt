@@ -2,10 +2,10 @@
 ghost use Rattle.std.specs.Prelude.{◌≡◌, ◌+◌, ◌++◌, codes, length, map, None, IfOk, IfSome, IsTrue};
 ghost use Rattle.std.specs.String.{string_bytes};
 ghost use Rattle.hex.specs.Hex.{encode_lower};
-ghost use Rattle.private_store.specs.Frames.{command_body, is_command_length};
+ghost use Rattle.private_store.specs.rules.Frames.{command_body, is_command_length};
 ghost use Rattle.schedule_text.specs.Fields.{fields_of as fields_of_lem};
 ghost use Rattle.wire_frames.specs.Writing.{has_command_frame};
-ghost use Rattle.schedules.specs.Vectors.{Calls, IsCommandFrame, IsFrameAlone, IsFrameOf, IsHello, IsJobAndKey, IsReadBack, Says, command_awaited, line_calling};
+ghost use Rattle.schedules.specs.Vectors.{VectorCalls, IsCommandFrame, IsFrameAlone, IsFrameOf, IsHello, IsJobAndKey, IsReadBack, VectorSays, command_awaited, line_calling};
 
 use crate::digits::{are_digits_of, cut_at};
 use crate::vectors::Fault;
@@ -52,7 +52,7 @@ fn item_fault(alloc: Global, digits: &str, item: &Item) -> Result<Option<Fault>,
 
 /// What a session of job 1 says by a text.
 fn item_of(alloc: Global, text: &str) -> Result<Option<Item>, AllocError>
-    ensures { IfOk result (λ item. IfSome item (λ item. Says text.now item)) }
+    ensures { IfOk result (λ item. IfSome item (λ item. VectorSays text.now item)) }
 {
     if let Some((job, key)) = hello(alloc, text)? {
         return Ok(Some(Item::Hello(job, key)));
@@ -126,7 +126,7 @@ fn key(alloc: Global, digits: &str) -> Result<Option<JobKey>, AllocError>
 /// The command that is tried again, if it is one that can be, by its word and what stands after that.
 fn awaited(alloc: Global, word: &str, rest: &str) -> Result<Option<Awaited>, AllocError>
     ensures { IfOk result (λ awaited. IfSome awaited
-        (λ awaited. Calls (word.now ++ codes " " ++ rest.now) (command_awaited awaited))) }
+        (λ awaited. VectorCalls (word.now ++ codes " " ++ rest.now) (command_awaited awaited))) }
 {
     let text = format!(in alloc; "{word} {rest}")?;
     match command_of(alloc, text.as_str())? {
@@ -152,7 +152,7 @@ fn awaiting(command: &Command<Bytes>) -> Option<Awaited>
 
 /// The command of a schedule's line, in which session 1 of job 1 speaks at node 0.
 fn command_of(alloc: Global, text: &str) -> Result<Option<Command<Bytes>>, AllocError>
-    ensures { IfOk result (λ command. IfSome command (λ command. Calls text.now command)) }
+    ensures { IfOk result (λ command. IfSome command (λ command. VectorCalls text.now command)) }
 {
     let line = line_of(alloc, text)?;
     let read = read_line(alloc, line.as_str(), 1)?;

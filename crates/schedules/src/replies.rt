@@ -1,8 +1,8 @@
 //! The frames of replies, against what they say.
 ghost use Rattle.std.specs.Prelude.{◌≡◌, ◌<◌, ◌^◌, All, None, IfOk, IsTrue, nat_le};
 ghost use Rattle.std.specs.List.{AllPass};
-ghost use Rattle.private_store.specs.Limits.{greatest_depth};
-ghost use Rattle.wire_frames.specs.Replies.{IsGrantedItem, IsOwnItem};
+ghost use Rattle.private_store.specs.rules.Limits.{greatest_depth};
+ghost use Rattle.wire_frames.specs.Replies.{IsGrantedItemBytes, IsOwnItemBytes};
 ghost use Rattle.wire_frames.specs.Writing.{has_reply_frame};
 ghost use Rattle.schedules.specs.Vectors.{IsReplyFrame};
 
@@ -111,7 +111,7 @@ fn is_list_framed(own: &[OwnItem], granted: &[GrantedItem]) -> bool
 
 /// Does nothing: own items are those of a program.
 fn own_are_items(items: &[OwnItem])
-    ensures { All IsOwnItem items.now }
+    ensures { All IsOwnItemBytes items.now }
 {
     for item in items {
         let _bytes = item.id.to_bytes();
@@ -122,7 +122,7 @@ fn own_are_items(items: &[OwnItem])
 /// Does nothing: granted items are those of a program, if none is deeper than a store's are.
 fn granted_are_items(items: &[GrantedItem])
     requires { AllPass (λ i. nat_le i.depth greatest_depth) items.now }
-    ensures items { All IsGrantedItem items.now }
+    ensures items { All IsGrantedItemBytes items.now }
     ensures shallow { AllPass (λ i. nat_le i.depth greatest_depth) items.now }
 {
     for item in items {

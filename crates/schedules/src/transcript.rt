@@ -1,10 +1,10 @@
 //! What the program says to a schedule.
 ghost use Rattle.std.specs.Prelude.{◌≡◌, ◌++◌, codes, decimal, true, IfOk};
-ghost use Rattle.journal_replay.specs.Texts.{fault_text};
+ghost use Rattle.journal_replay.specs.Texts.{replay_fault_text};
 ghost use Rattle.world_core.specs.Worlds.{is_shape};
 ghost use Rattle.schedules.specs.Transcripts.{IsJournalEnding, Retells, Transcribes, run_ending as run_ending_lem, replay_ending as replay_ending_lem};
 ghost use Rattle.std.specs.String.{string_bytes};
-ghost use Rattle.store_program.specs.Kept.{is_asked};
+ghost use Rattle.store_program.specs.SavedRuns.{is_asked};
 
 use journal_replay::{ReplayFault, Verdict, replay_text, status_of as status_of_replay};
 use std::alloc::{AllocError, Global};
@@ -12,7 +12,7 @@ use std::fmt::Write as _;
 use store_program::{
     Fault, Keep, RunJournal, Task, read_task, run_text, status_of, status_of_error,
 };
-use world_core::Shape;
+use world_core::ClusterSize;
 
 /// What a process with these words prints when it is given the schedule, or of a replay the journal, and what it says at
 /// its end.
@@ -40,7 +40,7 @@ fn kept_by(journal: Option<&str>) -> Keep {
 /// What a run prints; after it its journal, if one is to be saved; and of a fault its line and the status.
 fn transcript(
     alloc: Global,
-    shape: Shape,
+    shape: ClusterSize,
     keep: Keep,
     schedule: &[u8],
 ) -> Result<Vec<u8>, AllocError>
@@ -107,7 +107,7 @@ fn replay_ending(
 
 /// The line of a fault, and the status.
 fn fault_ending(alloc: Global, fault: ReplayFault, status: u8) -> Result<String, AllocError>
-    ensures { IfOk result (λ text. string_bytes text ≡ fault_text fault ++ codes "\nstatus " ++ decimal status ++ codes "\n") }
+    ensures { IfOk result (λ text. string_bytes text ≡ replay_fault_text fault ++ codes "\nstatus " ++ decimal status ++ codes "\n") }
 {
     format!(in alloc; "{fault}\nstatus {status}\n")
 }

@@ -2,12 +2,12 @@
 use Rattle.std.proofs.Common.{◌≡◌, ℕ, List, [], ◌++◌, take, drop, Result, Ok, Err, refl, sym, ap, subst, ◌∙◌, append-nil, append_assoc, take-append-drop}
 use Rattle.std.specs.Prelude.{⊤}
 use Rattle.private_store.specs.declared.frames.Item.{Item}
-use Rattle.private_store.specs.Frames.{End, clean, mid_frame, malformed, Stream, stream_of}
+use Rattle.private_store.specs.rules.Frames.{End, clean, mid_frame, malformed, Stream, stream_of}
 use Rattle.wire_frames.specs.Reading.{Reading, unfinished, failed, continued, reading_at, reading_after}
 use Rattle.wire_frames.proofs.ForCallers.{onward_at, stream_of-append}
 use Rattle.session_engine.specs.declared.ending.SessionFault.{SessionFault}
 use Rattle.session_engine.specs.Calls.{Asked, Answered}
-use Rattle.session_engine.specs.Sessions.{Standing}
+use Rattle.session_engine.specs.Sessions.{SessionState}
 use Rattle.session_engine.specs.Serving.{AnswersAll}
 use Rattle.session_engine.specs.Hearing.{StopsAnswering, AnswersPiece}
 use Rattle.session_engine.proofs.Answering.{answered_none, answered_then, stopped_then, stopped_more}
@@ -34,9 +34,9 @@ continued_on (unfinished bytes) part others =
     subst (λ l. GoesOn (stream_of l) s.items (continued (reading_after s) others)) (append_assoc bytes part others) (stream_on (bytes ++ part) others)
 continued_on failed part others = record { items_on = refl; end_on = refl; kept_on = refl }
 
-module _ {G : Type 0} (gives : G → Asked → Answered → G → Type 0) (reading : Reading) (piece : List ℕ) (a : Standing G) where
+module _ {G : Type 0} (gives : G → Asked → Answered → G → Type 0) (reading : Reading) (piece : List ℕ) (a : SessionState G) where
   -- a piece so far: the items before what is left of it are answered
-  pub record InPiece (now : Reading) (rest : List ℕ) (b : Standing G) : Type 0 where
+  pub record InPiece (now : Reading) (rest : List ℕ) (b : SessionState G) : Type 0 where
     pub before : List Item
     pub goes_on : GoesOn (continued reading piece) before (continued now rest)
     pub answered : AnswersAll gives before a b
@@ -44,7 +44,7 @@ module _ {G : Type 0} (gives : G → Asked → Answered → G → Type 0) (readi
   pub piece_begun : InPiece reading piece a
   piece_begun = record { before = []; goes_on = record { items_on = refl; end_on = refl; kept_on = refl }; answered = answered_none gives a }
 
-  module _ (now : Reading) (rest : List ℕ) (b : Standing G) (so_far : InPiece now rest b) (c : Standing G) (now2 : Reading) where
+  module _ (now : Reading) (rest : List ℕ) (b : SessionState G) (so_far : InPiece now rest b) (c : SessionState G) (now2 : Reading) where
     module _ (n : ℕ) (part others : List ℕ) (front : part ≡ take n rest) (back : others ≡ drop n rest) where
       parted : rest ≡ part ++ others
       parted = sym (take-append-drop n rest) ∙ ap (λ l. l ++ drop n rest) (sym front) ∙ ap (λ l. part ++ l) (sym back)

@@ -3,16 +3,16 @@ use Rattle.std.proofs.Common.{◌≡◌, ◌≢◌, ℕ, Bool, true, false, List
 use Rattle.std.specs.Prelude.{if◌then◌else◌}
 use Rattle.std.specs.Io.KnownBytes.{Appends, Consumes, IsAtEnd}
 use Rattle.private_store.specs.declared.frames.Item.{Item}
-use Rattle.private_store.specs.Frames.{End, clean, mid_frame, malformed, replies_bytes, stream_of}
+use Rattle.private_store.specs.rules.Frames.{End, clean, mid_frame, malformed, replies_bytes, stream_of}
 use Rattle.wire_frames.specs.Reading.{Reading, unfinished, continued, is_in_mid_frame, reading_at, reading_after}
 use Rattle.session_engine.specs.declared.ending.Ended.{Ended}
 use Rattle.session_engine.specs.declared.ending.Ended.TheVariants.{Clean, MidFrame, Malformed}
 use Rattle.session_engine.specs.declared.ending.SessionFault.{SessionFault}
 use Rattle.session_engine.specs.declared.ending.SessionFault.TheVariants.{Read, Write, Memory}
-use Rattle.session_engine.specs.declared.serving.Heard.{Heard}
-use Rattle.session_engine.specs.declared.serving.Heard.TheVariants.{Items, NoFrame}
+use Rattle.session_engine.specs.declared.serving.PieceEnd.{PieceEnd}
+use Rattle.session_engine.specs.declared.serving.PieceEnd.TheVariants.{Items, NoFrame}
 use Rattle.session_engine.specs.Calls.{Asked, Answered}
-use Rattle.session_engine.specs.Sessions.{Standing}
+use Rattle.session_engine.specs.Sessions.{SessionState}
 use Rattle.session_engine.specs.Serving.{AnswersAll, Concludes, EndsIn, AnswersInput, not_a_frame}
 use Rattle.session_engine.specs.Hearing.{StopsAnswering, Hears, HearsNoFrame, HearsPiece}
 use Rattle.store_facts.proofs.KnownBytes.{Consumes-none, Consumes-then, Consumes-all}
@@ -30,16 +30,16 @@ ended_in mid_frame (x ∷ xs) input bytes e r no_fault fits all = (e, subst (λ 
 ended_in malformed rest input bytes e r no_fault fits all = absurd (no_fault refl)
 
 -- all is answered, and nothing is added where the stream has no fault
-concluded : {G : Type 0} (gives : G → Asked → Answered → G → Type 0) (xs : List Item) (a b : Standing G) (in_mid_frame : Bool) → AnswersAll gives xs a b → Concludes gives (if in_mid_frame then MidFrame else Clean) xs a b
+concluded : {G : Type 0} (gives : G → Asked → Answered → G → Type 0) (xs : List Item) (a b : SessionState G) (in_mid_frame : Bool) → AnswersAll gives xs a b → Concludes gives (if in_mid_frame then MidFrame else Clean) xs a b
 concluded gives xs a b true h = record { replies = h.replies; run = h.run; written = h.written }
 concluded gives xs a b false h = record { replies = h.replies; run = h.run; written = h.written }
 
 -- more is answered, and then a fault of the stream
-concluded_then : {G : Type 0} (gives : G → Asked → Answered → G → Type 0) (xs ys : List Item) (a b c : Standing G) → AnswersAll gives xs a b → Concludes gives Malformed ys b c → Concludes gives Malformed (xs ++ ys) a c
+concluded_then : {G : Type 0} (gives : G → Asked → Answered → G → Type 0) (xs ys : List Item) (a b c : SessionState G) → AnswersAll gives xs a b → Concludes gives Malformed ys b c → Concludes gives Malformed (xs ++ ys) a c
 concluded_then gives xs ys a b c h k =
     record {
       replies = h.replies ++ k.replies;
-      run = Run-then gives xs h.replies ys k.replies a.gate b.gate c.gate a.seat b.seat c.seat h.run k.run;
+      run = Run-then gives xs h.replies ys k.replies a.gate b.gate c.gate a.session_id b.session_id c.session_id h.run k.run;
       written =
           subst (λ l. Appends a.written c.written (replies_bytes l)) (sym (append_assoc h.replies k.replies (not_a_frame ∷ [])))
           (Appends-replies a.written b.written c.written h.replies (k.replies ++ not_a_frame ∷ []) h.written k.written);
@@ -47,8 +47,8 @@ concluded_then gives xs ys a b c h k =
 
 -- ---- a session so far
 
-module _ {G : Type 0} (gives : G → Asked → Answered → G → Type 0) (r : Option (List ℕ)) (a : Standing G) where
-  pub record Progress (frames : Reading) (r1 : Option (List ℕ)) (b : Standing G) : Type 0 where
+module _ {G : Type 0} (gives : G → Asked → Answered → G → Type 0) (r : Option (List ℕ)) (a : SessionState G) where
+  pub record Progress (frames : Reading) (r1 : Option (List ℕ)) (b : SessionState G) : Type 0 where
     pub bytes : List ℕ
     pub consumed : Consumes r r1 bytes
     pub reading : reading_after (stream_of bytes) ≡ frames
@@ -62,7 +62,7 @@ module _ {G : Type 0} (gives : G → Asked → Answered → G → Type 0) (r : O
   no_buffer = record { bytes = []; consumed = Consumes-none r; outcome = no_memory_before gives clean [] a }
 
   -- the input is at its end, and all of it is answered
-  input_ended : (frames : Reading) (r1 : Option (List ℕ)) (b : Standing G) → Progress frames r1 b → IsAtEnd r1 → (ended : Ended) → ended ≡ (if is_in_mid_frame frames then MidFrame else Clean) → AnswersInput gives a b r r1 (Ok ended)
+  input_ended : (frames : Reading) (r1 : Option (List ℕ)) (b : SessionState G) → Progress frames r1 b → IsAtEnd r1 → (ended : Ended) → ended ≡ (if is_in_mid_frame frames then MidFrame else Clean) → AnswersInput gives a b r r1 (Ok ended)
   input_ended frames r1 b so_far end ended is =
       let stream = stream_of so_far.bytes in
       subst (λ e. AnswersInput gives a b r r1 (Ok e)) (sym (is ∙ ap (λ at. if is_in_mid_frame at then MidFrame else Clean) (sym so_far.reading)))
@@ -75,8 +75,8 @@ module _ {G : Type 0} (gives : G → Asked → Answered → G → Type 0) (r : O
         );
       })
 
-  module _ (frames : Reading) (r1 : Option (List ℕ)) (b : Standing G) (so_far : Progress frames r1 b) where
-    module _ (r2 : Option (List ℕ)) (c : Standing G) (piece : List ℕ) (read : Consumes r1 r2 piece) where
+  module _ (frames : Reading) (r1 : Option (List ℕ)) (b : SessionState G) (so_far : Progress frames r1 b) where
+    module _ (r2 : Option (List ℕ)) (c : SessionState G) (piece : List ℕ) (read : Consumes r1 r2 piece) where
       consumed_on : Consumes r r2 (so_far.bytes ++ piece)
       consumed_on = Consumes-then r r1 r2 so_far.bytes piece so_far.consumed read
 
@@ -110,7 +110,7 @@ module _ {G : Type 0} (gives : G → Asked → Answered → G → Type 0) (r : O
             );
           }
 
-      module _ (frames2 : Reading) (what : Heard) (hears : HearsPiece gives frames piece b c frames2 (Ok what)) where
+      module _ (frames2 : Reading) (what : PieceEnd) (hears : HearsPiece gives frames piece b c frames2 (Ok what)) where
         pub heard : what ≡ Items → Progress frames2 r2 c
         heard is = items_heard frames2 (subst (λ w. HearsPiece gives frames piece b c frames2 (Ok w)) is hears)
 
@@ -121,7 +121,7 @@ module _ {G : Type 0} (gives : G → Asked → Answered → G → Type 0) (r : O
         heard_no_frame is = no_frame_heard (subst (λ w. HearsPiece gives frames piece b c frames2 (Ok w)) is hears)
 
       module _ (fault : SessionFault) where
-        abbrev Stops : End → List Item → Standing G → Type 0
+        abbrev Stops : End → List Item → SessionState G → Type 0
         Stops end items old = StopsAnswering gives fault end items old c
 
         stopped : Stops (continued frames piece).end (continued frames piece).items b → Stops (stream_of (so_far.bytes ++ piece)).end (stream_of (so_far.bytes ++ piece)).items a

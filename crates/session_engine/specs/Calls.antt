@@ -23,9 +23,9 @@ pub data Answered : Type 0 where
   left : Answered
 
 -- who isn't let in is refused
-abbrev pub entry_of : Result ℕ Refusal → Answered
-entry_of (Ok number) = entered number
-entry_of (Err refusal) = replied (reply.Refused refusal)
+abbrev pub entry_answer : Result ℕ Refusal → Answered
+entry_answer (Ok number) = entered number
+entry_answer (Err refusal) = replied (reply.Refused refusal)
 
 -- why a session isn't let in: no such job here or another key, no number left, or no memory
 abbrev pub IsEntryRefusal : Refusal → Type 0

@@ -9,8 +9,8 @@ use Rattle.obj_id.specs.declared.commands.Reply.{Reply}
 use Rattle.obj_id.specs.declared.commands.Reply.TheVariants as reply
 use Rattle.private_store.specs.declared.frames.Item.{Item}
 use Rattle.private_store.specs.declared.frames.Item.TheVariants as item
-use Rattle.session_engine.specs.declared.session.Seat.{Seat}
-use Rattle.session_engine.specs.Calls.{Asked, to_enter, to_call, to_wait, to_leave, Answered, replied, left, entry_of}
+use Rattle.session_engine.specs.declared.session.SessionId.{SessionId}
+use Rattle.session_engine.specs.Calls.{Asked, to_enter, to_call, to_wait, to_leave, Answered, replied, left, entry_answer}
 
 -- what is written to a Hello
 abbrev pub greeting : Result ℕ Refusal → Reply (List ℕ)
@@ -18,40 +18,40 @@ greeting (Ok number) = reply.Ok
 greeting (Err refusal) = reply.Refused refusal
 
 -- the session's seat after a Hello: the Hello's job, and the number that the gate gave
-abbrev pub seat_of : JobNo → Result ℕ Refusal → Option Seat
-seat_of job (Ok number) = Some (record { job = job; number = number })
-seat_of job (Err refusal) = None
+abbrev pub session_id_of : JobNo → Result ℕ Refusal → Option SessionId
+session_id_of job (Ok number) = Some (record { job = job; number = number })
+session_id_of job (Err refusal) = None
 
 -- where a session stands: its gate, its seat, and what its writer holds, where that is known
-pub record Standing (G : Type 0) : Type 0 where
+pub record SessionState (G : Type 0) : Type 0 where
   pub gate : G
-  pub seat : Option Seat
+  pub session_id : Option SessionId
   pub written : Option (List ℕ)
 
-abbrev pub standing : {G : Type 0} → G → Option Seat → Option (List ℕ) → Standing G
-standing gate seat written = record { gate = gate; seat = seat; written = written }
+abbrev pub session_state : {G : Type 0} → G → Option SessionId → Option (List ℕ) → SessionState G
+session_state gate session_id written = record { gate = gate; session_id = session_id; written = written }
 
 module _ {G : Type 0} (gives : G → Asked → Answered → G → Type 0) where
   -- the session answers by itself; neither its seat nor the gate changes
-  pub record RefusesAlone (refusal : Refusal) (before : G) (seat : Option Seat) (answer : Reply (List ℕ)) (after : G) (seat_after : Option Seat) : Type 0 where
+  pub record RefusesAlone (refusal : Refusal) (before : G) (session_id : Option SessionId) (answer : Reply (List ℕ)) (after : G) (session_id_after : Option SessionId) : Type 0 where
     pub answered : answer ≡ reply.Refused refusal
     pub gate : after ≡ before
-    pub same : seat_after ≡ seat
+    pub same : session_id_after ≡ session_id
 
   -- the answer is the gate's
-  pub record Passes (asked : Asked) (before : G) (seat : Option Seat) (answer : Reply (List ℕ)) (after : G) (seat_after : Option Seat) : Type 0 where
+  pub record Passes (asked : Asked) (before : G) (session_id : Option SessionId) (answer : Reply (List ℕ)) (after : G) (session_id_after : Option SessionId) : Type 0 where
     pub answered : gives before asked (replied answer) after
-    pub same : seat_after ≡ seat
+    pub same : session_id_after ≡ session_id
 
   -- the session has entered where the gate gave it a number
-  pub record Greets (job : JobNo) (key : JobKey) (before : G) (answer : Reply (List ℕ)) (after : G) (seat_after : Option Seat) : Type 0 where
+  pub record Greets (job : JobNo) (key : JobKey) (before : G) (answer : Reply (List ℕ)) (after : G) (session_id_after : Option SessionId) : Type 0 where
     pub entry : Result ℕ Refusal
-    pub asked : gives before (to_enter job key) (entry_of entry) after
+    pub asked : gives before (to_enter job key) (entry_answer entry) after
     pub answered : answer ≡ greeting entry
-    pub seated : seat_after ≡ seat_of job entry
+    pub entered : session_id_after ≡ session_id_of job entry
 
   -- the answer to an item, before an accepted Hello and after it
-  abbrev pub AnswersItem : G → Option Seat → Item → Reply (List ℕ) → G → Option Seat → Type 0
+  abbrev pub AnswersItem : G → Option SessionId → Item → Reply (List ℕ) → G → Option SessionId → Type 0
   AnswersItem before None (item.Hello job key) = Greets job key before
   AnswersItem before None (item.Command c) = RefusesAlone NotAdmitted before None
   AnswersItem before None (item.Wait awaited) = RefusesAlone NotAdmitted before None
@@ -62,20 +62,20 @@ module _ {G : Type 0} (gives : G → Asked → Answered → G → Type 0) where
   AnswersItem before (Some at) item.BadId = RefusesAlone BadId before (Some at)
 
   -- one item's answer, and then others
-  pub record Then (before : G) (seat : Option Seat) (x : Item) (answer : Reply (List ℕ)) (rest : G → Option Seat → Type 0) : Type 0 where
+  pub record Then (before : G) (session_id : Option SessionId) (x : Item) (answer : Reply (List ℕ)) (rest : G → Option SessionId → Type 0) : Type 0 where
     pub gate : G
-    pub seat_then : Option Seat
-    pub first : AnswersItem before seat x answer gate seat_then
-    pub others : rest gate seat_then
+    pub session_id_then : Option SessionId
+    pub first : AnswersItem before session_id x answer gate session_id_then
+    pub others : rest gate session_id_then
 
   -- the items are answered in order, each by the gate and in the seat that the one before it left
-  abbrev pub Run : List Item → List (Reply (List ℕ)) → G → Option Seat → G → Option Seat → Type 0
-  Run [] [] before seat after seat_after = (after ≡ before) × (seat_after ≡ seat)
-  Run [] (_ ∷ _) before seat after seat_after = ⊥
-  Run (_ ∷ _) [] before seat after seat_after = ⊥
-  Run (x ∷ items) (answer ∷ replies) before seat after seat_after = Then before seat x answer (λ gate seat_then. Run items replies gate seat_then after seat_after)
+  abbrev pub Run : List Item → List (Reply (List ℕ)) → G → Option SessionId → G → Option SessionId → Type 0
+  Run [] [] before session_id after session_id_after = (after ≡ before) × (session_id_after ≡ session_id)
+  Run [] (_ ∷ _) before session_id after session_id_after = ⊥
+  Run (_ ∷ _) [] before session_id after session_id_after = ⊥
+  Run (x ∷ items) (answer ∷ replies) before session_id after session_id_after = Then before session_id x answer (λ gate session_id_then. Run items replies gate session_id_then after session_id_after)
 
   -- a session that entered asks once to be left
-  abbrev pub Leaves : Option Seat → G → G → Type 0
+  abbrev pub Leaves : Option SessionId → G → G → Type 0
   Leaves None before after = after ≡ before
   Leaves (Some at) before after = gives before (to_leave at.job at.number) left after

@@ -7,7 +7,7 @@ use private_store::Awaited;
 pub trait Gate {
     ghost use Rattle.std.specs.Prelude.{IsTrue, IfErr};
     ghost use Rattle.wire_frames.specs.Writing.{has_reply_frame};
-    ghost use Rattle.session_engine.specs.Calls.{Asked, to_enter, to_call, to_wait, to_leave, Answered, replied, left, entry_of, IsEntryRefusal};
+    ghost use Rattle.session_engine.specs.Calls.{Asked, to_enter, to_call, to_wait, to_leave, Answered, replied, left, entry_answer, IsEntryRefusal};
 
     // the gate before, what it is asked, what it answers, and the gate after
     ghost gives: { Self → Asked → Answered → Self → Type 0 };
@@ -16,7 +16,7 @@ pub trait Gate {
     /// the job isn't live here or has another key, `TooMany` if its numbers are used up, and
     /// `NoMemory`.
     fn enter(&mut self, job: JobNo, key: JobKey) -> Result<u32, Refusal>
-        ensures gives { gives self.old (to_enter job key) (entry_of result) self.new }
+        ensures gives { gives self.old (to_enter job key) (entry_answer result) self.new }
         ensures refusal { IfErr result IsEntryRefusal };
 
     /// Answers a command of the job's session, by a reply that has a frame.

@@ -4,7 +4,7 @@ ghost use Rattle.wire_frames.specs.Writing.{has_reply_frame};
 ghost use Rattle.session_engine.specs.Hearing.{Flushes, Sends, Writes};
 
 use crate::SessionFault;
-use crate::session::Seat;
+use crate::session::SessionId;
 use bytes::Bytes;
 use obj_id::Reply;
 use private_store::Item;
@@ -66,12 +66,12 @@ pub(crate) fn flush<W: Write>(writer: &mut W) -> Result<(), SessionFault>
 /// answers to do what is waited for.
 pub(crate) fn flush_before<W: Write>(
     writer: &mut W,
-    seat: Option<Seat>,
+    session_id: Option<SessionId>,
     item: &Item,
 ) -> Result<(), SessionFault>
     ensures { Flushes (W.contents writer.old) (W.contents writer.new) result }
 {
-    match (seat, item) {
+    match (session_id, item) {
         (Some(_), Item::Wait(_)) => flush(writer),
         _ => Ok(()),
     }

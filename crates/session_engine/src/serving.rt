@@ -3,10 +3,10 @@ ghost use Rattle.std.specs.Prelude.{◌≡◌, ◌<◌, [], ◌∷◌, None, vec
 ghost use Rattle.wire_frames.specs.Reading.{is_in_mid_frame, unfinished};
 ghost use Rattle.session_engine.specs.Hearing.{Answering, AnswersPiece, HearsPiece};
 ghost use Rattle.session_engine.specs.Serving.{AnswersInput, Served};
-ghost use Rattle.session_engine.specs.Sessions.{standing};
+ghost use Rattle.session_engine.specs.Sessions.{session_state};
 
 use crate::sending::{flush, flush_before, send};
-use crate::session::{Seat, answer, leave};
+use crate::session::{SessionId, answer, leave};
 use crate::{Ended, Gate, SessionFault};
 use obj_id::{Refusal, Reply};
 use private_store::Item;
@@ -25,7 +25,7 @@ const PART_SIZE: usize = 1_024;
 
 /// What was heard in a piece of the input.
 #[derive(Clone, Copy, Debug)]
-pub enum Heard {
+pub enum PieceEnd {
     /// Items, or none, and no fault of the stream.
     Items,
     /// What isn't a frame, after items or none.
@@ -57,7 +57,7 @@ pub fn serve<R: Read, W: Write, G: Gate>(
 {
     let mut session = Session::new(alloc);
     let ended = session.answer_input(reader, writer, gate);
-    leave(gate, session.seat);
+    leave(gate, session.session_id);
     ended
 }
 
@@ -68,19 +68,19 @@ struct Session {
     // keeps what came of a frame that isn't whole yet
     frames: Reader,
     // where it sits, once it has entered
-    seat: Option<Seat>,
+    session_id: Option<SessionId>,
 }
 
 impl Session {
     /// A session before its first byte. Takes no memory.
     fn new(alloc: Global) -> Session
         ensures frames { result.frames ≡ unfinished [] }
-        ensures seat { result.seat ≡ None }
+        ensures session_id { result.session_id ≡ None }
     {
         Session {
             alloc,
             frames: Reader::new(alloc),
-            seat: None,
+            session_id: None,
         }
     }
 
@@ -92,8 +92,8 @@ impl Session {
         gate: &mut G,
     ) -> Result<Ended, SessionFault>
         requires { self.old.frames ≡ unfinished [] }
-        ensures { AnswersInput G.gives (standing gate.old self.old.seat (W.contents writer.old))
-            (standing gate.new self.new.seat (W.contents writer.new))
+        ensures { AnswersInput G.gives (session_state gate.old self.old.session_id (W.contents writer.old))
+            (session_state gate.new self.new.session_id (W.contents writer.new))
             (R.remaining reader.old) (R.remaining reader.new) result }
     {
         let Ok(buffer) = vec![in self.alloc; 0u8; FIRST_PIECE_SIZE] else {
@@ -112,8 +112,8 @@ impl Session {
     ) -> Result<Ended, SessionFault>
         requires fresh { self.old.frames ≡ unfinished [] }
         requires room { 0 < vec_len buffer }
-        ensures { AnswersInput G.gives (standing gate.old self.old.seat (W.contents writer.old))
-            (standing gate.new self.new.seat (W.contents writer.new))
+        ensures { AnswersInput G.gives (session_state gate.old self.old.session_id (W.contents writer.old))
+            (session_state gate.new self.new.session_id (W.contents writer.new))
             (R.remaining reader.old) (R.remaining reader.new) result }
     {
         for _ in 0..u64::MAX {
@@ -121,10 +121,10 @@ impl Session {
             let Ok(count) = reader.read(room) else {
                 return Err(SessionFault::Read)
             };
-            match self.hear(writer, gate, &room[..count]) {
+            match self.answer_and_flush(writer, gate, &room[..count]) {
                 Err(fault) => return Err(fault),
-                Ok(Heard::NoFrame) => return Ok(Ended::Malformed),
-                Ok(Heard::Items) => {}
+                Ok(PieceEnd::NoFrame) => return Ok(Ended::Malformed),
+                Ok(PieceEnd::Items) => {}
             }
             if count == 0 {
                 return Ok(end_of(&self.frames));
@@ -140,7 +140,7 @@ impl Session {
         requires { 0 < vec_len buffer.old }
         ensures { 0 < vec_len buffer.new }
     {
-        if self.seat.is_none() || buffer.len() == PIECE_SIZE {
+        if self.session_id.is_none() || buffer.len() == PIECE_SIZE {
             return;
         }
         if let Ok(wider) = vec![in self.alloc; 0u8; PIECE_SIZE] {
@@ -149,24 +149,24 @@ impl Session {
     }
 
     /// Answers what the piece says, and a fault of the stream after that, and hands all answers over together.
-    fn hear<W: Write, G: Gate>(
+    fn answer_and_flush<W: Write, G: Gate>(
         &mut self,
         writer: &mut W,
         gate: &mut G,
         piece: &[u8],
-    ) -> Result<Heard, SessionFault>
+    ) -> Result<PieceEnd, SessionFault>
         ensures { HearsPiece G.gives self.old.frames piece.now
-            (standing gate.old self.old.seat (W.contents writer.old))
-            (standing gate.new self.new.seat (W.contents writer.new)) self.new.frames result }
+            (session_state gate.old self.old.session_id (W.contents writer.old))
+            (session_state gate.new self.new.session_id (W.contents writer.new)) self.new.frames result }
     {
         self.answer_piece(writer, gate, piece)?;
         if self.frames.has_fault() {
             send(self.alloc, writer, Reply::Refused(Refusal::Malformed))?;
             flush(writer)?;
-            return Ok(Heard::NoFrame);
+            return Ok(PieceEnd::NoFrame);
         }
         flush(writer)?;
-        Ok(Heard::Items)
+        Ok(PieceEnd::Items)
     }
 
     /// Answers the items of the piece, a part of it after another: so only the items of a part take memory at once. A fault
@@ -178,8 +178,8 @@ impl Session {
         piece: &[u8],
     ) -> Result<(), SessionFault>
         ensures { AnswersPiece G.gives self.old.frames piece.now
-            (standing gate.old self.old.seat (W.contents writer.old))
-            (standing gate.new self.new.seat (W.contents writer.new)) self.new.frames result }
+            (session_state gate.old self.old.session_id (W.contents writer.old))
+            (session_state gate.new self.new.session_id (W.contents writer.new)) self.new.frames result }
     {
         let mut rest = piece;
         while PART_SIZE < rest.len() {
@@ -198,8 +198,8 @@ impl Session {
         part: &[u8],
     ) -> Result<(), SessionFault>
         ensures { AnswersPiece G.gives self.old.frames part.now
-            (standing gate.old self.old.seat (W.contents writer.old))
-            (standing gate.new self.new.seat (W.contents writer.new)) self.new.frames result }
+            (session_state gate.old self.old.session_id (W.contents writer.old))
+            (session_state gate.new self.new.session_id (W.contents writer.new)) self.new.frames result }
     {
         match self.frames.feed(self.alloc, part) {
             Ok(items) => self.answer_all(writer, gate, items),
@@ -215,8 +215,8 @@ impl Session {
         gate: &mut G,
         items: Vec<Item>,
     ) -> Result<(), SessionFault>
-        ensures answers { Answering G.gives items.items (standing gate.old self.old.seat (W.contents writer.old))
-            (standing gate.new self.new.seat (W.contents writer.new)) result }
+        ensures answers { Answering G.gives items.items (session_state gate.old self.old.session_id (W.contents writer.old))
+            (session_state gate.new self.new.session_id (W.contents writer.new)) result }
         ensures frames { self.new.frames ≡ self.old.frames }
     {
         for item in items {
@@ -232,12 +232,12 @@ impl Session {
         gate: &mut G,
         item: Item,
     ) -> Result<(), SessionFault>
-        ensures answers { Answering G.gives (item ∷ []) (standing gate.old self.old.seat (W.contents writer.old))
-            (standing gate.new self.new.seat (W.contents writer.new)) result }
+        ensures answers { Answering G.gives (item ∷ []) (session_state gate.old self.old.session_id (W.contents writer.old))
+            (session_state gate.new self.new.session_id (W.contents writer.new)) result }
         ensures frames { self.new.frames ≡ self.old.frames }
     {
-        flush_before(writer, self.seat, &item)?;
-        let reply = answer(gate, &mut self.seat, item);
+        flush_before(writer, self.session_id, &item)?;
+        let reply = answer(gate, &mut self.session_id, item);
         send(self.alloc, writer, reply)
     }
 }

@@ -10,30 +10,38 @@ use private_store::Item;
 
 /// Where a session sits that has entered: its job, and its number there.
 #[derive(Clone, Copy, Debug)]
-pub struct Seat {
+pub struct SessionId {
     job: JobNo,
     number: u32,
 }
 
 /// The answer to an item: the gate's, or the session's own.
-pub(crate) fn answer<G: Gate>(gate: &mut G, seat: &mut Option<Seat>, item: Item) -> Reply<Bytes>
-    ensures answer { AnswersItem G.gives gate.old seat.old item result gate.new seat.new }
+pub(crate) fn answer<G: Gate>(
+    gate: &mut G,
+    session_id: &mut Option<SessionId>,
+    item: Item,
+) -> Reply<Bytes>
+    ensures answer { AnswersItem G.gives gate.old session_id.old item result gate.new session_id.new }
     ensures frame { IsTrue (has_reply_frame result) }
 {
-    match *seat {
-        None => answer_outside(gate, seat, item),
-        Some(own) => answer_seated(gate, own, item),
+    match *session_id {
+        None => answer_outside(gate, session_id, item),
+        Some(own) => answer_entered(gate, own, item),
     }
 }
 
 /// The answer to an item before an accepted Hello.
-fn answer_outside<G: Gate>(gate: &mut G, seat: &mut Option<Seat>, item: Item) -> Reply<Bytes>
-    requires { seat.old ≡ None }
-    ensures answer { AnswersItem G.gives gate.old None item result gate.new seat.new }
+fn answer_outside<G: Gate>(
+    gate: &mut G,
+    session_id: &mut Option<SessionId>,
+    item: Item,
+) -> Reply<Bytes>
+    requires { session_id.old ≡ None }
+    ensures answer { AnswersItem G.gives gate.old None item result gate.new session_id.new }
     ensures frame { IsTrue (has_reply_frame result) }
 {
     match item {
-        Item::Hello(job, key) => enter(gate, seat, job, key),
+        Item::Hello(job, key) => enter(gate, session_id, job, key),
         Item::Command(_) => Reply::Refused(Refusal::NotAdmitted),
         Item::Wait(_) => Reply::Refused(Refusal::NotAdmitted),
         Item::BadId => Reply::Refused(Refusal::BadId),
@@ -41,14 +49,19 @@ fn answer_outside<G: Gate>(gate: &mut G, seat: &mut Option<Seat>, item: Item) ->
 }
 
 /// The answer to a Hello that may be accepted.
-fn enter<G: Gate>(gate: &mut G, seat: &mut Option<Seat>, job: JobNo, key: JobKey) -> Reply<Bytes>
-    requires { seat.old ≡ None }
-    ensures answer { AnswersItem G.gives gate.old None (Item.Hello job key) result gate.new seat.new }
+fn enter<G: Gate>(
+    gate: &mut G,
+    session_id: &mut Option<SessionId>,
+    job: JobNo,
+    key: JobKey,
+) -> Reply<Bytes>
+    requires { session_id.old ≡ None }
+    ensures answer { AnswersItem G.gives gate.old None (Item.Hello job key) result gate.new session_id.new }
     ensures frame { IsTrue (has_reply_frame result) }
 {
     match gate.enter(job, key) {
         Ok(number) => {
-            *seat = Some(Seat { job, number });
+            *session_id = Some(SessionId { job, number });
             Reply::Ok
         }
         Err(refusal) => Reply::Refused(refusal),
@@ -56,23 +69,23 @@ fn enter<G: Gate>(gate: &mut G, seat: &mut Option<Seat>, job: JobNo, key: JobKey
 }
 
 /// The answer to an item after an accepted Hello.
-fn answer_seated<G: Gate>(gate: &mut G, seat: Seat, item: Item) -> Reply<Bytes>
-    ensures answer { AnswersItem G.gives gate.old (Some seat) item result gate.new (Some seat) }
+fn answer_entered<G: Gate>(gate: &mut G, session_id: SessionId, item: Item) -> Reply<Bytes>
+    ensures answer { AnswersItem G.gives gate.old (Some session_id) item result gate.new (Some session_id) }
     ensures frame { IsTrue (has_reply_frame result) }
 {
     match item {
         Item::Hello(..) => Reply::Refused(Refusal::Exists),
-        Item::Command(command) => gate.call(seat.job, seat.number, command),
-        Item::Wait(awaited) => gate.call_wait(seat.job, seat.number, awaited),
+        Item::Command(command) => gate.call(session_id.job, session_id.number, command),
+        Item::Wait(awaited) => gate.call_wait(session_id.job, session_id.number, awaited),
         Item::BadId => Reply::Refused(Refusal::BadId),
     }
 }
 
 /// Has the gate release all that the session holds, if it has entered.
-pub(crate) fn leave<G: Gate>(gate: &mut G, seat: Option<Seat>)
-    ensures { Leaves G.gives seat gate.old gate.new }
+pub(crate) fn leave<G: Gate>(gate: &mut G, session_id: Option<SessionId>)
+    ensures { Leaves G.gives session_id gate.old gate.new }
 {
-    if let Some(seat) = seat {
-        gate.leave(seat.job, seat.number);
+    if let Some(session_id) = session_id {
+        gate.leave(session_id.job, session_id.number);
     }
 }

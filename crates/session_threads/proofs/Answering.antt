@@ -5,7 +5,7 @@ use Rattle.std.specs.declared.alloc.AllocError.{AllocError}
 use Rattle.obj_id.specs.declared.commands.Reply.{Reply}
 use Rattle.obj_id.specs.declared.commands.Reply.TheVariants as reply
 use Rattle.obj_id.specs.declared.refusals.Refusal.TheVariants.{NoMemory}
-use Rattle.private_store.specs.Answers.{is_small_reply}
+use Rattle.private_store.specs.laws.Answers.{is_small_reply}
 use Rattle.node_journal.specs.declared.entries.Receipt.{Receipt}
 use Rattle.session_threads.specs.declared.stepping.Stepped.{Stepped}
 

@@ -6,7 +6,7 @@ use Rattle.private_store.specs.declared.inputs.Judged.{Judged}
 use Rattle.private_store.specs.declared.schedules.Event.{Event}
 use Rattle.private_store.specs.declared.schedules.Event.TheVariants as event
 use Rattle.private_store.specs.declared.schedules.NodeEvent.TheVariants.{Own}
-use Rattle.private_store.specs.Answers.{wants_memory, is_small_reply}
+use Rattle.private_store.specs.laws.Answers.{wants_memory, is_small_reply}
 use Rattle.spill_work.specs.declared.queue.Queued.{Queued}
 use Rattle.node_core.specs.Judged.{IsCallJudged, IsSmallCall}
 use Rattle.node_core.specs.Steps.{job_at}

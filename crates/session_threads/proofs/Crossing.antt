@@ -28,8 +28,8 @@ use Rattle.node_journal.specs.contracts.kept.Kept as Kept
 use Rattle.node_journal.proofs.logs.Logs.TheSendSync.{the_send as logs_send}
 use Rattle.std.specs.declared.sync.ledger.Ledger.{Ghosts}
 use Rattle.std.proofs.sync.ledger.Share.TheSendSync.{the_send as share_send}
-use Rattle.session_threads.proofs.upkeep.Upkeep.TheSendSync.{the_send as upkeep_send, the_sync as upkeep_sync}
-use Rattle.session_threads.proofs.posting.Ways.TheSendSync.{the_send as ways_send, the_sync as ways_sync}
+use Rattle.session_threads.proofs.housekeeping.Housekeeping.TheSendSync.{the_send as upkeep_send, the_sync as upkeep_sync}
+use Rattle.session_threads.proofs.posting.Outbox.TheSendSync.{the_send as ways_send, the_sync as ways_sync}
 use Rattle.session_threads.specs.contracts.shared.SharedNode as Shared
 
 pub row_send : IsSend JobRow.the_row

@@ -8,13 +8,13 @@ use Rattle.private_store.specs.declared.schedules.Event.{Event}
 use Rattle.node_journal.specs.declared.entries.Receipt.{Receipt}
 use Rattle.spill_device.specs.declared.DeviceFault.{DeviceFault}
 use Rattle.session_threads.specs.declared.working.WorkDone.{WorkDone}
-use Rattle.session_threads.specs.DeviceCalls.{EndsRound, HasTaken, IsCarriedOut, IsTaken, written_key}
+use Rattle.session_threads.specs.DeviceCalls.{EndsRound, HasTakenWork, IsCarriedOut, IsWorkTaken, written_key}
 
 module _ {D L : Type 0} (writes : D → DeviceKey → List ℕ → Result (Unit {0}) DeviceFault → D → Type 0) (reads : D → DeviceKey → ℕ → Result (List ℕ) DeviceFault → D → Type 0)
-    (erases : D → DeviceKey → Result (Unit {0}) DeviceFault → D → Type 0) (old between new : D) (went : WorkDone) (gathered : List (Receipt L)) where
+    (erases : D → DeviceKey → Result (Unit {0}) DeviceFault → D → Type 0) (old between new : D) (went : WorkDone) (receipts : List (Receipt L)) where
   -- the receipt of the Take is the last one before the Finish is handed in
-  pub has_worked : (work : Work (List ℕ)) (made : Event) (written : Option DeviceKey) (last : Option (Receipt L)) → IsTaken (reply.Work work) last → IsCarriedOut writes reads old work made between
-      → written ≡ written_key work.kind work.key → EndsRound erases made written between went new last gathered → HasTaken writes reads erases old went new gathered
+  pub has_worked : (work : Work (List ℕ)) (made : Event) (written : Option DeviceKey) (last : Option (Receipt L)) → IsWorkTaken (reply.Work work) last → IsCarriedOut writes reads old work made between
+      → written ≡ written_key work.kind work.key → EndsRound erases made written between went new last receipts → HasTakenWork writes reads erases old went new receipts
   has_worked work made written None given carried key ends = absurd given
   has_worked work made written (Some taken) given carried key ends = inr (record {
     work = work;
@@ -23,5 +23,5 @@ module _ {D L : Type 0} (writes : D → DeviceKey → List ℕ → Result (Unit 
     taken = taken;
     is_taken = given;
     carried = carried;
-    ends = subst (λ k. EndsRound erases made k between went new (Some taken) gathered) key ends;
+    ends = subst (λ k. EndsRound erases made k between went new (Some taken) receipts) key ends;
   })

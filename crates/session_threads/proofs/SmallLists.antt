@@ -7,9 +7,9 @@ use Rattle.std.proofs.lemmas.List.{length-append}
 use Rattle.obj_id.specs.declared.commands.OwnItem.{OwnItem}
 use Rattle.obj_id.specs.declared.commands.GrantedItem.{GrantedItem}
 use Rattle.obj_id.specs.declared.commands.Reply.TheVariants as reply
-use Rattle.private_store.specs.Answers.{is_small_reply}
-use Rattle.private_store.specs.Frames.{be4, own_bytes, granted_bytes}
-use Rattle.private_store.specs.Limits.{most_copies, greatest_depth, most_granted}
+use Rattle.private_store.specs.laws.Answers.{is_small_reply}
+use Rattle.private_store.specs.rules.Frames.{be4, own_bytes, granted_bytes}
+use Rattle.private_store.specs.rules.Limits.{most_copies, greatest_depth, most_granted}
 use Rattle.store_facts.proofs.KeptLists.{all_weaker}
 use Rattle.store_facts.proofs.Tests.{both, both_left, both_right}
 use Rattle.wire_frames.specs.Writing.{is_reply_length, has_reply_frame}

@@ -16,28 +16,28 @@ use Rattle.node_journal.specs.declared.entries.Receipt.{Receipt}
 use Rattle.spill_device.specs.declared.DeviceFault.{DeviceFault}
 use Rattle.session_threads.specs.declared.working.WorkDone.{WorkDone}
 use Rattle.session_threads.specs.declared.working.WorkDone.TheVariants as done
-use Rattle.session_threads.specs.Gathering.{in_order}
-use Rattle.session_threads.specs.Witnesses.{IsOf, witness_of}
+use Rattle.session_threads.specs.Gathering.{receipts_in_order}
+use Rattle.session_threads.specs.Witnesses.{IsReceiptOf, witness_of}
 
 -- what is handed in for a write that went so, and for a read
-abbrev pub after_write : Result (Unit {0}) DeviceFault → DeviceAnswer
-after_write (Ok u) = answer.Done
-after_write (Err fault) = answer.Failed
+abbrev pub device_after_write : Result (Unit {0}) DeviceFault → DeviceAnswer
+device_after_write (Ok u) = answer.Done
+device_after_write (Err fault) = answer.Failed
 
 abbrev pub after_read : Result (List ℕ) DeviceFault → DeviceAnswer
 after_read (Ok bytes) = answer.Bytes bytes
 after_read (Err fault) = answer.Failed
 
 -- a work with bytes is a write of them, and another one a read; each device says of its own calls what they may give
-abbrev pub IsAsked : {D : Type 0} → (D → DeviceKey → List ℕ → Result (Unit {0}) DeviceFault → D → Type 0) → (D → DeviceKey → ℕ → Result (List ℕ) DeviceFault → D → Type 0) → D → DeviceKey → ℕ → Option (List ℕ) → DeviceAnswer → D → Type 0
-IsAsked writes reads old key n (Some bytes) told new = (went : Result (Unit {0}) DeviceFault) × (told ≡ after_write went) × writes old key bytes went new
-IsAsked writes reads old key n None told new = (went : Result (List ℕ) DeviceFault) × (told ≡ after_read went) × reads old key n went new
+abbrev pub IsWorkAsked : {D : Type 0} → (D → DeviceKey → List ℕ → Result (Unit {0}) DeviceFault → D → Type 0) → (D → DeviceKey → ℕ → Result (List ℕ) DeviceFault → D → Type 0) → D → DeviceKey → ℕ → Option (List ℕ) → DeviceAnswer → D → Type 0
+IsWorkAsked writes reads old key n (Some bytes) told new = (went : Result (Unit {0}) DeviceFault) × (told ≡ device_after_write went) × writes old key bytes went new
+IsWorkAsked writes reads old key n None told new = (went : Result (List ℕ) DeviceFault) × (told ≡ after_read went) × reads old key n went new
 
 -- the device was called for the work, and the event hands in its answer
 pub record IsCarriedOut {D : Type 0} (writes : D → DeviceKey → List ℕ → Result (Unit {0}) DeviceFault → D → Type 0) (reads : D → DeviceKey → ℕ → Result (List ℕ) DeviceFault → D → Type 0) (old : D) (work : Work (List ℕ)) (made : Event) (new : D) : Type 0 where
   pub told : DeviceAnswer
   pub is_finish : made ≡ event.Finish work.job work.number told
-  pub asked : IsAsked writes reads old work.key work.length work.payload told new
+  pub asked : IsWorkAsked writes reads old work.key work.length work.payload told new
 
 -- the key under which a work of this kind writes
 abbrev pub written_key : WorkKind → DeviceKey → Option DeviceKey
@@ -63,44 +63,44 @@ IsErasedIf erases done.Stale old (Some key) new = AreErased erases old (key ∷ 
 IsErasedIf erases went old written new = new ≡ old
 
 -- the reply is the work that a Take gave, and its receipt is the last
-abbrev pub IsTaken : {L : Type 0} → Reply (List ℕ) → Option (Receipt L) → Type 0
-IsTaken (reply.Work work) last = IsSomeAnd last (λ r. IsOf event.Take (reply.Work work) (witness_of r))
-IsTaken told last = ⊤
+abbrev pub IsWorkTaken : {L : Type 0} → Reply (List ℕ) → Option (Receipt L) → Type 0
+IsWorkTaken (reply.Work work) last = IsSomeAnd last (λ r. IsReceiptOf event.Take (reply.Work work) (witness_of r))
+IsWorkTaken told last = ⊤
 
 -- the event was answered so, and its receipt comes after this one; without memory there is none
-pub record IsHandedIn {L : Type 0} (made : Event) (told : Reply (List ℕ)) (last : Option (Receipt L)) (gathered : List (Receipt L)) : Type 0 where
+pub record IsHandedIn {L : Type 0} (made : Event) (told : Reply (List ℕ)) (last : Option (Receipt L)) (receipts : List (Receipt L)) : Type 0 where
   pub earlier : List (Receipt L)
   pub given : Option (Receipt L)
-  pub are : gathered ≡ in_order earlier last ++ option_to_list given
-  pub is_given : MatchOption given (told ≡ reply.Refused refusal.NoMemory) (λ r. IsOf made told (witness_of r))
+  pub are : receipts ≡ receipts_in_order earlier last ++ option_to_list given
+  pub is_given : MatchOption given (told ≡ reply.Refused refusal.NoMemory) (λ r. IsReceiptOf made told (witness_of r))
 
 -- the event is handed in, and with its answer the round ends
-pub record EndsRound {D L : Type 0} (erases : D → DeviceKey → Result (Unit {0}) DeviceFault → D → Type 0) (made : Event) (written : Option DeviceKey) (old : D) (went : WorkDone) (new : D) (last : Option (Receipt L)) (gathered : List (Receipt L)) : Type 0 where
+pub record EndsRound {D L : Type 0} (erases : D → DeviceKey → Result (Unit {0}) DeviceFault → D → Type 0) (made : Event) (written : Option DeviceKey) (old : D) (went : WorkDone) (new : D) (last : Option (Receipt L)) (receipts : List (Receipt L)) : Type 0 where
   pub told : Reply (List ℕ)
   pub is_done : went ≡ done_after told
   pub erased : IsErasedIf erases went old written new
-  pub handed : IsHandedIn made told last gathered
+  pub handed : IsHandedIn made told last receipts
 
 -- the device was called for a work that the node gave, and its answer handed in; the receipts of both are the last
 pub record HasWorked {D L : Type 0} (writes : D → DeviceKey → List ℕ → Result (Unit {0}) DeviceFault → D → Type 0) (reads : D → DeviceKey → ℕ → Result (List ℕ) DeviceFault → D → Type 0)
-    (erases : D → DeviceKey → Result (Unit {0}) DeviceFault → D → Type 0) (old : D) (went : WorkDone) (new : D) (gathered : List (Receipt L)) : Type 0 where
+    (erases : D → DeviceKey → Result (Unit {0}) DeviceFault → D → Type 0) (old : D) (went : WorkDone) (new : D) (receipts : List (Receipt L)) : Type 0 where
   pub work : Work (List ℕ)
   pub made : Event
   pub between : D
   pub taken : Receipt L
-  pub is_taken : IsOf event.Take (reply.Work work) (witness_of taken)
+  pub is_taken : IsReceiptOf event.Take (reply.Work work) (witness_of taken)
   pub carried : IsCarriedOut writes reads old work made between
-  pub ends : EndsRound erases made (written_key work.kind work.key) between went new (Some taken) gathered
+  pub ends : EndsRound erases made (written_key work.kind work.key) between went new (Some taken) receipts
 
 -- no work was taken, and the device not called; or one was
-abbrev pub HasTaken : {D L : Type 0} → (D → DeviceKey → List ℕ → Result (Unit {0}) DeviceFault → D → Type 0) → (D → DeviceKey → ℕ → Result (List ℕ) DeviceFault → D → Type 0)
+abbrev pub HasTakenWork : {D L : Type 0} → (D → DeviceKey → List ℕ → Result (Unit {0}) DeviceFault → D → Type 0) → (D → DeviceKey → ℕ → Result (List ℕ) DeviceFault → D → Type 0)
     → (D → DeviceKey → Result (Unit {0}) DeviceFault → D → Type 0) → D → WorkDone → D → List (Receipt L) → Type 0
-HasTaken writes reads erases old went new gathered = ((new ≡ old) × ((went ≡ done.Nothing) ⊎ (went ≡ done.NoMemory))) ⊎ HasWorked writes reads erases old went new gathered
+HasTakenWork writes reads erases old went new receipts = ((new ≡ old) × ((went ≡ done.Nothing) ⊎ (went ≡ done.NoMemory))) ⊎ HasWorked writes reads erases old went new receipts
 
 -- a round: keys are erased; then another worker has the place, or a Finish that was kept there is handed in, or a work is taken
 pub record IsRound {D L : Type 0} (writes : D → DeviceKey → List ℕ → Result (Unit {0}) DeviceFault → D → Type 0) (reads : D → DeviceKey → ℕ → Result (List ℕ) DeviceFault → D → Type 0)
-    (erases : D → DeviceKey → Result (Unit {0}) DeviceFault → D → Type 0) (old : D) (went : WorkDone) (new : D) (last : Option (Receipt L)) (gathered : List (Receipt L)) : Type 0 where
+    (erases : D → DeviceKey → Result (Unit {0}) DeviceFault → D → Type 0) (old : D) (went : WorkDone) (new : D) (last : Option (Receipt L)) (receipts : List (Receipt L)) : Type 0 where
   pub keys : List DeviceKey
   pub between : D
   pub erased : AreErased erases old keys between
-  pub rest : ((new ≡ between) × (went ≡ done.Nothing)) ⊎ (((made : Event) × (written : Option DeviceKey) × EndsRound erases made written between went new last gathered) ⊎ HasTaken writes reads erases between went new gathered)
+  pub rest : ((new ≡ between) × (went ≡ done.Nothing)) ⊎ (((made : Event) × (written : Option DeviceKey) × EndsRound erases made written between went new last receipts) ⊎ HasTakenWork writes reads erases between went new receipts)

@@ -4,9 +4,9 @@ use Rattle.node_journal.specs.declared.entries.Agreement.{Agreement}
 use Rattle.node_journal.specs.declared.entries.Agreement.TheVariants.{Yes, No, Folded}
 
 -- all that are gathered, oldest first
-abbrev pub in_order : {R : Type 0} → List R → Option R → List R
-in_order earlier (Some last) = earlier ++ last ∷ []
-in_order earlier None = earlier
+abbrev pub receipts_in_order : {R : Type 0} → List R → Option R → List R
+receipts_in_order earlier (Some last) = earlier ++ last ∷ []
+receipts_in_order earlier None = earlier
 
 -- the journal says that the entry isn't there
 abbrev pub is_no : Agreement → Bool

@@ -8,9 +8,9 @@ use Rattle.private_store.specs.declared.inputs.Judged.{Judged}
 use Rattle.private_store.specs.declared.schedules.Event.TheVariants as event
 use Rattle.private_store.specs.declared.schedules.NodeEvent.{NodeEvent}
 use Rattle.private_store.specs.declared.schedules.NodeEvent.TheVariants as node_event
-use Rattle.private_store.specs.Private.{Post}
+use Rattle.private_store.specs.rules.Private.{Post}
 use Rattle.node_core.specs.Hosted.{Hosted}
-use Rattle.node_core.specs.Steps.{Given, Steps, job_at}
+use Rattle.node_core.specs.Steps.{NodeGiven, NodeStep, job_at}
 use Rattle.node_journal.specs.Journals.{entry_for, event_name, folded_if, journal_after}
 use Rattle.node_journal.specs.Logs.{JobLog, journal_of}
 use Rattle.node_journal.specs.Posts.{is_entered}
@@ -22,8 +22,8 @@ pub record Locked : Type 0 where
   pub count : ℕ
   pub logs : List (JobNo × JobLog)
 
-abbrev pub seen : Hosted → ℕ → List (JobNo × JobLog) → Locked
-seen node count logs = record { node = node; count = count; logs = logs }
+abbrev pub seen_node : Hosted → ℕ → List (JobNo × JobLog) → Locked
+seen_node node count logs = record { node = node; count = count; logs = logs }
 
 -- nothing was done
 pub record IsUntouched (old new : Locked) : Type 0 where
@@ -33,11 +33,11 @@ pub record IsUntouched (old new : Locked) : Type 0 where
 
 -- one step was made, of this event, and no other: with this answer, these messages and this entry
 pub record IsOneStep (e : NodeEvent) (told : Reply (List ℕ)) (sent : List Post) (witness : Witness) (old new : Locked) : Type 0 where
-  pub given : Given
+  pub given : NodeGiven
   pub was : Option Judged
   pub answer : given.reply ≡ told
   pub posts : given.posts ≡ sent
-  pub node : Steps old.node e given new.node
+  pub node : NodeStep old.node e given new.node
   pub count : new.count ≡ old.count + 1
   pub journals : (job : ℕ) → journal_of new.logs job ≡ journal_after old.node (old.count + 1) e was given job (journal_of old.logs job)
   pub of_job : witness.job.0 ≡ job_at old.node.works.works e

@@ -14,8 +14,8 @@ use Rattle.private_store.specs.declared.inputs.Judged.TheVariants as judged
 use Rattle.private_store.specs.declared.schedules.Event.{Event}
 use Rattle.private_store.specs.declared.schedules.Event.TheVariants as event
 use Rattle.private_store.specs.declared.schedules.NodeEvent.TheVariants.{Own, Arrive}
-use Rattle.private_store.specs.Answers.{wants_memory}
-use Rattle.private_store.specs.Contents.{brief}
+use Rattle.private_store.specs.laws.Answers.{wants_memory}
+use Rattle.private_store.specs.rules.Contents.{without_payload}
 use Rattle.node_core.specs.Steps.{job_of_event}
 use Rattle.node_journal.specs.declared.entries.Entry.{Entry}
 use Rattle.node_journal.specs.declared.entries.EventName.TheVariants as name
@@ -42,11 +42,11 @@ IsUnder job e = job ≡ job_of_event e
 pub record IsCalled (job : JobNo) (session : ℕ) (c : Command (List ℕ)) (told : Reply (List ℕ)) (witness : Witness) : Type 0 where
   pub of_job : witness.job ≡ job
   pub named : witness.entry.event ≡ name.Call session
-  pub input : witness.entry.input ≡ Some (judged.Call session (brief c))
+  pub input : witness.entry.input ≡ Some (judged.Call session (without_payload c))
   pub answer : witness.entry.reply ≡ kept_reply told
 
 -- the entry is of this event, and has this answer: it stands under the event's job, or under that whose work a Take gives
-pub record IsOf (e : Event) (told : Reply (List ℕ)) (witness : Witness) : Type 0 where
+pub record IsReceiptOf (e : Event) (told : Reply (List ℕ)) (witness : Witness) : Type 0 where
   pub of_job : IsUnder witness.job.0 e
   pub named : witness.entry.event ≡ event_name (Own e)
   pub answer : witness.entry.reply ≡ kept_reply told
@@ -79,8 +79,8 @@ pub record IsLast (job : JobNo) (session : ℕ) (witness : Witness) : Type 0 whe
   pub is_called : IsCalled job session command.Leave told witness
 
 -- the last receipt is of the Leave, or the session is left later and it is the one from before
-abbrev pub IsLeft : JobNo → ℕ → Option Witness → Option Witness → Type 0
-IsLeft job session before last = IsSomeAnd last (IsLast job session) ⊎ (last ≡ before)
+abbrev pub IsLeaveOf : JobNo → ℕ → Option Witness → Option Witness → Type 0
+IsLeaveOf job session before last = IsSomeAnd last (IsLast job session) ⊎ (last ≡ before)
 
 -- what a node let in: a job, the key that was shown, and the number of the session
 pub record Pass : Type 0 where
@@ -96,5 +96,5 @@ IsLetIn _ _ pass = ⊤
 abbrev pub IsWitnessed : Asked → Answered → Option Witness → Option Witness → Type 0
 IsWitnessed (to_call job session c) (replied told) before last = IsStepped job session c told last
 IsWitnessed (to_wait job session a) (replied told) before last = IsStepped job session (tried a) told last
-IsWitnessed (to_leave job session) left before last = IsLeft job session before last
+IsWitnessed (to_leave job session) left before last = IsLeaveOf job session before last
 IsWitnessed _ _ before last = ⊤

@@ -3,7 +3,7 @@ ghost use Rattle.std.specs.Prelude.{◌≡◌, ◌↔◌, ◌≤◌, ◌<◌, ve
 ghost use Rattle.job_admission.specs.Admissions.{largest_memory};
 
 use crate::pausing::{NoPause, Pause};
-use crate::posting::{Inbox, Ways, receive};
+use crate::posting::{Inbox, Outbox, receive};
 use crate::tally::Tally;
 use crate::waiting::Waiting;
 use crate::{SharedNode, Working};
@@ -91,10 +91,10 @@ impl<L: Ledger, P: Pause> Cluster<L, P> {
         let waiting = Arc::new(alloc, Waiting::new())?;
         for number in 0..nodes {
             let seat = seats.split_off(1, 0);
-            let ways = Ways::open(alloc, number, &directory, &mut inboxes)?;
+            let outbox = Outbox::open(alloc, number, &directory, &mut inboxes)?;
             let woken = Arc::try_clone(&waiting)?;
             let paused = pause.clone()?;
-            let node = SharedNode::new(alloc, number, memory, seat, ways, woken, paused);
+            let node = SharedNode::new(alloc, number, memory, seat, outbox, woken, paused);
             all.push(Arc::new(alloc, node)?)?;
         }
         Ok(Cluster {
@@ -148,7 +148,7 @@ impl<L: Ledger, P: Pause> Cluster<L, P> {
     /// Closes the links, and waits for what was accepted to be received. What is sent from then on is lost.
     fn disconnect<R: Threads + Wait>(&mut self, rt: &R) {
         for node in &self.nodes {
-            node.ways.close(rt);
+            node.outbox.close(rt);
         }
         for thread in mem::replace(&mut self.receiving, Vec::new(self.alloc)) {
             thread.join(rt);
@@ -203,7 +203,7 @@ impl<L: Ledger, P: Pause> Cluster<L, P> {
     fn report<R: Wait>(&self, rt: &R) -> Report {
         let mut report = Report::new();
         for node in &self.nodes {
-            report.count(node.entries(rt), node.upkeep.counted(rt));
+            report.count(node.entries(rt), node.housekeeping.counted(rt));
         }
         report
     }

@@ -1,6 +1,6 @@
 //! What a worker asks of its device, and what it then hands in.
 ghost use Rattle.std.specs.Prelude.{◌≡◌, true};
-ghost use Rattle.session_threads.specs.DeviceCalls.{AreErased, IsAsked, IsCarriedOut, written_key};
+ghost use Rattle.session_threads.specs.DeviceCalls.{AreErased, IsWorkAsked, IsCarriedOut, written_key};
 
 use bytes::Bytes;
 use obj_id::{DeviceAnswer, DeviceKey, Work, WorkKind};
@@ -35,7 +35,7 @@ pub(crate) fn call_device<D: SpillDevice>(device: &mut D, work: &Work<Bytes>) ->
 
 /// What the device answers to the work: a write's bytes are kept under its key, and a read's are those that are.
 fn answer_of<D: SpillDevice>(device: &mut D, work: &Work<Bytes>) -> DeviceAnswer
-    ensures { IsAsked D.write_gives D.read_gives device.old work.now.key work.now.length work.now.payload result device.new }
+    ensures { IsWorkAsked D.write_gives D.read_gives device.old work.now.key work.now.length work.now.payload result device.new }
 {
     match &work.payload {
         Some(bytes) => match device.write(work.key, bytes) {

@@ -1,8 +1,8 @@
 //! Why a node's replies have a frame.
 ghost use Rattle.std.specs.Prelude.{◌≡◌, ◌*◌, true, IsTrue, length, flat_map};
 ghost use Rattle.obj_id.specs.Ids.{id_bytes};
-ghost use Rattle.private_store.specs.Answers.{is_small_reply};
-ghost use Rattle.private_store.specs.Frames.{own_bytes, granted_bytes};
+ghost use Rattle.private_store.specs.laws.Answers.{is_small_reply};
+ghost use Rattle.private_store.specs.rules.Frames.{own_bytes, granted_bytes};
 ghost use Rattle.wire_frames.specs.Writing.{has_reply_frame};
 
 use bytes::Bytes;

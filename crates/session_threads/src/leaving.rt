@@ -25,13 +25,13 @@ impl<L: Ledger, P: Pause> SharedNode<L, P> {
 
     /// Marks a session: it is left by a later step.
     pub(crate) fn leave_later<R: Wait>(&self, rt: &R, job: JobNo, session: u32) {
-        self.upkeep.sessions.mark(rt, job, session);
+        self.housekeeping.sessions.mark(rt, job, session);
     }
 
     /// Leaves the sessions that are marked, in order, until one finds no memory.
     pub(crate) fn leave_marked<R: Wait>(&self, rt: &R) {
         for _ in 0..MOST_SESSIONS {
-            if !self.upkeep.sessions.are_marked() {
+            if !self.housekeeping.sessions.are_marked() {
                 return;
             }
             let Some(mail) = self.leave_first(rt) else {
@@ -43,12 +43,12 @@ impl<L: Ledger, P: Pause> SharedNode<L, P> {
 
     /// Leaves the session that was marked first: what that sends. None if no session is marked, or there is no memory for it.
     fn leave_first<R: Wait>(&self, rt: &R) -> Option<Mail<L>> {
-        step_mark(rt, &mut *self.kept.lock(rt), &self.upkeep)
+        step_mark(rt, &mut *self.kept.lock(rt), &self.housekeeping)
     }
 
     /// Waits for the open sessions to end, and leaves those that are marked then.
     pub(crate) fn end_sessions<R: Wait>(&self, rt: &R) {
-        self.upkeep.sessions.wait_for_all(rt);
+        self.housekeeping.sessions.wait_for_all(rt);
         self.leave_marked(rt);
     }
 }

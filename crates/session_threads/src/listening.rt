@@ -66,7 +66,7 @@ fn accept_all<
     P: Pause + Send + Sync + 'static,
 >(rt: R, alloc: Global, node: &Arc<SharedNode<L, P>>, listener: &UnixListener) {
     for stream in listener.incoming() {
-        if node.upkeep.waiting.is_shut() {
+        if node.housekeeping.waiting.is_shut() {
             return;
         }
         match stream {
@@ -90,12 +90,12 @@ fn start_session<
     stream: UnixStream,
 ) -> Result<(), AllocError> {
     let theirs = Arc::try_clone(node)?;
-    if !has_spare(alloc, &stream) || !node.upkeep.sessions.begin(&rt) {
+    if !has_spare(alloc, &stream) || !node.housekeeping.sessions.begin(&rt) {
         return Ok(());
     }
     let job = move || serve_stream(&rt, alloc, &*theirs, stream);
     if thread::spawn(&rt, job).is_err() {
-        node.upkeep.sessions.end(&rt);
+        node.housekeeping.sessions.end(&rt);
     }
     Ok(())
 }
@@ -124,11 +124,11 @@ fn serve_stream<L: Ledger, P: Pause, R: Wait + Clock>(
     stream: UnixStream,
 ) {
     // without memory for its place among the open ones it is closed
-    if let Ok(stream) = node.upkeep.streams.open(rt, alloc, stream) {
+    if let Ok(stream) = node.housekeeping.streams.open(rt, alloc, stream) {
         serve_open(rt, alloc, node, &*stream);
-        node.upkeep.streams.close(rt, &*stream);
+        node.housekeeping.streams.close(rt, &*stream);
     }
-    node.upkeep.sessions.end(rt);
+    node.housekeeping.sessions.end(rt);
 }
 
 /// The same of a stream that has its place among the open ones.

@@ -1,7 +1,7 @@
 //! What the operator is shown of a node that serves, and how its sessions are ended. None of it makes an entry or changes a job's store.
 ghost use Rattle.std.specs.Prelude.{◌≡◌, ◌++◌, ◌∷◌, [], All, IfOk, IfErr, OnOk, filter, map};
 ghost use Rattle.obj_id.specs.declared.refusals.Refusal.TheVariants.{NotAdmitted};
-ghost use Rattle.session_threads.specs.Looking.{AreLive, IsUsage, is_live};
+ghost use Rattle.session_threads.specs.Looking.{AreLive, IsUsageShown, is_live_now};
 ghost use Rattle.session_threads.specs.declared.looking.LiveJob.{LiveJob};
 
 use crate::SharedNode;
@@ -31,23 +31,23 @@ impl<L: Ledger, P: Pause> SharedNode<L, P> {
 
     /// The live jobs, by rising number. The error is out of memory.
     pub fn live_jobs<R: Wait>(&self, rt: &R) -> Result<Vec<LiveJob>, AllocError> {
-        live_jobs_of(self.upkeep.alloc, &*self.kept.lock(rt))
+        live_jobs_of(self.housekeeping.alloc, &*self.kept.lock(rt))
     }
 
     /// How many sessions are open.
     pub fn open_sessions<R: Wait>(&self, rt: &R) -> usize {
-        self.upkeep.sessions.count(rt)
+        self.housekeeping.sessions.count(rt)
     }
 
     /// Waits for the open sessions to end.
     pub fn await_sessions<R: Wait>(&self, rt: &R) {
-        self.upkeep.sessions.wait_for_all(rt);
+        self.housekeeping.sessions.wait_for_all(rt);
     }
 
     /// Shuts down the streams of all open sessions, and of those that are opened later. Of one that is shut down for reading, what was
     /// sent before is still answered, and then its session ends.
     pub fn shut_sessions<R: Wait>(&self, rt: &R, how: Shutdown) {
-        self.upkeep.streams.shut(rt, how);
+        self.housekeeping.streams.shut(rt, how);
     }
 }
 
@@ -65,8 +65,8 @@ fn live_jobs_of<L: Ledger>(alloc: Global, kept: &Kept<L>) -> Result<Vec<LiveJob>
 
 /// Adds the job, if it is live. The error is out of memory.
 fn add_live(node: &Node, job: JobNo, live: &mut Vec<LiveJob>) -> Result<(), AllocError>
-    ensures listed { OnOk result (map (λ (l : LiveJob). l.job) live.new.items ≡ map (λ (l : LiveJob). l.job) live.old.items ++ filter (is_live node.now) (job ∷ [])) }
-    ensures used { OnOk result (All (IsUsage node.now) live.old.items → All (IsUsage node.now) live.new.items) }
+    ensures listed { OnOk result (map (λ (l : LiveJob). l.job) live.new.items ≡ map (λ (l : LiveJob). l.job) live.old.items ++ filter (is_live_now node.now) (job ∷ [])) }
+    ensures used { OnOk result (All (IsUsageShown node.now) live.old.items → All (IsUsageShown node.now) live.new.items) }
 {
     let Ok(usage) = node.usage(job) else {
         return Ok(());

@@ -9,7 +9,7 @@ pub(crate) const MOST_SESSIONS: usize = 1_024;
 
 /// A session that is to be left.
 #[derive(Clone, Copy)]
-pub(crate) struct Mark {
+pub(crate) struct LeaveMark {
     pub job: JobNo,
     pub session: u32,
 }
@@ -20,7 +20,7 @@ struct Sessions {
     /// Those that haven't ended.
     open: usize,
     /// Those that found no memory to be left, in order. There is room for all that are open.
-    marked: Vec<Mark>,
+    marked: Vec<LeaveMark>,
 }
 
 impl Sessions {
@@ -89,7 +89,7 @@ impl OpenSessions {
     /// Marks a session: it is to be left later. One that wasn't opened may find no room, and is then never left.
     pub(crate) fn mark<R: Wait>(&self, rt: &R, job: JobNo, session: u32) {
         let mut sessions = self.sessions.lock(rt);
-        let _ = sessions.marked.push(Mark { job, session });
+        let _ = sessions.marked.push(LeaveMark { job, session });
         self.tell_marked(&sessions.marked);
     }
 
@@ -99,7 +99,7 @@ impl OpenSessions {
     }
 
     /// The session that was marked first.
-    pub(crate) fn first_marked<R: Wait>(&self, rt: &R) -> Option<Mark> {
+    pub(crate) fn first_marked<R: Wait>(&self, rt: &R) -> Option<LeaveMark> {
         self.sessions.lock(rt).marked.first().copied()
     }
 
@@ -113,7 +113,7 @@ impl OpenSessions {
     }
 
     /// Tells whether some are marked, while the sessions are locked.
-    fn tell_marked(&self, marked: &[Mark]) {
+    fn tell_marked(&self, marked: &[LeaveMark]) {
         self.are_marked.store(!marked.is_empty(), Ordering::SeqCst);
     }
 }

@@ -1,11 +1,11 @@
 //! The ways out of a node: what a step sends is handed over once the node's lock is left.
 use crate::SharedNode;
-use crate::gathered::Gathered;
 use crate::pausing::Pause;
+use crate::receipt_buffer::ReceiptBuffer;
 use crate::turns::{LANES, Turn, Turns, lane_of};
 use fetch_link::{LinkReceiver, LinkSender, Sent, open};
 use node_journal::{Mail, Posted};
-use obj_id::{Message, PeerMessage, Place};
+use obj_id::{Endpoint, Message, PeerMessage};
 use owner_directory::Directory;
 use std::alloc::{AllocError, Global};
 use std::sync::ledger::Ledger;
@@ -15,15 +15,15 @@ use std::{io, thread};
 
 /// The directory of the cluster, and a way to each other node, by number.
 #[derive(Drop)]
-pub(crate) struct Ways<L: Ledger> {
+pub(crate) struct Outbox<L: Ledger> {
     directory: Arc<Mutex<Directory>>,
-    nodes: Vec<Option<WayOut<L>>>,
+    nodes: Vec<Option<OutLanes<L>>>,
 }
 
 /// The links to another node, by lane: a job that sends more than a link holds loses its own messages alone, and those of other lanes
 /// come in turn with them.
 #[derive(Drop)]
-struct WayOut<L: Ledger> {
+struct OutLanes<L: Ledger> {
     // the node that sends
     source: usize,
     lanes: Vec<Mutex<LinkSender<Posted<L>>>>,
@@ -33,7 +33,7 @@ struct WayOut<L: Ledger> {
 
 /// The other ends of these links.
 #[derive(Drop)]
-pub(crate) struct WayIn<L: Ledger> {
+pub(crate) struct InLanes<L: Ledger> {
     source: usize,
     lanes: Vec<Mutex<LinkReceiver<Posted<L>>>>,
 }
@@ -42,16 +42,16 @@ pub(crate) struct WayIn<L: Ledger> {
 #[derive(Drop)]
 pub(crate) struct Inbox<L: Ledger> {
     turns: Arc<Turns>,
-    ways: Vec<WayIn<L>>,
+    ways: Vec<InLanes<L>>,
 }
 
-impl<L: Ledger> WayOut<L> {
+impl<L: Ledger> OutLanes<L> {
     /// New links from the node of this number to one that has these turns, with their other ends.
     fn open(
         alloc: Global,
         number: u32,
         turns: Arc<Turns>,
-    ) -> Result<(WayOut<L>, WayIn<L>), AllocError> {
+    ) -> Result<(OutLanes<L>, InLanes<L>), AllocError> {
         let source = number as usize;
         let mut senders = Vec::with_capacity(alloc, LANES)?;
         let mut receivers = Vec::with_capacity(alloc, LANES)?;
@@ -60,12 +60,12 @@ impl<L: Ledger> WayOut<L> {
             senders.push(Mutex::new(sender))?;
             receivers.push(Mutex::new(receiver))?;
         }
-        let way_out = WayOut {
+        let way_out = OutLanes {
             source,
             lanes: senders,
             turns,
         };
-        let way_in = WayIn {
+        let way_in = InLanes {
             source,
             lanes: receivers,
         };
@@ -112,47 +112,47 @@ impl<L: Ledger> Inbox<L> {
     }
 }
 
-impl<L: Ledger> Ways<L> {
+impl<L: Ledger> Outbox<L> {
     /// The ways out of the node of this number, one to each other node that has an inbox.
     pub(crate) fn open(
         alloc: Global,
         number: u32,
         directory: &Arc<Mutex<Directory>>,
         inboxes: &mut [Inbox<L>],
-    ) -> Result<Ways<L>, AllocError> {
+    ) -> Result<Outbox<L>, AllocError> {
         let mut nodes = Vec::new(alloc);
         for (node, inbox) in inboxes.iter_mut().enumerate() {
             if node == number as usize {
                 nodes.push(None)?;
             } else {
                 let turns = Arc::try_clone(&inbox.turns)?;
-                let (way_out, way_in) = WayOut::open(alloc, number, turns)?;
+                let (way_out, way_in) = OutLanes::open(alloc, number, turns)?;
                 nodes.push(Some(way_out))?;
                 inbox.ways.push(way_in)?;
             }
         }
-        Ok(Ways {
+        Ok(Outbox {
             directory: Arc::try_clone(directory)?,
             nodes,
         })
     }
 
     /// The way to the node of this number, if there is one.
-    fn way(&self, node: u32) -> Option<&WayOut<L>> {
+    fn way(&self, node: u32) -> Option<&OutLanes<L>> {
         self.nodes.get(node as usize)?.as_ref()
     }
 
     /// Hands a message over to its place.
-    fn hand_over<R: Wait>(&self, rt: &R, posted: Posted<L>) -> Handed<L> {
+    fn deliver<R: Wait>(&self, rt: &R, posted: Posted<L>) -> Delivery<L> {
         match posted.to() {
-            Place::Directory => match posted.through(&mut *self.directory.lock(rt)) {
-                Err(_) => Handed::Lost,
-                Ok(None) => Handed::Over,
-                Ok(Some(located)) => Handed::Answered(located),
+            Endpoint::Directory => match posted.through(&mut *self.directory.lock(rt)) {
+                Err(_) => Delivery::Lost,
+                Ok(None) => Delivery::Over,
+                Ok(Some(located)) => Delivery::Answered(located),
             },
-            Place::Node(node) => match self.way(node) {
-                Some(way) if way.send(rt, posted) => Handed::Over,
-                _ => Handed::Lost,
+            Endpoint::Node(node) => match self.way(node) {
+                Some(way) if way.send(rt, posted) => Delivery::Over,
+                _ => Delivery::Lost,
             },
         }
     }
@@ -169,7 +169,7 @@ impl<L: Ledger> Ways<L> {
 
 /// What became of a message that was handed over.
 #[derive(Drop)]
-enum Handed<L: Ledger> {
+enum Delivery<L: Ledger> {
     /// It came to its place, or is on its way.
     Over,
     /// It didn't come there.
@@ -185,33 +185,33 @@ impl<L: Ledger, P: Pause> SharedNode<L, P> {
         let mut lost = 0u64;
         for posted in mail {
             is_pulling |= is_pull(posted.message());
-            if !self.hand_over(rt, posted) {
+            if !self.deliver(rt, posted) {
                 lost = lost.saturating_add(1);
             }
         }
-        self.upkeep.tallies.lost(rt, lost);
+        self.housekeeping.tallies.lost(rt, lost);
         is_pulling
     }
 
     /// Hands a message over to its place: whether it came there. What the directory answers arrives here, and no answer of it makes
     /// a node send.
-    fn hand_over<R: Wait>(&self, rt: &R, posted: Posted<L>) -> bool {
-        match self.ways.hand_over(rt, posted) {
-            Handed::Over => true,
-            Handed::Lost => false,
-            Handed::Answered(located) => self.arrive_located(rt, located),
+    fn deliver<R: Wait>(&self, rt: &R, posted: Posted<L>) -> bool {
+        match self.outbox.deliver(rt, posted) {
+            Delivery::Over => true,
+            Delivery::Lost => false,
+            Delivery::Answered(located) => self.arrive_located(rt, located),
         }
     }
 
     /// A message of a link arrives, and its receipt is gathered, or it is lost, as it is without room for the receipt.
-    fn receive_one<R: Wait>(&self, rt: &R, posted: Posted<L>, gathered: &mut Gathered<L>) {
-        if gathered.make_room(rt, self).is_err() {
-            self.upkeep.tallies.lost(rt, 1);
+    fn receive_one<R: Wait>(&self, rt: &R, posted: Posted<L>, receipts: &mut ReceiptBuffer<L>) {
+        if receipts.make_room(rt, self).is_err() {
+            self.housekeeping.tallies.lost(rt, 1);
             return;
         }
         match self.arrive(rt, posted) {
-            Ok(receipt) => gathered.add(receipt),
-            Err(_) => self.upkeep.tallies.lost(rt, 1),
+            Ok(receipt) => receipts.add(receipt),
+            Err(_) => self.housekeeping.tallies.lost(rt, 1),
         }
     }
 }
@@ -229,17 +229,17 @@ pub(crate) fn receive<
 
 /// Hands the messages in whose turn it is, until no node sends any more.
 fn receive_all<L: Ledger, P: Pause, R: Wait>(rt: &R, node: &SharedNode<L, P>, inbox: &Inbox<L>) {
-    let mut gathered = Gathered::new(node.upkeep.alloc);
+    let mut receipts = ReceiptBuffer::new(node.housekeeping.alloc);
     for _ in rt.forever() {
         let Some(turn) = inbox.turns.next(rt) else {
             break;
         };
         if let Some(posted) = inbox.receive(rt, turn) {
-            node.receive_one(rt, posted, &mut gathered);
+            node.receive_one(rt, posted, &mut receipts);
         }
         inbox.turns.end(rt, turn);
     }
-    gathered.look_for_all(rt, node);
+    receipts.audit_all(rt, node);
 }
 
 /// Whether the message asks another node for chunks.

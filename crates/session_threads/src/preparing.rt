@@ -10,7 +10,7 @@ use job_region::Zeros;
 use node_core::Prepared;
 use node_journal::{Kept, Posted};
 use obj_id::limits::{CHUNK_SIZE, LONGEST_OBJECT, UNIT};
-use obj_id::{Command, DeviceAnswer, JobNo, Message, ObjectId, PeerMessage, Place};
+use obj_id::{Command, DeviceAnswer, Endpoint, JobNo, Message, ObjectId, PeerMessage};
 use private_store::Event;
 use std::alloc::Global;
 use std::sync::Wait;
@@ -64,7 +64,7 @@ impl<L: Ledger, P: Pause> SharedNode<L, P> {
     /// Zeros for the extent that the command may place.
     fn zeros_for<R: Wait>(&self, rt: &R, job: JobNo, command: &Command<Bytes>) -> Option<Zeros> {
         let len = self.kept.lock(rt).node().extent_wanted(job, command)?;
-        Zeros::for_object(self.upkeep.alloc, len).ok()
+        Zeros::for_object(self.housekeeping.alloc, len).ok()
     }
 
     /// What a message that arrives wants: the last chunk of an object the digest of all its bytes.
@@ -85,7 +85,7 @@ impl<L: Ledger, P: Pause> SharedNode<L, P> {
             chunk.index,
             chunk.bytes.len(),
         )?;
-        let mut whole = Vec::with_capacity(self.upkeep.alloc, len as usize).ok()?;
+        let mut whole = Vec::with_capacity(self.housekeeping.alloc, len as usize).ok()?;
         for index in 0..len.div_ceil(CHUNK_SIZE) {
             let part = if index == chunk.index {
                 chunk.bytes.clone().ok()?
@@ -181,7 +181,7 @@ fn hashed_first(hashed: Option<Hashed>) -> Prepared {
 
 /// The chunk that the message is, if it is one.
 fn chunk_of<L: Ledger>(posted: &Posted<L>) -> Option<Chunk<'_>> {
-    let Place::Node(from) = posted.from() else {
+    let Endpoint::Node(from) = posted.from() else {
         return None;
     };
     let Message::ToPeer(

@@ -2,8 +2,8 @@
 
 use crate::SharedNode;
 use crate::frames::framed;
-use crate::gathered::Gathered;
 use crate::pausing::{NoPause, Pause};
+use crate::receipt_buffer::ReceiptBuffer;
 use crate::refusing::out_of_memory;
 use bytes::Bytes;
 use node_journal::Entered;
@@ -20,7 +20,7 @@ use std::time::Clock;
 pub struct Session<'a, L: Ledger, R: Wait + Clock, P = NoPause> {
     rt: &'a R,
     node: &'a SharedNode<L, P>,
-    gathered: Gathered<L>,
+    receipts: ReceiptBuffer<L>,
     // the session that the node let in last
     entered: Option<Entered<L>>,
     // whose end is looked for while a call waits
@@ -33,7 +33,7 @@ impl<'a, L: Ledger, R: Wait + Clock, P: Pause> Session<'a, L, R, P> {
         Session {
             rt,
             node,
-            gathered: Gathered::new(node.upkeep.alloc),
+            receipts: ReceiptBuffer::new(node.housekeeping.alloc),
             entered: None,
             client: None,
         }
@@ -48,7 +48,7 @@ impl<'a, L: Ledger, R: Wait + Clock, P: Pause> Session<'a, L, R, P> {
         Session {
             rt,
             node,
-            gathered: Gathered::new(node.upkeep.alloc),
+            receipts: ReceiptBuffer::new(node.housekeeping.alloc),
             entered: None,
             client: Some(client),
         }
@@ -56,7 +56,7 @@ impl<'a, L: Ledger, R: Wait + Clock, P: Pause> Session<'a, L, R, P> {
 
     /// Looks for the entries of the receipts that are left, and counts those that aren't there: at the end of the session.
     pub(crate) fn check(&self) {
-        self.gathered.look_for_all(self.rt, self.node);
+        self.receipts.audit_all(self.rt, self.node);
     }
 }
 
@@ -66,8 +66,8 @@ impl<'a, L: Ledger, R: Wait + Clock, P: Pause> Gate for Session<'a, L, R, P> {
     ghost use Rattle.std.specs.Prelude.{option_map};
     ghost use Rattle.session_threads.specs.Witnesses.{IsWitnessed, IsLetIn};
 
-    ghost gives = { λ before asked told after. IsWitnessed asked told (option_map (λ r. record { job = r.job; entry = r.entry }) before.gathered.last)
-        (option_map (λ r. record { job = r.job; entry = r.entry }) after.gathered.last) × IsLetIn asked told (option_map (λ e. record { job = e.job; key = e.key; session = e.session }) after.entered) };
+    ghost gives = { λ before asked told after. IsWitnessed asked told (option_map (λ r. record { job = r.job; entry = r.entry }) before.receipts.last)
+        (option_map (λ r. record { job = r.job; entry = r.entry }) after.receipts.last) × IsLetIn asked told (option_map (λ e. record { job = e.job; key = e.key; session = e.session }) after.entered) };
 
     fn enter(&mut self, job: JobNo, key: JobKey) -> Result<u32, Refusal> {
         let entered = self.node.enter(self.rt, job, &key)?;
@@ -77,36 +77,36 @@ impl<'a, L: Ledger, R: Wait + Clock, P: Pause> Gate for Session<'a, L, R, P> {
     }
 
     fn call(&mut self, job: JobNo, session: u32, command: Command<Bytes>) -> Reply<Bytes> {
-        if let Err(error) = self.gathered.make_room(self.rt, self.node) {
+        if let Err(error) = self.receipts.make_room(self.rt, self.node) {
             return framed(out_of_memory(error));
         }
         let (reply, receipt) = self.node.call(self.rt, job, session, command);
         if let Some(receipt) = receipt {
-            self.gathered.add(receipt);
+            self.receipts.add(receipt);
         }
         framed(reply)
     }
 
     fn call_wait(&mut self, job: JobNo, session: u32, awaited: Awaited) -> Reply<Bytes> {
-        if let Err(error) = self.gathered.make_room(self.rt, self.node) {
+        if let Err(error) = self.receipts.make_room(self.rt, self.node) {
             return framed(out_of_memory(error));
         }
         let (reply, receipt) = self
             .node
             .call_wait_of(self.rt, job, session, awaited, self.client);
         if let Some(receipt) = receipt {
-            self.gathered.add(receipt);
+            self.receipts.add(receipt);
         }
         framed(reply)
     }
 
     fn leave(&mut self, job: JobNo, session: u32) {
-        if self.gathered.make_room(self.rt, self.node).is_err() {
+        if self.receipts.make_room(self.rt, self.node).is_err() {
             self.node.leave_later(self.rt, job, session);
             return;
         }
         if let Some(receipt) = self.node.leave(self.rt, job, session) {
-            self.gathered.add(receipt);
+            self.receipts.add(receipt);
         }
     }
 }

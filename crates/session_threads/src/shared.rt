@@ -2,29 +2,29 @@
 ghost use Rattle.std.specs.Prelude.{◌≡◌, ◌⊎◌, ◌<◌, ◌≤◌, true, false, Some, None, MatchOption, MatchResult, IfSome, IfOk, IfErr};
 ghost use Rattle.obj_id.specs.declared.commands.Reply.TheVariants as reply;
 ghost use Rattle.obj_id.specs.declared.refusals.Refusal.TheVariants.{NoMemory, Stale};
-ghost use Rattle.private_store.specs.Answers.{wants_memory, is_small_reply};
+ghost use Rattle.private_store.specs.laws.Answers.{wants_memory, is_small_reply};
 ghost use Rattle.job_admission.specs.Admissions.{largest_memory};
 ghost use Rattle.private_store.specs.declared.schedules.Event.TheVariants as event;
 ghost use Rattle.session_engine.specs.Calls.{IsEntryRefusal};
 ghost use Rattle.obj_id.specs.declared.messages.Arrival.{Arrival};
-ghost use Rattle.private_store.specs.Cluster.{arrival_of};
-ghost use Rattle.session_threads.specs.DeviceCalls.{IsHandedIn, IsTaken};
-ghost use Rattle.session_threads.specs.Gathering.{in_order};
-ghost use Rattle.session_threads.specs.Witnesses.{IsCalled, IsArrived, IsOf, tried, witness_of};
+ghost use Rattle.private_store.specs.rules.Cluster.{arrival_of};
+ghost use Rattle.session_threads.specs.DeviceCalls.{IsHandedIn, IsWorkTaken};
+ghost use Rattle.session_threads.specs.Gathering.{receipts_in_order};
+ghost use Rattle.session_threads.specs.Witnesses.{IsCalled, IsArrived, IsReceiptOf, tried, witness_of};
 
 use crate::client::is_gone;
-use crate::gathered::{Gathered, look_for};
+use crate::housekeeping::Housekeeping;
+use crate::journal_sweeping::{may_reach_others, sweep_after};
 use crate::pausing::{NoPause, Pause};
-use crate::posting::Ways;
+use crate::posting::Outbox;
 use crate::preparing::{may_remove, prepare_finish, spent_by};
+use crate::receipt_buffer::{ReceiptBuffer, audit};
 use crate::refusing::out_of_memory;
 use crate::stepping::{
     Stepped, step_arrival, step_call, step_call_after, step_end, step_event, step_located,
     step_order, step_take,
 };
-use crate::sweeping::{may_reach_others, sweep_after};
-use crate::upkeep::Upkeep;
-use crate::waiting::{Moved, Waiting};
+use crate::waiting::{Versions, Waiting};
 use bytes::Bytes;
 use node_core::Prepared;
 use node_journal::{Access, Entered, Keeper, Kept, Posted, Receipt};
@@ -44,8 +44,8 @@ use std::time::Clock;
 #[derive(Drop)]
 pub struct SharedNode<L: Ledger, P = NoPause> {
     pub(crate) kept: Mutex<Kept<L>>,
-    pub(crate) ways: Ways<L>,
-    pub(crate) upkeep: Upkeep<P>,
+    pub(crate) outbox: Outbox<L>,
+    pub(crate) housekeeping: Housekeeping<P>,
 }
 
 impl<L: Ledger, P: Pause> Keeper<L> for SharedNode<L, P> {
@@ -62,7 +62,7 @@ impl<L: Ledger, P: Pause> SharedNode<L, P> {
         number: u32,
         memory: u64,
         seat: Share<L>,
-        ways: Ways<L>,
+        outbox: Outbox<L>,
         waiting: Arc<Waiting>,
         pause: P,
     ) -> SharedNode<L, P>
@@ -71,8 +71,8 @@ impl<L: Ledger, P: Pause> SharedNode<L, P> {
     {
         SharedNode {
             kept: Mutex::new(Kept::new(alloc, number, memory, seat)),
-            ways,
-            upkeep: Upkeep::new(alloc, waiting, pause),
+            outbox,
+            housekeeping: Housekeeping::new(alloc, waiting, pause),
         }
     }
 
@@ -110,7 +110,7 @@ impl<L: Ledger, P: Pause> SharedNode<L, P> {
             return self.step_prepared(rt, job, session, command);
         }
         let (reaches_others, removes) = (may_reach_others(&command), may_remove(&command));
-        let stepped = step_call(rt, &mut *kept, &self.upkeep, job, session, command);
+        let stepped = step_call(rt, &mut *kept, &self.housekeeping, job, session, command);
         sweep_after(&mut *kept, job, reaches_others, &stepped);
         let spent = spent_by(&mut *kept, job, removes);
         drop(kept);
@@ -133,7 +133,7 @@ impl<L: Ledger, P: Pause> SharedNode<L, P> {
             self.prepare_seal(rt, job, id);
             return self.step_with(rt, Prepared::nothing(), job, session, command);
         }
-        let making = self.upkeep.makers.place(job).lock(rt);
+        let making = self.housekeeping.makers.place(job).lock(rt);
         let prepared = self.prepare_place(rt, job, &command);
         let stepped = self.step_with(rt, prepared, job, session, command);
         drop(making);
@@ -154,7 +154,7 @@ impl<L: Ledger, P: Pause> SharedNode<L, P> {
     {
         let mut kept = self.kept.lock(rt);
         let before = kept.prepare(job, prepared);
-        let stepped = step_call(rt, &mut *kept, &self.upkeep, job, session, command);
+        let stepped = step_call(rt, &mut *kept, &self.housekeeping, job, session, command);
         let rest = kept.prepare(job, before);
         drop(kept);
         drop(rest);
@@ -179,7 +179,15 @@ impl<L: Ledger, P: Pause> SharedNode<L, P> {
         self.leave_marked(rt);
         let mut kept = self.kept.lock(rt);
         let (reaches_others, removes) = (may_reach_others(&command), may_remove(&command));
-        let stepped = step_call_after(rt, &mut *kept, &self.upkeep, receipt, job, session, command);
+        let stepped = step_call_after(
+            rt,
+            &mut *kept,
+            &self.housekeeping,
+            receipt,
+            job,
+            session,
+            command,
+        );
         sweep_after(&mut *kept, job, reaches_others, &stepped);
         let spent = spent_by(&mut *kept, job, removes);
         drop(kept);
@@ -251,10 +259,10 @@ impl<L: Ledger, P: Pause> SharedNode<L, P> {
             ) => {
                 let is_pulling = self.post(rt, mail);
                 let is_pending = matches!(&reply, Reply::Refused(Refusal::Pending));
-                if !is_pending || self.upkeep.waiting.is_shut() {
+                if !is_pending || self.housekeeping.waiting.is_shut() {
                     return (reply, Some(receipt), true);
                 }
-                let waiting = &self.upkeep.waiting;
+                let waiting = &self.housekeeping.waiting;
                 waiting.await_next(rt, job, seen, is_pulling, client);
                 if is_gone(client) {
                     return (reply, Some(receipt), true);
@@ -273,7 +281,7 @@ impl<L: Ledger, P: Pause> SharedNode<L, P> {
         job: JobNo,
         session: u32,
         awaited: &Awaited,
-    ) -> (Result<Stepped<L>, AllocError>, Moved)
+    ) -> (Result<Stepped<L>, AllocError>, Versions)
         ensures called { IfOk result.0 (λ s. (wants_memory s.reply ≡ false) × IsCalled job session (tried awaited.now) s.reply (record { job = s.receipt.job; entry = s.receipt.entry })) }
         ensures small { IfOk result.0 (λ s. is_small_reply s.reply ≡ true) }
     {
@@ -282,12 +290,12 @@ impl<L: Ledger, P: Pause> SharedNode<L, P> {
         let mut kept = self.kept.lock(rt);
         if kept.node().wants(job, &command) {
             drop(kept);
-            let seen = self.upkeep.waiting.seen(rt, job);
+            let seen = self.housekeeping.waiting.seen(rt, job);
             return (self.step_prepared(rt, job, session, command), seen);
         }
-        let stepped = step_call(rt, &mut *kept, &self.upkeep, job, session, command);
+        let stepped = step_call(rt, &mut *kept, &self.housekeeping, job, session, command);
         sweep_after(&mut *kept, job, false, &stepped);
-        let seen = self.upkeep.waiting.seen(rt, job);
+        let seen = self.housekeeping.waiting.seen(rt, job);
         let spent = spent_by(&mut *kept, job, true);
         drop(kept);
         drop(spent);
@@ -303,7 +311,7 @@ impl<L: Ledger, P: Pause> SharedNode<L, P> {
         quota: Quota,
         key: JobKey,
     ) -> (Reply<Bytes>, Option<Receipt<L>>)
-        ensures { MatchOption result.1 (result.0 ≡ reply.Refused NoMemory) (λ r. IsOf (event.Admit job quota key) result.0 (witness_of r)) }
+        ensures { MatchOption result.1 (result.0 ≡ reply.Refused NoMemory) (λ r. IsReceiptOf (event.Admit job quota key) result.0 (witness_of r)) }
     {
         self.order(rt, &Event::Admit { job, quota, key })
     }
@@ -316,7 +324,7 @@ impl<L: Ledger, P: Pause> SharedNode<L, P> {
         job: JobNo,
         quota: Quota,
     ) -> (Reply<Bytes>, Option<Receipt<L>>)
-        ensures { MatchOption result.1 (result.0 ≡ reply.Refused NoMemory) (λ r. IsOf (event.Requota job quota) result.0 (witness_of r)) }
+        ensures { MatchOption result.1 (result.0 ≡ reply.Refused NoMemory) (λ r. IsReceiptOf (event.Requota job quota) result.0 (witness_of r)) }
     {
         self.order(rt, &Event::Requota(job, quota))
     }
@@ -324,10 +332,10 @@ impl<L: Ledger, P: Pause> SharedNode<L, P> {
     /// The operator ends a job, with the receipt of the entry, which was looked for. There is none exactly if the reply is
     /// `NoMemory`. If the end isn't refused, the job's journal is folded at once, unless there is no memory for that.
     pub fn end_job<R: Wait>(&self, rt: &R, job: JobNo) -> (Reply<Bytes>, Option<Receipt<L>>)
-        ensures { MatchOption result.1 (result.0 ≡ reply.Refused NoMemory) (λ r. IsOf (event.JobEnd job) result.0 (witness_of r)) }
+        ensures { MatchOption result.1 (result.0 ≡ reply.Refused NoMemory) (λ r. IsReceiptOf (event.JobEnd job) result.0 (witness_of r)) }
     {
         let mut kept = self.kept.lock(rt);
-        let stepped = step_end(rt, &mut *kept, &self.upkeep, job);
+        let stepped = step_end(rt, &mut *kept, &self.housekeeping, job);
         let gone = kept.take_gone();
         drop(kept);
         drop(gone);
@@ -336,10 +344,10 @@ impl<L: Ledger, P: Pause> SharedNode<L, P> {
 
     /// An event of the operator's, with the receipt of its entry, which was looked for.
     fn order<R: Wait>(&self, rt: &R, event: &Event) -> (Reply<Bytes>, Option<Receipt<L>>)
-        ensures { MatchOption result.1 (result.0 ≡ reply.Refused NoMemory) (λ r. IsOf event.now result.0 (witness_of r)) }
+        ensures { MatchOption result.1 (result.0 ≡ reply.Refused NoMemory) (λ r. IsReceiptOf event.now result.0 (witness_of r)) }
     {
         let mut kept = self.kept.lock(rt);
-        let stepped = step_order(rt, &mut *kept, &self.upkeep, event);
+        let stepped = step_order(rt, &mut *kept, &self.housekeeping, event);
         drop(kept);
         self.answer(rt, stepped)
     }
@@ -350,12 +358,12 @@ impl<L: Ledger, P: Pause> SharedNode<L, P> {
         rt: &R,
         event: &Event,
     ) -> (Reply<Bytes>, Option<Receipt<L>>)
-        ensures { MatchOption result.1 (result.0 ≡ reply.Refused NoMemory) (λ r. IsOf event.now result.0 (witness_of r)) }
+        ensures { MatchOption result.1 (result.0 ≡ reply.Refused NoMemory) (λ r. IsReceiptOf event.now result.0 (witness_of r)) }
     {
-        let (job, prepared) = prepare_finish(self.upkeep.alloc, event);
+        let (job, prepared) = prepare_finish(self.housekeeping.alloc, event);
         let mut kept = self.kept.lock(rt);
         let before = kept.prepare(job, prepared);
-        let stepped = step_event(rt, &mut *kept, &self.upkeep, event);
+        let stepped = step_event(rt, &mut *kept, &self.housekeeping, event);
         let rest = kept.prepare(job, before);
         drop(kept);
         drop(rest);
@@ -367,40 +375,44 @@ impl<L: Ledger, P: Pause> SharedNode<L, P> {
         &self,
         rt: &R,
         event: &Event,
-        gathered: &mut Gathered<L>,
+        receipts: &mut ReceiptBuffer<L>,
     ) -> Reply<Bytes>
-        ensures { IsHandedIn event.now result gathered.old.last (in_order gathered.new.earlier.items gathered.new.last) }
+        ensures { IsHandedIn event.now result receipts.old.last (receipts_in_order receipts.new.earlier.items receipts.new.last) }
     {
-        if let Err(error) = gathered.make_room(rt, self) {
+        if let Err(error) = receipts.make_room(rt, self) {
             return out_of_memory(error);
         }
         let (reply, receipt) = self.operate(rt, event);
         if let Some(receipt) = receipt {
-            gathered.add(receipt);
+            receipts.add(receipt);
         }
         reply
     }
 
     /// A worker takes a work, if one waits that nobody has taken. The receipt is gathered.
-    pub(crate) fn take_gathering<R: Wait>(&self, rt: &R, gathered: &mut Gathered<L>) -> Reply<Bytes>
-        ensures { IsTaken result gathered.new.last }
+    pub(crate) fn take_gathering<R: Wait>(
+        &self,
+        rt: &R,
+        receipts: &mut ReceiptBuffer<L>,
+    ) -> Reply<Bytes>
+        ensures { IsWorkTaken result receipts.new.last }
     {
-        if let Err(error) = gathered.make_room(rt, self) {
+        if let Err(error) = receipts.make_room(rt, self) {
             return out_of_memory(error);
         }
         let (reply, receipt) = self.take(rt);
         if let Some(receipt) = receipt {
-            gathered.add(receipt);
+            receipts.add(receipt);
         }
         reply
     }
 
     /// A worker takes a work, if one waits that nobody has taken: otherwise, and without memory, there is no receipt.
     fn take<R: Wait>(&self, rt: &R) -> (Reply<Bytes>, Option<Receipt<L>>)
-        ensures { MatchOption result.1 ((result.0 ≡ reply.NoWork) ⊎ (result.0 ≡ reply.Refused NoMemory)) (λ r. IsOf event.Take result.0 (witness_of r)) }
+        ensures { MatchOption result.1 ((result.0 ≡ reply.NoWork) ⊎ (result.0 ≡ reply.Refused NoMemory)) (λ r. IsReceiptOf event.Take result.0 (witness_of r)) }
     {
         let mut kept = self.kept.lock(rt);
-        let stepped = step_take(rt, &mut *kept, &self.upkeep);
+        let stepped = step_take(rt, &mut *kept, &self.housekeeping);
         drop(kept);
         match stepped {
             None => (Reply::NoWork, None),
@@ -426,7 +438,7 @@ impl<L: Ledger, P: Pause> SharedNode<L, P> {
         let prepared = self.prepare_arrival(rt, &posted);
         let mut kept = self.kept.lock(rt);
         let before = kept.prepare(job, prepared);
-        let stepped = step_arrival(rt, &mut *kept, &self.upkeep, posted);
+        let stepped = step_arrival(rt, &mut *kept, &self.housekeeping, posted);
         let rest = kept.prepare(job, before);
         drop(kept);
         drop(rest);
@@ -437,7 +449,7 @@ impl<L: Ledger, P: Pause> SharedNode<L, P> {
 
     /// What the directory answered to a message of the node arrives: whether it isn't lost.
     pub(crate) fn arrive_located<R: Wait>(&self, rt: &R, located: Posted<L>) -> bool {
-        step_located(rt, &mut *self.kept.lock(rt), &self.upkeep, located)
+        step_located(rt, &mut *self.kept.lock(rt), &self.housekeeping, located)
     }
 
     /// Hands over what a step has sent, and gives its answer and its receipt. There is none if there was no memory for the step.
@@ -471,7 +483,12 @@ impl<L: Ledger, P: Pause> SharedNode<L, P> {
     /// that was folded isn't counted.
     pub fn check<R: Wait>(&self, rt: &R, receipt: &Receipt<L>) {
         let receipts = slice::from_ref(receipt);
-        look_for(rt, &*self.kept.lock(rt), &self.upkeep.tallies, receipts);
+        audit(
+            rt,
+            &*self.kept.lock(rt),
+            &self.housekeeping.tallies,
+            receipts,
+        );
     }
 
     /// How many entries the journal has.

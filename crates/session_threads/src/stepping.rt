@@ -3,22 +3,22 @@ ghost use Rattle.std.specs.Prelude.{◌≡◌, ◌⊎◌, ℕ, ◌==◌, ◌<◌
 ghost use Rattle.obj_id.specs.declared.commands.Command.TheVariants as command;
 ghost use Rattle.obj_id.specs.declared.messages.Arrival.{Arrival};
 ghost use Rattle.obj_id.specs.declared.refusals.Refusal.TheVariants.{NoMemory, Stale};
-ghost use Rattle.private_store.specs.Answers.{wants_memory, is_small_reply};
+ghost use Rattle.private_store.specs.laws.Answers.{wants_memory, is_small_reply};
 ghost use Rattle.node_core.specs.Judged.{IsSmallCall};
 ghost use Rattle.node_journal.specs.Journals.{folded_if};
 ghost use Rattle.node_journal.specs.Logs.{journal_of};
 ghost use Rattle.private_store.specs.declared.schedules.Event.TheVariants as event;
 ghost use Rattle.private_store.specs.declared.schedules.NodeEvent.TheVariants as node_event;
-ghost use Rattle.private_store.specs.Cluster.{arrival_of};
+ghost use Rattle.private_store.specs.rules.Cluster.{arrival_of};
 ghost use Rattle.spill_work.specs.Line.{front_of};
 ghost use Rattle.node_journal.specs.Posts.{posts_left, IsAstray};
-ghost use Rattle.session_threads.specs.Stepping.{seen, IsUntouched, IsOneStep, IsOneStepFolded, IsOneLeave, IsOneArrival, HasArrived};
-ghost use Rattle.session_threads.specs.Witnesses.{IsCalled, IsCalledBy, IsOf, witness_of};
+ghost use Rattle.session_threads.specs.Stepping.{seen_node, IsUntouched, IsOneStep, IsOneStepFolded, IsOneLeave, IsOneArrival, HasArrived};
+ghost use Rattle.session_threads.specs.Witnesses.{IsCalled, IsCalledBy, IsReceiptOf, witness_of};
 
-use crate::gathered::look_for;
+use crate::housekeeping::Housekeeping;
 use crate::pausing::Pause;
-use crate::upkeep::Upkeep;
-use crate::waiting::stirred_by;
+use crate::receipt_buffer::audit;
+use crate::waiting::wake_scope_of;
 use bytes::Bytes;
 use node_journal::{Kept, Made, Mail, Parts, Posted, Receipt};
 use obj_id::{Command, JobNo, Refusal, Reply};
@@ -40,16 +40,16 @@ pub(crate) struct Stepped<L: Ledger> {
 pub(crate) fn step_call<L: Ledger, R: Wait, P: Pause>(
     rt: &R,
     kept: &mut Kept<L>,
-    upkeep: &Upkeep<P>,
+    housekeeping: &Housekeeping<P>,
     job: JobNo,
     session: u32,
     command: Command<Bytes>,
 ) -> Result<Stepped<L>, AllocError>
     ensures called { IfOk result (λ s. (wants_memory s.reply ≡ false) × IsCalled job session command s.reply (witness_of s.receipt)) }
     ensures small { IfOk result (λ s. is_small_reply s.reply ≡ true) }
-    ensures once { IfOk result (λ s. IsOneStep (node_event.Own (event.Call job session command)) s.reply (posts_left s.mail) (witness_of s.receipt) (seen kept.old.node kept.old.count kept.old.logs) (seen kept.new.node kept.new.count kept.new.logs)) }
+    ensures once { IfOk result (λ s. IsOneStep (node_event.Own (event.Call job session command)) s.reply (posts_left s.mail) (witness_of s.receipt) (seen_node kept.old.node kept.old.count kept.old.logs) (seen_node kept.new.node kept.new.count kept.new.logs)) }
     ensures node { IfOk result (λ s. s.receipt.node ≡ kept.old.number) }
-    ensures same { OnErr result (IsUntouched (seen kept.old.node kept.old.count kept.old.logs) (seen kept.new.node kept.new.count kept.new.logs)) }
+    ensures same { OnErr result (IsUntouched (seen_node kept.old.node kept.old.count kept.old.logs) (seen_node kept.new.node kept.new.count kept.new.logs)) }
     ensures number { kept.new.number ≡ kept.old.number }
 {
     let event = Event::Call {
@@ -57,14 +57,14 @@ pub(crate) fn step_call<L: Ledger, R: Wait, P: Pause>(
         session,
         command,
     };
-    step_event(rt, kept, upkeep, &event)
+    step_event(rt, kept, housekeeping, &event)
 }
 
 /// The same, if the journal doesn't say No of the receipt: otherwise the error is `Stale`.
 pub(crate) fn step_call_after<L: Ledger, R: Wait, P: Pause>(
     rt: &R,
     kept: &mut Kept<L>,
-    upkeep: &Upkeep<P>,
+    housekeeping: &Housekeeping<P>,
     receipt: &Receipt<L>,
     job: JobNo,
     session: u32,
@@ -73,9 +73,9 @@ pub(crate) fn step_call_after<L: Ledger, R: Wait, P: Pause>(
     ensures called { IfOk result (λ s. (wants_memory s.reply ≡ false) × IsCalled job session command s.reply (witness_of s.receipt)) }
     ensures later { IfOk result (λ s. (s.receipt.node ≡ receipt.now.node) × (receipt.now.entry.number < s.receipt.entry.number)) }
     ensures small { IfOk result (λ s. is_small_reply s.reply ≡ true) }
-    ensures once { IfOk result (λ s. IsOneStep (node_event.Own (event.Call job session command)) s.reply (posts_left s.mail) (witness_of s.receipt) (seen kept.old.node kept.old.count kept.old.logs) (seen kept.new.node kept.new.count kept.new.logs)) }
+    ensures once { IfOk result (λ s. IsOneStep (node_event.Own (event.Call job session command)) s.reply (posts_left s.mail) (witness_of s.receipt) (seen_node kept.old.node kept.old.count kept.old.logs) (seen_node kept.new.node kept.new.count kept.new.logs)) }
     ensures node { IfOk result (λ s. s.receipt.node ≡ kept.old.number) }
-    ensures same { OnErr result (IsUntouched (seen kept.old.node kept.old.count kept.old.logs) (seen kept.new.node kept.new.count kept.new.logs)) }
+    ensures same { OnErr result (IsUntouched (seen_node kept.old.node kept.old.count kept.old.logs) (seen_node kept.new.node kept.new.count kept.new.logs)) }
     ensures number { kept.new.number ≡ kept.old.number }
     ensures refusal { IfErr result (λ r. (r ≡ NoMemory) ⊎ (r ≡ Stale)) }
 {
@@ -84,9 +84,9 @@ pub(crate) fn step_call_after<L: Ledger, R: Wait, P: Pause>(
         session,
         command,
     };
-    upkeep.pause.before_step(kept.number(), &event);
+    housekeeping.pause.before_step(kept.number(), &event);
     match kept.step_after(receipt, &event) {
-        Ok(made) => Ok(settled(rt, kept, upkeep, made)),
+        Ok(made) => Ok(finish_step(rt, kept, housekeeping, made)),
         Err(Refusal::Stale) => Err(Refusal::Stale),
         Err(_) => Err(Refusal::NoMemory),
     }
@@ -96,37 +96,42 @@ pub(crate) fn step_call_after<L: Ledger, R: Wait, P: Pause>(
 pub(crate) fn step_event<L: Ledger, R: Wait, P: Pause>(
     rt: &R,
     kept: &mut Kept<L>,
-    upkeep: &Upkeep<P>,
+    housekeeping: &Housekeeping<P>,
     event: &Event,
 ) -> Result<Stepped<L>, AllocError>
-    ensures stepped { IfOk result (λ s. IsOf event.now s.reply (witness_of s.receipt)) }
+    ensures stepped { IfOk result (λ s. IsReceiptOf event.now s.reply (witness_of s.receipt)) }
     ensures called { IfOk result (λ s. IsCalledBy event.now s.reply (witness_of s.receipt)) }
     ensures small { IfOk result (λ s. IsSmallCall event.now s.reply) }
-    ensures once { IfOk result (λ s. IsOneStep (node_event.Own event.now) s.reply (posts_left s.mail) (witness_of s.receipt) (seen kept.old.node kept.old.count kept.old.logs) (seen kept.new.node kept.new.count kept.new.logs)) }
+    ensures once { IfOk result (λ s. IsOneStep (node_event.Own event.now) s.reply (posts_left s.mail) (witness_of s.receipt) (seen_node kept.old.node kept.old.count kept.old.logs) (seen_node kept.new.node kept.new.count kept.new.logs)) }
     ensures node { IfOk result (λ s. s.receipt.node ≡ kept.old.number) }
-    ensures same { OnErr result (IsUntouched (seen kept.old.node kept.old.count kept.old.logs) (seen kept.new.node kept.new.count kept.new.logs)) }
+    ensures same { OnErr result (IsUntouched (seen_node kept.old.node kept.old.count kept.old.logs) (seen_node kept.new.node kept.new.count kept.new.logs)) }
     ensures number { kept.new.number ≡ kept.old.number }
 {
-    upkeep.pause.before_step(kept.number(), event);
+    housekeeping.pause.before_step(kept.number(), event);
     let made = kept.step(event)?;
-    Ok(settled(rt, kept, upkeep, made))
+    Ok(finish_step(rt, kept, housekeeping, made))
 }
 
 /// An event of the operator's, whose entry is looked for. The error is out of memory.
 pub(crate) fn step_order<L: Ledger, R: Wait, P: Pause>(
     rt: &R,
     kept: &mut Kept<L>,
-    upkeep: &Upkeep<P>,
+    housekeeping: &Housekeeping<P>,
     event: &Event,
 ) -> Result<Stepped<L>, AllocError>
-    ensures stepped { IfOk result (λ s. IsOf event.now s.reply (witness_of s.receipt)) }
-    ensures once { IfOk result (λ s. IsOneStep (node_event.Own event.now) s.reply (posts_left s.mail) (witness_of s.receipt) (seen kept.old.node kept.old.count kept.old.logs) (seen kept.new.node kept.new.count kept.new.logs)) }
+    ensures stepped { IfOk result (λ s. IsReceiptOf event.now s.reply (witness_of s.receipt)) }
+    ensures once { IfOk result (λ s. IsOneStep (node_event.Own event.now) s.reply (posts_left s.mail) (witness_of s.receipt) (seen_node kept.old.node kept.old.count kept.old.logs) (seen_node kept.new.node kept.new.count kept.new.logs)) }
     ensures node { IfOk result (λ s. s.receipt.node ≡ kept.old.number) }
-    ensures same { OnErr result (IsUntouched (seen kept.old.node kept.old.count kept.old.logs) (seen kept.new.node kept.new.count kept.new.logs)) }
+    ensures same { OnErr result (IsUntouched (seen_node kept.old.node kept.old.count kept.old.logs) (seen_node kept.new.node kept.new.count kept.new.logs)) }
     ensures number { kept.new.number ≡ kept.old.number }
 {
-    let stepped = step_event(rt, kept, upkeep, event)?;
-    look_for(rt, kept, &upkeep.tallies, slice::from_ref(&stepped.receipt));
+    let stepped = step_event(rt, kept, housekeeping, event)?;
+    audit(
+        rt,
+        kept,
+        &housekeeping.tallies,
+        slice::from_ref(&stepped.receipt),
+    );
     Ok(stepped)
 }
 
@@ -134,16 +139,16 @@ pub(crate) fn step_order<L: Ledger, R: Wait, P: Pause>(
 pub(crate) fn step_end<L: Ledger, R: Wait, P: Pause>(
     rt: &R,
     kept: &mut Kept<L>,
-    upkeep: &Upkeep<P>,
+    housekeeping: &Housekeeping<P>,
     job: JobNo,
 ) -> Result<Stepped<L>, AllocError>
-    ensures stepped { IfOk result (λ s. IsOf (event.JobEnd job) s.reply (witness_of s.receipt)) }
-    ensures once { IfOk result (λ s. IsOneStepFolded (node_event.Own (event.JobEnd job)) job.0 s.reply (posts_left s.mail) (witness_of s.receipt) (seen kept.old.node kept.old.count kept.old.logs) (seen kept.new.node kept.new.count kept.new.logs)) }
-    ensures same { OnErr result (IsUntouched (seen kept.old.node kept.old.count kept.old.logs) (seen kept.new.node kept.new.count kept.new.logs)) }
+    ensures stepped { IfOk result (λ s. IsReceiptOf (event.JobEnd job) s.reply (witness_of s.receipt)) }
+    ensures once { IfOk result (λ s. IsOneStepFolded (node_event.Own (event.JobEnd job)) job.0 s.reply (posts_left s.mail) (witness_of s.receipt) (seen_node kept.old.node kept.old.count kept.old.logs) (seen_node kept.new.node kept.new.count kept.new.logs)) }
+    ensures same { OnErr result (IsUntouched (seen_node kept.old.node kept.old.count kept.old.logs) (seen_node kept.new.node kept.new.count kept.new.logs)) }
     ensures number { kept.new.number ≡ kept.old.number }
 {
     // its entry is looked for before the fold, after which the journal says no more of it
-    let stepped = step_order(rt, kept, upkeep, &Event::JobEnd(job))?;
+    let stepped = step_order(rt, kept, housekeeping, &Event::JobEnd(job))?;
     fold_ended(kept, job, &stepped.reply);
     Ok(stepped)
 }
@@ -163,16 +168,16 @@ fn fold_ended<L: Ledger>(kept: &mut Kept<L>, job: JobNo, reply: &Reply<Bytes>)
 pub(crate) fn step_take<L: Ledger, R: Wait, P: Pause>(
     rt: &R,
     kept: &mut Kept<L>,
-    upkeep: &Upkeep<P>,
+    housekeeping: &Housekeeping<P>,
 ) -> Option<Result<Stepped<L>, AllocError>>
-    ensures stepped { IfSome result (λ r. IfOk r (λ s. IsOf event.Take s.reply (witness_of s.receipt))) }
-    ensures once { IfSome result (λ r. IfOk r (λ s. IsOneStep (node_event.Own event.Take) s.reply (posts_left s.mail) (witness_of s.receipt) (seen kept.old.node kept.old.count kept.old.logs) (seen kept.new.node kept.new.count kept.new.logs))) }
-    ensures same { IfSome result (λ r. OnErr r (IsUntouched (seen kept.old.node kept.old.count kept.old.logs) (seen kept.new.node kept.new.count kept.new.logs))) }
-    ensures none { IfNone result (IsUntouched (seen kept.old.node kept.old.count kept.old.logs) (seen kept.new.node kept.new.count kept.new.logs) × (front_of kept.old.node.works.works ≡ None)) }
+    ensures stepped { IfSome result (λ r. IfOk r (λ s. IsReceiptOf event.Take s.reply (witness_of s.receipt))) }
+    ensures once { IfSome result (λ r. IfOk r (λ s. IsOneStep (node_event.Own event.Take) s.reply (posts_left s.mail) (witness_of s.receipt) (seen_node kept.old.node kept.old.count kept.old.logs) (seen_node kept.new.node kept.new.count kept.new.logs))) }
+    ensures same { IfSome result (λ r. OnErr r (IsUntouched (seen_node kept.old.node kept.old.count kept.old.logs) (seen_node kept.new.node kept.new.count kept.new.logs))) }
+    ensures none { IfNone result (IsUntouched (seen_node kept.old.node kept.old.count kept.old.logs) (seen_node kept.new.node kept.new.count kept.new.logs) × (front_of kept.old.node.works.works ≡ None)) }
     ensures number { kept.new.number ≡ kept.old.number }
 {
     if kept.has_work() {
-        Some(step_event(rt, kept, upkeep, &Event::Take))
+        Some(step_event(rt, kept, housekeeping, &Event::Take))
     } else {
         None
     }
@@ -183,19 +188,26 @@ pub(crate) fn step_take<L: Ledger, R: Wait, P: Pause>(
 pub(crate) fn step_mark<L: Ledger, R: Wait, P: Pause>(
     rt: &R,
     kept: &mut Kept<L>,
-    upkeep: &Upkeep<P>,
+    housekeeping: &Housekeeping<P>,
 ) -> Option<Mail<L>>
-    ensures once { IfSome result (λ mail. IsOneLeave (posts_left mail) (seen kept.old.node kept.old.count kept.old.logs) (seen kept.new.node kept.new.count kept.new.logs)) }
-    ensures same { IfNone result (IsUntouched (seen kept.old.node kept.old.count kept.old.logs) (seen kept.new.node kept.new.count kept.new.logs)) }
+    ensures once { IfSome result (λ mail. IsOneLeave (posts_left mail) (seen_node kept.old.node kept.old.count kept.old.logs) (seen_node kept.new.node kept.new.count kept.new.logs)) }
+    ensures same { IfNone result (IsUntouched (seen_node kept.old.node kept.old.count kept.old.logs) (seen_node kept.new.node kept.new.count kept.new.logs)) }
     ensures number { kept.new.number ≡ kept.old.number }
 {
-    let mark = upkeep.sessions.first_marked(rt)?;
-    match step_call(rt, kept, upkeep, mark.job, mark.session, Command::Leave) {
+    let mark = housekeeping.sessions.first_marked(rt)?;
+    match step_call(
+        rt,
+        kept,
+        housekeeping,
+        mark.job,
+        mark.session,
+        Command::Leave,
+    ) {
         Err(_) => None,
         Ok(stepped) => {
-            upkeep.sessions.unmark(rt);
+            housekeeping.sessions.unmark(rt);
             let Stepped { receipt, mail, .. } = stepped;
-            look_for(rt, kept, &upkeep.tallies, slice::from_ref(&receipt));
+            audit(rt, kept, &housekeeping.tallies, slice::from_ref(&receipt));
             Some(mail)
         }
     }
@@ -206,19 +218,19 @@ pub(crate) fn step_mark<L: Ledger, R: Wait, P: Pause>(
 pub(crate) fn step_arrival<L: Ledger, R: Wait, P: Pause>(
     rt: &R,
     kept: &mut Kept<L>,
-    upkeep: &Upkeep<P>,
+    housekeeping: &Housekeeping<P>,
     posted: Posted<L>,
 ) -> Result<Stepped<L>, Refusal>
-    ensures once { IfOk result (λ s. (a : Arrival) → arrival_of posted.from posted.message ≡ Some a → IsOneArrival posted.job a s.reply (posts_left s.mail) (witness_of s.receipt) (seen kept.old.node kept.old.count kept.old.logs) (seen kept.new.node kept.new.count kept.new.logs)) }
+    ensures once { IfOk result (λ s. (a : Arrival) → arrival_of posted.from posted.message ≡ Some a → IsOneArrival posted.job a s.reply (posts_left s.mail) (witness_of s.receipt) (seen_node kept.old.node kept.old.count kept.old.logs) (seen_node kept.new.node kept.new.count kept.new.logs)) }
     ensures node { IfOk result (λ s. s.receipt.node ≡ kept.old.number) }
     ensures of_job { IfOk result (λ s. s.receipt.job ≡ posted.job) }
     ensures stale { IsErrOf result Stale ↔ IsAstray kept.old.number posted }
-    ensures same { OnErr result (IsUntouched (seen kept.old.node kept.old.count kept.old.logs) (seen kept.new.node kept.new.count kept.new.logs)) }
+    ensures same { OnErr result (IsUntouched (seen_node kept.old.node kept.old.count kept.old.logs) (seen_node kept.new.node kept.new.count kept.new.logs)) }
     ensures refused { IfErr result (λ r. (r ≡ NoMemory) ⊎ (r ≡ Stale)) }
     ensures number { kept.new.number ≡ kept.old.number }
 {
     match kept.arrive(posted) {
-        Ok(made) => Ok(settled(rt, kept, upkeep, made)),
+        Ok(made) => Ok(finish_step(rt, kept, housekeeping, made)),
         Err(Refusal::Stale) => Err(Refusal::Stale),
         Err(_) => Err(Refusal::NoMemory),
     }
@@ -228,27 +240,32 @@ pub(crate) fn step_arrival<L: Ledger, R: Wait, P: Pause>(
 pub(crate) fn step_located<L: Ledger, R: Wait, P: Pause>(
     rt: &R,
     kept: &mut Kept<L>,
-    upkeep: &Upkeep<P>,
+    housekeeping: &Housekeeping<P>,
     located: Posted<L>,
 ) -> bool
-    ensures once { result ≡ true → (a : Arrival) → arrival_of located.from located.message ≡ Some a → HasArrived located.job a (seen kept.old.node kept.old.count kept.old.logs) (seen kept.new.node kept.new.count kept.new.logs) }
-    ensures same { result ≡ false → IsUntouched (seen kept.old.node kept.old.count kept.old.logs) (seen kept.new.node kept.new.count kept.new.logs) }
+    ensures once { result ≡ true → (a : Arrival) → arrival_of located.from located.message ≡ Some a → HasArrived located.job a (seen_node kept.old.node kept.old.count kept.old.logs) (seen_node kept.new.node kept.new.count kept.new.logs) }
+    ensures same { result ≡ false → IsUntouched (seen_node kept.old.node kept.old.count kept.old.logs) (seen_node kept.new.node kept.new.count kept.new.logs) }
     ensures number { kept.new.number ≡ kept.old.number }
 {
-    match step_arrival(rt, kept, upkeep, located) {
+    match step_arrival(rt, kept, housekeeping, located) {
         Err(_) => false,
         Ok(stepped) => {
-            look_for(rt, kept, &upkeep.tallies, slice::from_ref(&stepped.receipt));
+            audit(
+                rt,
+                kept,
+                &housekeeping.tallies,
+                slice::from_ref(&stepped.receipt),
+            );
             true
         }
     }
 }
 
 /// Settles a step that was made, and gives the rest of it.
-fn settled<L: Ledger, R: Wait, P: Pause>(
+fn finish_step<L: Ledger, R: Wait, P: Pause>(
     rt: &R,
     kept: &Kept<L>,
-    upkeep: &Upkeep<P>,
+    housekeeping: &Housekeeping<P>,
     made: Made<L>,
 ) -> Stepped<L>
     ensures reply { result.reply ≡ made.outcome.reply }
@@ -261,8 +278,8 @@ fn settled<L: Ledger, R: Wait, P: Pause>(
         mail,
         receipt,
     } = made.into_parts();
-    let stir = stirred_by(&receipt, &reply);
-    upkeep.settle(rt, &erase, kept.has_work(), receipt.job(), stir);
+    let wake_scope = wake_scope_of(&receipt, &reply);
+    housekeeping.after_step(rt, &erase, kept.has_work(), receipt.job(), wake_scope);
     Stepped {
         reply,
         receipt,

@@ -19,7 +19,7 @@ const PATIENCE: u64 = 2_000;
 
 /// What a step may have moved for the job's calls that wait.
 #[derive(Clone, Copy, PartialEq, Eq)]
-pub(crate) enum Stir {
+pub(crate) enum WakeScope {
     /// Nothing that a call waits for.
     Nothing,
     /// A chunk came, and its fetch isn't over.
@@ -34,7 +34,7 @@ pub(crate) enum Stir {
 
 /// How often the copies of a job moved, how often its fetches did, and how many chunks came beside.
 #[derive(Clone, Copy, PartialEq, Eq)]
-pub(crate) struct Moved {
+pub(crate) struct Versions {
     pub copies: u64,
     pub fetches: u64,
     pub chunks: u64,
@@ -51,7 +51,7 @@ pub(crate) struct Waiting {
 /// another, and find nothing new.
 #[derive(Drop)]
 struct Bell {
-    moved: Mutex<Moved>,
+    moved: Mutex<Versions>,
     // something has moved, or the nodes are shut
     changed: Condvar,
 }
@@ -84,20 +84,20 @@ impl Waiting {
     }
 
     /// The counts of the job.
-    pub(crate) fn seen<R: Wait>(&self, rt: &R, job: JobNo) -> Moved {
+    pub(crate) fn seen<R: Wait>(&self, rt: &R, job: JobNo) -> Versions {
         *self.bell(job).moved.lock(rt)
     }
 
     /// Counts what a step of the job may have moved, and wakes who waits for it.
-    pub(crate) fn note<R: Wait>(&self, rt: &R, job: JobNo, stir: Stir) {
-        match stir {
-            Stir::Nothing => {}
-            Stir::AllJobs => {
+    pub(crate) fn note<R: Wait>(&self, rt: &R, job: JobNo, wake_scope: WakeScope) {
+        match wake_scope {
+            WakeScope::Nothing => {}
+            WakeScope::AllJobs => {
                 for bell in &self.bells {
-                    bell.count(rt, stir);
+                    bell.count(rt, wake_scope);
                 }
             }
-            _ => self.bell(job).count(rt, stir),
+            _ => self.bell(job).count(rt, wake_scope),
         }
     }
 
@@ -107,7 +107,7 @@ impl Waiting {
         &self,
         rt: &R,
         job: JobNo,
-        seen: Moved,
+        seen: Versions,
         is_pulling: bool,
         client: Option<&UnixStream>,
     ) {
@@ -123,7 +123,7 @@ impl Waiting {
         &self,
         rt: &R,
         job: JobNo,
-        seen: Moved,
+        seen: Versions,
         client: Option<&UnixStream>,
     ) {
         for _ in rt.forever() {
@@ -139,7 +139,7 @@ impl Waiting {
         &self,
         rt: &R,
         job: JobNo,
-        seen: Moved,
+        seen: Versions,
         client: Option<&UnixStream>,
     ) {
         let mut chunks = seen.chunks;
@@ -156,7 +156,7 @@ impl Waiting {
     }
 
     /// The counts once the job's copies have moved from this count, the nodes are shut, or the patience is over.
-    fn await_copies<R: Wait + Clock>(&self, rt: &R, job: JobNo, copies: u64) -> Moved {
+    fn await_copies<R: Wait + Clock>(&self, rt: &R, job: JobNo, copies: u64) -> Versions {
         let bell = self.bell(job);
         let moved = bell.moved.lock(rt);
         let patience = Duration::from_millis(PATIENCE);
@@ -169,7 +169,7 @@ impl Waiting {
     }
 
     /// The counts once the job's fetches have moved from this count, the nodes are shut, or the patience is over.
-    fn await_fetch<R: Wait + Clock>(&self, rt: &R, job: JobNo, fetches: u64) -> Moved {
+    fn await_fetch<R: Wait + Clock>(&self, rt: &R, job: JobNo, fetches: u64) -> Versions {
         let bell = self.bell(job);
         let moved = bell.moved.lock(rt);
         let patience = Duration::from_millis(PATIENCE);
@@ -186,7 +186,7 @@ impl Bell {
     /// Nothing has moved.
     fn new() -> Bell {
         Bell {
-            moved: Mutex::new(Moved {
+            moved: Mutex::new(Versions {
                 copies: 0,
                 fetches: 0,
                 chunks: 0,
@@ -196,9 +196,9 @@ impl Bell {
     }
 
     /// Counts what moved, and wakes who waits for it. Nobody is between a look and a wait then.
-    fn count<R: Wait>(&self, rt: &R, stir: Stir) {
-        self.moved.lock(rt).count(stir);
-        if stir != Stir::Chunk {
+    fn count<R: Wait>(&self, rt: &R, wake_scope: WakeScope) {
+        self.moved.lock(rt).count(wake_scope);
+        if wake_scope != WakeScope::Chunk {
             self.changed.notify_all();
         }
     }
@@ -210,14 +210,14 @@ impl Bell {
     }
 }
 
-impl Moved {
-    fn count(&mut self, stir: Stir) {
-        if stir == Stir::Chunk {
+impl Versions {
+    fn count(&mut self, wake_scope: WakeScope) {
+        if wake_scope == WakeScope::Chunk {
             self.chunks = self.chunks.wrapping_add(1);
             return;
         }
         self.copies = self.copies.wrapping_add(1);
-        if matches!(stir, Stir::Fetches | Stir::AllJobs) {
+        if matches!(wake_scope, WakeScope::Fetches | WakeScope::AllJobs) {
             self.fetches = self.fetches.wrapping_add(1);
         }
     }
@@ -231,45 +231,45 @@ fn place_of(job: JobNo) -> usize
 }
 
 /// What the step of the receipt may have moved, by what it was to its job.
-pub(crate) fn stirred_by<L: Ledger>(receipt: &Receipt<L>, reply: &Reply<Bytes>) -> Stir {
+pub(crate) fn wake_scope_of<L: Ledger>(receipt: &Receipt<L>, reply: &Reply<Bytes>) -> WakeScope {
     if matches!(reply, Reply::Refused(_)) {
-        return Stir::Nothing;
+        return WakeScope::Nothing;
     }
     match receipt.input() {
-        None => Stir::Nothing,
-        Some(Judged::Call(_, command)) => stirred_by_call(command),
+        None => WakeScope::Nothing,
+        Some(Judged::Call(_, command)) => wake_scope_of_call(command),
         Some(
             Judged::Chunk {
                 verdict: ChunkVerdict::Part,
                 ..
             },
-        ) => Stir::Chunk,
+        ) => WakeScope::Chunk,
         Some(
             Judged::Chunk {
                 verdict: ChunkVerdict::Ignored,
                 ..
             },
-        ) => Stir::Nothing,
-        Some(Judged::Pull { .. }) => Stir::Nothing,
+        ) => WakeScope::Nothing,
+        Some(Judged::Pull { .. }) => WakeScope::Nothing,
         Some(Judged::Chunk { .. } | Judged::Located { .. } | Judged::NotHere { .. }) =>
-            Stir::Fetches,
-        Some(Judged::Begin(_) | Judged::Answer(..)) => Stir::Fetches,
-        Some(Judged::End) => Stir::AllJobs,
+            WakeScope::Fetches,
+        Some(Judged::Begin(_) | Judged::Answer(..)) => WakeScope::Fetches,
+        Some(Judged::End) => WakeScope::AllJobs,
         Some(Judged::Requota(_) | Judged::Received { .. } | Judged::Withdrawn { .. }) =>
-            Stir::Copies,
+            WakeScope::Copies,
     }
 }
 
 /// The same of a command that wasn't refused.
-fn stirred_by_call(command: &Command<u64>) -> Stir {
+fn wake_scope_of_call(command: &Command<u64>) -> WakeScope {
     match command {
-        Command::Delete(_) | Command::EndTask(_) => Stir::Fetches,
+        Command::Delete(_) | Command::EndTask(_) => WakeScope::Fetches,
         Command::Seal(_)
         | Command::Release(_)
         | Command::Unpin(..)
         | Command::GiveUp(..)
         | Command::Withdraw(..)
-        | Command::Leave => Stir::Copies,
+        | Command::Leave => WakeScope::Copies,
         Command::Create { .. }
         | Command::Write { .. }
         | Command::Get(_)
@@ -278,6 +278,6 @@ fn stirred_by_call(command: &Command<u64>) -> Stir {
         | Command::Grant(..)
         | Command::Peek { .. }
         | Command::List
-        | Command::Usage => Stir::Nothing,
+        | Command::Usage => WakeScope::Nothing,
     }
 }

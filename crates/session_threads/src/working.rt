@@ -1,14 +1,14 @@
 //! Workers, which carry out the device works of a node.
 ghost use Rattle.std.specs.Prelude.{◌≡◌, List, None};
 ghost use Rattle.node_journal.specs.declared.entries.Receipt.{Receipt};
-ghost use Rattle.session_threads.specs.DeviceCalls.{EndsRound, HasTaken, IsRound};
-ghost use Rattle.session_threads.specs.Gathering.{in_order};
+ghost use Rattle.session_threads.specs.DeviceCalls.{EndsRound, HasTakenWork, IsRound};
+ghost use Rattle.session_threads.specs.Gathering.{receipts_in_order};
 
 use crate::SharedNode;
 use crate::device_calls::{Finishing, call_device};
-use crate::gathered::Gathered;
 use crate::pausing::{NoPause, Pause};
-use crate::work_place::Place;
+use crate::pending_answer::PendingAnswer;
+use crate::receipt_buffer::ReceiptBuffer;
 use crate::worker_bell::WorkerBell;
 use obj_id::{Refusal, Reply};
 use spill_device::SpillDevice;
@@ -45,7 +45,7 @@ impl<L: Ledger, P: Pause> Working<L, P> {
     /// Waits for the worker, which erases the keys that wait. Works that nobody has taken by then are left.
     pub(crate) fn end<R: Threads + Wait>(self, rt: &R) {
         let Working { node, thread } = self;
-        node.upkeep.bell.end(rt);
+        node.housekeeping.bell.end(rt);
         thread.join(rt);
     }
 }
@@ -70,16 +70,16 @@ fn work_all<L: Ledger, P: Pause, R: Wait + Clock, D: SpillDevice + Drop>(
     device: D,
 ) {
     let mut device = device;
-    let mut gathered = Gathered::new(node.upkeep.alloc);
+    let mut receipts = ReceiptBuffer::new(node.housekeeping.alloc);
     for _ in rt.forever() {
-        if !node.upkeep.bell.await_round(rt) {
+        if !node.housekeeping.bell.await_round(rt) {
             break;
         }
-        let done = node.round(rt, &mut device, &mut gathered);
-        go_on(rt, &node.upkeep.bell, done);
+        let done = node.round(rt, &mut device, &mut receipts);
+        go_on(rt, &node.housekeeping.bell, done);
     }
-    node.upkeep.erase_keys(rt, &mut device);
-    gathered.look_for_all(rt, node);
+    node.housekeeping.erase_keys(rt, &mut device);
+    receipts.audit_all(rt, node);
 }
 
 /// Asks for another round after one that came to something: more may wait. One that found no memory rests first.
@@ -97,11 +97,11 @@ impl<L: Ledger, P: Pause> SharedNode<L, P> {
     /// called for it, and its answer handed in. An answer that found no memory when it was handed in is the work of the next round,
     /// without a second call.
     pub fn work_once<R: Wait, D: SpillDevice>(&self, rt: &R, device: &mut D) -> WorkDone
-        ensures { (gathered : List (Receipt L)) × IsRound D.write_gives D.read_gives D.erase_gives device.old result device.new None gathered }
+        ensures { (receipts : List (Receipt L)) × IsRound D.write_gives D.read_gives D.erase_gives device.old result device.new None receipts }
     {
-        let mut gathered = Gathered::new(self.upkeep.alloc);
-        let done = self.round(rt, device, &mut gathered);
-        gathered.look_for_all(rt, self);
+        let mut receipts = ReceiptBuffer::new(self.housekeeping.alloc);
+        let done = self.round(rt, device, &mut receipts);
+        receipts.audit_all(rt, self);
         done
     }
 
@@ -110,16 +110,16 @@ impl<L: Ledger, P: Pause> SharedNode<L, P> {
         &self,
         rt: &R,
         device: &mut D,
-        gathered: &mut Gathered<L>,
+        receipts: &mut ReceiptBuffer<L>,
     ) -> WorkDone
-        ensures { IsRound D.write_gives D.read_gives D.erase_gives device.old result device.new gathered.old.last (in_order gathered.new.earlier.items gathered.new.last) }
+        ensures { IsRound D.write_gives D.read_gives D.erase_gives device.old result device.new receipts.old.last (receipts_in_order receipts.new.earlier.items receipts.new.last) }
     {
         self.leave_marked(rt);
-        self.upkeep.erase_keys(rt, device);
-        match self.upkeep.place.take(rt) {
-            Place::Taken => WorkDone::Nothing,
-            Place::Holds(finishing) => self.hand_in(rt, device, finishing, gathered),
-            Place::Free => self.take_one(rt, device, gathered),
+        self.housekeeping.erase_keys(rt, device);
+        match self.housekeeping.place.take(rt) {
+            PendingAnswer::Taken => WorkDone::Nothing,
+            PendingAnswer::Holds(finishing) => self.hand_in(rt, device, finishing, receipts),
+            PendingAnswer::Free => self.take_one(rt, device, receipts),
         }
     }
 
@@ -128,16 +128,16 @@ impl<L: Ledger, P: Pause> SharedNode<L, P> {
         &self,
         rt: &R,
         device: &mut D,
-        gathered: &mut Gathered<L>,
+        receipts: &mut ReceiptBuffer<L>,
     ) -> WorkDone
-        ensures { HasTaken D.write_gives D.read_gives D.erase_gives device.old result device.new (in_order gathered.new.earlier.items gathered.new.last) }
+        ensures { HasTakenWork D.write_gives D.read_gives D.erase_gives device.old result device.new (receipts_in_order receipts.new.earlier.items receipts.new.last) }
     {
-        match self.take_gathering(rt, gathered) {
+        match self.take_gathering(rt, receipts) {
             Reply::Work(work) => {
                 let finishing = call_device(device, &work);
-                self.hand_in(rt, device, finishing, gathered)
+                self.hand_in(rt, device, finishing, receipts)
             }
-            other => self.upkeep.end_take(rt, &other),
+            other => self.housekeeping.end_take(rt, &other),
         }
     }
 
@@ -147,17 +147,17 @@ impl<L: Ledger, P: Pause> SharedNode<L, P> {
         rt: &R,
         device: &mut D,
         finishing: Finishing,
-        gathered: &mut Gathered<L>,
+        receipts: &mut ReceiptBuffer<L>,
     ) -> WorkDone
-        ensures { EndsRound D.erase_gives finishing.event finishing.written device.old result device.new gathered.old.last (in_order gathered.new.earlier.items gathered.new.last) }
+        ensures { EndsRound D.erase_gives finishing.event finishing.written device.old result device.new receipts.old.last (receipts_in_order receipts.new.earlier.items receipts.new.last) }
     {
-        let reply = self.operate_gathering(rt, &finishing.event, gathered);
+        let reply = self.operate_gathering(rt, &finishing.event, receipts);
         let done = match reply {
             Reply::Refused(Refusal::NoMemory) => WorkDone::NoMemory,
             Reply::Refused(_) => WorkDone::Stale,
             _ => WorkDone::Done,
         };
-        self.upkeep.end_round(rt, device, finishing, done);
+        self.housekeeping.end_round(rt, device, finishing, done);
         done
     }
 }

@@ -17,33 +17,33 @@ pub record Held : Type 0 where
 abbrev pub key_cmp : DeviceKey → DeviceKey → Ordering
 key_cmp a b = ordering_then (nat_cmp a.job.0 b.job.0) (nat_cmp a.number b.number)
 
-abbrev pub same_key : DeviceKey → DeviceKey → Bool
-same_key a b = is_eq (key_cmp a b)
+abbrev pub same_device_key : DeviceKey → DeviceKey → Bool
+same_device_key a b = is_eq (key_cmp a b)
 
 -- the bytes under the key
-abbrev pub bytes_at : Held → DeviceKey → Option (List ℕ)
-bytes_at held key = lookup (same_key key) held.stored
+abbrev pub held_bytes_at : Held → DeviceKey → Option (List ℕ)
+held_bytes_at held key = lookup (same_device_key key) held.stored
 
 -- whether there are so many bytes under the key
 abbrev pub holds : Held → DeviceKey → ℕ → Bool
-holds held key len = elim (bytes_at held key) [ None ↦ false | Some bytes ↦ length bytes == len ]
+holds held key len = elim (held_bytes_at held key) [ None ↦ false | Some bytes ↦ length bytes == len ]
 
 -- what is under one key has become this, and no other key's bytes have changed
 pub record Becomes (old : Held) (key : DeviceKey) (now : Option (List ℕ)) (new : Held) : Type 0 where
-  pub bytes : (other : DeviceKey) → bytes_at new other ≡ (if same_key key other then now else bytes_at old other)
+  pub bytes : (other : DeviceKey) → held_bytes_at new other ≡ (if same_device_key key other then now else held_bytes_at old other)
   pub failures : new.failures ≡ old.failures
 
 -- a write puts the bytes under the key; without memory it changes nothing
-abbrev pub Writes : Held → DeviceKey → List ℕ → Result (Unit {0}) DeviceFault → Held → Type 0
-Writes old key bytes (Ok _) new = Becomes old key (Some bytes) new
-Writes old key bytes (Err Failed) new = ⊥
-Writes old key bytes (Err NoMemory) new = new ≡ old
+abbrev pub WritesKey : Held → DeviceKey → List ℕ → Result (Unit {0}) DeviceFault → Held → Type 0
+WritesKey old key bytes (Ok _) new = Becomes old key (Some bytes) new
+WritesKey old key bytes (Err Failed) new = ⊥
+WritesKey old key bytes (Err NoMemory) new = new ≡ old
 
 -- a read gives what is under the key; it fails only where there is nothing of that length
-abbrev pub Reads : Held → DeviceKey → ℕ → Result (List ℕ) DeviceFault → Held → Type 0
-Reads old key len (Ok bytes) new = (bytes_at old key ≡ Some bytes) × (length bytes ≡ len) × (new ≡ old)
-Reads old key len (Err Failed) new = (holds old key len ≡ false) × (new ≡ record old { failures = next_count old.failures })
-Reads old key len (Err NoMemory) new = (holds old key len ≡ true) × (new ≡ old)
+abbrev pub ReadsKey : Held → DeviceKey → ℕ → Result (List ℕ) DeviceFault → Held → Type 0
+ReadsKey old key len (Ok bytes) new = (held_bytes_at old key ≡ Some bytes) × (length bytes ≡ len) × (new ≡ old)
+ReadsKey old key len (Err Failed) new = (holds old key len ≡ false) × (new ≡ record old { failures = next_count old.failures })
+ReadsKey old key len (Err NoMemory) new = (holds old key len ≡ true) × (new ≡ old)
 
 -- an erase leaves nothing under the key, whether or not something was there
 abbrev pub Erases : Held → DeviceKey → Result (Unit {0}) DeviceFault → Held → Type 0

@@ -39,13 +39,13 @@ impl MemoryDevice {
 }
 
 impl SpillDevice for MemoryDevice {
-    ghost use Rattle.spill_device.specs.Held.{Writes, Reads, Erases};
+    ghost use Rattle.spill_device.specs.Held.{WritesKey, ReadsKey, Erases};
 
     ghost failures_of = { λ d. d.failures };
 
-    ghost write_gives = { Writes };
+    ghost write_gives = { WritesKey };
 
-    ghost read_gives = { Reads };
+    ghost read_gives = { ReadsKey };
 
     ghost erase_gives = { Erases };
 

@@ -10,8 +10,8 @@ use Rattle.obj_id.specs.declared.ids.ObjectId.{ObjectId}
 use Rattle.obj_id.specs.declared.works.WorkKind.{WorkKind}
 use Rattle.store_facts.proofs.Tests.{both, both_left, both_right, not_true, or_false_left, or_false_right, neither}
 use Rattle.spill_work.specs.declared.queue.Queued.{Queued}
-use Rattle.spill_work.specs.Line.{same_job, is_of, is_at, marked, numbered}
-use Rattle.spill_work.specs.Numbers.{last_of, AreFresh, entry_of, is_numbered, are_numbered, AreNumbered}
+use Rattle.spill_work.specs.Line.{same_work_job, is_of, is_at, marked_taken, numbered}
+use Rattle.spill_work.specs.Numbers.{last_number_of, AreFresh, entry_of, is_numbered, are_numbered, AreWorksNumbered}
 use Rattle.spill_work.specs.Turns.{taken, marked_at}
 use Rattle.spill_work.proofs.Filters.{filter_append, filter_swap, filter_within, filter_of_all, filter_of_none, all_weaker, all_passing, append_nothing, filter_changed}
 
@@ -46,9 +46,9 @@ one_number last number (w ∷ ws) h =
       | false ↦ λ e. rest
     ]) refl
 
-module _ (works : List Queued) (used : List (JobNo × ℕ)) (h : AreNumbered works used) where
+module _ (works : List Queued) (used : List (JobNo × ℕ)) (h : AreWorksNumbered works used) where
   pub one_at : (job : JobNo) (number : ℕ) → length (filter (is_at job number) works) ≤ 1
-  one_at job number = subst (λ ws. length ws ≤ 1) (sym (and_filter (is_of job) (is_numbered number) works)) (one_number (last_of used job) number (filter (is_of job) works) (h.numbers job))
+  one_at job number = subst (λ ws. length ws ≤ 1) (sym (and_filter (is_of job) (is_numbered number) works)) (one_number (last_number_of used job) number (filter (is_of job) works) (h.numbers job))
 
 pub from_ok : {T : Type 0} {E : Type 0} {P : Type 0} (r : Result T E) (x : T) → r ≡ Ok x → OnOk r P → P
 from_ok {P = P} r x e h = subst (λ r. OnOk r P) e h
@@ -66,11 +66,11 @@ module _ (job : JobNo) (number : ℕ) where
       ]) h
 
   -- the one and only
-  pub marked_is : (ws : List Queued) → length (filter (is_at job number) ws) ≤ 1 → map (marked_at job number) ws ≡ marked job number ws
+  pub marked_is : (ws : List Queued) → length (filter (is_at job number) ws) ≤ 1 → map (marked_at job number) ws ≡ marked_taken job number ws
   marked_is [] h = refl
   marked_is (w ∷ ws) h =
       (elim (is_at job number w) as (λ b. length (cond b (w ∷ filter (is_at job number) ws) (filter (is_at job number) ws)) ≤ 1
-      → (if b then taken w else w) ∷ map (marked_at job number) ws ≡ (if b then record w { taken = true } ∷ ws else w ∷ marked job number ws)) [
+      → (if b then taken w else w) ∷ map (marked_at job number) ws ≡ (if b then record w { taken = true } ∷ ws else w ∷ marked_taken job number ws)) [
         | true ↦ λ e. ap (λ r. taken w ∷ r) (unmarked ws (less (filter (is_at job number) ws) e))
         | false ↦ λ e. ap (λ r. w ∷ r) (marked_is ws e)
       ]) h
@@ -90,10 +90,10 @@ module _ (job : JobNo) (number : ℕ) where
   numbered_marked last (w ∷ ws) =
       (λ i. (nat_le (mark_asked w i).number last && not (any_marked (mark_asked w i).number ws i)) && numbered_marked last ws i)
 
-  pub marked_kept : (works : List Queued) (used : List (JobNo × ℕ)) → AreNumbered works used → AreNumbered (map (marked_at job number) works) used
+  pub marked_kept : (works : List Queued) (used : List (JobNo × ℕ)) → AreWorksNumbered works used → AreWorksNumbered (map (marked_at job number) works) used
   marked_kept works used h = record {
-    numbers = λ k. ap (are_numbered (last_of used k)) (filter_changed (is_of k) (marked_at job number) (λ w. ap (λ a. same_job k a.job) (mark_asked w)) works)
-        ∙ numbered_marked (last_of used k) (filter (is_of k) works) ∙ h.numbers k;
+    numbers = λ k. ap (are_numbered (last_number_of used k)) (filter_changed (is_of k) (marked_at job number) (λ w. ap (λ a. same_work_job k a.job) (mark_asked w)) works)
+        ∙ numbered_marked (last_number_of used k) (filter (is_of k) works) ∙ h.numbers k;
     fresh = h.fresh;
   }
 
@@ -122,10 +122,10 @@ numbered_filter last p (w ∷ ws) h =
       | false ↦ rest
     ]
 
-pub finished_kept : (job : JobNo) (number : ℕ) (works : List Queued) (used : List (JobNo × ℕ)) → AreNumbered works used → AreNumbered (filter (λ w. not (is_at job number w)) works) used
+pub finished_kept : (job : JobNo) (number : ℕ) (works : List Queued) (used : List (JobNo × ℕ)) → AreWorksNumbered works used → AreWorksNumbered (filter (λ w. not (is_at job number w)) works) used
 finished_kept job number works used h = record {
-  numbers = λ k. ap (are_numbered (last_of used k)) (filter_swap (is_of k) (λ w. not (is_at job number w)) works)
-      ∙ numbered_filter (last_of used k) (λ w. not (is_at job number w)) (filter (is_of k) works) (h.numbers k);
+  numbers = λ k. ap (are_numbered (last_number_of used k)) (filter_swap (is_of k) (λ w. not (is_at job number w)) works)
+      ∙ numbered_filter (last_number_of used k) (λ w. not (is_at job number w)) (filter (is_of k) works) (h.numbers k);
   fresh = h.fresh;
 }
 
@@ -134,13 +134,13 @@ finished_kept job number works used h = record {
 equal_numbers : (a b : ℕ) → (a == b) ≡ true → a ≡ b
 equal_numbers a b x = grind (arith, nat_tests)
 
-one_job : (job k : JobNo) → same_job job k ≡ true → job ≡ k
+one_job : (job k : JobNo) → same_work_job job k ≡ true → job ≡ k
 one_job job k same = ap (λ n. record { 0 = n }) (equal_numbers job.0 k.0 same)
 
-fresh_after : (job : JobNo) (old new : List (JobNo × ℕ)) (entry : Option ℕ) → lookup (same_job job) new ≡ entry → (unwrap_or entry 0 ≡ 0 → entry ≡ None)
-    → ((k : JobNo) → same_job job k ≡ false → lookup (same_job k) new ≡ lookup (same_job k) old) → AreFresh old → AreFresh new
-fresh_after job old new entry own some others h k none = (elim (same_job job k) as (λ b. same_job job k ≡ b → lookup (same_job k) new ≡ None) [
-  | true ↦ λ same. subst (λ j. unwrap_or (lookup (same_job j) new) 0 ≡ 0 → lookup (same_job j) new ≡ None) (one_job job k same)
+fresh_after : (job : JobNo) (old new : List (JobNo × ℕ)) (entry : Option ℕ) → lookup (same_work_job job) new ≡ entry → (unwrap_or entry 0 ≡ 0 → entry ≡ None)
+    → ((k : JobNo) → same_work_job job k ≡ false → lookup (same_work_job k) new ≡ lookup (same_work_job k) old) → AreFresh old → AreFresh new
+fresh_after job old new entry own some others h k none = (elim (same_work_job job k) as (λ b. same_work_job job k ≡ b → lookup (same_work_job k) new ≡ None) [
+  | true ↦ λ same. subst (λ j. unwrap_or (lookup (same_work_job j) new) 0 ≡ 0 → lookup (same_work_job j) new ≡ None) (one_job job k same)
       (λ gone. own ∙ some (ap (λ o. unwrap_or o 0) (sym own) ∙ gone)) none
   | false ↦ λ apart. others k apart ∙ h k (ap (λ o. unwrap_or o 0) (sym (others k apart)) ∙ none)
 ]) refl
@@ -151,15 +151,15 @@ other_job a b c h k = grind (arith, nat_tests)
 same_jobs : (a b c : ℕ) → (a == b) ≡ true → not (a == c) ≡ true → not (b == c) ≡ true
 same_jobs a b c h k = grind (arith, nat_tests)
 
-pub dropped_kept : (job : JobNo) (works : List Queued) (old new : List (JobNo × ℕ)) → AreNumbered works old
-    → lookup (same_job job) new ≡ None → ((k : JobNo) → same_job job k ≡ false → lookup (same_job k) new ≡ lookup (same_job k) old)
-    → AreNumbered (filter (λ w. not (is_of job w)) works) new
+pub dropped_kept : (job : JobNo) (works : List Queued) (old new : List (JobNo × ℕ)) → AreWorksNumbered works old
+    → lookup (same_work_job job) new ≡ None → ((k : JobNo) → same_work_job job k ≡ false → lookup (same_work_job k) new ≡ lookup (same_work_job k) old)
+    → AreWorksNumbered (filter (λ w. not (is_of job w)) works) new
 dropped_kept job works old new h own others = record {
-  numbers = λ k. (elim (same_job job k) as (λ b. same_job job k ≡ b → are_numbered (last_of new k) (filter (is_of k) (filter (λ w. not (is_of job w)) works)) ≡ true) [
-    | true ↦ λ same. ap (are_numbered (last_of new k)) (filter_of_none (is_of k) (filter (λ w. not (is_of job w)) works)
+  numbers = λ k. (elim (same_work_job job k) as (λ b. same_work_job job k ≡ b → are_numbered (last_number_of new k) (filter (is_of k) (filter (λ w. not (is_of job w)) works)) ≡ true) [
+    | true ↦ λ same. ap (are_numbered (last_number_of new k)) (filter_of_none (is_of k) (filter (λ w. not (is_of job w)) works)
         (all_weaker (λ w. not (is_of job w)) (λ w. not (is_of k w)) (λ w f. same_jobs job.0 k.0 w.asked.job.0 same f) (filter (λ w. not (is_of job w)) works) (all_passing (λ w. not (is_of job w)) works)))
     | false ↦ λ apart.
-        ap (are_numbered (last_of new k)) (filter_swap (is_of k) (λ w. not (is_of job w)) works ∙ filter_within (is_of k) (λ w. not (is_of job w)) (λ w of. ap not (other_job job.0 k.0 w.asked.job.0 apart of)) works)
+        ap (are_numbered (last_number_of new k)) (filter_swap (is_of k) (λ w. not (is_of job w)) works ∙ filter_within (is_of k) (λ w. not (is_of job w)) (λ w of. ap not (other_job job.0 k.0 w.asked.job.0 apart of)) works)
         ∙ ap (λ o. are_numbered (unwrap_or o 0) (filter (is_of k) works)) (others k apart) ∙ h.numbers k
   ]) refl;
   fresh = fresh_after job old new None own (λ _. refl) others h.fresh;
@@ -186,20 +186,20 @@ module _ (job : JobNo) (last : ℕ) where
       below : (a b : ℕ) → nat_le a (b + 1) ≡ true → (a == b + 1) ≡ false → nat_le a b ≡ true
       below a b h k = grind (arith, nat_tests)
 
-  pub taken_back_kept : (works : List Queued) (old new : List (JobNo × ℕ)) → AreNumbered works old → last_of old job ≡ last + 1
-      → lookup (same_job job) new ≡ entry_of last → ((k : JobNo) → same_job job k ≡ false → lookup (same_job k) new ≡ lookup (same_job k) old)
-      → AreNumbered (filter (λ w. not (is_at job (last + 1) w)) works) new
+  pub taken_back_kept : (works : List Queued) (old new : List (JobNo × ℕ)) → AreWorksNumbered works old → last_number_of old job ≡ last + 1
+      → lookup (same_work_job job) new ≡ entry_of last → ((k : JobNo) → same_work_job job k ≡ false → lookup (same_work_job k) new ≡ lookup (same_work_job k) old)
+      → AreWorksNumbered (filter (λ w. not (is_at job (last + 1) w)) works) new
   taken_back_kept works old new h was own others =
       let left = filter (λ w. not (is_at job (last + 1) w)) works in
       record {
-        numbers = λ k. (elim (same_job job k) as (λ b. same_job job k ≡ b → are_numbered (last_of new k) (filter (is_of k) left) ≡ true) [
-          | true ↦ λ same. subst (λ j. are_numbered (last_of new j) (filter (is_of j) left) ≡ true) (one_job job k same)
+        numbers = λ k. (elim (same_work_job job k) as (λ b. same_work_job job k ≡ b → are_numbered (last_number_of new k) (filter (is_of k) left) ≡ true) [
+          | true ↦ λ same. subst (λ j. are_numbered (last_number_of new j) (filter (is_of j) left) ≡ true) (one_job job k same)
               (ap (λ o. are_numbered (unwrap_or o 0) (filter (is_of job) left)) own
               ∙ ap (λ n. are_numbered n (filter (is_of job) left)) (entry_is last)
               ∙ ap (are_numbered last) (filter_swap (is_of job) (λ w. not (is_at job (last + 1) w)) works)
               ∙ before_last (filter (is_of job) works) (all_passing (is_of job) works) (ap (λ n. are_numbered n (filter (is_of job) works)) (sym was) ∙ h.numbers job))
           | false ↦ λ apart.
-              ap (are_numbered (last_of new k)) (filter_swap (is_of k) (λ w. not (is_at job (last + 1) w)) works
+              ap (are_numbered (last_number_of new k)) (filter_swap (is_of k) (λ w. not (is_at job (last + 1) w)) works
               ∙ filter_of_all (λ w. not (is_at job (last + 1) w)) (filter (is_of k) works)
               (all_weaker (is_of k) (λ w. not (is_at job (last + 1) w)) (λ w of. ap (λ b. not (b && w.asked.number == last + 1)) (other_job job.0 k.0 w.asked.job.0 apart of)) (filter (is_of k) works) (all_passing (is_of k) works)))
               ∙ ap (λ o. are_numbered (unwrap_or o 0) (filter (is_of k) works)) (others k apart) ∙ h.numbers k
@@ -223,7 +223,7 @@ module _ (job : JobNo) (last : ℕ) where
 module _ (job : JobNo) (kind : WorkKind) where
   numbered_own : (last : ℕ) (ids : List ObjectId) → list_all (is_of job) (numbered job kind last ids) ≡ true
   numbered_own last [] = refl
-  numbered_own last (id ∷ ids) = both (same_job job job) (list_all (is_of job) (numbered job kind (last + 1) ids)) (itself job.0) (numbered_own (last + 1) ids)
+  numbered_own last (id ∷ ids) = both (same_work_job job job) (list_all (is_of job) (numbered job kind (last + 1) ids)) (itself job.0) (numbered_own (last + 1) ids)
     where
       itself : (n : ℕ) → (n == n) ≡ true
       itself n = grind (arith, nat_tests)
@@ -275,27 +275,27 @@ module _ (job : JobNo) (kind : WorkKind) where
       still : (a b n : ℕ) → nat_le a b ≡ true → nat_le a (b + n) ≡ true
       still a b n h = grind (arith, nat_tests)
 
-  pub more_kept : (works : List Queued) (old new : List (JobNo × ℕ)) (ids : List ObjectId) → AreNumbered works old
-      → lookup (same_job job) new ≡ Some (last_of old job + length ids) → 1 ≤ length ids
-      → ((k : JobNo) → same_job job k ≡ false → lookup (same_job k) new ≡ lookup (same_job k) old)
-      → AreNumbered (works ++ numbered job kind (last_of old job) ids) new
+  pub more_kept : (works : List Queued) (old new : List (JobNo × ℕ)) (ids : List ObjectId) → AreWorksNumbered works old
+      → lookup (same_work_job job) new ≡ Some (last_number_of old job + length ids) → 1 ≤ length ids
+      → ((k : JobNo) → same_work_job job k ≡ false → lookup (same_work_job k) new ≡ lookup (same_work_job k) old)
+      → AreWorksNumbered (works ++ numbered job kind (last_number_of old job) ids) new
   more_kept works old new ids h own some others =
-      let last = last_of old job in
+      let last = last_number_of old job in
       let next = numbered job kind last ids in
       record {
-        numbers = λ k. (elim (same_job job k) as (λ b. same_job job k ≡ b → are_numbered (last_of new k) (filter (is_of k) (works ++ next)) ≡ true) [
+        numbers = λ k. (elim (same_work_job job k) as (λ b. same_work_job job k ≡ b → are_numbered (last_number_of new k) (filter (is_of k) (works ++ next)) ≡ true) [
           | true ↦ λ same.
               let equal : job ≡ k = one_job job k same in
-              subst (λ j. are_numbered (last_of new j) (filter (is_of j) (works ++ next)) ≡ true) equal
-              (ap (are_numbered (last_of new job)) (filter_append (is_of job) works next ∙ ap (λ r. filter (is_of job) works ++ r) (filter_of_all (is_of job) next (numbered_own last ids)))
+              subst (λ j. are_numbered (last_number_of new j) (filter (is_of j) (works ++ next)) ≡ true) equal
+              (ap (are_numbered (last_number_of new job)) (filter_append (is_of job) works next ∙ ap (λ r. filter (is_of job) works ++ r) (filter_of_all (is_of job) next (numbered_own last ids)))
               ∙ ap (λ o. are_numbered (unwrap_or o 0) (filter (is_of job) works ++ next)) own ∙ more_numbered last ids (filter (is_of job) works) (h.numbers job))
           | false ↦ λ apart.
-              ap (are_numbered (last_of new k)) (filter_append (is_of k) works next
+              ap (are_numbered (last_number_of new k)) (filter_append (is_of k) works next
               ∙ ap (λ r. filter (is_of k) works ++ r) (filter_of_none (is_of k) next (all_weaker (is_of job) (λ w. not (is_of k w)) (λ w of. ap not (other_job k.0 job.0 w.asked.job.0 (back job.0 k.0 apart) of)) next (numbered_own last ids)))
               ∙ append_nothing (filter (is_of k) works))
               ∙ ap (λ o. are_numbered (unwrap_or o 0) (filter (is_of k) works)) (others k apart) ∙ h.numbers k
         ]) refl;
-        fresh = fresh_after job old new (Some (last_of old job + length ids)) own (λ none. absurd (omega (arith, some, none))) others h.fresh;
+        fresh = fresh_after job old new (Some (last_number_of old job + length ids)) own (λ none. absurd (omega (arith, some, none))) others h.fresh;
       }
     where
       back : (a b : ℕ) → (a == b) ≡ false → (b == a) ≡ false

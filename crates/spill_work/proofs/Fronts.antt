@@ -6,7 +6,7 @@ use Rattle.std.proofs.lemmas.Bool.Decides.{nat_tests}
 use Rattle.spill_work.specs.declared.queue.Queued.{Queued}
 use Rattle.spill_work.specs.declared.row.Timed.{Timed}
 use Rattle.spill_work.specs.Line.{front_of}
-use Rattle.spill_work.specs.Turns.{Rows, all_of, placed, onto, in_turn, works_in, earlier, front_from}
+use Rattle.spill_work.specs.Turns.{Rows, all_of, works_placed, onto, in_turn, works_in, earlier, front_from}
 use Rattle.spill_work.proofs.InTurn.{filter_onto}
 
 abbrev waits : Timed → Bool
@@ -42,9 +42,9 @@ sooner_of_three (Some a) t (Some u) =
       ]) refl
     ]) refl
 
-first_placed : (t : Timed) (us : List Timed) → first_of (placed t us) ≡ sooner (Some t) (first_of us)
+first_placed : (t : Timed) (us : List Timed) → first_of (works_placed t us) ≡ sooner (Some t) (first_of us)
 first_placed t [] = refl
-first_placed t (u ∷ us) = elim (nat_le u.turn t.turn) as (λ b. first_of (if b then u ∷ placed t us else t ∷ u ∷ us) ≡ (if b then Some u else Some t)) [ true ↦ refl | false ↦ refl ]
+first_placed t (u ∷ us) = elim (nat_le u.turn t.turn) as (λ b. first_of (if b then u ∷ works_placed t us else t ∷ u ∷ us) ≡ (if b then Some u else Some t)) [ true ↦ refl | false ↦ refl ]
 
 -- a walk finds what comes first in its turn
 front_is : (first : Option Timed) (ts : List Timed) → front_from first ts ≡ sooner first (first_of (onto (filter waits ts) []))

@@ -7,10 +7,10 @@ use Rattle.std.proofs.lemmas.Bool.Decides.{nat_tests}
 use Rattle.obj_id.specs.declared.ids.JobNo.{JobNo}
 use Rattle.obj_id.specs.declared.ids.ObjectId.{ObjectId}
 use Rattle.obj_id.specs.declared.works.WorkKind.{WorkKind}
-use Rattle.private_store.specs.Shape.{WorkInFlight}
+use Rattle.private_store.specs.rules.Shape.{WorkInFlight}
 use Rattle.store_facts.proofs.Tests.{both, some_value}
 use Rattle.spill_work.specs.declared.queue.Queued.{Queued}
-use Rattle.spill_work.specs.Line.{WorkLine, same_job, is_of, is_at, shown, marked, used_by, is_write, numbered, numbered_works, TakesBack, AsksAll, MarksTaken, Finishes, Drops}
+use Rattle.spill_work.specs.Line.{WorkLine, same_work_job, is_of, is_at, shown, marked_taken, used_by, is_write_work, numbered, numbered_works, TakesBack, AsksAll, MarksTaken, Finishes, Drops}
 use Rattle.spill_work.proofs.Filters.{filter_append, all_stay, append_nothing}
 
 -- the job's part of the line
@@ -42,12 +42,12 @@ numbers_apart : (a b c : ℕ) → (b == c) ≡ true → (a == b) ≡ false → (
 numbers_apart a b c same apart = grind (arith, nat_tests)
 
 -- to another job nothing leaves
-pub part-finished_other : (job other : JobNo) (number : ℕ) (works : List Queued) → same_job job other ≡ false → part (filter (λ w. not (is_at job number w)) works) other ≡ part works other
+pub part-finished_other : (job other : JobNo) (number : ℕ) (works : List Queued) → same_work_job job other ≡ false → part (filter (λ w. not (is_at job number w)) works) other ≡ part works other
 part-finished_other job other number works apart =
     part-filter (λ w. not (is_at job number w)) other works
     (λ w of. ap (λ b. not (b && w.asked.number == number)) (numbers_apart job.0 other.0 w.asked.job.0 of apart))
 
-pub part-dropped_other : (job other : JobNo) (works : List Queued) → same_job job other ≡ false → part (filter (λ w. not (is_of job w)) works) other ≡ part works other
+pub part-dropped_other : (job other : JobNo) (works : List Queued) → same_work_job job other ≡ false → part (filter (λ w. not (is_of job w)) works) other ≡ part works other
 part-dropped_other job other works apart =
     part-filter (λ w. not (is_of job w)) other works (λ w of. ap not (numbers_apart job.0 other.0 w.asked.job.0 of apart))
 
@@ -92,13 +92,13 @@ find-part job number (x ∷ xs) w at =
     ]) at
 
 -- marking a work as taken shows to no job
-pub part-marked : (job : JobNo) (number : ℕ) (other : JobNo) (works : List Queued) → part (marked job number works) other ≡ part works other
+pub part-marked : (job : JobNo) (number : ℕ) (other : JobNo) (works : List Queued) → part (marked_taken job number works) other ≡ part works other
 part-marked job number other [] = refl
 part-marked job number other (x ∷ xs) =
-    elim (is_at job number x) as (λ b. part (if b then record x { taken = true } ∷ xs else x ∷ marked job number xs) other ≡ part (x ∷ xs) other) [
+    elim (is_at job number x) as (λ b. part (if b then record x { taken = true } ∷ xs else x ∷ marked_taken job number xs) other ≡ part (x ∷ xs) other) [
       | true ↦ elim (is_of other x) as (λ b. map (λ (q : Queued). shown q.asked) (cond b (record x { taken = true } ∷ filter (is_of other) xs) (filter (is_of other) xs))
           ≡ map (λ (q : Queued). shown q.asked) (cond b (x ∷ filter (is_of other) xs) (filter (is_of other) xs))) [ true ↦ refl | false ↦ refl ]
-      | false ↦ elim (is_of other x) as (λ b. map (λ (q : Queued). shown q.asked) (cond b (x ∷ filter (is_of other) (marked job number xs)) (filter (is_of other) (marked job number xs)))
+      | false ↦ elim (is_of other x) as (λ b. map (λ (q : Queued). shown q.asked) (cond b (x ∷ filter (is_of other) (marked_taken job number xs)) (filter (is_of other) (marked_taken job number xs)))
           ≡ map (λ (q : Queued). shown q.asked) (cond b (x ∷ filter (is_of other) xs) (filter (is_of other) xs))) [
             | true ↦ ap (λ r. shown x.asked ∷ r) (part-marked job number other xs)
             | false ↦ part-marked job number other xs
@@ -107,7 +107,7 @@ part-marked job number other (x ∷ xs) =
 
 -- ---- the changes of the line
 
-pub marks_taken : (old new : WorkLine) (job : JobNo) (number : ℕ) → new ≡ record old { works = marked job number old.works } → MarksTaken old job number new
+pub marks_taken : (old new : WorkLine) (job : JobNo) (number : ℕ) → new ≡ record old { works = marked_taken job number old.works } → MarksTaken old job number new
 marks_taken old new job number is = record { line = is; same = λ other. ap (λ l. part l.works other) is ∙ part-marked job number other old.works }
 
 pub finishes : (old new : WorkLine) (job : JobNo) (number : ℕ) (w : Queued) → find (is_at job number) old.works ≡ Some w → w.taken ≡ true
@@ -121,7 +121,7 @@ finishes old new job number w at taken is = record {
 }
 
 pub drops : (old new : WorkLine) (job : JobNo) → new.works ≡ filter (λ v. not (is_of job v)) old.works → used_by new job ≡ 0
-    → ((other : JobNo) → same_job job other ≡ false → used_by new other ≡ used_by old other) → Drops old job new
+    → ((other : JobNo) → same_work_job job other ≡ false → used_by new other ≡ used_by old other) → Drops old job new
 drops old new job works own others = record {
   works = works;
   own_works = ap (λ ws. part ws job) works ∙ part-dropped job old.works;
@@ -139,7 +139,7 @@ module _ (job : JobNo) (kind : WorkKind) where
       alone last [] = refl
       alone last (id ∷ ids) =
           ap (λ b. map (λ (q : Queued). shown q.asked) (cond b (record { asked = record { job = job; number = last + 1; id = id; kind = kind }; taken = false } ∷ filter (is_of job) (numbered job kind (last + 1) ids)) (filter (is_of job) (numbered job kind (last + 1) ids)))) (itself job.0)
-          ∙ ap (λ r. record { number = last + 1; id = id; writes = is_write kind } ∷ r) (alone (last + 1) ids)
+          ∙ ap (λ r. record { number = last + 1; id = id; writes = is_write_work kind } ∷ r) (alone (last + 1) ids)
   part-numbered last ids (x ∷ xs) =
       let rest = part-numbered last ids xs in
       elim (is_of job x) as (λ b. map (λ (q : Queued). shown q.asked) (cond b (x ∷ filter (is_of job) (xs ++ numbered job kind last ids)) (filter (is_of job) (xs ++ numbered job kind last ids)))
@@ -148,7 +148,7 @@ module _ (job : JobNo) (kind : WorkKind) where
         | false ↦ rest
       ]
 
-  pub part-numbered_other : (other : JobNo) → same_job job other ≡ false → (last : ℕ) (ids : List ObjectId) (works : List Queued) → part (works ++ numbered job kind last ids) other ≡ part works other
+  pub part-numbered_other : (other : JobNo) → same_work_job job other ≡ false → (last : ℕ) (ids : List ObjectId) (works : List Queued) → part (works ++ numbered job kind last ids) other ≡ part works other
   part-numbered_other other apart last ids [] = none last ids
     where
       none : (last : ℕ) (ids : List ObjectId) → part (numbered job kind last ids) other ≡ []
@@ -165,7 +165,7 @@ module _ (job : JobNo) (kind : WorkKind) where
       ]
 
   pub asks_all : (old new : WorkLine) (ids : List ObjectId) → new.works ≡ old.works ++ numbered job kind (used_by old job) ids → used_by new job ≡ used_by old job + length ids
-      → ((other : JobNo) → same_job job other ≡ false → used_by new other ≡ used_by old other) → AsksAll old job kind ids new
+      → ((other : JobNo) → same_work_job job other ≡ false → used_by new other ≡ used_by old other) → AsksAll old job kind ids new
   asks_all old new ids works own others = record {
     works = works;
     own_works = ap (λ ws. part ws job) works ∙ part-numbered (used_by old job) ids old.works;
@@ -176,31 +176,31 @@ module _ (job : JobNo) (kind : WorkKind) where
 -- ---- the last work is taken back
 
 module _ (job : JobNo) where
-  removed_inserted : (es : List (JobNo × ℕ)) (n : ℕ) → lookup (same_job job) es ≡ None → remove_entry (same_job job) (insert_entry same_job es job n) ≡ es
+  removed_inserted : (es : List (JobNo × ℕ)) (n : ℕ) → lookup (same_work_job job) es ≡ None → remove_entry (same_work_job job) (insert_entry same_work_job es job n) ≡ es
   removed_inserted [] n none = ap (λ b. cond b [] ((job, n) ∷ [])) (itself job.0)
-  removed_inserted (e ∷ es) n none = (elim (same_job job e.0) as (λ b. same_job job e.0 ≡ b → cond b (Some e.1) (lookup (same_job job) es) ≡ None
-      → remove_entry (same_job job) (if b then (e.0, n) ∷ es else e ∷ insert_entry same_job es job n) ≡ e ∷ es) [
+  removed_inserted (e ∷ es) n none = (elim (same_work_job job e.0) as (λ b. same_work_job job e.0 ≡ b → cond b (Some e.1) (lookup (same_work_job job) es) ≡ None
+      → remove_entry (same_work_job job) (if b then (e.0, n) ∷ es else e ∷ insert_entry same_work_job es job n) ≡ e ∷ es) [
         | true ↦ λ _ some. absurd cc
-        | false ↦ λ apart at. ap (λ b. cond b (insert_entry same_job es job n) (e ∷ remove_entry (same_job job) (insert_entry same_job es job n))) apart
+        | false ↦ λ apart at. ap (λ b. cond b (insert_entry same_work_job es job n) (e ∷ remove_entry (same_work_job job) (insert_entry same_work_job es job n))) apart
             ∙ ap (λ r. e ∷ r) (removed_inserted es n at)
       ]) refl none
 
-  set_inserted : (es : List (JobNo × ℕ)) (n m : ℕ) → lookup (same_job job) es ≡ Some m → set_value (same_job job) (insert_entry same_job es job n) m ≡ es
+  set_inserted : (es : List (JobNo × ℕ)) (n m : ℕ) → lookup (same_work_job job) es ≡ Some m → set_value (same_work_job job) (insert_entry same_work_job es job n) m ≡ es
   set_inserted [] n m none = absurd cc
-  set_inserted (e ∷ es) n m had = (elim (same_job job e.0) as (λ b. same_job job e.0 ≡ b → cond b (Some e.1) (lookup (same_job job) es) ≡ Some m
-      → set_value (same_job job) (if b then (e.0, n) ∷ es else e ∷ insert_entry same_job es job n) m ≡ e ∷ es) [
-        | true ↦ λ same at. ap (λ b. cond b ((e.0, m) ∷ es) ((e.0, n) ∷ set_value (same_job job) es m)) same ∙ ap (λ v. (e.0, v) ∷ es) (sym (some_value e.1 m at))
-        | false ↦ λ apart at. ap (λ b. cond b ((e.0, m) ∷ insert_entry same_job es job n) (e ∷ set_value (same_job job) (insert_entry same_job es job n) m)) apart
+  set_inserted (e ∷ es) n m had = (elim (same_work_job job e.0) as (λ b. same_work_job job e.0 ≡ b → cond b (Some e.1) (lookup (same_work_job job) es) ≡ Some m
+      → set_value (same_work_job job) (if b then (e.0, n) ∷ es else e ∷ insert_entry same_work_job es job n) m ≡ e ∷ es) [
+        | true ↦ λ same at. ap (λ b. cond b ((e.0, m) ∷ es) ((e.0, n) ∷ set_value (same_work_job job) es m)) same ∙ ap (λ v. (e.0, v) ∷ es) (sym (some_value e.1 m at))
+        | false ↦ λ apart at. ap (λ b. cond b ((e.0, m) ∷ insert_entry same_work_job es job n) (e ∷ set_value (same_work_job job) (insert_entry same_work_job es job n) m)) apart
             ∙ ap (λ r. e ∷ r) (set_inserted es n m at)
       ]) refl had
 
   -- an entry as it was before the number after this one
-  entry_back : (es : List (JobNo × ℕ)) (last : ℕ) → last ≡ unwrap_or (lookup (same_job job) es) 0 → (last + 1 ≡ 1 → lookup (same_job job) es ≡ None)
-      → (if last == 0 then remove_entry (same_job job) (insert_entry same_job es job (last + 1)) else set_value (same_job job) (insert_entry same_job es job (last + 1)) last) ≡ es
+  entry_back : (es : List (JobNo × ℕ)) (last : ℕ) → last ≡ unwrap_or (lookup (same_work_job job) es) 0 → (last + 1 ≡ 1 → lookup (same_work_job job) es ≡ None)
+      → (if last == 0 then remove_entry (same_work_job job) (insert_entry same_work_job es job (last + 1)) else set_value (same_work_job job) (insert_entry same_work_job es job (last + 1)) last) ≡ es
   entry_back es zero is fresh = removed_inserted es 1 (fresh refl)
   entry_back es (suc n) is fresh =
-      ap (λ b. if b then remove_entry (same_job job) (insert_entry same_job es job (suc n + 1)) else set_value (same_job job) (insert_entry same_job es job (suc n + 1)) (suc n)) (not_none n)
-      ∙ set_inserted es (suc n + 1) (suc n) (there (lookup (same_job job) es) is)
+      ap (λ b. if b then remove_entry (same_work_job job) (insert_entry same_work_job es job (suc n + 1)) else set_value (same_work_job job) (insert_entry same_work_job es job (suc n + 1)) (suc n)) (not_none n)
+      ∙ set_inserted es (suc n + 1) (suc n) (there (lookup (same_work_job job) es) is)
     where
       not_none : (n : ℕ) → (suc n == 0) ≡ false
       not_none n = grind (arith, nat_tests)
@@ -226,13 +226,13 @@ alone test (x ∷ xs) w here one =
 
 pub takes_back : (old new : WorkLine) (job : JobNo) (last : ℕ) → used_by old job ≡ last + 1 → length (filter (is_at job (last + 1)) old.works) ≤ 1
     → new.works ≡ filter (λ w. not (is_at job (last + 1) w)) old.works
-    → new.used ≡ (if last == 0 then remove_entry (same_job job) old.used else set_value (same_job job) old.used last)
-    → ((other : JobNo) → same_job job other ≡ false → lookup (same_job other) new.used ≡ lookup (same_job other) old.used)
+    → new.used ≡ (if last == 0 then remove_entry (same_work_job job) old.used else set_value (same_work_job job) old.used last)
+    → ((other : JobNo) → same_work_job job other ≡ false → lookup (same_work_job other) new.used ≡ lookup (same_work_job other) old.used)
     → TakesBack old job (last + 1) new
 takes_back old new job last was one works used others = record {
   undone = λ before id kind asks fresh.
       let asked : Queued = record { asked = record { job = job; number = last + 1; id = id; kind = kind }; taken = false } in
-      let here : is_at job (last + 1) asked ≡ true = both (same_job job job) (last + 1 == last + 1) (itself job.0) (itself (last + 1)) in
+      let here : is_at job (last + 1) asked ≡ true = both (same_work_job job job) (last + 1 == last + 1) (itself job.0) (itself (last + 1)) in
       let last_is : last ≡ used_by before job = omega (arith, asks.number) in
       let out : filter (λ w. not (is_at job (last + 1) w)) old.works ≡ before.works =
       ap (filter (λ w. not (is_at job (last + 1) w))) asks.works
@@ -241,7 +241,7 @@ takes_back old new job last was one works used others = record {
       ∙ append_nothing (filter (λ w. not (is_at job (last + 1) w)) before.works)
       ∙ all_stay (is_at job (last + 1)) before.works (alone (is_at job (last + 1)) before.works asked here (subst (λ ws. length (filter (is_at job (last + 1)) ws) ≤ 1) asks.works one)) in
       let back : new.used ≡ before.used =
-      used ∙ ap (λ es. if last == 0 then remove_entry (same_job job) es else set_value (same_job job) es last) asks.used
+      used ∙ ap (λ es. if last == 0 then remove_entry (same_work_job job) es else set_value (same_work_job job) es last) asks.used
       ∙ entry_back job before.used last last_is fresh in
       (λ i. record { works = (works ∙ out) i; used = back i });
   not_last = λ other. absurd (let same = ap (λ n. n == last + 1) was ∙ itself (last + 1) in cc);

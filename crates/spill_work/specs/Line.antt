@@ -9,9 +9,9 @@ use Rattle.obj_id.specs.declared.works.WorkKind.{WorkKind}
 use Rattle.obj_id.specs.declared.works.WorkKind.TheVariants.{Write, Read}
 use Rattle.obj_id.specs.declared.refusals.Refusal.{Refusal}
 use Rattle.obj_id.specs.declared.refusals.Refusal.TheVariants.{Busy, TooMany, Stale}
-use Rattle.private_store.specs.Limits.{most_works, has_numbers}
-use Rattle.private_store.specs.Shape.{WorkInFlight}
-use Rattle.spill_work.specs.declared.queue.Asked.{Asked}
+use Rattle.private_store.specs.rules.Limits.{most_works, has_numbers}
+use Rattle.private_store.specs.rules.Shape.{WorkInFlight}
+use Rattle.spill_work.specs.declared.queue.IoRequest.{IoRequest}
 use Rattle.spill_work.specs.declared.queue.Queued.{Queued}
 
 pub record WorkLine : Type 0 where
@@ -22,23 +22,23 @@ pub record WorkLine : Type 0 where
 
 -- ---- what a job sees
 
-abbrev pub same_job : JobNo → JobNo → Bool
-same_job a b = a.0 == b.0
+abbrev pub same_work_job : JobNo → JobNo → Bool
+same_work_job a b = a.0 == b.0
 
 abbrev pub is_of : JobNo → Queued → Bool
-is_of job work = same_job job work.asked.job
+is_of job work = same_work_job job work.asked.job
 
 -- the work of the job under the number
 abbrev pub is_at : JobNo → ℕ → Queued → Bool
 is_at job number work = is_of job work && work.asked.number == number
 
-abbrev pub is_write : WorkKind → Bool
-is_write Write = true
-is_write Read = false
+abbrev pub is_write_work : WorkKind → Bool
+is_write_work Write = true
+is_write_work Read = false
 
 -- a work as the job's own store has it
-abbrev pub shown : Asked → WorkInFlight
-shown asked = record { number = asked.number; id = asked.id; writes = is_write asked.kind }
+abbrev pub shown : IoRequest → WorkInFlight
+shown asked = record { number = asked.number; id = asked.id; writes = is_write_work asked.kind }
 
 -- the job's works in flight, as its own store has them
 abbrev pub works_of : WorkLine → JobNo → List WorkInFlight
@@ -48,12 +48,12 @@ abbrev pub in_flight : WorkLine → JobNo → ℕ
 in_flight line job = length (works_of line job)
 
 -- how many of the job's works were taken
-abbrev pub taken_by : WorkLine → JobNo → ℕ
-taken_by line job = length (filter (λ work. work.taken) (filter (is_of job) line.works))
+abbrev pub works_taken_by : WorkLine → JobNo → ℕ
+works_taken_by line job = length (filter (λ work. work.taken) (filter (is_of job) line.works))
 
 -- the last number that a work of the job had
 abbrev pub used_by : WorkLine → JobNo → ℕ
-used_by line job = unwrap_or (lookup (same_job job) line.used) 0
+used_by line job = unwrap_or (lookup (same_work_job job) line.used) 0
 
 -- to the job, both lines are the same
 pub record IsSameFor (job : JobNo) (old new : WorkLine) : Type 0 where
@@ -73,22 +73,22 @@ ask_check line job =
     (if has_numbers (used_by line job) 1 then None else Some TooMany)
 
 -- a work comes last, under the job's next number
-pub record Asks (old : WorkLine) (asked : Asked) (new : WorkLine) : Type 0 where
+pub record AsksWork (old : WorkLine) (asked : IoRequest) (new : WorkLine) : Type 0 where
   pub number : asked.number ≡ used_by old asked.job + 1
   pub works : new.works ≡ old.works ++ record { asked = asked; taken = false } ∷ []
-  pub used : new.used ≡ insert_entry same_job old.used asked.job asked.number
+  pub used : new.used ≡ insert_entry same_work_job old.used asked.job asked.number
   -- the job's own part
   pub own_works : works_of new asked.job ≡ works_of old asked.job ++ shown asked ∷ []
   pub own_used : used_by new asked.job ≡ asked.number
-  pub others : (job : JobNo) → same_job asked.job job ≡ false → IsSameFor job old new
+  pub others : (job : JobNo) → same_work_job asked.job job ≡ false → IsSameFor job old new
 
 -- the job's last work is taken back: if it was just asked for, the line is what it was before
 pub record TakesBack (old : WorkLine) (job : JobNo) (number : ℕ) (new : WorkLine) : Type 0 where
-  pub undone : (before : WorkLine) (id : ObjectId) (kind : WorkKind) → Asks before (record { job = job; number = number; id = id; kind = kind }) old
-      → (number ≡ 1 → lookup (same_job job) before.used ≡ None) → new ≡ before
+  pub undone : (before : WorkLine) (id : ObjectId) (kind : WorkKind) → AsksWork before (record { job = job; number = number; id = id; kind = kind }) old
+      → (number ≡ 1 → lookup (same_work_job job) before.used ≡ None) → new ≡ before
   -- a number that isn't the job's last
   pub not_last : (used_by old job == number) ≡ false → new ≡ old
-  pub others : (other : JobNo) → same_job job other ≡ false → IsSameFor other old new
+  pub others : (other : JobNo) → same_work_job job other ≡ false → IsSameFor other old new
 
 -- works of these objects, under the numbers after the last one
 abbrev pub numbered : JobNo → WorkKind → ℕ → List ObjectId → List Queued
@@ -99,7 +99,7 @@ numbered job kind last (id ∷ ids) =
 -- as the job's own store has them
 abbrev pub numbered_works : WorkKind → ℕ → List ObjectId → List WorkInFlight
 numbered_works kind last [] = []
-numbered_works kind last (id ∷ ids) = record { number = last + 1; id = id; writes = is_write kind } ∷ numbered_works kind (last + 1) ids
+numbered_works kind last (id ∷ ids) = record { number = last + 1; id = id; writes = is_write_work kind } ∷ numbered_works kind (last + 1) ids
 
 -- works of these objects come last, in their order
 pub record AsksAll (old : WorkLine) (job : JobNo) (kind : WorkKind) (ids : List ObjectId) (new : WorkLine) : Type 0 where
@@ -107,31 +107,31 @@ pub record AsksAll (old : WorkLine) (job : JobNo) (kind : WorkKind) (ids : List 
   -- the job's own part
   pub own_works : works_of new job ≡ works_of old job ++ numbered_works kind (used_by old job) ids
   pub own_used : used_by new job ≡ used_by old job + length ids
-  pub others : (other : JobNo) → same_job job other ≡ false → IsSameFor other old new
+  pub others : (other : JobNo) → same_work_job job other ≡ false → IsSameFor other old new
 
 -- ---- handing out
 
 -- the first that nobody has taken
-abbrev pub front_of : List Queued → Option Asked
+abbrev pub front_of : List Queued → Option IoRequest
 front_of works = option_map (λ work. work.asked) (find (λ work. not work.taken) works)
 
 -- the work of the job under the number is taken
-abbrev pub marked : JobNo → ℕ → List Queued → List Queued
-marked job number [] = []
-marked job number (work ∷ works) =
-    if is_at job number work then record work { taken = true } ∷ works else work ∷ marked job number works
+abbrev pub marked_taken : JobNo → ℕ → List Queued → List Queued
+marked_taken job number [] = []
+marked_taken job number (work ∷ works) =
+    if is_at job number work then record work { taken = true } ∷ works else work ∷ marked_taken job number works
 
 -- a work is marked as taken, and no job sees that
 pub record MarksTaken (old : WorkLine) (job : JobNo) (number : ℕ) (new : WorkLine) : Type 0 where
-  pub line : new ≡ record old { works = marked job number old.works }
+  pub line : new ≡ record old { works = marked_taken job number old.works }
   pub same : (other : JobNo) → works_of new other ≡ works_of old other
 
 -- the front is taken, if there is one
-abbrev pub taken_front : WorkLine → Option Asked → WorkLine
+abbrev pub taken_front : WorkLine → Option IoRequest → WorkLine
 taken_front line None = line
-taken_front line (Some asked) = record line { works = marked asked.job asked.number line.works }
+taken_front line (Some asked) = record line { works = marked_taken asked.job asked.number line.works }
 
-pub record Takes (old : WorkLine) (told : Option Asked) (new : WorkLine) : Type 0 where
+pub record Takes (old : WorkLine) (told : Option IoRequest) (new : WorkLine) : Type 0 where
   pub told_is : told ≡ front_of old.works
   pub line : new ≡ taken_front old told
   pub same : (job : JobNo) → works_of new job ≡ works_of old job
@@ -147,13 +147,13 @@ finish_check line job number =
     elim (work_at line job number) [ None ↦ Some Stale | Some work ↦ if work.taken then None else Some Stale ]
 
 -- the work leaves the line
-pub record Finishes (old : WorkLine) (job : JobNo) (number : ℕ) (asked : Asked) (new : WorkLine) : Type 0 where
+pub record Finishes (old : WorkLine) (job : JobNo) (number : ℕ) (asked : IoRequest) (new : WorkLine) : Type 0 where
   pub found : work_at old job number ≡ Some (record { asked = asked; taken = true })
   pub line : new ≡ record old { works = filter (λ work. not (is_at job number work)) old.works }
   -- the job's own part
   pub own_work : find (λ work. work.number == number) (works_of old job) ≡ Some (shown asked)
   pub own_works : works_of new job ≡ filter (λ work. not (work.number == number)) (works_of old job)
-  pub others : (other : JobNo) → same_job job other ≡ false → works_of new other ≡ works_of old other
+  pub others : (other : JobNo) → same_work_job job other ≡ false → works_of new other ≡ works_of old other
 
 -- ---- the end of a job
 
@@ -162,4 +162,4 @@ pub record Drops (old : WorkLine) (job : JobNo) (new : WorkLine) : Type 0 where
   pub works : new.works ≡ filter (λ work. not (is_of job work)) old.works
   pub own_works : works_of new job ≡ []
   pub own_used : used_by new job ≡ 0
-  pub others : (other : JobNo) → same_job job other ≡ false → IsSameFor other old new
+  pub others : (other : JobNo) → same_work_job job other ≡ false → IsSameFor other old new

@@ -4,13 +4,13 @@ use Rattle.std.specs.List.{list_any}
 use Rattle.std.specs.Map.{lookup}
 use Rattle.obj_id.specs.declared.ids.JobNo.{JobNo}
 use Rattle.spill_work.specs.declared.queue.Queued.{Queued}
-use Rattle.spill_work.specs.Line.{same_job, is_of}
+use Rattle.spill_work.specs.Line.{same_work_job, is_of}
 
-abbrev pub last_of : List (JobNo × ℕ) → JobNo → ℕ
-last_of used job = unwrap_or (lookup (same_job job) used) 0
+abbrev pub last_number_of : List (JobNo × ℕ) → JobNo → ℕ
+last_number_of used job = unwrap_or (lookup (same_work_job job) used) 0
 
 abbrev pub AreFresh : List (JobNo × ℕ) → Type 0
-AreFresh used = (job : JobNo) → last_of used job ≡ 0 → lookup (same_job job) used ≡ None
+AreFresh used = (job : JobNo) → last_number_of used job ≡ 0 → lookup (same_work_job job) used ≡ None
 
 -- what a job's entry says, if the job's last number is this
 abbrev pub entry_of : ℕ → Option ℕ
@@ -25,7 +25,7 @@ are_numbered last [] = true
 are_numbered last (work ∷ works) =
     (nat_le work.asked.number last && not (list_any (is_numbered work.asked.number) works)) && are_numbered last works
 
-pub record AreNumbered (works : List Queued) (used : List (JobNo × ℕ)) : Type 0 where
-  pub numbers : (job : JobNo) → are_numbered (last_of used job) (filter (is_of job) works) ≡ true
+pub record AreWorksNumbered (works : List Queued) (used : List (JobNo × ℕ)) : Type 0 where
+  pub numbers : (job : JobNo) → are_numbered (last_number_of used job) (filter (is_of job) works) ≡ true
   -- a job that no work was asked for has no entry
   pub fresh : AreFresh used

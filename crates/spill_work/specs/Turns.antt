@@ -7,7 +7,7 @@ use Rattle.obj_id.specs.declared.ids.ObjectId.{ObjectId}
 use Rattle.obj_id.specs.declared.works.WorkKind.{WorkKind}
 use Rattle.spill_work.specs.declared.queue.Queued.{Queued}
 use Rattle.spill_work.specs.declared.row.Timed.{Timed}
-use Rattle.spill_work.specs.Line.{same_job, is_of, is_at}
+use Rattle.spill_work.specs.Line.{same_work_job, is_of, is_at}
 
 -- ---- the works of one job
 
@@ -34,25 +34,25 @@ abbrev pub Rows : Type 0
 Rows = List (JobNo × List Timed)
 
 abbrev pub row_of : Rows → JobNo → List Timed
-row_of rows job = unwrap_or (lookup (same_job job) rows) []
+row_of rows job = unwrap_or (lookup (same_work_job job) rows) []
 
 -- with a row for the job, which has nothing if it is new
 abbrev pub with_row : JobNo → Rows → Rows
-with_row job rows = if is_some (lookup (same_job job) rows) then rows else rows ++ (job, []) ∷ []
+with_row job rows = if is_some (lookup (same_work_job job) rows) then rows else rows ++ (job, []) ∷ []
 
 abbrev pub all_of : Rows → List Timed
 all_of [] = []
 all_of (e ∷ rows) = e.1 ++ all_of rows
 
 -- after those of its turn and of earlier ones
-abbrev pub placed : Timed → List Timed → List Timed
-placed t [] = t ∷ []
-placed t (u ∷ us) = if nat_le u.turn t.turn then u ∷ placed t us else t ∷ u ∷ us
+abbrev pub works_placed : Timed → List Timed → List Timed
+works_placed t [] = t ∷ []
+works_placed t (u ∷ us) = if nat_le u.turn t.turn then u ∷ works_placed t us else t ∷ u ∷ us
 
 -- each in its turn, among others that are
 abbrev pub onto : List Timed → List Timed → List Timed
 onto [] us = us
-onto (t ∷ ts) us = placed t (onto ts us)
+onto (t ∷ ts) us = works_placed t (onto ts us)
 
 abbrev pub in_turn : Rows → List Timed
 in_turn rows = onto (all_of rows) []

@@ -3,7 +3,7 @@ ghost use Rattle.std.specs.Prelude.{◌≡◌, ◌+◌, ◌<◌, ◌^◌, ◌++�
 ghost use Rattle.spill_work.specs.Line.{is_of, is_at, front_of, numbered};
 ghost use Rattle.spill_work.specs.Turns.{marked_at, with_row, all_of, front_from};
 
-use crate::queue::{Asked, Queued};
+use crate::queue::{IoRequest, Queued};
 use crate::row::{Row, Timed};
 use indexmap::IndexMap;
 use obj_id::{Items, JobNo, ObjectId, WorkKind};
@@ -65,7 +65,7 @@ impl ByJob {
     }
 
     /// What the job's works ask, in their order. Takes a walk over them, and memory for each.
-    pub(crate) fn asked_of(&self, job: JobNo) -> Result<Items<Asked>, AllocError>
+    pub(crate) fn asked_of(&self, job: JobNo) -> Result<Items<IoRequest>, AllocError>
         ensures { IfOk result (λ asked. asked ≡ map (λ work. work.asked) (filter (is_of job) self.now)) }
     {
         match self.rows.get(&job) {
@@ -85,7 +85,7 @@ impl ByJob {
     }
 
     /// Of all jobs' works the first that nobody has taken.
-    pub(crate) fn front(&self) -> Option<Asked>
+    pub(crate) fn front(&self) -> Option<IoRequest>
         ensures { result ≡ front_of self.now }
     {
         let first = front(&self.rows)?;

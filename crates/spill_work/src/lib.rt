@@ -8,7 +8,7 @@ ghost use Rattle.std.specs.Map.{lookup, set_value, remove_entry};
 ghost use Rattle.indexmap.specs.IndexMap.{insert_entry, Updates};
 ghost use Rattle.obj_id.specs.declared.refusals.Refusal.{Refusal};
 ghost use Rattle.obj_id.specs.declared.refusals.Refusal.TheVariants.{NoMemory};
-ghost use Rattle.spill_work.specs.Line.{WorkLine, same_job, shown, works_of, used_by, in_flight as in_flight_lem, taken_by, room_for as room_for_lem, ask_check as ask_check_lem, Asks, TakesBack, AsksAll, front_of, Takes, MarksTaken, finish_check as finish_check_lem, Finishes, Drops};
+ghost use Rattle.spill_work.specs.Line.{WorkLine, same_work_job, shown, works_of, used_by, in_flight as in_flight_lem, works_taken_by, room_for as room_for_lem, ask_check as ask_check_lem, AsksWork, TakesBack, AsksAll, front_of, Takes, MarksTaken, finish_check as finish_check_lem, Finishes, Drops};
 ghost use Rattle.spill_work.specs.Numbers.{entry_of};
 
 mod by_job;
@@ -19,7 +19,7 @@ use by_job::ByJob;
 use indexmap::IndexMap;
 use obj_id::limits::MOST_WORKS;
 use obj_id::{Items, JobNo, ObjectId, Refusal, WorkKind};
-pub use queue::{Asked, Queued};
+pub use queue::{IoRequest, Queued};
 use std::alloc::{AllocError, Global};
 use std::marker::Model;
 
@@ -42,13 +42,13 @@ impl Drop for Works {
 
 impl Model for Works {
     ghost use Rattle.spill_work.specs.Line.{WorkLine};
-    ghost use Rattle.spill_work.specs.Numbers.{AreNumbered};
+    ghost use Rattle.spill_work.specs.Numbers.{AreWorksNumbered};
 
     ghost Value = { WorkLine };
 
     ghost view = { λ w. record { works = w.line; used = w.used.entries } };
 
-    ghost invariant = { λ w. AreNumbered w.line w.used.entries };
+    ghost invariant = { λ w. AreWorksNumbered w.line w.used.entries };
 }
 
 impl Works {
@@ -71,13 +71,13 @@ impl Works {
 
     /// How many works of the job were taken and not answered. Takes a walk over its works.
     pub fn taken(&self, job: JobNo) -> usize
-        ensures { result ≡ taken_by self.now job }
+        ensures { result ≡ works_taken_by self.now job }
     {
         self.line.taken_of(job)
     }
 
     /// The job's works in flight, in the order asked. Takes a walk over them, and memory for each.
-    pub fn asked_of(&self, job: JobNo) -> Result<Items<Asked>, AllocError>
+    pub fn asked_of(&self, job: JobNo) -> Result<Items<IoRequest>, AllocError>
         ensures { IfOk result (λ asked. map shown asked ≡ works_of self.now job) }
     {
         Ok(self.line.asked_of(job)?)
@@ -86,7 +86,7 @@ impl Works {
     /// The last number that a work of the job had, or 0 if none was asked for.
     pub fn asked(&self, job: JobNo) -> u64
         ensures last { result ≡ used_by self.now job }
-        ensures fresh { result ≡ 0 → lookup (same_job job) self.now.used ≡ None }
+        ensures fresh { result ≡ 0 → lookup (same_work_job job) self.now.used ≡ None }
     {
         self.used.get(&job).copied().unwrap_or(0)
     }
@@ -104,7 +104,7 @@ impl Works {
     /// 8 works in flight, `TooMany` if no number is left, `NoMemory` last. A refusal uses no number
     /// and changes nothing.
     pub fn ask(&mut self, job: JobNo, id: ObjectId, kind: WorkKind) -> Result<u64, Refusal>
-        ensures ok { IfOk result (λ number. Asks self.old (record { job = job; number = number; id = id; kind = kind }) self.new) }
+        ensures ok { IfOk result (λ number. AsksWork self.old (record { job = job; number = number; id = id; kind = kind }) self.new) }
         ensures passed { IsOk result → ask_check_lem self.old job ≡ None }
         ensures refused { (r : Refusal) → r ≢ NoMemory → IsErrOf result r → ask_check_lem self.old job ≡ Some r }
         ensures memory { IsErrOf result NoMemory → ask_check_lem self.old job ≡ None }
@@ -166,7 +166,7 @@ impl Works {
     }
 
     /// The work that is handed out next: of all jobs' the first that nobody has taken.
-    pub fn front(&self) -> Option<Asked>
+    pub fn front(&self) -> Option<IoRequest>
         ensures { result ≡ front_of self.now.works }
     {
         self.line.front()
@@ -180,7 +180,7 @@ impl Works {
     }
 
     /// Hands out the front and marks it as taken. Takes no memory.
-    pub fn take(&mut self) -> Option<Asked>
+    pub fn take(&mut self) -> Option<IoRequest>
         ensures { Takes self.old result self.new }
     {
         let asked = self.front()?;
@@ -190,7 +190,7 @@ impl Works {
 
     /// A worker answered the work: it leaves the line. `Stale` if the job has no such work in flight
     /// or nobody took it, and then nothing changes. Takes no memory.
-    pub fn finish(&mut self, job: JobNo, number: u64) -> Result<Asked, Refusal>
+    pub fn finish(&mut self, job: JobNo, number: u64) -> Result<IoRequest, Refusal>
         ensures ok { IfOk result (λ asked. Finishes self.old job number asked self.new) }
         ensures passed { IsOk result → finish_check_lem self.old job number ≡ None }
         ensures refused { (r : Refusal) → IsErrOf result r → finish_check_lem self.old job number ≡ Some r }
@@ -219,7 +219,7 @@ impl Works {
         requires room { room_for_lem self.old job (length ids.now) ≡ true }
         requires some { 1 ≤ length ids.now }
         ensures ok { OnOk result (AsksAll self.old job kind ids.now self.new) }
-        ensures used { OnOk result (self.new.used ≡ insert_entry same_job self.old.used job (used_by self.old job + length ids.now)) }
+        ensures used { OnOk result (self.new.used ≡ insert_entry same_work_job self.old.used job (used_by self.old job + length ids.now)) }
         ensures err { OnErr result (self.new ≡ self.old) }
     {
         let last = self.asked(job);
@@ -233,9 +233,9 @@ impl Works {
 
 /// The last number that a work of the job had is this; with 0 the job's entry is removed.
 fn count_back(used: &mut IndexMap<JobNo, u64>, job: JobNo, last: u64)
-    requires { IsSome (lookup (same_job job) used.old.entries) }
-    ensures entries { used.new.entries ≡ (if last == 0 then remove_entry (same_job job) used.old.entries else set_value (same_job job) used.old.entries last) }
-    ensures updates { Updates same_job used.old used.new job (entry_of last) }
+    requires { IsSome (lookup (same_work_job job) used.old.entries) }
+    ensures entries { used.new.entries ≡ (if last == 0 then remove_entry (same_work_job job) used.old.entries else set_value (same_work_job job) used.old.entries last) }
+    ensures updates { Updates same_work_job used.old used.new job (entry_of last) }
 {
     if last == 0 {
         used.shift_remove(&job);

@@ -3,7 +3,7 @@ ghost use Rattle.std.specs.Prelude.{◌≡◌, ◌+◌, ◌<◌, ◌==◌, ◌^�
 ghost use Rattle.std.specs.Option.{option_map};
 ghost use Rattle.spill_work.specs.Turns.{has_number, with_mark, timed, earlier as earlier_lem, front_from};
 
-use crate::queue::{Asked, Queued};
+use crate::queue::{IoRequest, Queued};
 use obj_id::{Items, JobNo, ObjectId, WorkKind};
 use std::alloc::{AllocError, Global};
 use std::marker::Model;
@@ -55,7 +55,7 @@ impl Row {
     }
 
     /// What each asks, in their order. Takes a walk over them, and memory for each.
-    pub(crate) fn asked(&self, alloc: Global) -> Result<Items<Asked>, AllocError>
+    pub(crate) fn asked(&self, alloc: Global) -> Result<Items<IoRequest>, AllocError>
         ensures { IfOk result (λ asked. asked ≡ map (λ t. t.work.asked) self.now) }
     {
         let mut asked = Vec::new(alloc);
@@ -154,7 +154,7 @@ fn push_timed(
     let (mut number, mut turn) = (last, turn);
     for id in ids {
         number += 1;
-        let asked = Asked {
+        let asked = IoRequest {
             job,
             number,
             id: *id,

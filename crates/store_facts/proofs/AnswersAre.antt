@@ -18,18 +18,18 @@ use Rattle.private_store.specs.declared.inputs.Input.{Input}
 use Rattle.private_store.specs.declared.inputs.Input.TheVariants as input
 use Rattle.private_store.specs.declared.inputs.Judged.{Judged}
 use Rattle.private_store.specs.declared.inputs.Judged.TheVariants as judged
-use Rattle.private_store.specs.Limits.{most_bytes, most_copies, greatest_depth, most_granted}
-use Rattle.private_store.specs.Tables.{ById, at, with_entry, without_entry}
-use Rattle.private_store.specs.Shape.{Copy, Shape, Fetch, Seen, HandTaken, unbegun, Sending}
-use Rattle.private_store.specs.Commands.{holds_of, own_items, granted_items, oldest}
-use Rattle.private_store.specs.Step.{step}
-use Rattle.private_store.specs.Contents.{View, bytes_at, judge, bytes_told, whole_reply}
-use Rattle.private_store.specs.Private.{view_step}
-use Rattle.private_store.specs.Kept.{IsViewKept, are_held, has_extent}
-use Rattle.private_store.specs.Made.{Edit, receives, loses, IsReadTold, IsPeekTold, BytesTold, Told, told_ok, told_placed, told_got, told_bytes, told_list, told_usage, told_refused, is_silent, may_send}
-use Rattle.private_store.specs.Answers.{wants_memory, brief_reply, is_small_reply, AreGrantedWithin, may_receive, brings_within}
-use Rattle.private_store.specs.Copies.{is_sealed}
-use Rattle.private_store.specs.Listed.{AreSeenKept}
+use Rattle.private_store.specs.rules.Limits.{most_bytes, most_copies, greatest_depth, most_granted}
+use Rattle.private_store.specs.rules.Tables.{ById, at, with_entry, without_entry}
+use Rattle.private_store.specs.rules.Shape.{Copy, Shape, Fetch, Seen, HandTaken, unbegun, Sending}
+use Rattle.private_store.specs.rules.Commands.{holds_of, own_items, granted_items, oldest}
+use Rattle.private_store.specs.rules.Step.{step}
+use Rattle.private_store.specs.rules.Contents.{View, bytes_at, judge, bytes_told, whole_reply}
+use Rattle.private_store.specs.rules.Private.{view_step}
+use Rattle.private_store.specs.laws.Invariants.{IsViewKept, are_held, has_extent}
+use Rattle.private_store.specs.laws.Made.{Edit, receives, loses, IsReadTold, IsPeekTold, BytesTold, Told, told_ok, told_placed, told_got, told_bytes, told_list, told_usage, told_refused, is_silent, may_send}
+use Rattle.private_store.specs.laws.Answers.{wants_memory, brief_reply, is_small_reply, AreGrantedWithin, may_receive, brings_within}
+use Rattle.private_store.specs.rules.Copies.{is_sealed}
+use Rattle.private_store.specs.laws.Listed.{AreSeenKept}
 use Rattle.store_facts.proofs.EachStep.{step_made, input_keeps}
 use Rattle.store_facts.proofs.ListsKept.{lost_seen}
 use Rattle.store_facts.proofs.KeptLists.{all-filter}
@@ -37,12 +37,12 @@ use Rattle.store_facts.proofs.Rows.{put_rows, drop_rows}
 use Rattle.std.specs.FinMap.Entries.{length-put, length_without}
 use Rattle.obj_id.specs.Ids.{id_cmp}
 use Rattle.store_facts.proofs.Ids.{id_cmp-IsTotalOrder}
-use Rattle.private_store.specs.Events.{received, hands_of, is_hand}
+use Rattle.private_store.specs.rules.Events.{received, hands_of, is_hand}
 use Rattle.store_facts.proofs.Tests.{both, both_left, both_right, none_some, some_value, true_false, T_true}
 
 -- whether the input is that another job granted an object
 abbrev is_received : Judged → Bool
-is_received (judged.Received id n giver depth) = true
+is_received (judged.Received id n grantor depth) = true
 is_received _ = false
 
 -- ---- none is NoMemory
@@ -201,23 +201,23 @@ one_more_shallow (first ∷ hands) hand h t =
     both (nat_le first.depth greatest_depth) (are_shallow (hands ++ hand ∷ [])) (both_left (nat_le first.depth greatest_depth) (are_shallow hands) h) (one_more_shallow hands hand (both_right (nat_le first.depth greatest_depth) (are_shallow hands) h) t)
 
 -- a hand that may come
-received_within : (store : Shape) (id : ObjectId) (n : ℕ) (giver : ℕ) (depth : ℕ) → may_receive store id depth ≡ true → AreSeenKept store.received → AreGrantedWithin store.received → AreGrantedWithin (received store id n giver depth).shape.received
-received_within store id n giver depth may k h =
+received_within : (store : Shape) (id : ObjectId) (n : ℕ) (grantor : ℕ) (depth : ℕ) → may_receive store id depth ≡ true → AreSeenKept store.received → AreGrantedWithin store.received → AreGrantedWithin (received store id n grantor depth).shape.received
+received_within store id n grantor depth may k h =
     let place = is_some (at store.received id) || nat_lt (length store.received) most_granted in
     put_within store.received id _ k h (both_right (nat_le depth greatest_depth) place may)
-    (one_more_shallow (hands_of store id) (record { giver = giver; depth = depth }) (hands_shallow store id h) (both_left (nat_le depth greatest_depth) place may))
+    (one_more_shallow (hands_of store id) (record { grantor = grantor; depth = depth }) (hands_shallow store id h) (both_left (nat_le depth greatest_depth) place may))
 
 edit_within : {x : Judged} → is_received x ≡ false → (used : Option ObjectId) (store after : Shape) → Edit x used store after → AreSeenKept store.received × AreGrantedWithin store.received → AreSeenKept after.received × AreGrantedWithin after.received
-edit_within other used store after (receives id n giver depth is) h = true_false (sym other ∙ ap is_received is)
-edit_within other used store after (loses id giver depth seen e) h =
-    let left = filter (λ hand. not (is_hand giver depth hand)) seen.hands in (
+edit_within other used store after (receives id n grantor depth is) h = true_false (sym other ∙ ap is_received is)
+edit_within other used store after (loses id grantor depth seen e) h =
+    let left = filter (λ hand. not (is_hand grantor depth hand)) seen.hands in (
       lost_seen store.received id seen left h.0,
-      lost_within store.received id seen left e (all-filter (λ hand. nat_le hand.depth greatest_depth) (λ hand. not (is_hand giver depth hand)) seen.hands (h.1.shallow id seen e)) h.0 h.1,
+      lost_within store.received id seen left e (all-filter (λ hand. nat_le hand.depth greatest_depth) (λ hand. not (is_hand grantor depth hand)) seen.hands (h.1.shallow id seen e)) h.0 h.1,
     )
 edit_within other used store after _ h = h
 
 pub within_keeps : (order : List ObjectId) (store : Shape) (x : Judged) → brings_within store x ≡ true → AreSeenKept store.received → AreGrantedWithin store.received → AreGrantedWithin (step order store x).shape.received
-within_keeps order store (judged.Received id n giver depth) may k h = received_within store id n giver.0 depth may k h
+within_keeps order store (judged.Received id n grantor depth) may k h = received_within store id n grantor.0 depth may k h
 within_keeps order store x may k h = by_others x refl k h
   where
     by_others : (x : Judged) → is_received x ≡ false → AreSeenKept store.received → AreGrantedWithin store.received → AreGrantedWithin (step order store x).shape.received
@@ -226,7 +226,7 @@ within_keeps order store x may k h = by_others x refl k h
 pub unbegun_within : (job : ℕ) → AreGrantedWithin (unbegun job).received
 unbegun_within job = record { few = omega arith; shallow = λ id seen e. none_some seen e }
 
--- ---- who is told bytes
+-- ---- who is answered bytes
 
 abbrev bytes_in : Reply ℕ → Option ℕ
 bytes_in (reply.Bytes n) = Some n
@@ -259,8 +259,8 @@ silent_sends (judged.Located id number source) m e = refl
 silent_sends (judged.Chunk id number index from verdict) m e = true_false e
 silent_sends (judged.Pull id number matches) m e = true_false e
 silent_sends (judged.NotHere id number from) m e = true_false e
-silent_sends (judged.Received id n giver depth) m e = refl
-silent_sends (judged.Withdrawn id giver depth) m e = refl
+silent_sends (judged.Received id n grantor depth) m e = refl
+silent_sends (judged.Withdrawn id grantor depth) m e = refl
 silent_sends judged.End m e = true_false e
 
 pub sends_its_own : (order : List ObjectId) (store : Shape) (x : Judged) → list_all (may_send x) (step order store x).sent ≡ true

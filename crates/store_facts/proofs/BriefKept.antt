@@ -4,13 +4,13 @@ use Rattle.std.specs.Prelude.{count_by}
 use Rattle.obj_id.specs.declared.ids.ObjectId.{ObjectId}
 use Rattle.obj_id.specs.Ids.{same_id}
 use Rattle.private_store.specs.declared.inputs.Judged.{Judged}
-use Rattle.private_store.specs.Tables.{ById, at}
-use Rattle.private_store.specs.Shape.{Copy}
-use Rattle.private_store.specs.Kept.{IsOrderOfUse}
+use Rattle.private_store.specs.rules.Tables.{ById, at}
+use Rattle.private_store.specs.rules.Shape.{Copy}
+use Rattle.private_store.specs.laws.Invariants.{IsOrderOfUse}
 use Rattle.private_store.specs.declared.inputs.Input.{Input}
-use Rattle.private_store.specs.Private.{view_of, no_store, store_from}
-use Rattle.private_store.specs.Replay.{Brief, Line, brief_of, unbegun_brief, brief_after, replayed, lines_from}
-use Rattle.private_store.specs.Listed.{IsOrderOf, IsBriefKept}
+use Rattle.private_store.specs.rules.Private.{view_of, no_store, store_from}
+use Rattle.private_store.specs.rules.Replay.{Brief, Line, brief_of, unbegun_brief, brief_after, replayed, lines_from}
+use Rattle.private_store.specs.laws.Listed.{IsOrderOf, IsBriefKept}
 use Rattle.store_facts.proofs.KeptStep.{step_keeps, unbegun_kept}
 use Rattle.store_facts.proofs.ExtentsKept.{extents_keep, unbegun_extents}
 use Rattle.store_facts.proofs.DeviceKept.{device_keeps, unbegun_device}

@@ -5,11 +5,11 @@ use Rattle.std.specs.FinMap.{is_sorted}
 use Rattle.obj_id.specs.declared.ids.ObjectId.{ObjectId}
 use Rattle.obj_id.specs.declared.messages.Digest.{Digest}
 use Rattle.obj_id.specs.Ids.{id_cmp, same_id}
-use Rattle.private_store.specs.Tables.{ById, at, with_entry}
-use Rattle.private_store.specs.Shape.{Copy, Change, Seen}
-use Rattle.private_store.specs.Copies.{is_sealed}
-use Rattle.private_store.specs.Contents.{View, bytes_at, digest_at, digest_of}
-use Rattle.private_store.specs.Kept.{IsShapeKept, AreContentsKept}
+use Rattle.private_store.specs.rules.Tables.{ById, at, with_entry}
+use Rattle.private_store.specs.rules.Shape.{Copy, Change, Seen}
+use Rattle.private_store.specs.rules.Copies.{is_sealed}
+use Rattle.private_store.specs.rules.Contents.{View, bytes_at, digest_at, digest_of}
+use Rattle.private_store.specs.laws.Invariants.{IsShapeKept, AreContentsKept}
 use Rattle.store_facts.proofs.Tests.{true_false, some_value}
 use Rattle.store_facts.proofs.Rows.{at-put, at-put_here, SeenRow}
 use Rattle.store_facts.proofs.Turns.{resident, IsTurn}

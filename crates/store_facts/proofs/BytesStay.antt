@@ -22,16 +22,16 @@ use Rattle.private_store.specs.declared.inputs.WorkVerdict.{WorkVerdict}
 use Rattle.private_store.specs.declared.inputs.WorkVerdict.TheVariants as work
 use Rattle.private_store.specs.declared.inputs.ChunkVerdict.{ChunkVerdict}
 use Rattle.private_store.specs.declared.inputs.ChunkVerdict.TheVariants as chunk
-use Rattle.private_store.specs.Tables.{ById, at}
-use Rattle.private_store.specs.Shape.{Copy, Change, Fetch, WorkInFlight}
-use Rattle.private_store.specs.Copies.{is_sealed, is_created}
-use Rattle.private_store.specs.Change.{refused}
-use Rattle.private_store.specs.Commands.{write}
-use Rattle.private_store.specs.Events.{work_of, fetch_of}
-use Rattle.private_store.specs.Step.{step, owned}
-use Rattle.private_store.specs.Contents.{View, bytes_at, judge, bytes_brought, brought, chunk_verdict, pulled_verdict, work_verdict}
-use Rattle.private_store.specs.Private.{view_step}
-use Rattle.private_store.specs.Kept.{IsShapeKept, AreContentsKept, is_restoring, is_fetching, has_extent, has_read}
+use Rattle.private_store.specs.rules.Tables.{ById, at}
+use Rattle.private_store.specs.rules.Shape.{Copy, Change, Fetch, WorkInFlight}
+use Rattle.private_store.specs.rules.Copies.{is_sealed, is_created}
+use Rattle.private_store.specs.rules.Change.{refused}
+use Rattle.private_store.specs.rules.Commands.{write}
+use Rattle.private_store.specs.rules.Events.{work_of, fetch_of}
+use Rattle.private_store.specs.rules.Step.{step, owned}
+use Rattle.private_store.specs.rules.Contents.{View, bytes_at, judge, bytes_brought, brought, chunk_verdict, pulled_verdict, work_verdict}
+use Rattle.private_store.specs.rules.Private.{view_step}
+use Rattle.private_store.specs.laws.Invariants.{IsShapeKept, AreContentsKept, is_restoring, is_fetching, has_extent, has_read}
 use Rattle.store_facts.proofs.Tests.{true_false, some_value, both, passed, refuted}
 use Rattle.store_facts.proofs.Checks.{checked_past, needing_has, visible_at, fetch_found}
 use Rattle.store_facts.proofs.Sound.{step_sound}

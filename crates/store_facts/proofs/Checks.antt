@@ -3,11 +3,11 @@ use Rattle.std.proofs.Common.{◌≡◌, ℕ, Bool, true, false, ◌==◌, List,
 use Rattle.std.specs.Option.{option_and_then}
 use Rattle.obj_id.specs.declared.ids.ObjectId.{ObjectId}
 use Rattle.obj_id.specs.declared.refusals.Refusal.{Refusal}
-use Rattle.private_store.specs.Tables.{at}
-use Rattle.private_store.specs.Shape.{Copy, Shape, Change, Fetch}
-use Rattle.private_store.specs.Copies.{visible}
-use Rattle.private_store.specs.Change.{refused, checked, needing}
-use Rattle.private_store.specs.Events.{fetch_of}
+use Rattle.private_store.specs.rules.Tables.{at}
+use Rattle.private_store.specs.rules.Shape.{Copy, Shape, Change, Fetch}
+use Rattle.private_store.specs.rules.Copies.{visible}
+use Rattle.private_store.specs.rules.Change.{refused, checked, needing}
+use Rattle.private_store.specs.rules.Events.{fetch_of}
 use Rattle.store_facts.proofs.Tests.{none_some, some_value}
 
 pub checked-nil : (store : Shape) (c : Change) → checked store [] c ≡ c

@@ -13,14 +13,14 @@ use Rattle.obj_id.specs.declared.commands.CopyState.TheVariants.{Away}
 use Rattle.obj_id.specs.declared.refusals.Refusal.{Refusal}
 use Rattle.obj_id.specs.declared.refusals.Refusal.TheVariants.{DeviceFailed, Pending, TooMany, Full, Busy}
 use Rattle.obj_id.specs.Ids.{id_cmp, same_id}
-use Rattle.private_store.specs.Tables.{ById, at, with_entry, without_entry, is_among}
-use Rattle.private_store.specs.Limits.{has_numbers}
-use Rattle.private_store.specs.Extents.{rounded, is_free, is_apart}
-use Rattle.private_store.specs.Shape.{Copy, Shape, WorkInFlight, Seen}
+use Rattle.private_store.specs.rules.Tables.{ById, at, with_entry, without_entry, is_among}
+use Rattle.private_store.specs.rules.Limits.{has_numbers}
+use Rattle.private_store.specs.rules.Extents.{rounded, is_free, is_apart}
+use Rattle.private_store.specs.rules.Shape.{Copy, Shape, WorkInFlight, Seen}
 use Rattle.obj_id.specs.Kinds.{is_primary}
-use Rattle.private_store.specs.Copies.{extent_of, device_used}
-use Rattle.private_store.specs.Room.{Room, fits, wait, full, busy, evict, spill, set_copy, drop_copy, evicted, asked, no_room, room_by, spill_room, spill_plan, evict_room, make_room, victims, spilled, offset_without, bytes_of_copies, works_left}
-use Rattle.private_store.specs.Kept.{is_placed, are_apart}
+use Rattle.private_store.specs.rules.Copies.{extent_of, device_used}
+use Rattle.private_store.specs.rules.Room.{Room, fits, wait, full, busy, evict, spill, set_copy, drop_copy, evicted, asked, no_room, room_by, spill_room, spill_plan, evict_room, make_room, victims, spilled, offset_without, bytes_of_copies, works_left}
+use Rattle.private_store.specs.laws.Invariants.{is_placed, are_apart}
 use Rattle.store_facts.proofs.Tests.{true_false, some_value, none_some, both_left, both_right, both, neither}
 use Rattle.store_facts.proofs.FirstFit.{first-free, first-units}
 use Rattle.store_facts.proofs.Ids.{id_cmp-IsAntisymmetric, same_id-equal, same_id-not_back}

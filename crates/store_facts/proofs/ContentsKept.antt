@@ -33,18 +33,18 @@ use Rattle.private_store.specs.declared.inputs.ChunkVerdict.{ChunkVerdict}
 use Rattle.private_store.specs.declared.inputs.ChunkVerdict.TheVariants as chunk
 use Rattle.private_store.specs.declared.inputs.WorkVerdict.{WorkVerdict}
 use Rattle.private_store.specs.declared.inputs.WorkVerdict.TheVariants as work
-use Rattle.private_store.specs.Tables.{at, with_entry}
-use Rattle.private_store.specs.Limits.{chunk_size}
-use Rattle.private_store.specs.Shape.{Sending, Copy, Change, Seen, Fetch, Phase, locating, sized, pulling, failed, WorkInFlight}
-use Rattle.private_store.specs.Copies.{is_sealed, is_created}
-use Rattle.private_store.specs.Change.{refused, done, sending}
-use Rattle.private_store.specs.Commands.{write, seal, chunk_count}
-use Rattle.private_store.specs.Events.{hands_of, work_of, fetch_of, is_missing}
-use Rattle.private_store.specs.Step.{step, owned}
-use Rattle.private_store.specs.Contents.{has_digest, is_read_back, work_verdict, read_verdict, write_verdict, chunk_verdict, pulled_verdict, gap_verdict, with_chunk, chunk_length, source_in, entry_elsewhere, is_locating, peer_arrival, View, bytes_at, digest_at, digest_of, overwritten, judge, brief, contents_after, brought}
-use Rattle.private_store.specs.Private.{view_step, no_store}
-use Rattle.private_store.specs.Kept.{IsShapeKept, AreContentsKept, has_extent, has_read, is_restoring, are_gaps, is_fetching, is_pulling}
-use Rattle.private_store.specs.Room.{set_copy}
+use Rattle.private_store.specs.rules.Tables.{at, with_entry}
+use Rattle.private_store.specs.rules.Limits.{chunk_size}
+use Rattle.private_store.specs.rules.Shape.{Sending, Copy, Change, Seen, Fetch, Phase, locating, sized, pulling, failed, WorkInFlight}
+use Rattle.private_store.specs.rules.Copies.{is_sealed, is_created}
+use Rattle.private_store.specs.rules.Change.{refused, done, sending}
+use Rattle.private_store.specs.rules.Commands.{write, seal, chunk_count}
+use Rattle.private_store.specs.rules.Events.{hands_of, work_of, fetch_of, is_missing}
+use Rattle.private_store.specs.rules.Step.{step, owned}
+use Rattle.private_store.specs.rules.Contents.{has_digest, is_read_back, work_verdict, read_verdict, write_verdict, chunk_verdict, pulled_verdict, gap_verdict, with_chunk, chunk_length, source_in, entry_elsewhere, is_locating, peer_arrival, View, bytes_at, digest_at, digest_of, overwritten, judge, without_payload, contents_after, brought}
+use Rattle.private_store.specs.rules.Private.{view_step, no_store}
+use Rattle.private_store.specs.laws.Invariants.{IsShapeKept, AreContentsKept, has_extent, has_read, is_restoring, are_gaps, is_fetching, is_pulling}
+use Rattle.private_store.specs.rules.Room.{set_copy}
 use Rattle.store_facts.proofs.Tests.{true_false, some_value, none_some, both_left, both_right, passed}
 use Rattle.store_facts.proofs.Ids.{id_cmp-IsTotalOrder, same_id-equal, same_id-itself}
 use Rattle.store_facts.proofs.Checks.{checked_past}
@@ -422,16 +422,16 @@ module _ (node : ℕ) (view : View) (sh : IsShapeKept view.shape) (h : AreConten
             | false ↦ plain (judged.Located id number (source_in node entries)) tt
           ]
 
-  received_fills : (id : ObjectId) (bytes : List ℕ) (giver : JobNo) (depth : ℕ) → let x = input.Received id bytes giver depth in Fills node view x (judge node view x) (after (judge node view x))
-  received_fills id bytes giver depth = record {
-    is = refilled_kept (after (judged.Received id (length bytes) giver depth)).shape view.contents.bytes view.contents.digests (with_entry view.contents.received id bytes) in_order
+  received_fills : (id : ObjectId) (bytes : List ℕ) (grantor : JobNo) (depth : ℕ) → let x = input.Received id bytes grantor depth in Fills node view x (judge node view x) (after (judge node view x))
+  received_fills id bytes grantor depth = record {
+    is = refilled_kept (after (judged.Received id (length bytes) grantor depth)).shape view.contents.bytes view.contents.digests (with_entry view.contents.received id bytes) in_order
         (λ q d e. plain_filled view.shape view.contents sh h nothing q d refl (steady d e refl refl (λ _. refl)))
         seen;
   }
     where
-      seen : (q : ObjectId) (was : Seen) → at (after (judged.Received id (length bytes) giver depth)).shape.received q ≡ Some was → length (bytes_at (with_entry view.contents.received id bytes) q) ≡ was.length
+      seen : (q : ObjectId) (was : Seen) → at (after (judged.Received id (length bytes) grantor depth)).shape.received q ≡ Some was → length (bytes_at (with_entry view.contents.received id bytes) q) ≡ was.length
       seen q was e =
-          let new : Seen = record { length = length bytes; hands = hands_of view.shape id ++ record { giver = giver.0; depth = depth } ∷ [] } in
+          let new : Seen = record { length = length bytes; hands = hands_of view.shape id ++ record { grantor = grantor.0; depth = depth } ∷ [] } in
           ap (λ o. length (unwrap_or o [])) (at-put view.contents.received id bytes q)
           ∙ elim (same_id q id) as (λ b. cond b (Some new) (at view.shape.received q) ≡ Some was → length (unwrap_or (cond b (Some bytes) (at view.contents.received q)) []) ≡ was.length) [
             | true ↦ λ e. ap (λ x. x.length) (some_value new was e)
@@ -443,7 +443,7 @@ module _ (node : ℕ) (view : View) (sh : IsShapeKept view.shape) (h : AreConten
   called_fills : (session : ℕ) (c : Command (List ℕ)) → let x = input.Call session c in Fills node view x (judge node view x) (after (judge node view x))
   called_fills session (command.Write id offset bytes) = write_fills session id offset bytes
   called_fills session (command.Seal id) = seal_fills session id
-  called_fills session c = record { is = plain (judged.Call session (brief c)) tt }
+  called_fills session c = record { is = plain (judged.Call session (without_payload c)) tt }
 
   peer_fills : (from : ℕ) (m : PeerMessage) → let x = input.Arrive (arrival.FromPeer from m) in Fills node view x (judge node view x) (after (judge node view x))
   peer_fills from (peer.Pull id number n digest indexes) = record { is = plain (peer_arrival view from (peer.Pull id number n digest indexes)) tt }
@@ -457,8 +457,8 @@ module _ (node : ℕ) (view : View) (sh : IsShapeKept view.shape) (h : AreConten
   fills (input.Answer number a) = answer_fills number a
   fills (input.Arrive (arrival.Located id number entries)) = located_fills id number entries
   fills (input.Arrive (arrival.FromPeer from m)) = peer_fills from m
-  fills (input.Received id bytes giver depth) = received_fills id bytes giver depth
-  fills (input.Withdrawn id giver depth) = record { is = plain (judged.Withdrawn id giver depth) tt }
+  fills (input.Received id bytes grantor depth) = received_fills id bytes grantor depth
+  fills (input.Withdrawn id grantor depth) = record { is = plain (judged.Withdrawn id grantor depth) tt }
   fills input.End = record { is = plain judged.End tt }
 
 -- the contents stay the copies' own

@@ -9,13 +9,13 @@ use Rattle.std.proofs.lemmas.List.Sums.{sum_by-cons}
 use Rattle.obj_id.specs.declared.ids.ObjectId.{ObjectId}
 use Rattle.obj_id.specs.Ids.{id_cmp, same_id}
 use Rattle.private_store.specs.declared.inputs.Judged.{Judged}
-use Rattle.private_store.specs.Tables.{ById, at, without_entry}
-use Rattle.private_store.specs.Extents.{rounded}
-use Rattle.private_store.specs.Shape.{Copy, Shape, Change, WorkInFlight, unbegun}
-use Rattle.private_store.specs.Copies.{device_used, is_within}
-use Rattle.private_store.specs.Room.{asked}
-use Rattle.private_store.specs.Step.{step}
-use Rattle.private_store.specs.Kept.{IsShapeKept, IsDeviceKept, has_write}
+use Rattle.private_store.specs.rules.Tables.{ById, at, without_entry}
+use Rattle.private_store.specs.rules.Extents.{rounded}
+use Rattle.private_store.specs.rules.Shape.{Copy, Shape, Change, WorkInFlight, unbegun}
+use Rattle.private_store.specs.rules.Copies.{device_used, is_range_within}
+use Rattle.private_store.specs.rules.Room.{asked}
+use Rattle.private_store.specs.rules.Step.{step}
+use Rattle.private_store.specs.laws.Invariants.{IsShapeKept, IsDeviceKept, has_write}
 use Rattle.store_facts.proofs.Tests.{both_right, and_left, and_right, or_false}
 use Rattle.store_facts.proofs.Sound.{step_sound}
 use Rattle.store_facts.proofs.Rows.{at-drop, Tame}
@@ -183,7 +183,7 @@ module _ (s : ObjectId → Bool) (store : Shape) (in_order : T (is_sorted id_cmp
                 | true ↦ λ t. subst (λ x. weight_of c.shape.works x (at c.shape.copies x) ≤ weight_of store.works x (at store.copies x)) (sym (same_id-equal q id t)) (subst (λ o. weight_of c.shape.works id o ≤ weight_of store.works id (at store.copies id)) (sym p.here) p.weight)
                 | false ↦ λ f. tame_weight store.works c.shape.works q (at store.copies q) (at c.shape.copies q) (p.writes q) (p.others q f)
               ] refl
-      by_turn (requotas e w r fit) = subst (λ n. n ≤ c.shape.quota.device) (used_is store.works store.copies ∙ sym (same_tables e w)) (leb-true (device_used store) c.shape.quota.device (both_right (is_within store c.shape.quota.window) _ fit))
+      by_turn (requotas e w r fit) = subst (λ n. n ≤ c.shape.quota.device) (used_is store.works store.copies ∙ sym (same_tables e w)) (leb-true (device_used store) c.shape.quota.device (both_right (is_range_within store c.shape.quota.window) _ fit))
       by_turn (empties e r) = subst (λ t. total c.shape.works t ≤ c.shape.quota.device) (sym e) (omega arith)
       by_turn (receives t e w q) = within (subst (λ n. n ≤ total store.works store.copies) (sym (same_tables e w)) (omega arith)) q
 

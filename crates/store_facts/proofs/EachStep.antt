@@ -25,19 +25,19 @@ use Rattle.private_store.specs.declared.faults.Fault.{Fault}
 use Rattle.private_store.specs.declared.faults.FetchFault.{FetchFault}
 use Rattle.private_store.specs.declared.faults.Fault.TheVariants as restore_fault
 use Rattle.private_store.specs.declared.faults.FetchFault.TheVariants as fetch_fault
-use Rattle.private_store.specs.Limits.{has_numbers, is_quota}
-use Rattle.private_store.specs.Tables.{at, ids_of}
-use Rattle.private_store.specs.Shape.{Copy, Shape, Change, Fetch, Phase, locating, sized, pulling, failed, Sending, locate, chunks, not_here, remove_source, WorkInFlight, not_begun, live, ended, add_location, remove_location, free, end_job, pull}
+use Rattle.private_store.specs.rules.Limits.{has_numbers, is_quota}
+use Rattle.private_store.specs.rules.Tables.{at, ids_of}
+use Rattle.private_store.specs.rules.Shape.{Copy, Shape, Change, Fetch, Phase, locating, sized, pulling, failed, Sending, locate, chunks, not_here, remove_source, WorkInFlight, not_begun, live, ended, add_location, remove_location, free, end_job, pull}
 use Rattle.obj_id.specs.Kinds.{is_primary}
-use Rattle.private_store.specs.Copies.{is_sealed, is_evictable, is_idle, in_scope, visible, device_used, fits_quota, was_sealed}
-use Rattle.private_store.specs.Room.{Room, shortest_from, in_order, fits, wait, full, busy, evict, spill, victims, spilled, spill_plan, bytes_of_copies, works_left, offset_without, set_copy, drop_copy, evicted, asked, no_room, spill_room, evict_room, room_by, make_room, eviction_notice}
-use Rattle.private_store.specs.Change.{replied, refused, done, checked, needing, sending, in_room, erasing, settled, doomed, doom, doom_notice}
-use Rattle.private_store.specs.Commands.{refusal_of, fetch_refusal, create, end_task, created, new_copy, get, grant, grant_own, grant_foreign, restore, restoring, get_away, get_fetching, get_copy, get_sealed, begin_pull, begin_fetch, fetched_copy, at_each, then_change, scoped, give_up_one, leave_one, has_borrower, without_borrower, with_holds, of_task, set_phase, counted, chunk_count}
-use Rattle.private_store.specs.Events.{begin, requota, end_job_here, answer, written, read_back, without_work, located, located_copy, with_fetch, fetch_of, fetch_failed, chunk_taken, chunk_arrived, is_missing, not_here_arrived, quiet, pull_answer, pull_arrived, withdrawn, hand_ended, hangs_on, is_hand}
-use Rattle.private_store.specs.Step.{step, owned, commanded, if_live}
-use Rattle.private_store.specs.Kept.{is_end}
-use Rattle.private_store.specs.Made
-use Rattle.private_store.specs.Made.{is_want, Marked, Goes, Edit, Edits, none, then_edit, marks, drops, creates, fetches, asks, finishes, flags, ends_task, gives, leaves, receives, loses, begins, requotas, ends, BytesTold, Told, told_ok, told_placed, told_got, told_bytes, told_list, told_usage, told_refused, IsUsedThere, IsMadeOf, IsMade, command_sends, may_send}
+use Rattle.private_store.specs.rules.Copies.{is_sealed, is_evictable, is_idle, in_scope, visible, device_used, fits_quota, was_sealed}
+use Rattle.private_store.specs.rules.Room.{Room, shortest_from, in_order, fits, wait, full, busy, evict, spill, victims, spilled, spill_plan, bytes_of_copies, works_left, offset_without, set_copy, drop_copy, evicted, asked, no_room, spill_room, evict_room, room_by, make_room, eviction_notice}
+use Rattle.private_store.specs.rules.Change.{replied, refused, done, checked, needing, sending, in_room, erasing, settled, doomed, doom, doom_notice}
+use Rattle.private_store.specs.rules.Commands.{refusal_of, fetch_refusal, create, end_task, created, new_copy, get, grant, grant_own, grant_foreign, restore, restoring, get_away, get_fetching, get_copy, get_sealed, begin_pull, begin_fetch, fetched_copy, at_each, then_change, scoped, give_up_one, leave_one, has_borrower, without_borrower, with_holds, of_task, set_phase, counted, chunk_count}
+use Rattle.private_store.specs.rules.Events.{begin, requota, end_job_here, answer, written, read_back, without_work, located, located_copy, with_fetch, fetch_of, fetch_failed, chunk_taken, chunk_arrived, is_missing, not_here_arrived, quiet, pull_answer, pull_arrived, withdrawn, hand_ended, is_child_of, is_hand}
+use Rattle.private_store.specs.rules.Step.{step, owned, commanded, if_live}
+use Rattle.private_store.specs.laws.Invariants.{is_end}
+use Rattle.private_store.specs.laws.Made
+use Rattle.private_store.specs.laws.Made.{is_want, Marked, Goes, Edit, Edits, none, then_edit, marks, drops, creates, fetches, asks, finishes, flags, ends_task, gives, leaves, receives, loses, begins, requotas, ends, BytesTold, Told, told_ok, told_placed, told_got, told_bytes, told_list, told_usage, told_refused, IsUsedThere, IsMadeOf, IsMade, command_sends, may_send}
 use Rattle.store_facts.proofs.Checks.{Fails, visible_at, fetch_found}
 use Rattle.store_facts.proofs.Rows.{at-put, at-drop, at-put_here}
 use Rattle.store_facts.proofs.Tests.{both, both_left, false_true, both_right, passed, refuted, some_value, none_some}
@@ -97,7 +97,7 @@ stays_evicted store id copy out mid (q ∷ ids) may e =
     stays_evicted store id copy out (evicted mid q) ids (both_right (may_go store q) (list_all (may_go store) ids) may)
     (stays_one mid q id copy (refuted (same_id id q) (λ t. sym out ∙ ap (may_go store) (same_id-equal id q t) ∙ both_left (may_go store q) (list_all (may_go store) ids) may)) e)
 
--- no fault is told of as NoMemory
+-- no fault is answered as NoMemory
 never_want : (told : Fault) → is_want (refusal_of told) ≡ false
 never_want restore_fault.DeviceFailed = refl
 never_want restore_fault.Damaged = refl
@@ -511,12 +511,12 @@ module _ (x : Judged) where
     end_made : is_end x ≡ true → may_send x end_job ≡ true → IsMade x store (end_job_here store)
     end_made e h = made_sending store store _ _ (one_sent end_job h) (made_done store (one None (ends e)))
 
-    withdrawn_made : (id : ObjectId) (giver depth : ℕ) → IsMade x store (withdrawn store id giver depth)
-    withdrawn_made id giver depth = made_done store (
-        elim (at store.received id) as (λ o. at store.received id ≡ o → Edits x None store (option_map_or (λ seen. cond (list_any (is_hand giver depth) seen.hands) (hand_ended store id giver depth seen) store) o store)) [
+    withdrawn_made : (id : ObjectId) (grantor depth : ℕ) → IsMade x store (withdrawn store id grantor depth)
+    withdrawn_made id grantor depth = made_done store (
+        elim (at store.received id) as (λ o. at store.received id ≡ o → Edits x None store (option_map_or (λ seen. cond (list_any (is_hand grantor depth) seen.hands) (hand_ended store id grantor depth seen) store) o store)) [
           | None ↦ λ _. none
-          | Some seen ↦ λ e. elim (list_any (is_hand giver depth) seen.hands) as (λ b. Edits x None store (cond b (hand_ended store id giver depth seen) store)) [
-            | true ↦ then_edit (one None (loses id giver depth seen e)) (leaves (λ hand. not (hangs_on id giver hand)))
+          | Some seen ↦ λ e. elim (list_any (is_hand grantor depth) seen.hands) as (λ b. Edits x None store (cond b (hand_ended store id grantor depth seen) store)) [
+            | true ↦ then_edit (one None (loses id grantor depth seen e)) (leaves (λ hand. not (is_child_of id grantor hand)))
             | false ↦ none
           ]
         ] refl)
@@ -677,8 +677,8 @@ module _ (order : List ObjectId) (store : Shape) where
   step_made (judged.Chunk id number index from verdict) = let x = judged.Chunk id number index from verdict in if_live_made x order store _ (chunk_made x order store (λ q. refl) id number index from verdict)
   step_made (judged.Pull id number matches) = let x = judged.Pull id number matches in if_live_made x order store _ (pull_made x order store (λ q. (refl, refl, refl)) id matches)
   step_made (judged.NotHere id number from) = let x = judged.NotHere id number from in if_live_made x order store _ (not_here_made x order store (λ q n. refl) id number from)
-  step_made (judged.Received id n giver depth) = made_done (judged.Received id n giver depth) store (one (judged.Received id n giver depth) None (receives id n giver depth refl))
-  step_made (judged.Withdrawn id giver depth) = withdrawn_made (judged.Withdrawn id giver depth) order store id giver.0 depth
+  step_made (judged.Received id n grantor depth) = made_done (judged.Received id n grantor depth) store (one (judged.Received id n grantor depth) None (receives id n grantor depth refl))
+  step_made (judged.Withdrawn id grantor depth) = withdrawn_made (judged.Withdrawn id grantor depth) order store id grantor.0 depth
   step_made judged.End = if_live_made judged.End order store _ (made_erasing judged.End store store store _ (end_made judged.End order store refl refl))
 
 -- ---- how it is used

@@ -6,12 +6,12 @@ use Rattle.obj_id.specs.declared.works.Extent.{Extent}
 use Rattle.obj_id.specs.declared.works.Quota.{Quota}
 use Rattle.obj_id.specs.Ids.{same_id}
 use Rattle.private_store.specs.declared.inputs.Judged.{Judged}
-use Rattle.private_store.specs.Tables.{ById, at}
-use Rattle.private_store.specs.Extents.{rounded, end_of}
-use Rattle.private_store.specs.Shape.{Copy, Shape, Change, unbegun}
-use Rattle.private_store.specs.Copies.{extent_of, is_within}
-use Rattle.private_store.specs.Step.{step}
-use Rattle.private_store.specs.Kept.{IsShapeKept, AreExtentsKept, is_placed, are_apart}
+use Rattle.private_store.specs.rules.Tables.{ById, at}
+use Rattle.private_store.specs.rules.Extents.{rounded, end_of}
+use Rattle.private_store.specs.rules.Shape.{Copy, Shape, Change, unbegun}
+use Rattle.private_store.specs.rules.Copies.{extent_of, is_range_within}
+use Rattle.private_store.specs.rules.Step.{step}
+use Rattle.private_store.specs.laws.Invariants.{IsShapeKept, AreExtentsKept, is_placed, are_apart}
 use Rattle.store_facts.proofs.Tests.{true_false, none_some, both_left, both, or_swaps}
 use Rattle.store_facts.proofs.Rows.{IsTame, Tame}
 use Rattle.store_facts.proofs.Clearing.{all_extents, extent_at}
@@ -110,7 +110,7 @@ empty_fit : (window : ℕ) → Fit window []
 empty_fit window = record { placed = λ id copy e. none_some copy e; apart = λ a b x y e g f. none_some x e }
 
 -- another window that no extent reaches past
-rewindow : (store : Shape) (window : ℕ) → is_within store window ≡ true → Fit store.quota.window store.copies → Fit window store.copies
+rewindow : (store : Shape) (window : ℕ) → is_range_within store window ≡ true → Fit store.quota.window store.copies → Fit window store.copies
 rewindow store window within fit = record {
   placed = λ id copy e. elim (extent_of copy) as (λ o. extent_of copy ≡ o → option_map_or (is_placed store.quota.window) o true ≡ true → option_map_or (is_placed window) o true ≡ true) [
     | None ↦ λ _ _. refl
@@ -152,7 +152,7 @@ module _ (s : ObjectId → Bool) (store : Shape) (fit : Fit store.quota.window s
       by_turn (calm q) = subst (λ x. Fit x.window c.shape.copies) (sym q.quota) (losing_fit store.quota.window store.copies fit c.shape.copies (λ id d e. tame_loses store.copies id (at c.shape.copies id) d e (q.row id)))
       by_turn (spills k) = fit_along store.quota c.shape.quota store.copies c.shape.copies k.copies k.quota fit
       by_turn (puts id d k) = subst (λ x. Fit x.window c.shape.copies) (sym k.quota) (put_fit c.shape.copies c.shape.quota id d k.here k.others k.stands)
-      by_turn (requotas e w r within) = subst (λ t. Fit c.shape.quota.window t) (sym e) (rewindow store c.shape.quota.window (both_left (is_within store c.shape.quota.window) _ within) fit)
+      by_turn (requotas e w r within) = subst (λ t. Fit c.shape.quota.window t) (sym e) (rewindow store c.shape.quota.window (both_left (is_range_within store c.shape.quota.window) _ within) fit)
       by_turn (empties e r) = subst (λ t. Fit c.shape.quota.window t) (sym e) (empty_fit c.shape.quota.window)
       by_turn (receives t e w q) = fit_along store.quota c.shape.quota store.copies c.shape.copies e q fit
 

@@ -11,11 +11,11 @@ use Rattle.obj_id.specs.declared.commands.CopyState.{CopyState}
 use Rattle.obj_id.specs.declared.commands.CopyState.TheVariants.{Created, Sealed, Restoring, Fetching, Away}
 use Rattle.obj_id.specs.declared.messages.Digest.{Digest}
 use Rattle.obj_id.specs.Ids.{id_cmp, same_id}
-use Rattle.private_store.specs.Tables.{ById, at}
-use Rattle.private_store.specs.Shape.{Copy, Shape, Seen}
-use Rattle.private_store.specs.Copies.{is_sealed, was_sealed}
-use Rattle.private_store.specs.Contents.{Contents, bytes_at, digest_of, no_digest, kept, keeps_digest, is_sized}
-use Rattle.private_store.specs.Kept.{IsContentKept, AreContentsKept}
+use Rattle.private_store.specs.rules.Tables.{ById, at}
+use Rattle.private_store.specs.rules.Shape.{Copy, Shape, Seen}
+use Rattle.private_store.specs.rules.Copies.{is_sealed, was_sealed}
+use Rattle.private_store.specs.rules.Contents.{Contents, bytes_at, digest_of, no_digest, kept, keeps_digest, is_sized}
+use Rattle.private_store.specs.laws.Invariants.{IsContentKept, AreContentsKept}
 use Rattle.store_facts.proofs.Tests.{and_left, and_right}
 use Rattle.store_facts.proofs.Turns.{resident}
 use Rattle.store_facts.proofs.Ids.{same_id-equal}

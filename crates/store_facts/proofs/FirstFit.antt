@@ -1,7 +1,7 @@
 -- First fit gives the least multiple of 16 that is free, or none where none is.
 use Rattle.std.proofs.Common.{◌≡◌, ℕ, zero, suc, ◌+◌, ◌*◌, ◌/◌, ◌%◌, ◌<◌, ◌≤◌, true, false, List, Some, refl, sym, ap, subst, ◌∙◌, arith}
 use Rattle.obj_id.specs.declared.works.Extent.{Extent}
-use Rattle.private_store.specs.Extents.{rounded, is_free, first_from, first}
+use Rattle.private_store.specs.rules.Extents.{rounded, is_free, first_from, first}
 use Rattle.std.proofs.lemmas.Bool.{leb-true}
 use Rattle.store_facts.proofs.Tests.{both_left, false_true, none_some, some_value}
 

@@ -8,15 +8,15 @@ use Rattle.private_store.specs.declared.faults.Fault.TheVariants as restore_faul
 use Rattle.obj_id.specs.Ids.{same_id}
 use Rattle.private_store.specs.declared.inputs.WorkVerdict.{WorkVerdict}
 use Rattle.private_store.specs.declared.inputs.WorkVerdict.TheVariants as work
-use Rattle.private_store.specs.Limits.{most_copies}
-use Rattle.private_store.specs.Tables.{at, ById, with_entry}
-use Rattle.private_store.specs.Shape.{Copy, Shape, WorkInFlight}
+use Rattle.private_store.specs.rules.Limits.{most_copies}
+use Rattle.private_store.specs.rules.Tables.{at, ById, with_entry}
+use Rattle.private_store.specs.rules.Shape.{Copy, Shape, WorkInFlight}
 use Rattle.obj_id.specs.Kinds.{is_primary}
-use Rattle.private_store.specs.Copies.{is_sealed, is_away}
-use Rattle.private_store.specs.Room.{set_copy}
-use Rattle.private_store.specs.Change.{done, erasing, settled}
-use Rattle.private_store.specs.Events.{work_of, without_work, written, read_back, answer}
-use Rattle.private_store.specs.Kept.{IsCopyKept, IsUseKept, has_extent, has_work, has_read, has_write, has_hand, is_fetching, is_restoring}
+use Rattle.private_store.specs.rules.Copies.{is_sealed, is_away}
+use Rattle.private_store.specs.rules.Room.{set_copy}
+use Rattle.private_store.specs.rules.Change.{done, erasing, settled}
+use Rattle.private_store.specs.rules.Events.{work_of, without_work, written, read_back, answer}
+use Rattle.private_store.specs.laws.Invariants.{IsCopyKept, IsUseKept, has_extent, has_work, has_read, has_write, has_hand, is_fetching, is_restoring}
 use Rattle.store_facts.proofs.KeptCopy.{IsLoose, sealed_is, restoring_is, has_work-split}
 use Rattle.store_facts.proofs.KeptLists.{find-any}
 use Rattle.store_facts.proofs.KeptRows.{IsRowChange, IsLiveKept, row_same}

@@ -11,12 +11,12 @@ use Rattle.obj_id.specs.declared.commands.Kind.{Kind}
 use Rattle.obj_id.specs.declared.commands.Kind.TheVariants.{Secondary}
 use Rattle.obj_id.specs.declared.commands.CopyState.{CopyState}
 use Rattle.obj_id.specs.declared.commands.CopyState.TheVariants.{Created, Sealed, Fetching}
-use Rattle.private_store.specs.Limits.{longest_object, most_borrowers, most_holds}
-use Rattle.private_store.specs.Shape.{Copy, Fetch, WorkInFlight, HandGiven}
+use Rattle.private_store.specs.rules.Limits.{longest_object, most_borrowers, most_holds}
+use Rattle.private_store.specs.rules.Shape.{Copy, Fetch, WorkInFlight, HandGiven}
 use Rattle.obj_id.specs.Kinds.{is_primary}
-use Rattle.private_store.specs.Copies.{is_sealed, is_away}
-use Rattle.private_store.specs.Commands.{new_copy, fetched_copy, holds_of, all_holds, with_holds, without_borrower}
-use Rattle.private_store.specs.Kept.{AreMarksKept, AreHoldsKept, IsUseKept, IsScopeKept, IsCopyKept, are_held, are_gaps, has_extent, has_work, has_read, has_write, has_hand, is_remembered, is_restoring, is_fetching, is_pulling}
+use Rattle.private_store.specs.rules.Copies.{is_sealed, is_away}
+use Rattle.private_store.specs.rules.Commands.{new_copy, fetched_copy, holds_of, all_holds, with_holds, without_borrower}
+use Rattle.private_store.specs.laws.Invariants.{AreMarksKept, AreHoldsKept, IsUseKept, IsScopeKept, IsCopyKept, are_held, are_gaps, has_extent, has_work, has_read, has_write, has_hand, is_remembered, is_restoring, is_fetching, is_pulling}
 use Rattle.store_facts.proofs.KeptCopy.{IsBare, IsLoose, IsAbsentKept, has_work-split}
 use Rattle.store_facts.proofs.KeptLists.{any-filter-only, length-filter-le}
 use Rattle.store_facts.proofs.KeptHolds.{holds_keep}

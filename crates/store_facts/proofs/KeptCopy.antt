@@ -6,9 +6,9 @@ use Rattle.obj_id.specs.declared.commands.Kind.{Kind}
 use Rattle.obj_id.specs.declared.commands.CopyState.{CopyState}
 use Rattle.obj_id.specs.declared.commands.CopyState.TheVariants.{Created, Sealed, Restoring, Fetching, Away}
 use Rattle.obj_id.specs.Ids.{same_id}
-use Rattle.private_store.specs.Shape.{Copy, WorkInFlight, HandGiven}
-use Rattle.private_store.specs.Copies.{is_sealed, is_created}
-use Rattle.private_store.specs.Kept.{IsFormKept, AreMarksKept, AreHoldsKept, IsUseKept, IsScopeKept, IsCopyKept, are_held, has_work, has_read, has_write, has_hand, is_restoring, is_fetching}
+use Rattle.private_store.specs.rules.Shape.{Copy, WorkInFlight, HandGiven}
+use Rattle.private_store.specs.rules.Copies.{is_sealed, is_created}
+use Rattle.private_store.specs.laws.Invariants.{IsFormKept, AreMarksKept, AreHoldsKept, IsUseKept, IsScopeKept, IsCopyKept, are_held, has_work, has_read, has_write, has_hand, is_restoring, is_fetching}
 use Rattle.store_facts.proofs.Tests.{both_left, both_right, not_true, passed, true_false}
 
 -- ---- options

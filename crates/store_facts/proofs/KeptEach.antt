@@ -2,13 +2,13 @@
 use Rattle.std.proofs.Common.{◌≡◌, ℕ, Bool, true, false, cond, ◌&&◌, List, [], ◌∷◌, fold, Option, Some, None, is_some, refl, sym, ap, subst, ◌∙◌}
 use Rattle.std.specs.Option.{option_map_or}
 use Rattle.obj_id.specs.declared.ids.ObjectId.{ObjectId}
-use Rattle.private_store.specs.Tables.{ById, at}
-use Rattle.private_store.specs.Shape.{Copy, Shape, Change}
-use Rattle.private_store.specs.Copies.{is_idle, in_scope}
-use Rattle.private_store.specs.Room.{set_copy, drop_copy}
-use Rattle.private_store.specs.Change.{done, sending, settled, doomed, doom}
-use Rattle.private_store.specs.Commands.{scoped, at_each}
-use Rattle.private_store.specs.Kept.{are_held, has_work, has_hand}
+use Rattle.private_store.specs.rules.Tables.{ById, at}
+use Rattle.private_store.specs.rules.Shape.{Copy, Shape, Change}
+use Rattle.private_store.specs.rules.Copies.{is_idle, in_scope}
+use Rattle.private_store.specs.rules.Room.{set_copy, drop_copy}
+use Rattle.private_store.specs.rules.Change.{done, sending, settled, doomed, doom}
+use Rattle.private_store.specs.rules.Commands.{scoped, at_each}
+use Rattle.private_store.specs.laws.Invariants.{are_held, has_work, has_hand}
 use Rattle.store_facts.proofs.KeptCopy.{is_kept_up, idle_granted, idle_working, not_idle}
 use Rattle.store_facts.proofs.KeptRows.{IsRowChange, row_put, row_drop, row_then, row_here}
 use Rattle.store_facts.proofs.Tests.{and_rest, both_right, false_true}

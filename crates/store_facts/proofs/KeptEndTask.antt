@@ -6,11 +6,11 @@ use Rattle.std.proofs.lemmas.List.{length_push}
 use Rattle.obj_id.specs.declared.ids.TaskNo.{TaskNo}
 use Rattle.obj_id.specs.declared.refusals.Refusal.TheVariants.{Gone, TooMany}
 use Rattle.obj_id.specs.Ids.{same_task}
-use Rattle.private_store.specs.Limits.{most_ended_tasks}
-use Rattle.private_store.specs.Tables.{ById, ids_of}
-use Rattle.private_store.specs.Shape.{Copy, Shape, Change, HandGiven}
-use Rattle.private_store.specs.Change.{done, doom, sending, has_ended}
-use Rattle.private_store.specs.Commands.{of_task, task_ended, give_up_one, at_each, end_task}
+use Rattle.private_store.specs.rules.Limits.{most_ended_tasks}
+use Rattle.private_store.specs.rules.Tables.{ById, ids_of}
+use Rattle.private_store.specs.rules.Shape.{Copy, Shape, Change, HandGiven}
+use Rattle.private_store.specs.rules.Change.{done, doom, sending, has_ended}
+use Rattle.private_store.specs.rules.Commands.{of_task, task_ended, give_up_one, at_each, end_task}
 use Rattle.store_facts.proofs.KeptLists.{all-filter, length-filter-le}
 use Rattle.store_facts.proofs.KeptRows.{IsLiveKept}
 use Rattle.store_facts.proofs.KeptEach.{fold_of_copies, at_each-shape}

@@ -10,17 +10,17 @@ use Rattle.obj_id.specs.declared.commands.CopyState.TheVariants.{Created, Sealed
 use Rattle.private_store.specs.declared.inputs.Source.{Source}
 use Rattle.private_store.specs.declared.inputs.ChunkVerdict.{ChunkVerdict}
 use Rattle.private_store.specs.declared.inputs.ChunkVerdict.TheVariants as chunk
-use Rattle.private_store.specs.Limits.{longest_object}
-use Rattle.private_store.specs.Tables.{at}
+use Rattle.private_store.specs.rules.Limits.{longest_object}
+use Rattle.private_store.specs.rules.Tables.{at}
 use Rattle.private_store.specs.declared.faults.FetchFault.{FetchFault}
 use Rattle.private_store.specs.declared.faults.FetchFault.TheVariants as fetch_fault
-use Rattle.private_store.specs.Shape.{Copy, Shape, Change, Fetch, Phase, locating, sized, pulling, failed, chunks, not_here, remove_source}
-use Rattle.private_store.specs.Copies.{visible}
-use Rattle.private_store.specs.Room.{set_copy}
-use Rattle.private_store.specs.Change.{done, sending}
-use Rattle.private_store.specs.Commands.{chunk_count, restore}
-use Rattle.private_store.specs.Events.{with_fetch, fetch_of, located, located_copy, fetch_failed, chunk_taken, chunk_arrived, is_missing, not_here_arrived, quiet, pull_answer, pull_arrived}
-use Rattle.private_store.specs.Kept.{IsOrderOfUse, IsCopyKept, are_gaps, has_extent, is_pulling}
+use Rattle.private_store.specs.rules.Shape.{Copy, Shape, Change, Fetch, Phase, locating, sized, pulling, failed, chunks, not_here, remove_source}
+use Rattle.private_store.specs.rules.Copies.{visible}
+use Rattle.private_store.specs.rules.Room.{set_copy}
+use Rattle.private_store.specs.rules.Change.{done, sending}
+use Rattle.private_store.specs.rules.Commands.{chunk_count, restore}
+use Rattle.private_store.specs.rules.Events.{with_fetch, fetch_of, located, located_copy, fetch_failed, chunk_taken, chunk_arrived, is_missing, not_here_arrived, quiet, pull_answer, pull_arrived}
+use Rattle.private_store.specs.laws.Invariants.{IsOrderOfUse, IsCopyKept, are_gaps, has_extent, is_pulling}
 use Rattle.store_facts.proofs.KeptCopy.{fetching_is, none_of}
 use Rattle.store_facts.proofs.KeptLists.{all-filter}
 use Rattle.store_facts.proofs.KeptRows.{IsLiveKept}

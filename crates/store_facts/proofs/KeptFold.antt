@@ -3,8 +3,8 @@ use Rattle.std.proofs.Common.{◌≡◌, ℕ, ◌≤◌, Bool, true, false, cond
 use Rattle.std.specs.FinMap.{is_sorted}
 use Rattle.obj_id.specs.declared.ids.ObjectId.{ObjectId}
 use Rattle.obj_id.specs.Ids.{id_cmp, same_id}
-use Rattle.private_store.specs.Tables.{ById, at, is_among, ids_of}
-use Rattle.private_store.specs.Shape.{Copy}
+use Rattle.private_store.specs.rules.Tables.{ById, at, is_among, ids_of}
+use Rattle.private_store.specs.rules.Shape.{Copy}
 use Rattle.store_facts.proofs.KeptRows.{IsRowChange}
 use Rattle.store_facts.proofs.Ids.{same_id-equal, same_id-itself}
 use Rattle.store_facts.proofs.Tests.{or_left, or_right}

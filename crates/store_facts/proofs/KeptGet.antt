@@ -9,15 +9,15 @@ use Rattle.obj_id.specs.declared.commands.CopyState.{CopyState}
 use Rattle.obj_id.specs.declared.commands.CopyState.TheVariants.{Created, Sealed, Restoring, Fetching, Away}
 use Rattle.obj_id.specs.declared.refusals.Refusal.TheVariants.{Absent, NotSealed, Pending}
 use Rattle.obj_id.specs.Ids.{same_id}
-use Rattle.private_store.specs.Limits.{longest_object, most_holds, most_copies, most_works, has_numbers}
-use Rattle.private_store.specs.Extents.{rounded}
-use Rattle.private_store.specs.Tables.{at, with_entry}
-use Rattle.private_store.specs.Shape.{Copy, Shape, Fetch, Phase, locating, sized, pulling, failed}
-use Rattle.private_store.specs.Copies.{is_sealed, is_away}
-use Rattle.private_store.specs.Room.{make_room, works_left, set_copy}
-use Rattle.private_store.specs.Change.{refused, checked, needing, sending, has_ended}
-use Rattle.private_store.specs.Commands.{refusal_of, is_length, is_full_of_copies, new_copy, created, create, get_sealed, restoring, restore, get_away, counted, chunk_count, begin_pull, get_fetching, get_copy, fetched_copy, fetch_begun, begin_fetch, get, holds_of, all_holds, with_holds}
-use Rattle.private_store.specs.Kept.{IsOrderOfUse, IsCopyKept, are_held, are_gaps, has_work, has_hand, is_fetching, is_restoring}
+use Rattle.private_store.specs.rules.Limits.{longest_object, most_holds, most_copies, most_works, has_numbers}
+use Rattle.private_store.specs.rules.Extents.{rounded}
+use Rattle.private_store.specs.rules.Tables.{at, with_entry}
+use Rattle.private_store.specs.rules.Shape.{Copy, Shape, Fetch, Phase, locating, sized, pulling, failed}
+use Rattle.private_store.specs.rules.Copies.{is_sealed, is_away}
+use Rattle.private_store.specs.rules.Room.{make_room, works_left, set_copy}
+use Rattle.private_store.specs.rules.Change.{refused, checked, needing, sending, has_ended}
+use Rattle.private_store.specs.rules.Commands.{refusal_of, is_length, is_full_of_copies, new_copy, created, create, get_sealed, restoring, restore, get_away, counted, chunk_count, begin_pull, get_fetching, get_copy, fetched_copy, fetch_begun, begin_fetch, get, holds_of, all_holds, with_holds}
+use Rattle.private_store.specs.laws.Invariants.{IsOrderOfUse, IsCopyKept, are_held, are_gaps, has_work, has_hand, is_fetching, is_restoring}
 use Rattle.store_facts.proofs.KeptCopy.{tight}
 use Rattle.store_facts.proofs.KeptRows.{row_put, rows_changed, IsLiveKept}
 use Rattle.store_facts.proofs.KeptWorks.{ask_keeps, next_work, pushed_no, pushed_yes}

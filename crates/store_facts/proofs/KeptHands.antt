@@ -7,15 +7,15 @@ use Rattle.std.proofs.lemmas.List.{length_push}
 use Rattle.std.proofs.lemmas.List.Folds.{list_all-append}
 use Rattle.obj_id.specs.declared.ids.ObjectId.{ObjectId}
 use Rattle.obj_id.specs.Ids.{same_id}
-use Rattle.private_store.specs.Limits.{most_hands, greatest_depth}
-use Rattle.private_store.specs.Tables.{at}
-use Rattle.private_store.specs.Shape.{Copy, Shape, HandGiven}
+use Rattle.private_store.specs.rules.Limits.{most_hands, greatest_depth}
+use Rattle.private_store.specs.rules.Tables.{at}
+use Rattle.private_store.specs.rules.Shape.{Copy, Shape, HandGiven}
 use Rattle.obj_id.specs.Kinds.{is_primary}
-use Rattle.private_store.specs.Copies.{is_sealed, is_idle}
-use Rattle.private_store.specs.Room.{drop_copy}
-use Rattle.private_store.specs.Change.{settled}
-use Rattle.private_store.specs.Commands.{grant, grant_own, grant_foreign, is_sealed_primary, has_given, withdraw}
-use Rattle.private_store.specs.Kept.{IsCopyKept}
+use Rattle.private_store.specs.rules.Copies.{is_sealed, is_idle}
+use Rattle.private_store.specs.rules.Room.{drop_copy}
+use Rattle.private_store.specs.rules.Change.{settled}
+use Rattle.private_store.specs.rules.Commands.{grant, grant_own, grant_foreign, is_sealed_primary, has_given, withdraw}
+use Rattle.private_store.specs.laws.Invariants.{IsCopyKept}
 use Rattle.store_facts.proofs.KeptCopy.{SameFor, IsAbsentKept, IsRowKept, IsLoose}
 use Rattle.store_facts.proofs.KeptLists.{any-filter, any-filter-le, any-filter-only, all-filter, length-filter-le}
 use Rattle.store_facts.proofs.KeptRows.{AreHandsKept, IsLiveKept, rows_moved, row_same, same_both}
@@ -33,7 +33,7 @@ module _ {store : Shape} (h : IsLiveKept store) where
 
   -- a hand that hangs on nothing, or is of another job's object
   abbrev is_well_hung : HandGiven → Bool
-  is_well_hung hand = not (hand.id.job.0 == store.job) || is_none hand.hangs_on
+  is_well_hung hand = not (hand.id.job.0 == store.job) || is_none hand.parent
 
   give_keeps : (hand : HandGiven) → is_well_hung hand ≡ true → nat_le most_hands (length store.given) ≡ false
       → IsRowKept store.job store.works (store.given ++ hand ∷ []) store.ended_tasks hand.id (at store.copies hand.id) → IsLiveKept (record store { given = store.given ++ hand ∷ [] })
@@ -70,7 +70,7 @@ module _ {store : Shape} (h : IsLiveKept store) where
   grant_own_keeps : (id : ObjectId) (target : ℕ) → Keeps (grant_own store id target)
   grant_own_keeps id target = checked_keeps h _ _ (needing_keeps h _ _ _ (λ copy v.
       let e = (visible_at (at store.copies id) copy v).0 in
-      let hand : HandGiven = record { id = id; target = target; hangs_on = None } in
+      let hand : HandGiven = record { id = id; target = target; parent = None } in
       check_keeps h (not (is_sealed_primary copy)) _ _ _ (λ s. check_keeps h (has_given store id target) _ _ _ (λ _. check_keeps h (nat_le most_hands (length store.given)) _ [] _ (λ few. checks_keep h _ (record {
         is =
             let t : is_primary copy.kind && is_sealed copy.state ≡ true = passed (is_sealed_primary copy) s in
@@ -81,7 +81,7 @@ module _ {store : Shape} (h : IsLiveKept store) where
 
   grant_foreign_keeps : (id : ObjectId) (target : ℕ) → (id.job.0 == store.job) ≡ false → Keeps (grant_foreign store id target)
   grant_foreign_keeps id target f = checked_keeps h _ _ (needing_keeps h _ _ _ (λ taken e.
-      let hand : HandGiven = record { id = id; target = target; hangs_on = Some taken.giver } in
+      let hand : HandGiven = record { id = id; target = target; parent = Some taken.grantor } in
       check_keeps h (has_given store id target) _ _ _ (λ _. check_keeps h (nat_le greatest_depth taken.depth || nat_le most_hands (length store.given)) _ [] _ (λ few. checks_keep h _ (record {
         is = give_keeps hand (or_left (not (id.job.0 == store.job)) false (ap not f)) (or_false_right (nat_le greatest_depth taken.depth) (nat_le most_hands (length store.given)) few)
             (foreign_row hand f (at store.copies id) (h.rows.each id));

@@ -5,10 +5,10 @@ use Rattle.std.specs.List.{list_any}
 use Rattle.std.proofs.lemmas.Bool.{eq-eqb}
 use Rattle.obj_id.specs.declared.ids.ObjectId.{ObjectId}
 use Rattle.obj_id.specs.Ids.{same_id}
-use Rattle.private_store.specs.Tables.{ById, at}
-use Rattle.private_store.specs.Shape.{Copy, Shape, HandGiven, Seen}
-use Rattle.private_store.specs.Events.{is_live, received, withdrawn, is_hand, hangs_on, hand_ended}
-use Rattle.private_store.specs.Kept.{IsShapeKept}
+use Rattle.private_store.specs.rules.Tables.{ById, at}
+use Rattle.private_store.specs.rules.Shape.{Copy, Shape, HandGiven, Seen}
+use Rattle.private_store.specs.rules.Events.{is_live, received, withdrawn, is_hand, is_child_of, hand_ended}
+use Rattle.private_store.specs.laws.Invariants.{IsShapeKept}
 use Rattle.store_facts.proofs.KeptCopy.{SameFor, IsRowKept, copy_carried}
 use Rattle.store_facts.proofs.KeptLists.{any-filter-all, any-filter-le, all-filter, all_weaker, length-filter-le}
 use Rattle.store_facts.proofs.KeptRows.{IsLiveKept, to_live, from_live}
@@ -35,18 +35,18 @@ seen_keeps store seen h = record {
   most_ended = h.most_ended;
 }
 
-pub received_keeps : (store : Shape) (id : ObjectId) (n giver depth : ℕ) → IsShapeKept store → IsShapeKept (received store id n giver depth).shape
-received_keeps store id n giver depth h = seen_keeps store _ h
+pub received_keeps : (store : Shape) (id : ObjectId) (n grantor depth : ℕ) → IsShapeKept store → IsShapeKept (received store id n grantor depth).shape
+received_keeps store id n grantor depth h = seen_keeps store _ h
 
-module _ (store : Shape) (id : ObjectId) (giver : ℕ) where
+module _ (store : Shape) (id : ObjectId) (grantor : ℕ) where
   abbrev keep : HandGiven → Bool
-  keep hand = not (hangs_on id giver hand)
+  keep hand = not (is_child_of id grantor hand)
 
   -- a hand of an own object hangs on nothing
-  own_stays : (q : ObjectId) → q.job.0 ≡ store.job → (hand : HandGiven) → not (hand.id.job.0 == store.job) || is_none hand.hangs_on ≡ true → not (same_id q hand.id) || keep hand ≡ true
+  own_stays : (q : ObjectId) → q.job.0 ≡ store.job → (hand : HandGiven) → not (hand.id.job.0 == store.job) || is_none hand.parent ≡ true → not (same_id q hand.id) || keep hand ≡ true
   own_stays q own hand e = by_same (same_id q hand.id) refl
     where
-      by_none : (o : Option ℕ) (b : Bool) → is_none o ≡ true → not (b && option_map_or (λ g. g == giver) o false) ≡ true
+      by_none : (o : Option ℕ) (b : Bool) → is_none o ≡ true → not (b && option_map_or (λ g. g == grantor) o false) ≡ true
       by_none None true t = refl
       by_none None false t = refl
       by_none (Some g) b t = true_false t
@@ -55,7 +55,7 @@ module _ (store : Shape) (id : ObjectId) (giver : ℕ) where
       by_same false s = refl
       by_same true s =
           let mine : (hand.id.job.0 == store.job) ≡ true = eq-eqb hand.id.job.0 store.job (sym (ap (λ x. x.job.0) (same_id-equal q hand.id s)) ∙ own) in
-          by_none hand.hangs_on (same_id id hand.id) (sym (ap (λ b. not b || is_none hand.hangs_on) mine) ∙ e)
+          by_none hand.parent (same_id id hand.id) (sym (ap (λ b. not b || is_none hand.parent) mine) ∙ e)
 
   row_stays : (h : IsLiveKept store) (q : ObjectId) (o : Option Copy) → IsRowKept store.job store.works store.given store.ended_tasks q o → IsRowKept store.job store.works (filter keep store.given) store.ended_tasks q o
   row_stays h q None k = record { no_work = k.no_work; no_hand = λ j. any-filter-le (λ hand. same_id q hand.id) keep store.given (k.no_hand j) }
@@ -91,9 +91,9 @@ module _ (store : Shape) (id : ObjectId) (giver : ℕ) where
           let none : store.given ≡ [] = (h.dead l).2 in
           subst (λ g. IsShapeKept (record store { received = seen; given = g })) (none ∙ sym (ap (filter keep) none)) (seen_keeps store seen h)
 
-pub withdrawn_keeps : (store : Shape) (id : ObjectId) (giver depth : ℕ) → IsShapeKept store → IsShapeKept (withdrawn store id giver depth).shape
-withdrawn_keeps store id giver depth h =
-    elim (at store.received id) as (λ o. IsShapeKept (option_map_or (λ seen. cond (list_any (is_hand giver depth) seen.hands) (hand_ended store id giver depth seen) store) o store)) [
+pub withdrawn_keeps : (store : Shape) (id : ObjectId) (grantor depth : ℕ) → IsShapeKept store → IsShapeKept (withdrawn store id grantor depth).shape
+withdrawn_keeps store id grantor depth h =
+    elim (at store.received id) as (λ o. IsShapeKept (option_map_or (λ seen. cond (list_any (is_hand grantor depth) seen.hands) (hand_ended store id grantor depth seen) store) o store)) [
       | None ↦ h
-      | Some seen ↦ elim (list_any (is_hand giver depth) seen.hands) as (λ b. IsShapeKept (cond b (hand_ended store id giver depth seen) store)) [ true ↦ ended_keeps store id giver _ h | false ↦ h ]
+      | Some seen ↦ elim (list_any (is_hand grantor depth) seen.hands) as (λ b. IsShapeKept (cond b (hand_ended store id grantor depth seen) store)) [ true ↦ ended_keeps store id grantor _ h | false ↦ h ]
     ]

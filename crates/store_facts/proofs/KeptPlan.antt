@@ -7,13 +7,13 @@ use Rattle.obj_id.specs.declared.ids.ObjectId.{ObjectId}
 use Rattle.obj_id.specs.declared.refusals.Refusal.{Refusal}
 use Rattle.obj_id.specs.declared.refusals.Refusal.TheVariants.{DeviceFailed, Pending, TooMany, Full, Busy}
 use Rattle.obj_id.specs.Ids.{same_id}
-use Rattle.private_store.specs.Limits.{has_numbers}
-use Rattle.private_store.specs.Tables.{is_among}
-use Rattle.private_store.specs.Shape.{Copy, Shape, Change}
-use Rattle.private_store.specs.Copies.{is_evictable, is_spillable, is_passing, device_used}
-use Rattle.private_store.specs.Room.{Room, Plan, fits, wait, full, busy, evict, spill, shortest, shortest_from, in_order, offset_without, victims, spilled, spill_plan, bytes_of_copies, works_left, plan, asked, no_room, spill_room, evict_room, room_by, make_room}
-use Rattle.private_store.specs.Change.{refused, in_room}
-use Rattle.private_store.specs.Kept.{IsOrderOfUse}
+use Rattle.private_store.specs.rules.Limits.{has_numbers}
+use Rattle.private_store.specs.rules.Tables.{is_among}
+use Rattle.private_store.specs.rules.Shape.{Copy, Shape, Change}
+use Rattle.private_store.specs.rules.Copies.{is_evictable, is_spillable, is_draining, device_used}
+use Rattle.private_store.specs.rules.Room.{Room, Plan, fits, wait, full, busy, evict, spill, shortest, shortest_from, in_order, offset_without, victims, spilled, spill_plan, bytes_of_copies, works_left, plan, asked, no_room, spill_room, evict_room, room_by, make_room}
+use Rattle.private_store.specs.rules.Change.{refused, in_room}
+use Rattle.private_store.specs.laws.Invariants.{IsOrderOfUse}
 use Rattle.store_facts.proofs.KeptLists.{count-cons, count-append, count-take, count-filter, some_counted, count_none}
 use Rattle.store_facts.proofs.KeptRows.{IsLiveKept}
 use Rattle.store_facts.proofs.KeptFold.{among-filter}
@@ -101,7 +101,7 @@ module _ (order : List ObjectId) (once : IsOrderOfUse order) (store : Shape) whe
   spilled_is n None e = tt
   spilled_is n (Some []) e = tt
   spilled_is n (Some (id ∷ ids)) e = spill_plan_is (id ∷ ids) (shortest_chosen (is_spillable store)
-      (λ out. is_some (offset_without store n ((in_order store order (is_evictable store) ++ in_order store order (is_passing store)) ++ out))) (id ∷ ids) e)
+      (λ out. is_some (offset_without store n ((in_order store order (is_evictable store) ++ in_order store order (is_draining store)) ++ out))) (id ∷ ids) e)
 
   plan_is : (n : ℕ) → IsPlan (plan order store n)
   plan_is n = by_victims (victims order store n) refl

@@ -8,13 +8,13 @@ use Rattle.obj_id.specs.declared.ids.ObjectId.{ObjectId}
 use Rattle.obj_id.specs.declared.ids.TaskNo.{TaskNo}
 use Rattle.obj_id.specs.declared.commands.CopyState.TheVariants.{Away}
 use Rattle.obj_id.specs.Ids.{id_cmp, same_id}
-use Rattle.private_store.specs.Limits.{most_works}
-use Rattle.private_store.specs.Tables.{ById, at, with_entry, without_entry, is_among}
-use Rattle.private_store.specs.Shape.{Copy, WorkInFlight, HandGiven, Shape}
+use Rattle.private_store.specs.rules.Limits.{most_works}
+use Rattle.private_store.specs.rules.Tables.{ById, at, with_entry, without_entry, is_among}
+use Rattle.private_store.specs.rules.Shape.{Copy, WorkInFlight, HandGiven, Shape}
 use Rattle.obj_id.specs.Kinds.{is_primary}
-use Rattle.private_store.specs.Copies.{is_sealed, is_idle, is_evictable, is_spillable}
-use Rattle.private_store.specs.Room.{set_copy, drop_copy, evicted, asked}
-use Rattle.private_store.specs.Kept.{IsOrderOfUse, IsCopyKept, are_held, has_work, has_read, has_write, has_hand, is_fetching}
+use Rattle.private_store.specs.rules.Copies.{is_sealed, is_idle, is_evictable, is_spillable}
+use Rattle.private_store.specs.rules.Room.{set_copy, drop_copy, evicted, asked}
+use Rattle.private_store.specs.laws.Invariants.{IsOrderOfUse, IsCopyKept, are_held, has_work, has_read, has_write, has_hand, is_fetching}
 use Rattle.store_facts.proofs.KeptCopy.{IsRowKept, idle_held, idle_granted, idle_working, sealed_is, has_work-split, none_of}
 use Rattle.store_facts.proofs.KeptLists.{count-cons, none_counted}
 use Rattle.store_facts.proofs.KeptRows.{IsRowChange, row_put, row_drop, row_same, IsLiveKept}

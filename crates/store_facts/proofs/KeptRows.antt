@@ -7,11 +7,11 @@ use Rattle.std.specs.FinMap.Entries.{find-where_key, is_sorted-where_key, is_sor
 use Rattle.obj_id.specs.declared.ids.ObjectId.{ObjectId}
 use Rattle.obj_id.specs.declared.ids.TaskNo.{TaskNo}
 use Rattle.obj_id.specs.Ids.{id_cmp, same_id}
-use Rattle.private_store.specs.Limits.{most_copies, most_works, most_hands, most_ended_tasks, is_quota}
-use Rattle.private_store.specs.Tables.{ById, at, with_entry, without_entry}
-use Rattle.private_store.specs.Shape.{Copy, WorkInFlight, HandGiven, Shape}
-use Rattle.private_store.specs.Events.{is_live}
-use Rattle.private_store.specs.Kept.{IsShapeKept}
+use Rattle.private_store.specs.rules.Limits.{most_copies, most_works, most_hands, most_ended_tasks, is_quota}
+use Rattle.private_store.specs.rules.Tables.{ById, at, with_entry, without_entry}
+use Rattle.private_store.specs.rules.Shape.{Copy, WorkInFlight, HandGiven, Shape}
+use Rattle.private_store.specs.rules.Events.{is_live}
+use Rattle.private_store.specs.laws.Invariants.{IsShapeKept}
 use Rattle.store_facts.proofs.Ids.{id_cmp-IsAntisymmetric, id_cmp-IsTotalOrder, same_id-equal, same_id-itself, same_id-not_back}
 use Rattle.store_facts.proofs.KeptCopy.{SameFor, IsRowKept, row_carried}
 use Rattle.store_facts.proofs.Tests.{T_true, true_T, true_false}
@@ -120,7 +120,7 @@ pub record AreWorksKept (works : List WorkInFlight) (asked : ℕ) : Type 0 where
   pub few : length works ≤ most_works
 
 pub record AreHandsKept (job : ℕ) (given : List HandGiven) : Type 0 where
-  pub own_hands : IsTrue (list_all (λ hand. not (hand.id.job.0 == job) || is_none hand.hangs_on) given)
+  pub own_hands : IsTrue (list_all (λ hand. not (hand.id.job.0 == job) || is_none hand.parent) given)
   pub few : length given ≤ most_hands
 
 -- a live store

@@ -11,13 +11,13 @@ use Rattle.obj_id.specs.declared.refusals.Refusal.TheVariants.{NotAdmitted, Stal
 use Rattle.private_store.specs.declared.inputs.Judged.{Judged}
 use Rattle.private_store.specs.declared.inputs.Judged.TheVariants as judged
 use Rattle.private_store.specs.declared.inputs.WorkVerdict.{WorkVerdict}
-use Rattle.private_store.specs.Limits.{is_quota}
-use Rattle.private_store.specs.Shape.{Shape, Change, not_begun, live, ended, unbegun}
-use Rattle.private_store.specs.Change.{refused, done, checked, sending, erasing}
-use Rattle.private_store.specs.Commands.{list, usage}
-use Rattle.private_store.specs.Events.{is_live, begin, requota, over, end_job_here, answer, work_of}
-use Rattle.private_store.specs.Step.{owned, commanded, step}
-use Rattle.private_store.specs.Kept.{IsOrderOfUse, IsShapeKept}
+use Rattle.private_store.specs.rules.Limits.{is_quota}
+use Rattle.private_store.specs.rules.Shape.{Shape, Change, not_begun, live, ended, unbegun}
+use Rattle.private_store.specs.rules.Change.{refused, done, checked, sending, erasing}
+use Rattle.private_store.specs.rules.Commands.{list, usage}
+use Rattle.private_store.specs.rules.Events.{is_live, begin, requota, over, end_job_here, answer, work_of}
+use Rattle.private_store.specs.rules.Step.{owned, commanded, step}
+use Rattle.private_store.specs.laws.Invariants.{IsOrderOfUse, IsShapeKept}
 use Rattle.store_facts.proofs.Checks.{needing-none}
 use Rattle.store_facts.proofs.KeptRows.{IsLiveKept, to_live, from_live}
 use Rattle.store_facts.proofs.KeptStore.{Keeps, same_keeps, checked_keeps, check_keeps, checks_keep}
@@ -168,6 +168,6 @@ step_keeps order store (judged.Located id number source) once h = living store h
 step_keeps order store (judged.Chunk id number index from verdict) once h = living store h Stale _ (λ k. chunk_keeps k id number index from verdict)
 step_keeps order store (judged.Pull id number matches) once h = living store h Stale _ (λ k. pull_keeps k order once id matches)
 step_keeps order store (judged.NotHere id number from) once h = living store h Stale _ (λ k. not_here_keeps k id number from)
-step_keeps order store (judged.Received id n giver depth) once h = received_keeps store id n giver.0 depth h
-step_keeps order store (judged.Withdrawn id giver depth) once h = withdrawn_keeps store id giver.0 depth h
+step_keeps order store (judged.Received id n grantor depth) once h = received_keeps store id n grantor.0 depth h
+step_keeps order store (judged.Withdrawn id grantor depth) once h = withdrawn_keeps store id grantor.0 depth h
 step_keeps order store judged.End once h = one_check store h (not (is_live store)) Stale (erasing store (end_job_here store)) (λ _. end_kept store h)

@@ -5,15 +5,15 @@ use Rattle.obj_id.specs.declared.ids.ObjectId.{ObjectId}
 use Rattle.obj_id.specs.declared.refusals.Refusal.{Refusal}
 use Rattle.std.specs.Prelude.{◌^◌}
 use Rattle.obj_id.specs.Ids.{same_id}
-use Rattle.private_store.specs.Events.{is_live}
-use Rattle.private_store.specs.Limits.{most_copies, most_ended_tasks, is_quota}
-use Rattle.private_store.specs.Tables.{ById, at, with_entry}
-use Rattle.private_store.specs.Shape.{Copy, Shape, Change, Sending, WorkInFlight, HandGiven}
-use Rattle.private_store.specs.Copies.{in_scope}
-use Rattle.private_store.specs.Room.{set_copy, drop_copy}
-use Rattle.private_store.specs.Change.{done, checked, needing, sending, settled, doomed, doom}
-use Rattle.private_store.specs.Commands.{scoped}
-use Rattle.private_store.specs.Kept.{IsCopyKept, IsScopeKept, has_work, has_hand}
+use Rattle.private_store.specs.rules.Events.{is_live}
+use Rattle.private_store.specs.rules.Limits.{most_copies, most_ended_tasks, is_quota}
+use Rattle.private_store.specs.rules.Tables.{ById, at, with_entry}
+use Rattle.private_store.specs.rules.Shape.{Copy, Shape, Change, Sending, WorkInFlight, HandGiven}
+use Rattle.private_store.specs.rules.Copies.{in_scope}
+use Rattle.private_store.specs.rules.Room.{set_copy, drop_copy}
+use Rattle.private_store.specs.rules.Change.{done, checked, needing, sending, settled, doomed, doom}
+use Rattle.private_store.specs.rules.Commands.{scoped}
+use Rattle.private_store.specs.laws.Invariants.{IsCopyKept, IsScopeKept, has_work, has_hand}
 use Rattle.store_facts.proofs.Checks.{checked_has, needing_has}
 use Rattle.store_facts.proofs.KeptCopy.{SameFor, IsRowKept, IsAbsentKept, IsBare, IsLoose, tight, is_kept_up}
 use Rattle.store_facts.proofs.KeptEach.{settled_row, settled_of_copies}

@@ -4,10 +4,10 @@ use Rattle.std.specs.Prelude.{count_by}
 use Rattle.std.proofs.lemmas.List.{append-nil}
 use Rattle.obj_id.specs.declared.ids.ObjectId.{ObjectId}
 use Rattle.obj_id.specs.Ids.{same_id}
-use Rattle.private_store.specs.Tables.{at, is_among}
-use Rattle.private_store.specs.Shape.{Change}
-use Rattle.private_store.specs.Step.{is_used, reordered, order_after}
-use Rattle.private_store.specs.Kept.{IsOrderOfUse}
+use Rattle.private_store.specs.rules.Tables.{at, is_among}
+use Rattle.private_store.specs.rules.Shape.{Change}
+use Rattle.private_store.specs.rules.Step.{is_used, reordered, order_after}
+use Rattle.private_store.specs.laws.Invariants.{IsOrderOfUse}
 use Rattle.store_facts.proofs.KeptLists.{count-append, count-no, count-yes, count_none, count-filter}
 use Rattle.store_facts.proofs.KeptRows.{same_both}
 use Rattle.store_facts.proofs.KeptFold.{among-filter}

@@ -7,11 +7,11 @@ use Rattle.std.proofs.lemmas.List.Folds.{list_any-append, list_all-append}
 use Rattle.std.proofs.lemmas.List.{length_push}
 use Rattle.obj_id.specs.declared.ids.ObjectId.{ObjectId}
 use Rattle.obj_id.specs.Ids.{same_id}
-use Rattle.private_store.specs.Limits.{most_works, most_copies}
-use Rattle.private_store.specs.Tables.{ById}
-use Rattle.private_store.specs.Shape.{Copy, WorkInFlight, HandGiven, Shape}
-use Rattle.private_store.specs.Room.{asked}
-use Rattle.private_store.specs.Kept.{IsCopyKept, has_work}
+use Rattle.private_store.specs.rules.Limits.{most_works, most_copies}
+use Rattle.private_store.specs.rules.Tables.{ById}
+use Rattle.private_store.specs.rules.Shape.{Copy, WorkInFlight, HandGiven, Shape}
+use Rattle.private_store.specs.rules.Room.{asked}
+use Rattle.private_store.specs.laws.Invariants.{IsCopyKept, has_work}
 use Rattle.store_facts.proofs.KeptCopy.{SameFor}
 use Rattle.store_facts.proofs.KeptLists.{count-append, count-yes, count-no, count_none, count-filter, length-filter-le, all-filter, all_weaker, any-taken, none-taken}
 use Rattle.store_facts.proofs.KeptRows.{IsRowChange, AreWorksKept, IsLiveKept, rows_moved}

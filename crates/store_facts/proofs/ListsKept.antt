@@ -10,14 +10,14 @@ use Rattle.obj_id.specs.declared.ids.ObjectId.{ObjectId}
 use Rattle.obj_id.specs.Ids.{id_cmp, same_id}
 use Rattle.private_store.specs.declared.inputs.WorkVerdict.TheVariants as work
 use Rattle.private_store.specs.declared.inputs.Judged.{Judged}
-use Rattle.private_store.specs.Tables.{ById, at, with_entry, without_entry}
-use Rattle.private_store.specs.Shape.{Copy, Shape, HandTaken, WorkInFlight, Seen, unbegun}
-use Rattle.private_store.specs.Commands.{new_copy, fetched_copy}
-use Rattle.private_store.specs.Events.{hands_of, is_hand}
-use Rattle.private_store.specs.Step.{step, is_used, reordered, order_after}
-use Rattle.private_store.specs.Made
-use Rattle.private_store.specs.Made.{Marked, Edit, marks, drops, creates, fetches, asks, finishes, receives, loses, ends, IsUsedThere}
-use Rattle.private_store.specs.Listed.{IsOrderOf, fetch_number, AreFetchesKept, are_rising, AreWorksRising, AreSeenKept, AreListsKept}
+use Rattle.private_store.specs.rules.Tables.{ById, at, with_entry, without_entry}
+use Rattle.private_store.specs.rules.Shape.{Copy, Shape, HandTaken, WorkInFlight, Seen, unbegun}
+use Rattle.private_store.specs.rules.Commands.{new_copy, fetched_copy}
+use Rattle.private_store.specs.rules.Events.{hands_of, is_hand}
+use Rattle.private_store.specs.rules.Step.{step, is_used, reordered, order_after}
+use Rattle.private_store.specs.laws.Made
+use Rattle.private_store.specs.laws.Made.{Marked, Edit, marks, drops, creates, fetches, asks, finishes, receives, loses, ends, IsUsedThere}
+use Rattle.private_store.specs.laws.Listed.{IsOrderOf, fetch_number, AreFetchesKept, are_rising, AreWorksRising, AreSeenKept, AreListsKept}
 use Rattle.store_facts.proofs.EachStep.{step_made, input_keeps}
 use Rattle.store_facts.proofs.Sound.{step_adds}
 use Rattle.store_facts.proofs.KeptLists.{count-cons, count-append, all-filter, all_weaker}
@@ -187,8 +187,8 @@ lost_seen received id seen [] h = drop_seen received id h
 lost_seen received id seen (hand ∷ hands) h = put_seen received id (record seen { hands = hand ∷ hands }) (omega arith) h
 
 edit_seen : {x : Judged} (used : Option ObjectId) (store after : Shape) → Edit x used store after → AreSeenKept store.received → AreSeenKept after.received
-edit_seen used store after (receives id n giver depth is) h = put_seen store.received id _ (some_hands (hands_of store id) (record { giver = giver.0; depth = depth })) h
-edit_seen used store after (loses id giver depth seen e) h = lost_seen store.received id seen (filter (λ hand. not (is_hand giver depth hand)) seen.hands) h
+edit_seen used store after (receives id n grantor depth is) h = put_seen store.received id _ (some_hands (hands_of store id) (record { grantor = grantor.0; depth = depth })) h
+edit_seen used store after (loses id grantor depth seen e) h = lost_seen store.received id seen (filter (λ hand. not (is_hand grantor depth hand)) seen.hands) h
 edit_seen used store after _ h = h
 
 -- ---- all of them

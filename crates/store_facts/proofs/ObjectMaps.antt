@@ -14,7 +14,7 @@ use Rattle.std.proofs.lemmas.Map.Keys.{sorted_tail, IsDistinct-from_sorted}
 use Rattle.obj_id.specs.declared.ids.ObjectId.{ObjectId}
 use Rattle.obj_id.specs.Ids.{id_cmp, same_id}
 use Rattle.store_facts.proofs.Ids.{id_cmp-IsTotalOrder}
-use Rattle.private_store.specs.Tables.{at, with_entry, without_entry}
+use Rattle.private_store.specs.rules.Tables.{at, with_entry, without_entry}
 use Rattle.store_facts.proofs.Tests.{none_some}
 
 abbrev pub is_id : ObjectId → ObjectId → Bool

@@ -2,9 +2,9 @@
 use Rattle.std.proofs.Common.{◌≡◌, List, Option, refl, ◌∙◌}
 use Rattle.obj_id.specs.declared.ids.ObjectId.{ObjectId}
 use Rattle.private_store.specs.declared.inputs.Judged.{Judged}
-use Rattle.private_store.specs.Shape.{Shape}
-use Rattle.private_store.specs.Made.{Edit, marks, drops, creates, fetches, asks, finishes, flags, ends_task, gives, leaves, receives, loses, begins, requotas, ends, Edits, none, then_edit}
-use Rattle.private_store.specs.Step.{step}
+use Rattle.private_store.specs.rules.Shape.{Shape}
+use Rattle.private_store.specs.laws.Made.{Edit, marks, drops, creates, fetches, asks, finishes, flags, ends_task, gives, leaves, receives, loses, begins, requotas, ends, Edits, none, then_edit}
+use Rattle.private_store.specs.rules.Step.{step}
 use Rattle.store_facts.proofs.EachStep.{step_made}
 
 edit_job : {x : Judged} {used : Option ObjectId} (store after : Shape) → Edit x used store after → after.job ≡ store.job
@@ -18,8 +18,8 @@ edit_job store after (flags failed) = refl
 edit_job store after (ends_task task) = refl
 edit_job store after (gives hand) = refl
 edit_job store after (leaves stands) = refl
-edit_job store after (receives id n giver depth is) = refl
-edit_job store after (loses id giver depth seen found) = refl
+edit_job store after (receives id n grantor depth is) = refl
+edit_job store after (loses id grantor depth seen found) = refl
 edit_job store after (begins quota fresh fine) = refl
 edit_job store after (requotas quota fine fits) = refl
 edit_job store after (ends is) = refl

@@ -1,9 +1,9 @@
 -- The lines that a run makes replay to what the run showed.
 use Rattle.std.proofs.Common.{◌≡◌, ℕ, List, [], ◌∷◌, refl, ap}
 use Rattle.private_store.specs.declared.inputs.Input.{Input}
-use Rattle.private_store.specs.Contents.{View}
-use Rattle.private_store.specs.Private.{view_step, view_from}
-use Rattle.private_store.specs.Replay.{IsReplayed, replayed, brief_of, line_of, lines_from}
+use Rattle.private_store.specs.rules.Contents.{View}
+use Rattle.private_store.specs.rules.Private.{view_step, view_from}
+use Rattle.private_store.specs.rules.Replay.{IsReplayed, replayed, brief_of, line_of, lines_from}
 
 pub replayed-lines : (node : ℕ) (view : View) (xs : List Input) → replayed (brief_of view) (lines_from node view xs) ≡ brief_of (view_from node view xs)
 replayed-lines node view [] = refl

@@ -6,11 +6,11 @@ use Rattle.obj_id.specs.declared.ids.ObjectId.{ObjectId}
 use Rattle.obj_id.specs.declared.commands.CopyState.{CopyState}
 use Rattle.obj_id.specs.declared.commands.CopyState.TheVariants.{Created, Sealed, Restoring, Fetching, Away}
 use Rattle.obj_id.specs.Ids.{same_id}
-use Rattle.private_store.specs.Tables.{ById, at}
-use Rattle.private_store.specs.Shape.{Copy, Shape, Change, Seen}
-use Rattle.private_store.specs.Copies.{is_sealed}
-use Rattle.private_store.specs.Contents.{Contents, bytes_at, digest_of, overwritten}
-use Rattle.private_store.specs.Kept.{IsShapeKept, AreContentsKept, has_extent}
+use Rattle.private_store.specs.rules.Tables.{ById, at}
+use Rattle.private_store.specs.rules.Shape.{Copy, Shape, Change, Seen}
+use Rattle.private_store.specs.rules.Copies.{is_sealed}
+use Rattle.private_store.specs.rules.Contents.{Contents, bytes_at, digest_of, overwritten}
+use Rattle.private_store.specs.laws.Invariants.{IsShapeKept, AreContentsKept, has_extent}
 use Rattle.store_facts.proofs.Tests.{true_false, some_value, none_some}
 use Rattle.store_facts.proofs.Rows.{Tame, SeenRow, seen_stays}
 use Rattle.store_facts.proofs.Turns.{resident, Stands, nowhere, fresh, same, Turn, calm, spills, puts, requotas, empties, receives, IsTurn}

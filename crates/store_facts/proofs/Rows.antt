@@ -7,13 +7,13 @@ use Rattle.obj_id.specs.declared.ids.ObjectId.{ObjectId}
 use Rattle.obj_id.specs.declared.works.Quota.{Quota}
 use Rattle.obj_id.specs.Ids.{id_cmp, same_id}
 use Rattle.obj_id.specs.declared.commands.CopyState.TheVariants.{Away}
-use Rattle.private_store.specs.Tables.{ById, at, with_entry, without_entry}
-use Rattle.private_store.specs.Shape.{Copy, Shape, WorkInFlight, Seen}
+use Rattle.private_store.specs.rules.Tables.{ById, at, with_entry, without_entry}
+use Rattle.private_store.specs.rules.Shape.{Copy, Shape, WorkInFlight, Seen}
 use Rattle.obj_id.specs.Kinds.{is_primary}
-use Rattle.private_store.specs.Copies.{is_sealed, is_idle}
-use Rattle.private_store.specs.Room.{set_copy, drop_copy, evicted}
-use Rattle.private_store.specs.Change.{settled, doomed}
-use Rattle.private_store.specs.Kept.{has_write}
+use Rattle.private_store.specs.rules.Copies.{is_sealed, is_idle}
+use Rattle.private_store.specs.rules.Room.{set_copy, drop_copy, evicted}
+use Rattle.private_store.specs.rules.Change.{settled, doomed}
+use Rattle.private_store.specs.laws.Invariants.{has_write}
 use Rattle.store_facts.proofs.Ids.{id_cmp-IsAntisymmetric, id_cmp-IsTotalOrder, same_id-equal, same_id-itself}
 
 -- ---- ids and tables

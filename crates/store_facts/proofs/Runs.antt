@@ -4,8 +4,8 @@ use Rattle.std.specs.List.{cons_option}
 use Rattle.std.proofs.lemmas.List.{reverse-append, reverse-reverse}
 use Rattle.std.proofs.lemmas.List.Elements.{filter-append, filter_map-append}
 use Rattle.private_store.specs.declared.schedules.Traced.{Traced}
-use Rattle.private_store.specs.Cluster.{Cluster, ClusterInput, Told, cluster_step, cluster_from, told, told_from, no_cluster}
-use Rattle.private_store.specs.Trace.{own_input, notes, for_job, cluster_until, inputs_until, reply_of, replies_of, is_answered, IsPrivate}
+use Rattle.private_store.specs.rules.Cluster.{Cluster, ClusterInput, Told, cluster_step, cluster_from, told, told_from, no_cluster}
+use Rattle.private_store.specs.rules.Trace.{own_input, notes, for_job, cluster_until, inputs_until, reply_of, replies_of, is_answered, IsPrivate}
 
 pub cluster_from-append : (cluster : Cluster) (xs ys : List ClusterInput) → cluster_from cluster (xs ++ ys) ≡ cluster_from (cluster_from cluster xs) ys
 cluster_from-append cluster [] ys = refl

@@ -5,11 +5,11 @@ use Rattle.std.specs.FinMap.Entries.{is_sorted-where_key, is_sorted-put}
 use Rattle.obj_id.specs.declared.ids.ObjectId.{ObjectId}
 use Rattle.obj_id.specs.Ids.{id_cmp, same_id}
 use Rattle.private_store.specs.declared.inputs.Judged.{Judged}
-use Rattle.private_store.specs.Tables.{ById, at}
-use Rattle.private_store.specs.Shape.{Copy, Shape, Change}
-use Rattle.private_store.specs.Commands.{new_copy, fetched_copy}
-use Rattle.private_store.specs.Step.{step, is_used}
-use Rattle.private_store.specs.Made.{Edit, marks, drops, creates, fetches, ends, IsUsedThere}
+use Rattle.private_store.specs.rules.Tables.{ById, at}
+use Rattle.private_store.specs.rules.Shape.{Copy, Shape, Change}
+use Rattle.private_store.specs.rules.Commands.{new_copy, fetched_copy}
+use Rattle.private_store.specs.rules.Step.{step, is_used}
+use Rattle.private_store.specs.laws.Made.{Edit, marks, drops, creates, fetches, ends, IsUsedThere}
 use Rattle.store_facts.proofs.EachStep.{step_made, edits_keep, input_keeps}
 use Rattle.store_facts.proofs.Rows.{put_rows, drop_rows}
 use Rattle.store_facts.proofs.Tests.{true_false}

@@ -6,10 +6,10 @@ use Rattle.std.specs.Ordering.{eq_by_cmp}
 use Rattle.obj_id.specs.declared.ids.ObjectId.{ObjectId}
 use Rattle.private_store.specs.declared.inputs.Input.{Input}
 use Rattle.obj_id.specs.Ids.{id_cmp}
-use Rattle.private_store.specs.Tables.{ById, at}
-use Rattle.private_store.specs.Step.{is_used}
-use Rattle.private_store.specs.Contents.{judge}
-use Rattle.private_store.specs.Private.{Store, view_of, view_step, private_outcome, private_step, restamped, by_stamp, no_store, store_from, view_from, private_replies, view_replies}
+use Rattle.private_store.specs.rules.Tables.{ById, at}
+use Rattle.private_store.specs.rules.Step.{is_used}
+use Rattle.private_store.specs.rules.Contents.{judge}
+use Rattle.private_store.specs.rules.Private.{Store, view_of, view_step, private_outcome, private_step, restamped, by_stamp, no_store, store_from, view_from, private_replies, view_replies}
 use Rattle.store_facts.proofs.Ids.{id_cmp-IsAntisymmetric, id_cmp-IsTotalOrder}
 use Rattle.store_facts.proofs.Stamps.{AllBelow, IsStepped, by_stamp-restamped, find-map, is_sorted-map}
 use Rattle.store_facts.proofs.Sound.{step_sound}

@@ -12,9 +12,9 @@ use Rattle.std.proofs.Common.{MatchOption}
 use Rattle.store_facts.proofs.Ids.{id_cmp-IsAntisymmetric, id_cmp-IsTotalOrder}
 use Rattle.obj_id.specs.declared.ids.ObjectId.{ObjectId}
 use Rattle.obj_id.specs.Ids.{id_cmp, same_id}
-use Rattle.private_store.specs.Tables.{ById, at}
-use Rattle.private_store.specs.Step.{is_used, reordered}
-use Rattle.private_store.specs.Private.{placed, stamps_sorted, by_stamp, restamped}
+use Rattle.private_store.specs.rules.Tables.{ById, at}
+use Rattle.private_store.specs.rules.Step.{is_used, reordered}
+use Rattle.private_store.specs.rules.Private.{placed, stamps_sorted, by_stamp, restamped}
 use Rattle.store_facts.proofs.Tests.{and_left, and_right, less_is, none_some, some_value}
 
 module _ {K : Type 0} where

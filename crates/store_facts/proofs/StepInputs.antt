@@ -14,14 +14,14 @@ use Rattle.private_store.specs.declared.schedules.Event.TheVariants as event
 use Rattle.private_store.specs.declared.schedules.Step.TheVariants.{At}
 use Rattle.private_store.specs.declared.schedules.StepAnswer.TheVariants.{Told}
 use Rattle.private_store.specs.declared.schedules.Traced.{Traced}
-use Rattle.private_store.specs.Hands.{Hand, hands_ended}
-use Rattle.private_store.specs.Cluster.{at_node}
-use Rattle.private_store.specs.Trace.{Given, ends, is_out, is_no_memory, own_input, withdrawn_note, notes_by, notes, for_job, inputs_until}
+use Rattle.private_store.specs.rules.Hands.{Hand, hands_ended}
+use Rattle.private_store.specs.rules.Cluster.{at_node}
+use Rattle.private_store.specs.rules.Trace.{Given, ends, is_out, is_no_memory, own_input, withdrawn_note, notes_by, notes, for_job, inputs_until}
 use Rattle.store_facts.proofs.Runs.{inputs_now}
 use Rattle.private_store.specs.declared.schedules.NodeEvent.TheVariants.{Own}
-use Rattle.private_store.specs.Answers.{wants_memory}
-pub use Rattle.private_store.specs.NodeInputs.{before_at}
-use Rattle.private_store.specs.NodeInputs.{JobInput, Before, own_event, withdrawn_here, notes_of, notes_here, inputs_here, only_of, inputs_to}
+use Rattle.private_store.specs.laws.Answers.{wants_memory}
+pub use Rattle.private_store.specs.laws.NodeInputs.{before_at}
+use Rattle.private_store.specs.laws.NodeInputs.{JobInput, Before, own_event, withdrawn_here, notes_of, notes_here, inputs_here, only_of, inputs_to}
 
 -- an input at the place
 abbrev pub given_there : ℕ → JobInput → Given

@@ -18,18 +18,18 @@ use Rattle.private_store.specs.declared.inputs.ChunkVerdict.{ChunkVerdict}
 use Rattle.private_store.specs.declared.inputs.ChunkVerdict.TheVariants as chunk
 use Rattle.private_store.specs.declared.inputs.WorkVerdict.{WorkVerdict}
 use Rattle.private_store.specs.declared.inputs.WorkVerdict.TheVariants as work
-use Rattle.private_store.specs.Tables.{at, with_entry}
+use Rattle.private_store.specs.rules.Tables.{at, with_entry}
 use Rattle.private_store.specs.declared.faults.FetchFault.{FetchFault}
 use Rattle.private_store.specs.declared.faults.FetchFault.TheVariants as fetch_fault
-use Rattle.private_store.specs.Limits.{is_quota}
-use Rattle.private_store.specs.Shape.{Copy, Shape, Change, Sending, WorkInFlight, Fetch, Phase, locating, sized, pulling, failed, not_begun, live, ended, chunks, not_here, remove_source}
-use Rattle.private_store.specs.Copies.{visible, is_sealed, fits_quota, is_idle}
-use Rattle.private_store.specs.Room.{Room, make_room, set_copy, drop_copy, asked}
-use Rattle.private_store.specs.Change.{refused, done, checked, needing, sending, in_room, settled, erasing}
-use Rattle.private_store.specs.Commands.{refusal_of, create, new_copy, seal, get, get_sealed, get_away, get_fetching, get_copy, begin_fetch, restore, set_phase, counted, chunk_count, fetched_copy, list, usage}
-use Rattle.private_store.specs.Events.{begin, requota, end_job_here, written, read_back, without_work, work_of, answer, with_fetch, fetch_of, located, located_copy, fetch_failed, chunk_taken, chunk_arrived, is_missing, not_here_arrived, quiet, pull_answer, pull_arrived}
-use Rattle.private_store.specs.Step.{step, owned, commanded, if_live}
-use Rattle.private_store.specs.Kept.{IsShapeKept, has_write, has_extent, is_fetching, is_pulling}
+use Rattle.private_store.specs.rules.Limits.{is_quota}
+use Rattle.private_store.specs.rules.Shape.{Copy, Shape, Change, Sending, WorkInFlight, Fetch, Phase, locating, sized, pulling, failed, not_begun, live, ended, chunks, not_here, remove_source}
+use Rattle.private_store.specs.rules.Copies.{visible, is_sealed, fits_quota, is_idle}
+use Rattle.private_store.specs.rules.Room.{Room, make_room, set_copy, drop_copy, asked}
+use Rattle.private_store.specs.rules.Change.{refused, done, checked, needing, sending, in_room, settled, erasing}
+use Rattle.private_store.specs.rules.Commands.{refusal_of, create, new_copy, seal, get, get_sealed, get_away, get_fetching, get_copy, begin_fetch, restore, set_phase, counted, chunk_count, fetched_copy, list, usage}
+use Rattle.private_store.specs.rules.Events.{begin, requota, end_job_here, written, read_back, without_work, work_of, answer, with_fetch, fetch_of, located, located_copy, fetch_failed, chunk_taken, chunk_arrived, is_missing, not_here_arrived, quiet, pull_answer, pull_arrived}
+use Rattle.private_store.specs.rules.Step.{step, owned, commanded, if_live}
+use Rattle.private_store.specs.laws.Invariants.{IsShapeKept, has_write, has_extent, is_fetching, is_pulling}
 use Rattle.store_facts.proofs.WorksHaveCopies.{works_have_copies}
 use Rattle.store_facts.proofs.Tests.{none_here, passed, true_false}
 use Rattle.store_facts.proofs.Checks.{Fails, checked_past, needing_has}
@@ -107,7 +107,7 @@ abbrev pub MaySeal : (ObjectId → Bool) → Shape → Judged → Type 0
 MaySeal s store (judged.Call session c) = Seals s c
 MaySeal s store (judged.Answer number verdict) = ReadsBack s store number verdict
 MaySeal s store (judged.Chunk id number index from verdict) = Completes s store id number index verdict
-MaySeal s store (judged.Received id n giver depth) = (id : ObjectId) → s id ≡ true
+MaySeal s store (judged.Received id n grantor depth) = (id : ObjectId) → s id ≡ true
 MaySeal s store _ = Unit {0}
 
 -- ---- the frames of a change
@@ -490,8 +490,8 @@ module _ (s : ObjectId → Bool) (store : Shape) (sh : IsShapeKept store) where
   step_turn order (judged.Chunk id number index from verdict) t = if_live_turn _ (chunk_turn id number index from verdict t)
   step_turn order (judged.Pull id number matches) t = if_live_turn _ (pull_turn order id matches)
   step_turn order (judged.NotHere id number from) t = if_live_turn _ (not_here_turn id number from)
-  step_turn order (judged.Received id n giver depth) t = record { is = receives t refl refl refl }
-  step_turn order (judged.Withdrawn id giver depth) t = calm_turn s store _ (withdrawn_calm store id giver.0 depth)
+  step_turn order (judged.Received id n grantor depth) t = record { is = receives t refl refl refl }
+  step_turn order (judged.Withdrawn id grantor depth) t = calm_turn s store _ (withdrawn_calm store id grantor.0 depth)
   step_turn order judged.End t = if_live_turn _ (erasing_turn s store store (end_job_here store) end_turn)
 
 -- where all copies may be sealed
@@ -512,6 +512,6 @@ all_may store (judged.Located id number source) = tt
 all_may store (judged.Chunk id number index from verdict) = λ p source missing is phase none taken. refl
 all_may store (judged.Pull id number matches) = tt
 all_may store (judged.NotHere id number from) = tt
-all_may store (judged.Received id n giver depth) = λ q. refl
-all_may store (judged.Withdrawn id giver depth) = tt
+all_may store (judged.Received id n grantor depth) = λ q. refl
+all_may store (judged.Withdrawn id grantor depth) = tt
 all_may store judged.End = tt

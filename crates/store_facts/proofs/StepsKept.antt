@@ -1,10 +1,10 @@
 -- Each input keeps a store: its order of use, its shape, its extents, device bytes and contents.
 use Rattle.std.proofs.Common.{ℕ, List, [], ◌∷◌, sym, subst, arith}
 use Rattle.private_store.specs.declared.inputs.Input.{Input}
-use Rattle.private_store.specs.Step.{step}
-use Rattle.private_store.specs.Contents.{View, judge}
-use Rattle.private_store.specs.Private.{view_of, view_step, view_from, no_store, store_from}
-use Rattle.private_store.specs.Kept.{IsViewKept}
+use Rattle.private_store.specs.rules.Step.{step}
+use Rattle.private_store.specs.rules.Contents.{View, judge}
+use Rattle.private_store.specs.rules.Private.{view_of, view_step, view_from, no_store, store_from}
+use Rattle.private_store.specs.laws.Invariants.{IsViewKept}
 use Rattle.store_facts.proofs.KeptStep.{step_keeps, unbegun_kept}
 use Rattle.store_facts.proofs.KeptView.{order_keeps}
 use Rattle.store_facts.proofs.ExtentsKept.{extents_keep, unbegun_extents}

@@ -7,12 +7,12 @@ use Rattle.std.proofs.lemmas.List.Folds.{list_any-append}
 use Rattle.obj_id.specs.declared.ids.ObjectId.{ObjectId}
 use Rattle.obj_id.specs.declared.works.Quota.{Quota}
 use Rattle.obj_id.specs.Ids.{same_id}
-use Rattle.private_store.specs.Tables.{ById, at, with_entry}
-use Rattle.private_store.specs.Extents.{rounded}
-use Rattle.private_store.specs.Shape.{Copy, Shape, Change, WorkInFlight, Seen}
-use Rattle.private_store.specs.Copies.{is_sealed, extent_of, fits_quota}
-use Rattle.private_store.specs.Room.{set_copy, drop_copy}
-use Rattle.private_store.specs.Kept.{has_write, is_placed, are_apart}
+use Rattle.private_store.specs.rules.Tables.{ById, at, with_entry}
+use Rattle.private_store.specs.rules.Extents.{rounded}
+use Rattle.private_store.specs.rules.Shape.{Copy, Shape, Change, WorkInFlight, Seen}
+use Rattle.private_store.specs.rules.Copies.{is_sealed, extent_of, fits_quota}
+use Rattle.private_store.specs.rules.Room.{set_copy, drop_copy}
+use Rattle.private_store.specs.laws.Invariants.{has_write, is_placed, are_apart}
 use Rattle.store_facts.proofs.Tests.{true_false, none_some, both_left, both_right, or_cases, or_left, or_right, or_false}
 use Rattle.store_facts.proofs.Rows.{at-put, at-put_here, at-drop, Tame, SeenRow, Quiet}
 use Rattle.store_facts.proofs.Clearing.{extent_at, Cleared, Spills}

@@ -1,8 +1,8 @@
 -- What a plan evicts makes room.
 use Rattle.std.proofs.Common.{◌≡◌, ℕ, Bool, true, false, cond, List, [], ◌∷◌, ◌++◌, Some, None, is_some, refl, sym, ap, ◌∙◌}
 use Rattle.obj_id.specs.declared.ids.ObjectId.{ObjectId}
-use Rattle.private_store.specs.Shape.{Shape}
-use Rattle.private_store.specs.Room.{shortest_from, victims, offset_without}
+use Rattle.private_store.specs.rules.Shape.{Shape}
+use Rattle.private_store.specs.rules.Room.{shortest_from, victims, offset_without}
 use Rattle.store_facts.proofs.Tests.{some_value}
 
 -- the shortest beginning passes the test

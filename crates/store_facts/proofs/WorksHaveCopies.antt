@@ -4,9 +4,9 @@ use Rattle.std.specs.Prelude.{IsTrue}
 use Rattle.std.specs.List.{list_all}
 use Rattle.obj_id.specs.declared.ids.ObjectId.{ObjectId}
 use Rattle.obj_id.specs.Ids.{same_id}
-use Rattle.private_store.specs.Tables.{ById, at}
-use Rattle.private_store.specs.Shape.{Copy, Shape, WorkInFlight}
-use Rattle.private_store.specs.Kept.{IsShapeKept, has_work}
+use Rattle.private_store.specs.rules.Tables.{ById, at}
+use Rattle.private_store.specs.rules.Shape.{Copy, Shape, WorkInFlight}
+use Rattle.private_store.specs.laws.Invariants.{IsShapeKept, has_work}
 use Rattle.store_facts.proofs.Tests.{both, false_true, or_false_left, or_false_right}
 use Rattle.store_facts.proofs.Ids.{same_id-itself}
 

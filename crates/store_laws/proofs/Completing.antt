@@ -6,13 +6,13 @@ use Rattle.obj_id.specs.declared.messages.Arrival.TheVariants as arrival
 use Rattle.obj_id.specs.declared.messages.PeerMessage.TheVariants as peer
 use Rattle.private_store.specs.declared.inputs.Input.{Input}
 use Rattle.private_store.specs.declared.inputs.Input.TheVariants as input
-use Rattle.private_store.specs.Tables.{at}
-use Rattle.private_store.specs.Shape.{Copy}
-use Rattle.private_store.specs.Copies.{is_sealed}
-use Rattle.private_store.specs.Contents.{View, bytes_at, digest_at, digest_of, no_digest, judge, brought, bytes_brought, completes}
-use Rattle.private_store.specs.Step.{step}
-use Rattle.private_store.specs.Private.{view_step}
-use Rattle.private_store.specs.Kept.{IsViewKept}
+use Rattle.private_store.specs.rules.Tables.{at}
+use Rattle.private_store.specs.rules.Shape.{Copy}
+use Rattle.private_store.specs.rules.Copies.{is_sealed}
+use Rattle.private_store.specs.rules.Contents.{View, bytes_at, digest_at, digest_of, no_digest, judge, brought, bytes_brought, completes}
+use Rattle.private_store.specs.rules.Step.{step}
+use Rattle.private_store.specs.rules.Private.{view_step}
+use Rattle.private_store.specs.laws.Invariants.{IsViewKept}
 use Rattle.store_facts.proofs.Filling.{digest_there, sealed_keeps}
 use Rattle.store_facts.proofs.StepsKept.{view_keeps}
 use Rattle.store_facts.proofs.Tests.{true_false, T_true}
@@ -43,8 +43,8 @@ digest_stands node view (input.Call session command) id copy h c e s = true_fals
 digest_stands node view (input.Arrive (arrival.Located q number entries)) id copy h c e s = true_false c
 digest_stands node view (input.Arrive (arrival.FromPeer from (peer.Pull q number n digest indexes))) id copy h c e s = true_false c
 digest_stands node view (input.Arrive (arrival.FromPeer from (peer.NotHere q number))) id copy h c e s = true_false c
-digest_stands node view (input.Received q bytes giver depth) id copy h c e s = true_false c
-digest_stands node view (input.Withdrawn q giver depth) id copy h c e s = true_false c
+digest_stands node view (input.Received q bytes grantor depth) id copy h c e s = true_false c
+digest_stands node view (input.Withdrawn q grantor depth) id copy h c e s = true_false c
 digest_stands node view input.End id copy h c e s = true_false c
 
 pub completed_digest : (node : ℕ) (view : View) (x : Input) (id : ObjectId) (copy : Copy) → IsViewKept view → completes x ≡ true

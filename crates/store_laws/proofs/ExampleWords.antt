@@ -6,7 +6,7 @@ use Rattle.obj_id.specs.declared.ids.ObjectId.{ObjectId}
 use Rattle.obj_id.specs.declared.commands.Command.{Command}
 use Rattle.obj_id.specs.declared.commands.Reply.{Reply}
 use Rattle.obj_id.specs.declared.commands.Reply.TheVariants as reply
-use Rattle.obj_id.specs.declared.messages.Place.{Place}
+use Rattle.obj_id.specs.declared.messages.Endpoint.{Endpoint}
 use Rattle.obj_id.specs.declared.works.WorkKind.{WorkKind}
 use Rattle.obj_id.specs.declared.works.DeviceAnswer.{DeviceAnswer}
 use Rattle.private_store.specs.declared.schedules.Event.TheVariants as event
@@ -53,5 +53,5 @@ work j number kind key length payload =
 abbrev pub finish : ℕ → ℕ → ℕ → DeviceAnswer → Reply (List ℕ) → Traced
 finish node j number a told = record { step = At node (event.Finish (job j) number a); answer = Told told }
 
-abbrev pub deliver : ℕ → Place → Place → ℕ → Bool → StepAnswer → Traced
+abbrev pub deliver : ℕ → Endpoint → Endpoint → ℕ → Bool → StepAnswer → Traced
 deliver j from to m damage told = record { step = Deliver (job j) from to m damage; answer = told }

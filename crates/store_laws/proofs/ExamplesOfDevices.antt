@@ -11,9 +11,9 @@ use Rattle.obj_id.specs.declared.commands.CopyState.TheVariants.{Created, Sealed
 use Rattle.obj_id.specs.declared.works.DeviceAnswer.TheVariants as device
 use Rattle.obj_id.specs.declared.works.WorkKind.TheVariants as kind
 use Rattle.private_store.specs.declared.schedules.Traced.{Traced}
-use Rattle.private_store.specs.Change.{checked, needing, sending, in_room}
-use Rattle.private_store.specs.Trace.{IsPrivate}
-use Rattle.private_store.specs.Shared.{AreSharedAnswers}
+use Rattle.private_store.specs.rules.Change.{checked, needing, sending, in_room}
+use Rattle.private_store.specs.rules.Trace.{IsPrivate}
+use Rattle.private_store.specs.rules.Shared.{AreSharedAnswers}
 use Rattle.store_laws.proofs.ExampleWords.{zeros, object, admit, end, call, take, work, finish}
 
 -- a sealed primary is spilled, and its room used

@@ -7,7 +7,7 @@ use Rattle.obj_id.specs.declared.commands.Reply.TheVariants.{Placed, Got, Bytes,
 use Rattle.obj_id.specs.declared.commands.Reply.TheVariants as reply
 use Rattle.obj_id.specs.declared.refusals.Refusal.TheVariants.{Absent, Pending, Damaged, Stale}
 use Rattle.obj_id.specs.declared.commands.Kind.TheVariants.{Primary}
-use Rattle.obj_id.specs.declared.messages.Place.TheVariants.{Node, Directory}
+use Rattle.obj_id.specs.declared.messages.Endpoint.TheVariants.{Node, Directory}
 use Rattle.obj_id.specs.declared.messages.Message.TheVariants.{ToDirectory, Located, ToPeer}
 use Rattle.obj_id.specs.declared.messages.DirectoryMessage.TheVariants.{AddLocation, Locate}
 use Rattle.obj_id.specs.declared.messages.PeerMessage.TheVariants.{Pull, Chunk, NotHere}
@@ -17,11 +17,11 @@ use Rattle.private_store.specs.declared.inputs.Judged.{Judged}
 use Rattle.private_store.specs.declared.inputs.Judged.TheVariants.{Begin, Call}
 use Rattle.private_store.specs.declared.inputs.Judged.TheVariants as judged
 use Rattle.private_store.specs.declared.schedules.Traced.{Traced}
-use Rattle.private_store.specs.Change.{checked, needing, sending, in_room}
-use Rattle.private_store.specs.Contents.{digest_of}
-use Rattle.private_store.specs.Replay.{unbegun_brief, answers_due}
-use Rattle.private_store.specs.Trace.{IsPrivate}
-use Rattle.private_store.specs.Shared.{AreSharedAnswers}
+use Rattle.private_store.specs.rules.Change.{checked, needing, sending, in_room}
+use Rattle.private_store.specs.rules.Contents.{digest_of}
+use Rattle.private_store.specs.rules.Replay.{unbegun_brief, answers_due}
+use Rattle.private_store.specs.rules.Trace.{IsPrivate}
+use Rattle.private_store.specs.rules.Shared.{AreSharedAnswers}
 use Rattle.store_laws.proofs.ExampleWords.{zeros, object, admit, end, call, deliver}
 
 -- an object is fetched from the node that has it

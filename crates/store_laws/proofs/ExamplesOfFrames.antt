@@ -6,7 +6,7 @@ use Rattle.obj_id.specs.declared.commands.Command.TheVariants.{Create, Seal, Get
 use Rattle.obj_id.specs.declared.commands.Reply.TheVariants as reply
 use Rattle.private_store.specs.declared.frames.Item.TheVariants as item
 use Rattle.obj_id.specs.Ids.{id_bytes}
-use Rattle.private_store.specs.Frames.{clean, mid_frame, malformed, item_frame, reply_frame, replies_bytes, stream_of}
+use Rattle.private_store.specs.rules.Frames.{clean, mid_frame, malformed, item_frame, reply_frame, replies_bytes, stream_of}
 use Rattle.store_laws.proofs.ExampleWords.{zeros, job, object}
 
 -- the id of job 1, task 1, index 1

@@ -7,9 +7,9 @@ use Rattle.obj_id.specs.declared.commands.Reply.TheVariants as reply
 use Rattle.obj_id.specs.declared.refusals.Refusal.TheVariants.{NotAdmitted, BadId, Exists, OutOfBounds, Granted, NotGranted, TooMany, NotResident}
 use Rattle.obj_id.specs.declared.commands.Kind.TheVariants.{Primary}
 use Rattle.private_store.specs.declared.schedules.Traced.{Traced}
-use Rattle.private_store.specs.Change.{checked, needing, sending, in_room}
-use Rattle.private_store.specs.Trace.{IsPrivate}
-use Rattle.private_store.specs.Shared.{AreSharedAnswers}
+use Rattle.private_store.specs.rules.Change.{checked, needing, sending, in_room}
+use Rattle.private_store.specs.rules.Trace.{IsPrivate}
+use Rattle.private_store.specs.rules.Shared.{AreSharedAnswers}
 use Rattle.store_laws.proofs.ExampleWords.{zeros, task, job, object, admit, call}
 
 -- foreign ids are refused alike; a grant shows an object, also to a job that comes later
@@ -199,7 +199,7 @@ pub handed_on-shared : AreSharedAnswers 1 1048576 handed_on
 unfolding checked needing sending in_room
 handed_on-shared = refl
 
--- the first giver is answered the same where no one hands on
+-- the first grantor is answered the same where no one hands on
 abbrev pub not_handed_on : List Traced
 not_handed_on =
     admit 0 1 64 0 reply.Ok

@@ -7,9 +7,9 @@ use Rattle.obj_id.specs.declared.commands.Reply.TheVariants as reply
 use Rattle.obj_id.specs.declared.refusals.Refusal.TheVariants.{NotAdmitted, BadSize, Full, NoRoom}
 use Rattle.obj_id.specs.declared.commands.Kind.TheVariants.{Primary}
 use Rattle.private_store.specs.declared.schedules.Traced.{Traced}
-use Rattle.private_store.specs.Change.{checked, needing, sending, in_room}
-use Rattle.private_store.specs.Trace.{IsPrivate}
-use Rattle.private_store.specs.Shared.{AreSharedAnswers}
+use Rattle.private_store.specs.rules.Change.{checked, needing, sending, in_room}
+use Rattle.private_store.specs.rules.Trace.{IsPrivate}
+use Rattle.private_store.specs.rules.Shared.{AreSharedAnswers}
 use Rattle.store_laws.proofs.ExampleWords.{object, admit, quota, call}
 
 -- a window shrinks to what is used and grows where memory is free

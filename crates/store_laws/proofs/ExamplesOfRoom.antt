@@ -8,9 +8,9 @@ use Rattle.obj_id.specs.declared.refusals.Refusal.TheVariants.{BadSize, Full, No
 use Rattle.obj_id.specs.declared.commands.Kind.TheVariants.{Primary, Secondary}
 use Rattle.obj_id.specs.declared.commands.CopyState.TheVariants.{Created, Sealed}
 use Rattle.private_store.specs.declared.schedules.Traced.{Traced}
-use Rattle.private_store.specs.Change.{checked, needing, sending, in_room}
-use Rattle.private_store.specs.Trace.{IsPrivate}
-use Rattle.private_store.specs.Shared.{AreSharedAnswers}
+use Rattle.private_store.specs.rules.Change.{checked, needing, sending, in_room}
+use Rattle.private_store.specs.rules.Trace.{IsPrivate}
+use Rattle.private_store.specs.rules.Shared.{AreSharedAnswers}
 use Rattle.store_laws.proofs.ExampleWords.{zeros, object, admit, end, call}
 
 -- one object is created, written, sealed, held, read and released

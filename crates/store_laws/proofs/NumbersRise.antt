@@ -2,10 +2,10 @@
 use Rattle.std.proofs.Common.{◌≡◌, false, List, Option, refl, sym, ◌∙◌, arith}
 use Rattle.obj_id.specs.declared.ids.ObjectId.{ObjectId}
 use Rattle.private_store.specs.declared.inputs.Judged.{Judged}
-use Rattle.private_store.specs.Shape.{Shape}
-use Rattle.private_store.specs.Step.{step}
-use Rattle.private_store.specs.Kept.{NumbersRise, is_end}
-use Rattle.private_store.specs.Made.{Edit, asks, fetches, ends}
+use Rattle.private_store.specs.rules.Shape.{Shape}
+use Rattle.private_store.specs.rules.Step.{step}
+use Rattle.private_store.specs.laws.Invariants.{NumbersRise, is_end}
+use Rattle.private_store.specs.laws.Made.{Edit, asks, fetches, ends}
 use Rattle.store_facts.proofs.EachStep.{input_keeps}
 use Rattle.store_facts.proofs.Tests.{true_false}
 

@@ -9,21 +9,21 @@ use Rattle.obj_id.specs.declared.commands.Kind.{Kind}
 use Rattle.obj_id.specs.declared.commands.Reply.TheVariants as reply
 use Rattle.obj_id.specs.declared.refusals.Refusal.{Refusal}
 use Rattle.obj_id.specs.declared.refusals.Refusal.TheVariants.{Pending, DeviceFailed, TooMany, Full, Busy, Absent, NotSealed, Stale, BadSize}
-use Rattle.private_store.specs.Limits.{has_numbers}
-use Rattle.private_store.specs.Tables.{at}
+use Rattle.private_store.specs.rules.Limits.{has_numbers}
+use Rattle.private_store.specs.rules.Tables.{at}
 use Rattle.private_store.specs.declared.faults.FetchFault.TheVariants as fetch_fault
-use Rattle.private_store.specs.Shape.{Copy, Shape, Change, Fetch, Phase, locating, sized, pulling, failed, Sending}
+use Rattle.private_store.specs.rules.Shape.{Copy, Shape, Change, Fetch, Phase, locating, sized, pulling, failed, Sending}
 use Rattle.obj_id.specs.Kinds.{is_primary}
-use Rattle.private_store.specs.Copies.{device_used}
-use Rattle.private_store.specs.Room.{Room, fits, wait, full, busy, evict, spill, victims, spilled, spill_plan, bytes_of_copies, works_left, offset_without, set_copy, drop_copy, evicted, asked, no_room, spill_room, evict_room, room_by, make_room}
+use Rattle.private_store.specs.rules.Copies.{device_used}
+use Rattle.private_store.specs.rules.Room.{Room, fits, wait, full, busy, evict, spill, victims, spilled, spill_plan, bytes_of_copies, works_left, offset_without, set_copy, drop_copy, evicted, asked, no_room, spill_room, evict_room, room_by, make_room}
 use Rattle.obj_id.specs.declared.ids.TaskNo.{TaskNo}
 use Rattle.obj_id.specs.declared.commands.Command.{Command}
 use Rattle.obj_id.specs.declared.commands.Command.TheVariants as command
-use Rattle.private_store.specs.Copies.{in_scope}
-use Rattle.private_store.specs.Tables.{ids_of}
-use Rattle.private_store.specs.Shape.{locate}
-use Rattle.private_store.specs.Change.{settled, doom}
-use Rattle.private_store.specs.Commands.{refusal_of, fetch_refusal, create, created, write, seal, get, read, release, unpin, borrow, give_up, delete, end_task, grant, grant_own, grant_foreign, withdraw, peek, leave, restore, restoring, get_away, get_fetching, get_copy, get_sealed, begin_pull, begin_fetch, fetch_begun, at_each, then_change, scoped, give_up_one, leave_one, has_borrower, without_borrower, with_holds, of_task, task_ended}
+use Rattle.private_store.specs.rules.Copies.{in_scope}
+use Rattle.private_store.specs.rules.Tables.{ids_of}
+use Rattle.private_store.specs.rules.Shape.{locate}
+use Rattle.private_store.specs.rules.Change.{settled, doom}
+use Rattle.private_store.specs.rules.Commands.{refusal_of, fetch_refusal, create, created, write, seal, get, read, release, unpin, borrow, give_up, delete, end_task, grant, grant_own, grant_foreign, withdraw, peek, leave, restore, restoring, get_away, get_fetching, get_copy, get_sealed, begin_pull, begin_fetch, fetch_begun, at_each, then_change, scoped, give_up_one, leave_one, has_borrower, without_borrower, with_holds, of_task, task_ended}
 use Rattle.obj_id.specs.declared.works.Quota.{Quota}
 use Rattle.private_store.specs.declared.inputs.Source.{Source}
 use Rattle.private_store.specs.declared.inputs.WorkVerdict.{WorkVerdict}
@@ -32,12 +32,12 @@ use Rattle.private_store.specs.declared.inputs.ChunkVerdict.{ChunkVerdict}
 use Rattle.private_store.specs.declared.inputs.ChunkVerdict.TheVariants as chunk
 use Rattle.private_store.specs.declared.inputs.Judged.{Judged}
 use Rattle.private_store.specs.declared.inputs.Judged.TheVariants as judged
-use Rattle.private_store.specs.Limits.{is_quota}
-use Rattle.private_store.specs.Shape.{WorkInFlight, not_begun, live, ended, chunks, not_here, remove_source}
-use Rattle.private_store.specs.Copies.{visible}
-use Rattle.private_store.specs.Events.{begin, end_job_here, answer, written, without_work, read_back, located, located_copy, with_fetch, fetch_of, chunk_taken, chunk_arrived, is_missing, not_here_arrived, fetch_failed, pull_answer, pull_arrived, quiet}
-use Rattle.private_store.specs.Step.{owned, commanded, if_live, step}
-use Rattle.private_store.specs.Change.{refused, done, checked, needing, sending, in_room, keys_gone, erasing}
+use Rattle.private_store.specs.rules.Limits.{is_quota}
+use Rattle.private_store.specs.rules.Shape.{WorkInFlight, not_begun, live, ended, chunks, not_here, remove_source}
+use Rattle.private_store.specs.rules.Copies.{visible}
+use Rattle.private_store.specs.rules.Events.{begin, end_job_here, answer, written, without_work, read_back, located, located_copy, with_fetch, fetch_of, chunk_taken, chunk_arrived, is_missing, not_here_arrived, fetch_failed, pull_answer, pull_arrived, quiet}
+use Rattle.private_store.specs.rules.Step.{owned, commanded, if_live, step}
+use Rattle.private_store.specs.rules.Change.{refused, done, checked, needing, sending, in_room, keys_gone, erasing}
 use Rattle.store_laws.specs.Refusing.{Waits, none, then_wait, evicts, asks, restores, pulls, fetches, IsWaiting, IsExcused, unchanged, spill_told, fault_told, fetch_told, waits, RefusesCleanly}
 use Rattle.store_facts.proofs.Tests.{both_left, both_right}
 use Rattle.store_facts.proofs.EachStep.{may_go, victims_may}
@@ -303,7 +303,7 @@ get_clean order store session id =
 abbrev ToldOk : Change → Type 0
 ToldOk c = c.reply ≡ reply.Ok
 
--- what is told at the end of a list of changes is Ok
+-- what is answered at the end of a list of changes is Ok
 at_each_told : (f : Shape → ObjectId → Change) → ((store : Shape) (id : ObjectId) → (f store id).reply ≡ reply.Ok) → (ids : List ObjectId) (c : Change) → c.reply ≡ reply.Ok → (at_each f ids c).reply ≡ reply.Ok
 unfolding sending
 at_each_told f each [] c is = is
@@ -434,7 +434,7 @@ erasing_clean store c h r e = by_excuse r (h r e)
 if_live_clean : (store : Shape) (c : Change) → RefusesCleanly store c → RefusesCleanly store (if_live store c)
 if_live_clean store c h = checked_clean store _ _ h
 
--- what is done with a fetch is told Ok
+-- what is done with a fetch is answered Ok
 with_fetch_told : (store : Shape) (id : ObjectId) (number : ℕ) (f : Copy → Fetch → Change) → ((copy : Copy) (fetch : Fetch) → (f copy fetch).reply ≡ reply.Ok) → (with_fetch store id number f).reply ≡ reply.Ok
 with_fetch_told store id number f each =
     elim (fetch_of store id number) as (λ o. (option_map_or (λ p. f p.0 p.1) o (done store)).reply ≡ reply.Ok) [ None ↦ refl | Some p ↦ each p.0 p.1 ]
@@ -550,6 +550,6 @@ module _ (store : Shape) where
   step_clean order (judged.Chunk id number index from verdict) = if_live_clean store _ (ok_clean store _ (chunk_told id number index from verdict))
   step_clean order (judged.Pull id number matches) = if_live_clean store _ (ok_clean store _ (pull_told order id matches))
   step_clean order (judged.NotHere id number from) = if_live_clean store _ (ok_clean store _ (not_here_told id number from))
-  step_clean order (judged.Received id n giver depth) = done_clean store _
-  step_clean order (judged.Withdrawn id giver depth) = done_clean store _
+  step_clean order (judged.Received id n grantor depth) = done_clean store _
+  step_clean order (judged.Withdrawn id grantor depth) = done_clean store _
   step_clean order judged.End = if_live_clean store _ (ok_clean store _ end_told)

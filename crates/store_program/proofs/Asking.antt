@@ -2,10 +2,10 @@
 use Rattle.std.proofs.Common.{◌≡◌, ℕ, List, [], ◌∷◌, Option, Some, None, codes, sym, ◌∙◌}
 use Rattle.std.specs.Prelude.{IfSome}
 use Rattle.schedule_text.specs.Fields.{Reads}
-use Rattle.store_program.specs.declared.asked.Look.{Look}
-use Rattle.store_program.specs.declared.asked.Look.TheVariants as look
-use Rattle.store_program.specs.declared.asked.LookAt.{LookAt}
-use Rattle.store_program.specs.Asked.{IsJobLook, IsLookAfter, look_word}
+use Rattle.store_program.specs.declared.control_lines.Look.{Look}
+use Rattle.store_program.specs.declared.control_lines.Look.TheVariants as look
+use Rattle.store_program.specs.declared.control_lines.LookAt.{LookAt}
+use Rattle.store_program.specs.ControlLines.{IsJobLook, IsLookAfter, look_word}
 
 module _ (nodes : ℕ) (word : List ℕ) (is : word ≡ codes "usage") where
   sound : (fields : List (List ℕ)) (n : ℕ) (l : Look) → IsJobLook nodes fields (record { node = n; look = l }) → IsLookAfter nodes word fields (record { node = n; look = l })

@@ -6,12 +6,12 @@ use Rattle.std.specs.String.{string_bytes}
 use Rattle.store_facts.proofs.Tests.{none_some}
 use Rattle.schedule_text.specs.Fields.{Reads}
 use Rattle.schedule_text.specs.Reading.{is_skipped}
-use Rattle.store_program.specs.declared.asked.Asked.{Asked}
+use Rattle.store_program.specs.declared.control_lines.ControlLine.{ControlLine}
 use Rattle.store_program.specs.declared.attending.Answer.{Answer}
-use Rattle.store_program.specs.declared.taking.Taken.{Taken}
-use Rattle.store_program.specs.declared.taking.Taken.TheVariants.{TooLong}
-use Rattle.store_program.specs.Asked.{IsAsked, IsAskedWithin}
-use Rattle.store_program.specs.Attending.{IsAnswer, IsAnswered, IsAnswerOf, IsHandled, IsMade, IsNoAsked, IsNone, IsTextOf, is_closing, no_order_line, skipped, long, none, answered}
+use Rattle.store_program.specs.declared.taking.LineTaken.{LineTaken}
+use Rattle.store_program.specs.declared.taking.LineTaken.TheVariants.{TooLong}
+use Rattle.store_program.specs.ControlLines.{IsControlLine, IsAskedWithin}
+use Rattle.store_program.specs.Attending.{IsAnswer, IsAnswered, IsAnswerOf, IsHandled, IsAnswerMade, IsNoAsked, IsNone, IsAnswerText, is_closing, no_order_line, skipped, long, none, answered}
 
 module _ (nodes count number : ℕ) where
   -- by what it was answered, and whether it was the last
@@ -25,27 +25,27 @@ module _ (nodes count number : ℕ) where
   none_answered : (text : List ℕ) (a : Answer) → IsHandled nodes count number text (no_order_line number) false → IsNone number a → IsAnswered nodes count number text a
   none_answered text a h is = by_answer text (no_order_line number) (string_bytes a.line) false a.is_last is.line is.further h
 
-  pub long_answered : {E : Type 0} (taken : Taken) → taken ≡ TooLong → (line : List ℕ) (r : Result Answer E) → IfOk r (IsNone number) → IfOk r (λ a. (text : List ℕ) → IsTextOf taken line text → IsAnswered nodes count number text a)
-  long_answered taken is line (Ok a) made = λ text h. none_answered text a (long (subst (λ t. IsTextOf t line text) is h)) made
+  pub long_answered : {E : Type 0} (taken : LineTaken) → taken ≡ TooLong → (line : List ℕ) (r : Result Answer E) → IfOk r (IsNone number) → IfOk r (λ a. (text : List ℕ) → IsAnswerText taken line text → IsAnswered nodes count number text a)
+  long_answered taken is line (Ok a) made = λ text h. none_answered text a (long (subst (λ t. IsAnswerText t line text) is h)) made
   long_answered taken is line (Err e) made = tt
 
   module _ (text : List ℕ) (speaks : is_skipped text ≡ false) where
-    pub other_answered : {E : Type 0} (found : Option Asked) → found ≡ None → (IsUtf8 text → Reads found (IsAsked nodes text)) → (r : Result Answer E) → IfOk r (IsNone number) → IfOk r (IsAnswered nodes count number text)
+    pub other_answered : {E : Type 0} (found : Option ControlLine) → found ≡ None → (IsUtf8 text → Reads found (IsControlLine nodes text)) → (r : Result Answer E) → IfOk r (IsNone number) → IfOk r (IsAnswered nodes count number text)
     other_answered found is whole (Err e) made = tt
     other_answered found is whole (Ok a) made = none_answered text a (none (record { speaks = speaks; none = λ u other of within. none_some other (sym is ∙ (whole u).whole other of) })) made
 
-    module _ (found : Option Asked) (a : Asked) (is : found ≡ Some a) (sound : IfSome found (IsAsked nodes text)) (whole : IsUtf8 text → Reads found (IsAsked nodes text)) where
-      asked_is : IsAsked nodes text a
-      asked_is = subst (λ f. IfSome f (IsAsked nodes text)) is sound
+    module _ (found : Option ControlLine) (a : ControlLine) (is : found ≡ Some a) (sound : IfSome found (IsControlLine nodes text)) (whole : IsUtf8 text → Reads found (IsControlLine nodes text)) where
+      asked_is : IsControlLine nodes text a
+      asked_is = subst (λ f. IfSome f (IsControlLine nodes text)) is sound
 
-      by_made : (x : Answer) → IsMade count number a x → IsAnswered nodes count number text x
+      by_made : (x : Answer) → IsAnswerMade count number a x → IsAnswered nodes count number text x
       by_made x (inl of) = by_answer text (string_bytes x.line) (string_bytes x.line) (is_closing a) x.is_last refl of.last (answered a (string_bytes x.line) asked_is of.line)
       by_made x (inr of) =
           none_answered text x (none (record { speaks = speaks; none = λ u other spelled within. of.0 (subst (IsAskedWithin count) (same other (sym ((whole u).whole other spelled) ∙ is)) within) })) of.1
         where
-          same : (other : Asked) → Some other ≡ Some a → other ≡ a
+          same : (other : ControlLine) → Some other ≡ Some a → other ≡ a
           same other e = cc
 
-      pub asked_answered : {E : Type 0} (r : Result Answer E) → IfOk r (IsMade count number a) → IfOk r (IsAnswered nodes count number text)
+      pub asked_answered : {E : Type 0} (r : Result Answer E) → IfOk r (IsAnswerMade count number a) → IfOk r (IsAnswered nodes count number text)
       asked_answered (Ok x) made = by_made x made
       asked_answered (Err e) made = tt

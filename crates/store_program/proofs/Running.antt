@@ -14,29 +14,29 @@ use Rattle.private_store.specs.declared.schedules.Step.TheVariants.{At}
 use Rattle.private_store.specs.declared.schedules.Traced.{Traced}
 use Rattle.schedule_text.specs.Reading.{is_skipped}
 use Rattle.schedule_text.specs.declared.line.Line.TheVariants as line
-use Rattle.schedule_text.specs.declared.line.Outcome.{Outcome}
+use Rattle.schedule_text.specs.declared.line.FinishWord.{FinishWord}
 use Rattle.world_core.specs.Worlds.{Hosting, IsAfter}
 use Rattle.store_program.specs.declared.fault.Fault.{Fault}
 use Rattle.store_program.specs.declared.fault.Fault.TheVariants.{NotAStep, Input, Output, Socket, Folded, NoMemory}
-use Rattle.store_program.specs.Lines.{Heard, IsSpelled, Says, stands, finishes, with_feed, marks_of, history_of, input_of, output_of}
+use Rattle.store_program.specs.Lines.{LineRead, IsSpelled, Says, stands, finishes, with_line_feed, items_of_lines, history_of, input_of, output_of}
 use Rattle.journal_text.specs.Saved.{Saved}
-use Rattle.store_program.specs.Kept.{Kept, IsKept}
+use Rattle.store_program.specs.SavedRuns.{SavedStep, IsSavedStep}
 use Rattle.store_program.specs.Workers.{Crew, IsCrewAfter, Calls, handed_in, held_by}
-use Rattle.store_program.specs.Runs.{RunsStep, RunsLine, StopsRun, IsNextLine, IsReadingFault, AreKept, LeadTo, Progress, IsWorldly, IsOutput, Ran}
+use Rattle.store_program.specs.Runs.{RunsStep, RunsLine, StopsRun, IsNextScheduleLine, IsReadingFault, AreKept, LeadTo, Progress, IsWorldly, IsOutput, Ran}
 use Rattle.store_program.proofs.Crews.{handed_due, after_handing, after_step}
 use Rattle.store_program.proofs.Within.{said_apart, finish_within}
 use Rattle.store_facts.proofs.KnownBytes.{Appends-none, Appends-then, Appends-kept, Consumes-none, Consumes-then, Consumes-all}
 
 -- ---- one line
 
-nothing_kept : Kept
+nothing_kept : SavedStep
 nothing_kept = record { judged = None; notes = [] }
 
-pub nothing_line : (nodes : ℕ) (bytes text : List ℕ) (world : Hosting) (crew : Crew) (journal : Option Saved) (a : Option (List ℕ)) → bytes ≡ with_feed text → is_skipped text ≡ true → RunsLine nodes bytes world crew journal world crew journal a a
+pub nothing_line : (nodes : ℕ) (bytes text : List ℕ) (world : Hosting) (crew : Crew) (journal : Option Saved) (a : Option (List ℕ)) → bytes ≡ with_line_feed text → is_skipped text ≡ true → RunsLine nodes bytes world crew journal world crew journal a a
 nothing_line nodes bytes text world crew journal a is skipped =
     record { heard = record { text = text; answered = None; kept = nothing_kept }; is_text = is; is_answered = λ history h. skipped; after = λ memory history h. h; crew = λ history h. h; keeps = refl; journal = λ asked marks k. k; written = Appends-none a }
 
-module _ (nodes : ℕ) (bytes text : List ℕ) (old new : Hosting) (crew_old crew_new : Crew) (journal_old journal_new : Option Saved) (a b : Option (List ℕ)) (result : Result ⊤ Fault) (is : bytes ≡ with_feed text) where
+module _ (nodes : ℕ) (bytes text : List ℕ) (old new : Hosting) (crew_old crew_new : Crew) (journal_old journal_new : Option Saved) (a b : Option (List ℕ)) (result : Result ⊤ Fault) (is : bytes ≡ with_line_feed text) where
   pub step_line : (step : Step) → Says nodes text (line.Step step) → OnOk result (RunsStep old crew_old journal_old step new crew_new journal_new a b) → OnOk result (RunsLine nodes bytes old crew_old journal_old new crew_new journal_new a b)
   step_line step said ran = on_ok result ran
     where
@@ -57,7 +57,7 @@ module _ (nodes : ℕ) (bytes text : List ℕ) (old new : Hosting) (crew_old cre
           }
 
   -- the crew between: what is handed in is known, and the step not taken yet
-  pub finish_line : (crew : Crew) (node : ℕ) (job : JobNo) (number : ℕ) (o : Outcome) (answer : DeviceAnswer) → Says nodes text (line.Finish node job number o)
+  pub finish_line : (crew : Crew) (node : ℕ) (job : JobNo) (number : ℕ) (o : FinishWord) (answer : DeviceAnswer) → Says nodes text (line.Finish node job number o)
       → answer ≡ handed_in crew_old.taken (held_by crew_old.devices) node job number o → Calls crew_old node job number answer crew
       → OnOk result (RunsStep old crew journal_old (At node (event.Finish job number answer)) new crew_new journal_new a b) → OnOk result (RunsLine nodes bytes old crew_old journal_old new crew_new journal_new a b)
   finish_line crew node job number o answer said due calls ran = on_ok result ran
@@ -87,10 +87,10 @@ module _ (nodes : ℕ) (bytes text : List ℕ) (old new : Hosting) (crew_old cre
           }
 
 -- a line without its line feed has none
-pub whole_text : (bytes text : List ℕ) → bytes ≡ with_feed text → StopsAt bytes 10 → All (λ byte. byte ≢ 10) text
+pub whole_text : (bytes text : List ℕ) → bytes ≡ with_line_feed text → StopsAt bytes 10 → All (λ byte. byte ≢ 10) text
 whole_text bytes text is stops =
     let at : length bytes - 1 ≡ length text = ap (λ b. length b - 1) is ∙ ap (λ n. n - 1) (length-append text (10 ∷ [])) ∙ (omega arith) in
-    subst (All (λ byte. byte ≢ 10)) (ap (λ b. take (length bytes - 1) b) is ∙ ap (λ n. take n (with_feed text)) at ∙ take-append_seam text (10 ∷ [])) stops
+    subst (All (λ byte. byte ≢ 10)) (ap (λ b. take (length bytes - 1) b) is ∙ ap (λ n. take n (with_line_feed text)) at ∙ take-append_seam text (10 ∷ [])) stops
 
 -- ---- the run so far
 
@@ -98,17 +98,17 @@ pub worldly : (nodes memory : ℕ) (world : Hosting) (history : List Traced) →
 worldly nodes memory world [] h = tt
 worldly nodes memory world (entry ∷ history) h = (world, h)
 
-all_kept : (nodes memory : ℕ) (world : Hosting) (lines : List Heard) → LeadTo nodes memory lines world → AreKept nodes memory lines
+all_kept : (nodes memory : ℕ) (world : Hosting) (lines : List LineRead) → LeadTo nodes memory lines world → AreKept nodes memory lines
 all_kept nodes memory world [] h = tt
 all_kept nodes memory world (heard ∷ lines) h = (world, h)
 
 -- the line that is read next is the next one of the input
-pub next_line : (a r : Option (List ℕ)) (before bytes : List ℕ) → Consumes a r before → IfSome r (λ left. bytes ≡ take_through 10 left) → IsNextLine a before bytes
+pub next_line : (a r : Option (List ℕ)) (before bytes : List ℕ) → Consumes a r before → IfSome r (λ left. bytes ≡ take_through 10 left) → IsNextScheduleLine a before bytes
 next_line None r before bytes read whole = tt
 next_line (Some all) None before bytes read whole = absurd read
 next_line (Some all) (Some left) before bytes read whole = whole ∙ ap (take_through 10) (sym (ap (drop (length before)) read ∙ drop-append_seam before left))
 
-pub begun : (nodes memory : ℕ) (world : Hosting) (crew : Crew) (asked : Bool) (journal : Option Saved) (a b : Option (List ℕ)) → IsAfter nodes memory world [] → IsCrewAfter nodes crew [] → IsKept asked journal [] → Progress nodes memory 1 world crew asked journal a a b b
+pub begun : (nodes memory : ℕ) (world : Hosting) (crew : Crew) (asked : Bool) (journal : Option Saved) (a b : Option (List ℕ)) → IsAfter nodes memory world [] → IsCrewAfter nodes crew [] → IsSavedStep asked journal [] → Progress nodes memory 1 world crew asked journal a a b b
 begun nodes memory world crew asked journal a b h c k = record { lines = []; counted = refl; heard = tt; after = h; crew = c; kept = h; has_kept = k; consumed = Consumes-none a; written = Appends-none b }
 
 pub no_world : (nodes memory : ℕ) (asked : Bool) (journal : Option Saved) (a b : Option (List ℕ)) → Ran nodes memory asked journal a a b b (Err NoMemory)
@@ -211,8 +211,8 @@ module _ (nodes memory number : ℕ) (world : Hosting) (workers : Crew) (asked :
           after = ran.after memory (history_of so_far.lines) so_far.after;
           crew = ran.crew (history_of so_far.lines) so_far.crew;
           kept = (ran.after memory (history_of so_far.lines) so_far.after, (world, (ran.keeps, so_far.kept)));
-          has_kept = ran.journal asked (marks_of so_far.lines) so_far.has_kept;
-          consumed = Consumes-then a r r1 (input_of so_far.lines) (with_feed ran.heard.text) so_far.consumed (subst (Consumes r r1) ran.is_text read);
+          has_kept = ran.journal asked (items_of_lines so_far.lines) so_far.has_kept;
+          consumed = Consumes-then a r r1 (input_of so_far.lines) (with_line_feed ran.heard.text) so_far.consumed (subst (Consumes r r1) ran.is_text read);
           written = Appends-then b w w1 (output_of so_far.lines) _ so_far.written ran.written;
         }
 

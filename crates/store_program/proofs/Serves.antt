@@ -7,9 +7,9 @@ use Rattle.store_program.specs.declared.fault.Fault.{Fault}
 use Rattle.store_program.specs.declared.fault.Fault.TheVariants.{NotAStep, Input, Output, Socket, Folded, NoMemory}
 use Rattle.store_program.specs.declared.serving.LastLine.{LastLine}
 use Rattle.store_program.specs.declared.serving.LastLine.TheVariants.{Close, OfInput}
-use Rattle.store_program.specs.Lines.{with_feed}
+use Rattle.store_program.specs.Lines.{with_line_feed}
 use Rattle.store_program.specs.Runs.{IsReadingFault}
-use Rattle.store_program.specs.Servings.{Obeys, StopsOrder, Serving, ServingEnds, IsWritten, Served, close_line, orders_of, answers_of}
+use Rattle.store_program.specs.Servings.{CarriesOut, StopsOrder, Serving, ServingEnds, IsWritten, ServedText, close_line, orders_of, answers_of}
 use Rattle.store_program.proofs.Running.{next_line}
 use Rattle.store_facts.proofs.KnownBytes.{Appends-none, Appends-then, Appends-kept, Consumes-none, Consumes-then, Consumes-all}
 
@@ -18,20 +18,20 @@ begun nodes a b = record { lines = []; counted = refl; obeyed = tt; consumed = C
 
 module _ (nodes number : ℕ) (a r b w : Option (List ℕ)) (so_far : Serving nodes number a r b w) where
   module _ (r1 : Option (List ℕ)) (bytes : List ℕ) (read : Consumes r r1 bytes) where
-    pub line_more : (w1 : Option (List ℕ)) → Obeys nodes bytes w w1 → Serving nodes (number + 1) a r1 b w1
+    pub line_more : (w1 : Option (List ℕ)) → CarriesOut nodes bytes w w1 → Serving nodes (number + 1) a r1 b w1
     line_more w1 obeys =
         let counted = so_far.counted in
         record {
           lines = obeys.obeyed ∷ so_far.lines;
           counted = ap suc counted ∙ (omega arith);
           obeyed = (obeys.spelled, so_far.obeyed);
-          consumed = Consumes-then a r r1 (orders_of so_far.lines) (with_feed obeys.obeyed.text) so_far.consumed (subst (Consumes r r1) obeys.is_text read);
+          consumed = Consumes-then a r r1 (orders_of so_far.lines) (with_line_feed obeys.obeyed.text) so_far.consumed (subst (Consumes r r1) obeys.is_text read);
           written = Appends-then b w w1 (answers_of so_far.lines) _ so_far.written obeys.written;
         }
 
     module _ (count : ℕ) where
       ended : (w1 : Option (List ℕ)) (result : Result LastLine Fault) → IsWritten b w1 (answers_of so_far.lines) result
-          → ServingEnds nodes count (suc (length so_far.lines)) a (orders_of so_far.lines) bytes result → Served nodes count a r1 b w1 result
+          → ServingEnds nodes count (suc (length so_far.lines)) a (orders_of so_far.lines) bytes result → ServedText nodes count a r1 b w1 result
       ended w1 result written ends =
           record {
             lines = so_far.lines;
@@ -42,7 +42,7 @@ module _ (nodes number : ℕ) (a r b w : Option (List ℕ)) (so_far : Serving no
             ends = ends;
           }
 
-      pub reading_failed : (fault : Fault) → IsReadingFault fault → Served nodes count a r1 b w (Err fault)
+      pub reading_failed : (fault : Fault) → IsReadingFault fault → ServedText nodes count a r1 b w (Err fault)
       reading_failed (NotAStep n) is = absurd is
       reading_failed Output is = absurd is
       reading_failed Socket is = absurd is
@@ -50,13 +50,13 @@ module _ (nodes number : ℕ) (a r b w : Option (List ℕ)) (so_far : Serving no
       reading_failed Input is = ended w (Err Input) so_far.written tt
       reading_failed NoMemory is = ended w (Err NoMemory) so_far.written tt
 
-      pub input_ended : IsAtEnd r → Served nodes count a r1 b w (Ok OfInput)
+      pub input_ended : IsAtEnd r → ServedText nodes count a r1 b w (Ok OfInput)
       input_ended end = ended w (Ok OfInput) so_far.written (Consumes-all a r (orders_of so_far.lines) so_far.consumed end)
 
-      pub closed : (w1 : Option (List ℕ)) → bytes ≡ close_line → Keeps w w1 → Served nodes count a r1 b w1 (Ok Close)
+      pub closed : (w1 : Option (List ℕ)) → bytes ≡ close_line → Keeps w w1 → ServedText nodes count a r1 b w1 (Ok Close)
       closed w1 is kept = ended w1 (Ok Close) (Appends-kept b w w1 (answers_of so_far.lines) so_far.written kept) is
 
-      pub line_stopped : IfSome r (λ left. bytes ≡ take_through 10 left) → (w1 : Option (List ℕ)) (fault : Fault) → StopsOrder nodes count number bytes w w1 fault → Served nodes count a r1 b w1 (Err fault)
+      pub line_stopped : IfSome r (λ left. bytes ≡ take_through 10 left) → (w1 : Option (List ℕ)) (fault : Fault) → StopsOrder nodes count number bytes w w1 fault → ServedText nodes count a r1 b w1 (Err fault)
       line_stopped whole w1 (NotAStep n) stops =
           ended w1 (Err (NotAStep n)) (Appends-kept b w w1 (answers_of so_far.lines) so_far.written stops.2) (stops.0 ∙ sym so_far.counted, stops.1, next_line a r (orders_of so_far.lines) bytes so_far.consumed whole)
       line_stopped whole w1 Input stops = absurd stops
@@ -65,5 +65,5 @@ module _ (nodes number : ℕ) (a r b w : Option (List ℕ)) (so_far : Serving no
       line_stopped whole w1 Output stops = ended w1 (Err Output) tt tt
       line_stopped whole w1 NoMemory stops = ended w1 (Err NoMemory) (Appends-kept b w w1 (answers_of so_far.lines) so_far.written stops) tt
 
-  pub too_many : (count : ℕ) → Served nodes count a r b w (Err Input)
+  pub too_many : (count : ℕ) → ServedText nodes count a r b w (Err Input)
   too_many count = reading_failed r [] (Consumes-none r) count Input tt

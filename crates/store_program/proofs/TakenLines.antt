@@ -5,14 +5,14 @@ use Rattle.std.proofs.lemmas.List.Elements.{All-append, All-from_recursion}
 use Rattle.store_facts.proofs.Tests.{true_false}
 use Rattle.store_facts.proofs.KnownBytes.{Consumes-then}
 use Rattle.store_program.specs.declared.taking.TheConstants.{LONGEST_LINE}
-use Rattle.store_program.specs.Taken.{HasTaken, IsKeptByte, IsTaking, IsUnbroken}
+use Rattle.store_program.specs.TakenLines.{HasTakenPart, IsKeptByte, IsTaking, IsUnbroken}
 
 unbroken_more : (part : List ℕ) (byte : ℕ) → IsUnbroken part → byte ≢ 10 → IsUnbroken (part ++ byte ∷ [])
 unbroken_more part byte h other = All-append (λ b. b ≢ 10) part (byte ∷ []) h (All-from_recursion (λ b. b ≢ 10) (byte ∷ []) (other, tt))
 
 module _ (a r : Option (List ℕ)) (line : List ℕ) (is_long : Bool) (so_far : IsTaking a r line is_long) (r1 : Option (List ℕ)) (byte : ℕ) (read : Consumes r r1 (byte ∷ [])) (other : byte ≢ 10) where
   -- of a byte that isn't kept
-  pub byte_part : HasTaken a r1
+  pub byte_part : HasTakenPart a r1
   byte_part = record { part = so_far.part ++ byte ∷ []; unbroken = unbroken_more so_far.part byte so_far.unbroken other; consumed = Consumes-then a r r1 so_far.part (byte ∷ []) so_far.consumed read }
 
   longer : (n : ℕ) → n ≤ length so_far.part → n < length (so_far.part ++ byte ∷ [])

@@ -4,19 +4,19 @@ use Rattle.std.specs.Prelude.{nat_lt, not, ◌&&◌}
 use Rattle.std.proofs.lemmas.Bool.Decides.{nat_tests}
 use Rattle.obj_id.specs.declared.ids.JobNo.{JobNo}
 use Rattle.obj_id.specs.declared.works.DeviceAnswer.{DeviceAnswer}
-use Rattle.obj_id.specs.declared.messages.Place.{Place}
-use Rattle.obj_id.specs.declared.messages.Place.TheVariants.{Node, Directory}
+use Rattle.obj_id.specs.declared.messages.Endpoint.{Endpoint}
+use Rattle.obj_id.specs.declared.messages.Endpoint.TheVariants.{Node, Directory}
 use Rattle.store_facts.proofs.Tests.{true_false, both_right}
 use Rattle.private_store.specs.declared.schedules.Event.TheVariants as event
 use Rattle.private_store.specs.declared.schedules.Step.{Step}
 use Rattle.private_store.specs.declared.schedules.Step.TheVariants.{At, Deliver}
 use Rattle.schedule_text.specs.declared.line.Line.TheVariants as line
-use Rattle.schedule_text.specs.declared.line.Outcome.{Outcome}
+use Rattle.schedule_text.specs.declared.line.FinishWord.{FinishWord}
 use Rattle.schedule_text.proofs.ForCallers.{is_there, is_finish, line_within, spelled_within}
 use Rattle.world_core.specs.Worlds.{is_place, is_within}
 use Rattle.store_program.specs.Lines.{Says}
 
-place_same : (nodes : ℕ) (place : Place) → is_there nodes place ≡ is_place nodes place
+place_same : (nodes : ℕ) (place : Endpoint) → is_there nodes place ≡ is_place nodes place
 place_same nodes (Node place) = refl
 place_same nodes Directory = refl
 
@@ -47,9 +47,9 @@ said_apart nodes text step said = hands_in_none nodes step (spelled_within nodes
 is_below : (node nodes : ℕ) → nat_lt node nodes ≡ true → node < nodes
 is_below node nodes h = grind (arith, nat_tests, h)
 
-pub finish_within : (nodes : ℕ) (text : List ℕ) (node : ℕ) (job : JobNo) (number : ℕ) (outcome : Outcome) → Says nodes text (line.Finish node job number outcome) → node < nodes
+pub finish_within : (nodes : ℕ) (text : List ℕ) (node : ℕ) (job : JobNo) (number : ℕ) (outcome : FinishWord) → Says nodes text (line.Finish node job number outcome) → node < nodes
 finish_within nodes text node job number outcome said = is_below node nodes (spelled_within nodes text (line.Finish node job number outcome) said.speaks said.spelled)
 
-pub said_finish_within : (nodes : ℕ) (text : List ℕ) (node : ℕ) (job : JobNo) (number : ℕ) (outcome : Outcome) (answer : DeviceAnswer) → Says nodes text (line.Finish node job number outcome)
+pub said_finish_within : (nodes : ℕ) (text : List ℕ) (node : ℕ) (job : JobNo) (number : ℕ) (outcome : FinishWord) (answer : DeviceAnswer) → Says nodes text (line.Finish node job number outcome)
     → is_within nodes (At node (event.Finish job number answer)) ≡ true
 said_finish_within nodes text node job number outcome answer said = spelled_within nodes text (line.Finish node job number outcome) said.speaks said.spelled

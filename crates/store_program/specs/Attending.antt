@@ -11,25 +11,25 @@ use Rattle.schedule_text.specs.Reading.{is_skipped}
 use Rattle.session_threads.specs.declared.cluster.Report.{Report}
 use Rattle.store_program.specs.declared.attending.TheConstants.{ORDERS}
 use Rattle.store_program.specs.declared.taking.TheConstants.{LONGEST_LINE}
-use Rattle.store_program.specs.declared.asked.Asked.{Asked}
-use Rattle.store_program.specs.declared.asked.Asked.TheVariants as asked
+use Rattle.store_program.specs.declared.control_lines.ControlLine.{ControlLine}
+use Rattle.store_program.specs.declared.control_lines.ControlLine.TheVariants as asked
 use Rattle.store_program.specs.declared.attending.Answer.{Answer}
 use Rattle.store_program.specs.declared.fault.Fault.{Fault}
 use Rattle.store_program.specs.declared.fault.Fault.TheVariants.{NotAStep, Input, Output, Socket, Folded, NoMemory}
 use Rattle.store_program.specs.declared.operator.Order.TheVariants as order
-use Rattle.store_program.specs.declared.taking.Taken.{Taken}
-use Rattle.store_program.specs.declared.taking.Taken.TheVariants.{Line, TooLong}
-use Rattle.store_program.specs.Asked.{IsAsked, IsAskedWithin}
-use Rattle.store_program.specs.Lines.{with_feed}
+use Rattle.store_program.specs.declared.taking.LineTaken.{LineTaken}
+use Rattle.store_program.specs.declared.taking.LineTaken.TheVariants.{Line, TooLong}
+use Rattle.store_program.specs.ControlLines.{IsControlLine, IsAskedWithin}
+use Rattle.store_program.specs.Lines.{with_line_feed}
 use Rattle.store_program.specs.Looks.{IsLookText}
 use Rattle.store_program.specs.Servings.{IsWritten, report_line}
-use Rattle.store_program.specs.Taken.{IsUnbroken}
+use Rattle.store_program.specs.TakenLines.{IsUnbroken}
 
 -- ---- answers
 
 -- to the line of this number, which is no order
 abbrev pub no_order_line : ℕ → List ℕ
-no_order_line number = with_feed (codes "line " ++ decimal number ++ codes ": not an order: the orders are " ++ ORDERS.now)
+no_order_line number = with_line_feed (codes "line " ++ decimal number ++ codes ": not an order: the orders are " ++ ORDERS.now)
 
 -- to a line that asks for a change: the node's, with a reply
 pub record IsChangeLine (node : ℕ) (line : List ℕ) : Type 0 where
@@ -39,20 +39,20 @@ pub record IsChangeLine (node : ℕ) (line : List ℕ) : Type 0 where
 -- to one that lets the server close: its report, or that a fault ended it
 abbrev pub closing_line : Option Report → List ℕ
 closing_line (Some report) = report_line report
-closing_line None = with_feed (codes "not done: a fault ends the server")
+closing_line None = with_line_feed (codes "not done: a fault ends the server")
 
 pub record IsClosingLine (line : List ℕ) : Type 0 where
   pub report : Option Report
   pub is : line ≡ closing_line report
 
-abbrev pub IsAnswer : Asked → List ℕ → Type 0
+abbrev pub IsAnswer : ControlLine → List ℕ → Type 0
 IsAnswer (asked.Order (order.Change node c)) line = IsChangeLine node line
 IsAnswer (asked.Order order.Close) line = IsClosingLine line
 IsAnswer asked.CloseNow line = IsClosingLine line
 IsAnswer (asked.Look node what) line = IsLookText node what line
 
 -- after it nothing more is read
-abbrev pub is_closing : Asked → Bool
+abbrev pub is_closing : ControlLine → Bool
 is_closing (asked.Order order.Close) = true
 is_closing asked.CloseNow = true
 is_closing _ = false
@@ -60,7 +60,7 @@ is_closing _ = false
 -- the text is no order for so many nodes, or it is longer than a line may be
 pub record IsNoAsked (nodes count : ℕ) (text : List ℕ) : Type 0 where
   pub speaks : is_skipped text ≡ false
-  pub none : IsUtf8 text → (a : Asked) → IsAsked nodes text a → IsAskedWithin count a → ⊥
+  pub none : IsUtf8 text → (a : ControlLine) → IsControlLine nodes text a → IsAskedWithin count a → ⊥
 
 -- a line with this number, without its line feed, was answered so, and whether it was the last: what is skipped has no answer, an order
 -- its own, and any other line is answered that it is none
@@ -68,7 +68,7 @@ pub data IsHandled (nodes count number : ℕ) (text : List ℕ) : List ℕ → B
   skipped : is_skipped text ≡ true → IsHandled nodes count number text [] false
   long : LONGEST_LINE < length text → IsHandled nodes count number text (no_order_line number) false
   none : IsNoAsked nodes count text → IsHandled nodes count number text (no_order_line number) false
-  answered : (a : Asked) (line : List ℕ) → IsAsked nodes text a → IsAnswer a line → IsHandled nodes count number text line (is_closing a)
+  answered : (a : ControlLine) (line : List ℕ) → IsControlLine nodes text a → IsAnswer a line → IsHandled nodes count number text line (is_closing a)
 
 -- the answer that was made of it
 abbrev pub IsAnswered : ℕ → ℕ → ℕ → List ℕ → Answer → Type 0
@@ -79,17 +79,17 @@ pub record IsNone (number : ℕ) (a : Answer) : Type 0 where
   pub line : string_bytes a.line ≡ no_order_line number
   pub further : a.is_last ≡ false
 
-pub record IsAnswerOf (what : Asked) (a : Answer) : Type 0 where
+pub record IsAnswerOf (what : ControlLine) (a : Answer) : Type 0 where
   pub line : IsAnswer what (string_bytes a.line)
   pub last : a.is_last ≡ is_closing what
 
-abbrev pub IsMade : ℕ → ℕ → Asked → Answer → Type 0
-IsMade count number what a = IsAnswerOf what a ⊎ ((IsAskedWithin count what → ⊥) × IsNone number a)
+abbrev pub IsAnswerMade : ℕ → ℕ → ControlLine → Answer → Type 0
+IsAnswerMade count number what a = IsAnswerOf what a ⊎ ((IsAskedWithin count what → ⊥) × IsNone number a)
 
 -- the text that was taken, of which only a line that isn't too long was kept
-abbrev pub IsTextOf : Taken → List ℕ → List ℕ → Type 0
-IsTextOf Line line text = text ≡ line
-IsTextOf TooLong line text = LONGEST_LINE < length text
+abbrev pub IsAnswerText : LineTaken → List ℕ → List ℕ → Type 0
+IsAnswerText Line line text = text ≡ line
+IsAnswerText TooLong line text = LONGEST_LINE < length text
 
 -- a line is answered, and the answer written
 pub record Replies (nodes count number : ℕ) (text : List ℕ) (written_old written_new : Option (List ℕ)) (is_last : Bool) : Type 0 where
@@ -113,7 +113,7 @@ AreAttended nodes count (a ∷ lines) = IsUnbroken a.text × IsHandled nodes cou
 -- the bytes that were read
 abbrev pub texts_of : List Attended → List ℕ
 texts_of [] = []
-texts_of (a ∷ lines) = texts_of lines ++ with_feed a.text
+texts_of (a ∷ lines) = texts_of lines ++ with_line_feed a.text
 
 -- the bytes that were written
 abbrev pub answers_of : List Attended → List ℕ

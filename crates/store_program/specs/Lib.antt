@@ -1,13 +1,13 @@
 pub mod CommandLine
 pub mod Endings
 pub mod FailedCalls
-pub mod Kept
+pub mod SavedRuns
 pub mod Lines
 pub mod Orders
 pub mod Runs
 pub mod Servings
 pub mod Workers
-pub mod Asked
+pub mod ControlLines
 pub mod Attending
 pub mod Looks
-pub mod Taken
+pub mod TakenLines

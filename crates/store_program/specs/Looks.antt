@@ -7,9 +7,9 @@ use Rattle.private_store.specs.declared.schedules.StepAnswer.TheVariants.{Told}
 use Rattle.schedule_text.specs.declared.prefixes.Prefix.TheVariants.{Operator}
 use Rattle.schedule_text.specs.Printing.{line_text}
 use Rattle.session_threads.specs.declared.looking.LiveJob.{LiveJob}
-use Rattle.store_program.specs.declared.asked.Look.{Look}
-use Rattle.store_program.specs.declared.asked.Look.TheVariants as look
-use Rattle.store_program.specs.Lines.{with_feed}
+use Rattle.store_program.specs.declared.control_lines.Look.{Look}
+use Rattle.store_program.specs.declared.control_lines.Look.TheVariants as look
+use Rattle.store_program.specs.Lines.{with_line_feed}
 
 -- a job with its quotas, after a space
 abbrev pub job_text : LiveJob → List ℕ
@@ -20,10 +20,10 @@ jobs_text [] = []
 jobs_text (live ∷ jobs) = job_text live ++ jobs_text jobs
 
 abbrev pub jobs_line : ℕ → List LiveJob → List ℕ
-jobs_line node jobs = with_feed (codes "n" ++ decimal node ++ codes " op jobs" ++ jobs_text jobs)
+jobs_line node jobs = with_line_feed (codes "n" ++ decimal node ++ codes " op jobs" ++ jobs_text jobs)
 
 abbrev pub sessions_line : ℕ → ℕ → List ℕ
-sessions_line node sessions = with_feed (codes "n" ++ decimal node ++ codes " op sessions " ++ decimal sessions)
+sessions_line node sessions = with_line_feed (codes "n" ++ decimal node ++ codes " op sessions " ++ decimal sessions)
 
 -- a job's usage, or that it isn't live
 abbrev pub IsUsageReply : Reply (List ℕ) → Type 0

@@ -14,9 +14,9 @@ use Rattle.store_program.specs.declared.operator.Order.{Order}
 use Rattle.store_program.specs.declared.operator.Order.TheVariants as order
 use Rattle.store_program.specs.declared.serving.LastLine.{LastLine}
 use Rattle.store_program.specs.declared.serving.LastLine.TheVariants.{Close, OfInput}
-use Rattle.store_program.specs.Lines.{with_feed}
+use Rattle.store_program.specs.Lines.{with_line_feed}
 use Rattle.store_program.specs.Orders.{IsOrder, IsWithin}
-use Rattle.store_program.specs.Runs.{IsNextLine}
+use Rattle.store_program.specs.Runs.{IsNextScheduleLine}
 
 -- a line, without its line feed, and the answer to it
 pub record Obeyed : Type 0 where
@@ -26,8 +26,8 @@ pub record Obeyed : Type 0 where
   pub reply : Reply (List ℕ)
 
 -- the bytes of a line that was answered
-abbrev pub answer_text : Obeyed → List ℕ
-answer_text o = line_text (Operator o.node) (Told o.reply)
+abbrev pub order_answer_text : Obeyed → List ℕ
+order_answer_text o = line_text (Operator o.node) (Told o.reply)
 
 -- of lines that stand newest first: each spells its change
 abbrev pub AreObeyed : ℕ → List Obeyed → Type 0
@@ -37,12 +37,12 @@ AreObeyed nodes (o ∷ lines) = IsOrder nodes o.text (order.Change o.node o.chan
 -- the bytes that were read
 abbrev pub orders_of : List Obeyed → List ℕ
 orders_of [] = []
-orders_of (o ∷ lines) = orders_of lines ++ with_feed o.text
+orders_of (o ∷ lines) = orders_of lines ++ with_line_feed o.text
 
 -- the bytes that were written
 abbrev pub answers_of : List Obeyed → List ℕ
 answers_of [] = []
-answers_of (o ∷ lines) = answers_of lines ++ answer_text o
+answers_of (o ∷ lines) = answers_of lines ++ order_answer_text o
 
 -- an answer is written
 pub record Replies (node : ℕ) (written_old written_new : Option (List ℕ)) : Type 0 where
@@ -50,19 +50,19 @@ pub record Replies (node : ℕ) (written_old written_new : Option (List ℕ)) : 
   pub written : Appends written_old written_new (line_text (Operator node) (Told reply))
 
 -- a line is carried out, and its answer written
-pub record Obeys (nodes : ℕ) (bytes : List ℕ) (written_old written_new : Option (List ℕ)) : Type 0 where
+pub record CarriesOut (nodes : ℕ) (bytes : List ℕ) (written_old written_new : Option (List ℕ)) : Type 0 where
   pub obeyed : Obeyed
-  pub is_text : bytes ≡ with_feed obeyed.text
+  pub is_text : bytes ≡ with_line_feed obeyed.text
   pub spelled : IsOrder nodes obeyed.text (order.Change obeyed.node obeyed.change)
-  pub written : Appends written_old written_new (answer_text obeyed)
+  pub written : Appends written_old written_new (order_answer_text obeyed)
 
 -- the bytes of `close`
 abbrev pub close_line : List ℕ
-close_line = with_feed (codes "close")
+close_line = with_line_feed (codes "close")
 
 -- a line after which it goes on, or doesn't
 abbrev pub ServesLine : ℕ → List ℕ → Option (List ℕ) → Option (List ℕ) → Bool → Type 0
-ServesLine nodes bytes written_old written_new true = Obeys nodes bytes written_old written_new
+ServesLine nodes bytes written_old written_new true = CarriesOut nodes bytes written_old written_new
 ServesLine nodes bytes written_old written_new false = (bytes ≡ close_line) × Keeps written_old written_new
 
 -- an answer that isn't written, but perhaps a part if the output failed
@@ -76,7 +76,7 @@ StopsReply written_old written_new NoMemory = Keeps written_old written_new
 
 -- bytes that aren't a line of the operator's: its line feed is missing, or its text spells no order for so many nodes
 pub record IsNoOrder (nodes count : ℕ) (bytes : List ℕ) : Type 0 where
-  pub none : (text : List ℕ) → bytes ≡ with_feed text → IsUtf8 text → (asked : Order) → IsOrder nodes text asked → IsWithin count asked → ⊥
+  pub none : (text : List ℕ) → bytes ≡ with_line_feed text → IsUtf8 text → (asked : Order) → IsOrder nodes text asked → IsWithin count asked → ⊥
 
 -- a line at which the serving stops: nothing is written, unless the output failed
 abbrev pub StopsOrder : ℕ → ℕ → ℕ → List ℕ → Option (List ℕ) → Option (List ℕ) → Fault → Type 0
@@ -102,7 +102,7 @@ pub record Serving (nodes number : ℕ) (read_old read_new written_old written_n
 abbrev pub ServingEnds : ℕ → ℕ → ℕ → Option (List ℕ) → List ℕ → List ℕ → Result LastLine Fault → Type 0
 ServingEnds nodes count number read_old input rest (Ok Close) = rest ≡ close_line
 ServingEnds nodes count number read_old input rest (Ok OfInput) = IfSome read_old (λ all. all ≡ input)
-ServingEnds nodes count number read_old input rest (Err (NotAStep n)) = (n ≡ number) × IsNoOrder nodes count rest × IsNextLine read_old input rest
+ServingEnds nodes count number read_old input rest (Err (NotAStep n)) = (n ≡ number) × IsNoOrder nodes count rest × IsNextScheduleLine read_old input rest
 ServingEnds nodes count number read_old input rest (Err Input) = ⊤
 ServingEnds nodes count number read_old input rest (Err Output) = ⊤
 ServingEnds nodes count number read_old input rest (Err Socket) = ⊥
@@ -120,7 +120,7 @@ IsWritten written_old written_new text (Err Folded) = ⊥
 IsWritten written_old written_new text (Err NoMemory) = Appends written_old written_new text
 
 -- the whole of it, at a cluster of so many nodes, which lines may name up to another number
-pub record Served (nodes count : ℕ) (read_old read_new written_old written_new : Option (List ℕ)) (result : Result LastLine Fault) : Type 0 where
+pub record ServedText (nodes count : ℕ) (read_old read_new written_old written_new : Option (List ℕ)) (result : Result LastLine Fault) : Type 0 where
   -- newest first
   pub lines : List Obeyed
   -- what was read of the line after them
@@ -133,4 +133,4 @@ pub record Served (nodes count : ℕ) (read_old read_new written_old written_new
 -- the line of a report
 abbrev pub report_line : Report → List ℕ
 report_line r =
-    with_feed (codes "report " ++ decimal r.entries ++ codes " " ++ decimal r.receipts ++ codes " " ++ decimal r.disagreeing ++ codes " " ++ decimal r.lost ++ codes " " ++ decimal r.erase_failures)
+    with_line_feed (codes "report " ++ decimal r.entries ++ codes " " ++ decimal r.receipts ++ codes " " ++ decimal r.disagreeing ++ codes " " ++ decimal r.lost ++ codes " " ++ decimal r.erase_failures)

@@ -8,45 +8,45 @@ use Rattle.obj_id.specs.declared.works.DeviceAnswer.{DeviceAnswer}
 use Rattle.obj_id.specs.declared.works.DeviceAnswer.TheVariants.{Done, Bytes, Failed}
 use Rattle.obj_id.specs.declared.works.Work.{Work}
 use Rattle.obj_id.specs.declared.commands.Reply.TheVariants as reply
-use Rattle.private_store.specs.Cluster.{damaged_bytes}
-use Rattle.private_store.specs.Trace.{is_no_memory}
+use Rattle.private_store.specs.rules.Cluster.{damaged_bytes}
+use Rattle.private_store.specs.rules.Trace.{is_no_memory}
 use Rattle.private_store.specs.declared.schedules.Event.TheVariants as event
 use Rattle.private_store.specs.declared.schedules.Step.{Step}
 use Rattle.private_store.specs.declared.schedules.Step.TheVariants.{At}
 use Rattle.private_store.specs.declared.schedules.StepAnswer.{StepAnswer}
 use Rattle.private_store.specs.declared.schedules.StepAnswer.TheVariants.{Told}
 use Rattle.private_store.specs.declared.schedules.Traced.{Traced}
-use Rattle.schedule_text.specs.declared.line.Outcome.{Outcome}
-use Rattle.schedule_text.specs.declared.line.Outcome.TheVariants as outcome
-use Rattle.spill_device.specs.Held.{Held, bytes_at, same_key}
-use Rattle.store_program.specs.declared.workers.Taken.{Taken}
+use Rattle.schedule_text.specs.declared.line.FinishWord.{FinishWord}
+use Rattle.schedule_text.specs.declared.line.FinishWord.TheVariants as outcome
+use Rattle.spill_device.specs.Held.{Held, held_bytes_at, same_device_key}
+use Rattle.store_program.specs.declared.workers.InService.{InService}
 
 -- ---- the works that are kept
 
-abbrev pub is_at : ℕ → JobNo → ℕ → Taken → Bool
-is_at node job number taken = taken.node == node && taken.work.job.0 == job.0 && taken.work.number == number
+abbrev pub is_taken_at : ℕ → JobNo → ℕ → InService → Bool
+is_taken_at node job number taken = taken.node == node && taken.work.job.0 == job.0 && taken.work.number == number
 
 -- a work that a Take gave is kept until a Finish of it that had memory
-abbrev pub taken_after : Step → StepAnswer → List Taken → List Taken
-taken_after (At node event.Take) (Told (reply.Work work)) taken = taken ++ record { node = node; work = work } ∷ []
-taken_after (At node (event.Finish job number answer)) told taken = if is_no_memory told then taken else filter (λ t. not (is_at node job number t)) taken
-taken_after _ _ taken = taken
+abbrev pub crew_after_take : Step → StepAnswer → List InService → List InService
+crew_after_take (At node event.Take) (Told (reply.Work work)) taken = taken ++ record { node = node; work = work } ∷ []
+crew_after_take (At node (event.Finish job number answer)) told taken = if is_no_memory told then taken else filter (λ t. not (is_taken_at node job number t)) taken
+crew_after_take _ _ taken = taken
 
 -- after these steps, newest first
-abbrev pub works_taken : List Traced → List Taken
+abbrev pub works_taken : List Traced → List InService
 works_taken [] = []
-works_taken (entry ∷ history) = taken_after entry.step entry.answer (works_taken history)
+works_taken (entry ∷ history) = crew_after_take entry.step entry.answer (works_taken history)
 
 -- ---- what the devices hold
 
 -- what a call for the work writes under the key: a write carries its bytes
 abbrev pub written_for : Work (List ℕ) → DeviceKey → Option (List ℕ)
-written_for work key = if same_key work.key key then work.payload else None
+written_for work key = if same_device_key work.key key then work.payload else None
 
 -- what was written under the node's key for a step: to hand in that a write is done, the device was called
-abbrev pub bytes_put : List Taken → Step → ℕ → DeviceKey → Option (List ℕ)
+abbrev pub bytes_put : List InService → Step → ℕ → DeviceKey → Option (List ℕ)
 bytes_put taken (At place (event.Finish job number Done)) node key =
-    if place == node then option_and_then (λ t. written_for t.work key) (find (is_at place job number) taken) else None
+    if place == node then option_and_then (λ t. written_for t.work key) (find (is_taken_at place job number) taken) else None
 bytes_put taken _ node key = None
 
 -- what is there after a write, if there was one
@@ -55,9 +55,9 @@ bytes_after (Some bytes) before = Some bytes
 bytes_after None before = before
 
 -- what the device of a node has under a key, after these steps
-abbrev pub device_bytes : List Traced → ℕ → DeviceKey → Option (List ℕ)
-device_bytes [] node key = None
-device_bytes (entry ∷ history) node key = bytes_after (bytes_put (works_taken history) entry.step node key) (device_bytes history node key)
+abbrev pub device_bytes_of : List Traced → ℕ → DeviceKey → Option (List ℕ)
+device_bytes_of [] node key = None
+device_bytes_of (entry ∷ history) node key = bytes_after (bytes_put (works_taken history) entry.step node key) (device_bytes_of history node key)
 
 -- ---- what is handed in
 
@@ -71,44 +71,44 @@ abbrev pub call_answer : Option (List ℕ) → Work (List ℕ) → DeviceAnswer
 call_answer under work = elim work.payload [ Some bytes ↦ Done | None ↦ read_answer under work.length ]
 
 -- no device is called for a work that isn't kept: it has failed
-abbrev pub called : (ℕ → DeviceKey → Option (List ℕ)) → ℕ → Option Taken → DeviceAnswer
+abbrev pub called : (ℕ → DeviceKey → Option (List ℕ)) → ℕ → Option InService → DeviceAnswer
 called held node None = Failed
 called held node (Some taken) = call_answer (held node taken.work.key) taken.work
 
 -- the low bit of the first byte that was read is turned
-abbrev pub damaged : DeviceAnswer → DeviceAnswer
-damaged (Bytes bytes) = Bytes (damaged_bytes bytes)
-damaged answer = answer
+abbrev pub damaged_answer : DeviceAnswer → DeviceAnswer
+damaged_answer (Bytes bytes) = Bytes (damaged_bytes bytes)
+damaged_answer answer = answer
 
-abbrev pub handed_in : List Taken → (ℕ → DeviceKey → Option (List ℕ)) → ℕ → JobNo → ℕ → Outcome → DeviceAnswer
-handed_in taken held node job number outcome.Ok = called held node (find (is_at node job number) taken)
+abbrev pub handed_in : List InService → (ℕ → DeviceKey → Option (List ℕ)) → ℕ → JobNo → ℕ → FinishWord → DeviceAnswer
+handed_in taken held node job number outcome.Ok = called held node (find (is_taken_at node job number) taken)
 handed_in taken held node job number outcome.Fail = Failed
-handed_in taken held node job number outcome.Damage = damaged (called held node (find (is_at node job number) taken))
+handed_in taken held node job number outcome.Damage = damaged_answer (called held node (find (is_taken_at node job number) taken))
 
 -- what is handed in for a work after these steps
-abbrev pub answer_due : List Traced → ℕ → JobNo → ℕ → Outcome → DeviceAnswer
-answer_due history node job number outcome = handed_in (works_taken history) (device_bytes history) node job number outcome
+abbrev pub device_answer_due : List Traced → ℕ → JobNo → ℕ → FinishWord → DeviceAnswer
+device_answer_due history node job number outcome = handed_in (works_taken history) (device_bytes_of history) node job number outcome
 
 -- ---- the workers of a run
 
 pub record Crew : Type 0 where
   -- of each node, by number
   pub devices : List Held
-  pub taken : List Taken
+  pub taken : List InService
 
 -- what the devices have under the keys of the nodes
 abbrev pub held_by : List Held → ℕ → DeviceKey → Option (List ℕ)
-held_by devices node key = option_and_then (λ device. bytes_at device key) (slice_get devices node)
+held_by devices node key = option_and_then (λ device. held_bytes_at device key) (slice_get devices node)
 
 -- the crew keeps these works, and its devices, one for each node, have these bytes
-pub record IsCrew (nodes : ℕ) (crew : Crew) (taken : List Taken) (held : ℕ → DeviceKey → Option (List ℕ)) : Type 0 where
+pub record IsCrew (nodes : ℕ) (crew : Crew) (taken : List InService) (held : ℕ → DeviceKey → Option (List ℕ)) : Type 0 where
   pub count : length crew.devices ≡ nodes
   pub kept : crew.taken ≡ taken
   pub holds : (node : ℕ) (key : DeviceKey) → node < nodes → held_by crew.devices node key ≡ held node key
 
 -- after these steps, newest first
 abbrev pub IsCrewAfter : ℕ → Crew → List Traced → Type 0
-IsCrewAfter nodes crew history = IsCrew nodes crew (works_taken history) (device_bytes history)
+IsCrewAfter nodes crew history = IsCrew nodes crew (works_taken history) (device_bytes_of history)
 
 -- a device was called, if one had to be, for what is handed in
 pub record Calls (old : Crew) (node : ℕ) (job : JobNo) (number : ℕ) (answer : DeviceAnswer) (new : Crew) : Type 0 where
@@ -119,4 +119,4 @@ pub record Calls (old : Crew) (node : ℕ) (job : JobNo) (number : ℕ) (answer 
 
 -- what the crew keeps after a step with its answer
 abbrev pub noted : Step → StepAnswer → Crew → Crew
-noted step told crew = record crew { taken = taken_after step told crew.taken }
+noted step told crew = record crew { taken = crew_after_take step told crew.taken }

@@ -3,17 +3,17 @@ ghost use Rattle.std.specs.Prelude.{◌≡◌, ℕ, List, true, false, length, I
 ghost use Rattle.std.specs.String.{string_bytes};
 ghost use Rattle.std.specs.Str.{IsUtf8};
 ghost use Rattle.schedule_text.specs.Fields.{Reads};
-ghost use Rattle.store_program.specs.Asked.{IsAsked};
-ghost use Rattle.store_program.specs.Attending.{HasAttended, IsAnswered, IsChangeLine, IsClosingLine, IsMade, IsNone, IsTextOf, Replies, closing_line as closing_line_lem, no_order_line as no_order_line_lem};
+ghost use Rattle.store_program.specs.ControlLines.{IsControlLine};
+ghost use Rattle.store_program.specs.Attending.{HasAttended, IsAnswered, IsChangeLine, IsClosingLine, IsAnswerMade, IsNone, IsAnswerText, Replies, closing_line as closing_line_lem, no_order_line as no_order_line_lem};
 ghost use Rattle.store_program.specs.Looks.{IsLookText};
 ghost use Rattle.store_program.specs.Servings.{StopsReply};
 
 use crate::Fault;
-use crate::asked::{Asked, Look, read_asked};
+use crate::control_lines::{ControlLine, Look, read_control_line};
 use crate::looks::look_text;
 use crate::operator::Order;
-use crate::serving::{carry_out, hand_over, node_at, report_line};
-use crate::taking::{Taken, take_line};
+use crate::serving::{carry_out, node_at, report_line, write_out};
+use crate::taking::{LineTaken, take_line};
 use bytes::Bytes;
 use obj_id::Reply;
 use private_store::StepAnswer;
@@ -85,12 +85,12 @@ fn reply_to<L: Ledger, R: Wait, O: Write, C: Closing>(
     nodes: &[Arc<SharedNode<L>>],
     count: u32,
     number: u64,
-    taken: Taken,
+    taken: LineTaken,
     line: &[u8],
     writer: &mut O,
     closing: &C,
 ) -> Result<bool, Fault>
-    ensures ok { IfOk result (λ is_last. (text : List ℕ) → IsTextOf taken line.now text → Replies count (length nodes.now) number text (O.contents writer.old) (O.contents writer.new) is_last) }
+    ensures ok { IfOk result (λ is_last. (text : List ℕ) → IsAnswerText taken line.now text → Replies count (length nodes.now) number text (O.contents writer.old) (O.contents writer.new) is_last) }
     ensures err { IfErr result (StopsReply (O.contents writer.old) (O.contents writer.new)) }
 {
     let Ok(Answer { line, is_last }) = answer_of(
@@ -98,7 +98,7 @@ fn reply_to<L: Ledger, R: Wait, O: Write, C: Closing>(
     ) else {
         return Err(Fault::NoMemory)
     };
-    match hand_over(line.as_bytes(), writer) {
+    match write_out(line.as_bytes(), writer) {
         Ok(()) => Ok(is_last),
         Err(_) => Err(Fault::Output),
     }
@@ -111,15 +111,15 @@ fn answer_of<L: Ledger, R: Wait, C: Closing>(
     nodes: &[Arc<SharedNode<L>>],
     count: u32,
     number: u64,
-    taken: Taken,
+    taken: LineTaken,
     line: &[u8],
     closing: &C,
 ) -> Result<Answer, AllocError>
-    ensures { IfOk result (λ answer. (text : List ℕ) → IsTextOf taken line.now text → IsAnswered count (length nodes.now) number text answer) }
+    ensures { IfOk result (λ answer. (text : List ℕ) → IsAnswerText taken line.now text → IsAnswered count (length nodes.now) number text answer) }
 {
     match taken {
-        Taken::Line => answer_to(rt, alloc, nodes, count, number, line, closing),
-        Taken::TooLong => no_order(alloc, number),
+        LineTaken::Line => answer_to(rt, alloc, nodes, count, number, line, closing),
+        LineTaken::TooLong => no_order(alloc, number),
     }
 }
 
@@ -148,12 +148,12 @@ fn answer_to<L: Ledger, R: Wait, C: Closing>(
 }
 
 /// What the text of a line asks for.
-fn hear_asked(alloc: Global, text: &[u8], nodes: u32) -> Result<Option<Asked>, AllocError>
-    ensures sound { IfOk result (λ found. IfSome found (IsAsked nodes text.now)) }
-    ensures whole { IfOk result (λ found. IsUtf8 text.now → Reads found (IsAsked nodes text.now)) }
+fn hear_asked(alloc: Global, text: &[u8], nodes: u32) -> Result<Option<ControlLine>, AllocError>
+    ensures sound { IfOk result (λ found. IfSome found (IsControlLine nodes text.now)) }
+    ensures whole { IfOk result (λ found. IsUtf8 text.now → Reads found (IsControlLine nodes text.now)) }
 {
     match str::from_utf8(text) {
-        Ok(text) => read_asked(alloc, text, nodes),
+        Ok(text) => read_control_line(alloc, text, nodes),
         Err(_) => Ok(None),
     }
 }
@@ -164,19 +164,19 @@ fn answer_asked<L: Ledger, R: Wait, C: Closing>(
     alloc: Global,
     nodes: &[Arc<SharedNode<L>>],
     number: u64,
-    asked: Asked,
+    asked: ControlLine,
     closing: &C,
 ) -> Result<Answer, AllocError>
-    ensures { IfOk result (IsMade (length nodes.now) number asked) }
+    ensures { IfOk result (IsAnswerMade (length nodes.now) number asked) }
 {
     match asked {
-        Asked::Order(Order::Close) => last_answer(alloc, closing.close(rt, false)),
-        Asked::CloseNow => last_answer(alloc, closing.close(rt, true)),
-        Asked::Order(Order::Change(node, change)) => match node_at(nodes, node) {
+        ControlLine::Order(Order::Close) => last_answer(alloc, closing.close(rt, false)),
+        ControlLine::CloseNow => last_answer(alloc, closing.close(rt, true)),
+        ControlLine::Order(Order::Change(node, change)) => match node_at(nodes, node) {
             Some(shared) => change_answer(alloc, node, carry_out(rt, shared, change)),
             None => no_order(alloc, number),
         },
-        Asked::Look(node, look) => match node_at(nodes, node) {
+        ControlLine::Look(node, look) => match node_at(nodes, node) {
             Some(shared) => look_answer(rt, alloc, shared, node, look),
             None => no_order(alloc, number),
         },

@@ -1,14 +1,14 @@
 //! The command line of `store`.
 ghost use Rattle.std.specs.Prelude.{IfOk, IfSome};
 ghost use Rattle.clap.specs.Words.{found_of, kind_of};
-ghost use Rattle.store_program.specs.CommandLine.{Asks, IsTask, IsStatusOfError};
+ghost use Rattle.store_program.specs.CommandLine.{Asks, IsProgramTask, IsStatusOfError};
 
 use clap::builder::ValueParser;
 use clap::error::ErrorKind;
 use clap::{Arg, ArgAction, ArgMatches, Command, Error};
 use obj_id::limits::{LARGEST_MEMORY, MOST_NODES};
 use std::alloc::{AllocError, Global};
-use world_core::Shape;
+use world_core::ClusterSize;
 
 /// What the words of a command line ask for.
 #[derive(Clone, Copy, Debug)]
@@ -25,7 +25,7 @@ pub enum Task<'a> {
 #[derive(Clone, Copy, Debug)]
 pub struct ScheduleRun<'a> {
     /// How many nodes there are, and the memory of each.
-    pub shape: Shape,
+    pub shape: ClusterSize,
     /// Where the journal of the run is saved, if one is.
     pub journal: Option<&'a str>,
 }
@@ -34,7 +34,7 @@ pub struct ScheduleRun<'a> {
 #[derive(Clone, Copy, Debug)]
 pub struct Serving<'a> {
     /// How many nodes there are, and the memory of each.
-    pub shape: Shape,
+    pub shape: ClusterSize,
     /// Node K listens on the Unix socket of this path, a full stop and K.
     pub socket: &'a str,
     /// Node K spills into the folder K of this one.
@@ -48,7 +48,7 @@ pub struct Serving<'a> {
 /// What the words, the program's name first, ask for. Otherwise the error has what there is to print: help, the version, or
 /// what is wrong with the words.
 pub fn read_task<'a>(alloc: Global, words: &'a [String]) -> Result<Task<'a>, Error>
-    ensures { IfOk result IsTask }
+    ensures { IfOk result IsProgramTask }
 {
     let mut command = store_command(alloc)?;
     let matches = command.try_get_matches_from_mut(words)?;
@@ -200,13 +200,13 @@ fn running_asked<'a>(options: &ArgMatches<'a>) -> Option<ScheduleRun<'a>>
 }
 
 /// The shape that the options of `run` or `serve` ask for, if their numbers are in range.
-fn shape_asked(options: &ArgMatches) -> Option<Shape>
+fn shape_asked(options: &ArgMatches) -> Option<ClusterSize>
     ensures { IfSome result (Asks (found_of options.now)) }
 {
     let nodes = options.get_one::<u32>("nodes")?;
     let memory = options.get_one::<u64>("memory")?;
     if 1 <= nodes && nodes <= MOST_NODES && memory <= LARGEST_MEMORY {
-        Some(Shape { nodes, memory })
+        Some(ClusterSize { nodes, memory })
     } else {
         None
     }

@@ -1,16 +1,16 @@
 //! The journal of a run, if one is asked for: what each step was to the jobs, in order.
 ghost use Rattle.std.specs.Prelude.{◌≡◌, [], List, true, false, is_some, IfOk, IfErr, IfSome, OnOk, OnErr};
 ghost use Rattle.store_program.specs.declared.fault.Fault.TheVariants.{Folded};
-ghost use Rattle.journal_text.specs.declared.saved.Mark.{Mark};
+ghost use Rattle.journal_text.specs.declared.saved.JournalItem.{JournalItem};
 ghost use Rattle.journal_text.specs.Saved.{is_folded, saved_text, IsSaved};
-ghost use Rattle.private_store.specs.Answers.{brief_reply};
-ghost use Rattle.store_program.specs.Kept.{entries_told, entry_mark, entry_place as entry_place_lem, input_said, kept_under as kept_under_lem, note_mark as note_mark_lem, reply_said, is_asked, with_notes, IsKept, Kept, KeepsStep};
+ghost use Rattle.private_store.specs.laws.Answers.{brief_reply};
+ghost use Rattle.store_program.specs.SavedRuns.{entries_told, entry_mark, entry_place as entry_place_lem, input_said, kept_under as kept_under_lem, note_mark as note_mark_lem, reply_said, is_asked, with_notes, IsSavedStep, SavedStep, KeepsStep};
 
 use crate::Fault;
 use bytes::Bytes;
-use journal_text::{Answered, LineInput, Mark, SavedJournal};
+use journal_text::{Answered, JournalItem, LineInput, SavedJournal};
 use node_core::Note;
-use obj_id::{Items, JobNo, Location, Message, Place, Refusal, Reply};
+use obj_id::{Endpoint, Items, JobNo, Location, Message, Refusal, Reply};
 use private_store::{Event, Judged, Step, StepAnswer, brief_work};
 use schedule_text::JobAt;
 use std::alloc::{AllocError, Global};
@@ -43,7 +43,7 @@ impl RunJournal {
     /// Of a run without a step.
     pub fn new(alloc: Global, keep: Keep) -> Result<RunJournal, AllocError>
         ensures asked { IfOk result (λ journal. is_some journal ≡ is_asked keep) }
-        ensures kept { IfOk result (λ journal. IsKept (is_some journal) journal []) }
+        ensures kept { IfOk result (λ journal. IsSavedStep (is_some journal) journal []) }
     {
         let saved = match keep {
             Keep::Journal => Some(SavedJournal::new(alloc)?),
@@ -74,11 +74,11 @@ impl RunJournal {
 
     /// The text of the journal, if one is kept. `Folded`, if one of its lists was folded.
     pub fn into_text(self) -> Result<Option<Vec<u8>>, Fault>
-        ensures text { IfOk result (λ o. IfSome o (λ text. (marks : List Mark) → IsKept true self marks → (is_folded marks ≡ false) × (text.items ≡ saved_text marks))) }
+        ensures text { IfOk result (λ o. IfSome o (λ text. (marks : List JournalItem) → IsSavedStep true self marks → (is_folded marks ≡ false) × (text.items ≡ saved_text marks))) }
         ensures kept { IfOk result (λ o. is_some o ≡ is_some self) }
         ensures folded { IfErr result (λ fault. fault ≡ Folded) }
         ensures asked { OnErr result (is_some self ≡ true) }
-        ensures full { OnErr result ((marks : List Mark) → IsKept true self marks → is_folded marks ≡ true) }
+        ensures full { OnErr result ((marks : List JournalItem) → IsSavedStep true self marks → is_folded marks ≡ true) }
     {
         let Some(saved) = self.saved else {
             return Ok(None)
@@ -97,7 +97,7 @@ fn add_notes(
     node: u32,
     notes: Items<Note>,
 ) -> Result<(), AllocError>
-    ensures { OnOk result ((marks : List Mark) → IsSaved saved.old marks → IsSaved saved.new (with_notes node notes marks)) }
+    ensures { OnOk result ((marks : List JournalItem) → IsSaved saved.old marks → IsSaved saved.new (with_notes node notes marks)) }
 {
     for note in notes.into_vec() {
         saved.add(note_mark(alloc, node, note))?;
@@ -106,11 +106,11 @@ fn add_notes(
 }
 
 /// A note of a step at the node. Takes no memory.
-fn note_mark(alloc: Global, node: u32, note: Note) -> Mark
+fn note_mark(alloc: Global, node: u32, note: Note) -> JournalItem
     ensures { result ≡ note_mark_lem node note }
 {
     let Note { job, input } = note;
-    Mark {
+    JournalItem {
         place: JobAt { node, job },
         line: Some(Answered {
             input: line_input(Items::new(alloc), input),
@@ -132,7 +132,7 @@ fn entry_place(step: &Step, answer: &StepAnswer) -> Option<JobAt>
         (
             Step::Deliver {
                 job,
-                to: Place::Node(node),
+                to: Endpoint::Node(node),
                 ..
             },
             StepAnswer::Told(_) | StepAnswer::HandedOver(_),
@@ -167,15 +167,15 @@ fn entry_mark(
     place: JobAt,
     answer: &StepAnswer,
     judged: Option<Judged>,
-) -> Result<Mark, AllocError>
+) -> Result<JournalItem, AllocError>
     ensures { IfOk result (λ mark. mark ≡ entry_mark place answer.now judged) }
 {
     let Some(judged) = judged else {
-        return Ok(Mark { place, line: None })
+        return Ok(JournalItem { place, line: None })
     };
     let input = line_input(entries_told(alloc, answer)?, judged);
     let reply = reply_said(alloc, answer)?;
-    Ok(Mark {
+    Ok(JournalItem {
         place,
         line: Some(Answered { input, reply }),
     })
@@ -243,15 +243,15 @@ fn line_input(entries: Items<Location>, judged: Judged) -> LineInput
         Judged::Received {
             id,
             length,
-            giver,
+            grantor,
             depth,
         } => LineInput::Received {
             id,
             length,
-            giver,
+            grantor,
             depth,
         },
-        Judged::Withdrawn { id, giver, depth } => LineInput::Withdrawn { id, giver, depth },
+        Judged::Withdrawn { id, grantor, depth } => LineInput::Withdrawn { id, grantor, depth },
         Judged::End => LineInput::End,
     }
 }

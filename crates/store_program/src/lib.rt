@@ -3,9 +3,9 @@
 //! is said of a fault, and the status at the end.
 #![tactic(auto)]
 
-mod asked;
 mod attending;
 mod command_line;
+mod control_lines;
 mod failed_calls;
 mod fault;
 mod journal;
@@ -17,9 +17,9 @@ mod serving;
 mod taking;
 mod workers;
 
-pub use asked::{Asked, Look, read_asked};
 pub use attending::{Closing, attend};
 pub use command_line::{ScheduleRun, Serving, Task, read_task, status_of_error};
+pub use control_lines::{ControlLine, Look, read_control_line};
 pub use failed_calls::{DeviceCall, FailedCall, SaidCalls};
 pub use fault::{Fault, status_of};
 pub use journal::{Keep, RunJournal};

@@ -6,13 +6,13 @@ ghost use Rattle.store_program.specs.Lines.{IsSaid};
 
 use obj_id::{DeviceAnswer, JobNo};
 use private_store::{Event, Step};
-use schedule_text::{Line, Outcome, is_skipped, read_line};
+use schedule_text::{FinishWord, Line, is_skipped, read_line};
 use std::alloc::{AllocError, Global};
 use std::str;
 
 /// What a line says to the program.
 #[derive(Debug, Drop)]
-pub enum Said {
+pub enum LineMeaning {
     /// Nothing: the line is empty, or a comment.
     Nothing,
     /// A step.
@@ -23,25 +23,25 @@ pub enum Said {
         node: u32,
         job: JobNo,
         number: u64,
-        outcome: Outcome,
+        outcome: FinishWord,
     },
     /// Nothing that is a step.
     NoStep,
 }
 
 /// What the text of a line, without its line feed, says to a world with this number of nodes.
-pub fn hear(alloc: Global, text: &[u8], nodes: u32) -> Result<Said, AllocError>
+pub fn parse_line(alloc: Global, text: &[u8], nodes: u32) -> Result<LineMeaning, AllocError>
     ensures { IfOk result (λ said. IsSaid nodes text.now said) }
 {
     // before its bytes are asked to be a text, since a comment may hold any
     if is_skipped(text) {
-        return Ok(Said::Nothing);
+        return Ok(LineMeaning::Nothing);
     }
     let Ok(text) = str::from_utf8(text) else {
-        return Ok(Said::NoStep)
+        return Ok(LineMeaning::NoStep)
     };
     match read_line(alloc, text, nodes)? {
-        Some(Line::Step(step)) => Ok(Said::Step(step)),
+        Some(Line::Step(step)) => Ok(LineMeaning::Step(step)),
         Some(
             Line::Finish {
                 node,
@@ -49,13 +49,13 @@ pub fn hear(alloc: Global, text: &[u8], nodes: u32) -> Result<Said, AllocError>
                 number,
                 outcome,
             },
-        ) => Ok(Said::Finish {
+        ) => Ok(LineMeaning::Finish {
             node,
             job,
             number,
             outcome,
         }),
-        Some(Line::Skipped) | None => Ok(Said::NoStep),
+        Some(Line::Skipped) | None => Ok(LineMeaning::NoStep),
     }
 }
 

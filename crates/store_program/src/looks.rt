@@ -3,7 +3,7 @@ ghost use Rattle.std.specs.Prelude.{◌≡◌, IfOk};
 ghost use Rattle.std.specs.String.{string_bytes};
 ghost use Rattle.store_program.specs.Looks.{IsLookText, IsUsageReply, job_text as job_text_lem, jobs_text as jobs_text_lem, jobs_line as jobs_line_lem, sessions_line as sessions_line_lem};
 
-use crate::asked::Look;
+use crate::control_lines::Look;
 use bytes::Bytes;
 use obj_id::{JobNo, Reply};
 use private_store::StepAnswer;

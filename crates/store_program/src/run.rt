@@ -5,18 +5,18 @@ ghost use Rattle.std.specs.Io.BufRead.{take_through};
 ghost use Rattle.std.specs.Io.KnownBytes.{Consumes, IsAtEnd};
 ghost use Rattle.std.specs.String.{string_bytes};
 ghost use Rattle.world_core.specs.Worlds.{is_shape, is_within};
-ghost use Rattle.store_program.specs.Kept.{IsKept};
+ghost use Rattle.store_program.specs.SavedRuns.{IsSavedStep};
 ghost use Rattle.store_program.specs.Runs.{Answers, IsReadingFault, Ran, RunsLine, RunsStep, StopsRun, StopsStep};
 
 use crate::Fault;
 use crate::journal::RunJournal;
-use crate::lines::{Said, finish, hear};
+use crate::lines::{LineMeaning, finish, parse_line};
 use crate::workers::Workers;
 use private_store::Step;
 use schedule_text::{Prefix, answer_line};
 use std::alloc::{AllocError, Global};
 use std::io::{BufRead, ErrorKind, Write};
-use world_core::{Shape, Stepped, World};
+use world_core::{ClusterSize, Stepped, World};
 
 /// Runs the schedule that the reader gives in a new world, writes a line for each step, and keeps what the steps were to
 /// the jobs in the journal, which has none before.
@@ -27,13 +27,13 @@ use world_core::{Shape, Stepped, World};
 /// that isn't a step, or that lacks its line feed. After a fault the journal is of no use.
 pub fn run_text<R: BufRead, W: Write>(
     alloc: Global,
-    shape: Shape,
+    shape: ClusterSize,
     reader: &mut R,
     writer: &mut W,
     journal: &mut RunJournal,
 ) -> Result<(), Fault>
     requires shape { is_shape shape ≡ true }
-    requires journal { IsKept (is_some journal.old) journal.old [] }
+    requires journal { IsSavedStep (is_some journal.old) journal.old [] }
     ensures { Ran shape.nodes shape.memory (is_some journal.old) journal.new (R.remaining reader.old) (R.remaining reader.new) (W.contents writer.old) (W.contents writer.new) result }
 {
     let outcome = run_lines(alloc, shape, reader, writer, journal);
@@ -47,13 +47,13 @@ pub fn run_text<R: BufRead, W: Write>(
 /// The same, without what the writer keeps back.
 fn run_lines<R: BufRead, W: Write>(
     alloc: Global,
-    shape: Shape,
+    shape: ClusterSize,
     reader: &mut R,
     writer: &mut W,
     journal: &mut RunJournal,
 ) -> Result<(), Fault>
     requires shape { is_shape shape ≡ true }
-    requires journal { IsKept (is_some journal.old) journal.old [] }
+    requires journal { IsSavedStep (is_some journal.old) journal.old [] }
     ensures { Ran shape.nodes shape.memory (is_some journal.old) journal.new (R.remaining reader.old) (R.remaining reader.new) (W.contents writer.old) (W.contents writer.new) result }
 {
     let Ok(mut world) = World::new(alloc, shape) else {
@@ -122,13 +122,13 @@ fn run_line<W: Write>(
     let Some((b'\n', text)) = line.split_last() else {
         return Err(Fault::NotAStep(number))
     };
-    match hear(alloc, text, nodes) {
+    match parse_line(alloc, text, nodes) {
         Err(AllocError) => Err(Fault::NoMemory),
-        Ok(Said::Nothing) => Ok(()),
-        Ok(Said::NoStep) => Err(Fault::NotAStep(number)),
-        Ok(Said::Step(step)) => run_step(alloc, world, workers, journal, &step, writer),
+        Ok(LineMeaning::Nothing) => Ok(()),
+        Ok(LineMeaning::NoStep) => Err(Fault::NotAStep(number)),
+        Ok(LineMeaning::Step(step)) => run_step(alloc, world, workers, journal, &step, writer),
         Ok(
-            Said::Finish {
+            LineMeaning::Finish {
                 node,
                 job,
                 number,

@@ -9,7 +9,7 @@ ghost use Rattle.schedule_text.specs.Printing.{line_text};
 ghost use Rattle.store_program.specs.declared.fault.Fault.TheVariants.{Output};
 ghost use Rattle.store_program.specs.Orders.{IsOrder};
 ghost use Rattle.std.specs.String.{string_bytes};
-ghost use Rattle.store_program.specs.Servings.{report_line, Served, ServesLine, StopsOrder, Replies, StopsReply};
+ghost use Rattle.store_program.specs.Servings.{report_line, ServedText, ServesLine, StopsOrder, Replies, StopsReply};
 
 use crate::Fault;
 use crate::operator::{Change, Order, read_order};
@@ -49,7 +49,7 @@ pub fn serve_text<L: Ledger, R: Wait, I: BufRead, O: Write>(
     reader: &mut I,
     writer: &mut O,
 ) -> Result<LastLine, Fault>
-    ensures { Served count (length nodes.now) (I.remaining reader.old) (I.remaining reader.new) (O.contents writer.old) (O.contents writer.new) result }
+    ensures { ServedText count (length nodes.now) (I.remaining reader.old) (I.remaining reader.new) (O.contents writer.old) (O.contents writer.new) result }
 {
     let mut line = Vec::new(alloc);
     for number in 1..u64::MAX {
@@ -165,11 +165,11 @@ fn write_answer<O: Write>(
     let Ok(line) = answer_line(alloc, Prefix::Operator(node), &StepAnswer::Told(reply)) else {
         return Err(Fault::NoMemory)
     };
-    hand_over(line.as_bytes(), writer)
+    write_out(line.as_bytes(), writer)
 }
 
 /// Writes bytes, and hands them over.
-pub(crate) fn hand_over<O: Write>(bytes: &[u8], writer: &mut O) -> Result<(), Fault>
+pub(crate) fn write_out<O: Write>(bytes: &[u8], writer: &mut O) -> Result<(), Fault>
     ensures ok { OnOk result (Appends (O.contents writer.old) (O.contents writer.new) bytes.now) }
     ensures err { IfErr result (λ fault. fault ≡ Output) }
 {
@@ -190,7 +190,7 @@ pub fn write_report<O: Write>(alloc: Global, report: &Report, writer: &mut O) ->
     let Ok(line) = report_line(alloc, report) else {
         return Err(Fault::NoMemory)
     };
-    hand_over(line.as_bytes(), writer)
+    write_out(line.as_bytes(), writer)
 }
 
 /// The line of a report.

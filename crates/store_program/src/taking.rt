@@ -2,7 +2,7 @@
 ghost use Rattle.std.specs.Prelude.{◌≡◌, ◌∷◌, [], IfOk, IfErr, OnErr, MatchOption};
 ghost use Rattle.std.specs.Io.KnownBytes.{Consumes, IsAtEnd, Keeps};
 ghost use Rattle.store_program.specs.Runs.{IsReadingFault};
-ghost use Rattle.store_program.specs.Taken.{HasTaken, IsKeptByte, IsTaken};
+ghost use Rattle.store_program.specs.TakenLines.{HasTakenPart, IsKeptByte, IsLineTaken};
 ghost use Rattle.store_program.specs.declared.fault.Fault.TheVariants.{NoMemory};
 
 use crate::Fault;
@@ -13,7 +13,7 @@ pub const LONGEST_LINE: usize = 4096;
 
 /// A line that was taken of a reader.
 #[derive(Clone, Copy, Debug, PartialEq, Eq)]
-pub(crate) enum Taken {
+pub(crate) enum LineTaken {
     /// One that is kept.
     Line,
     /// One that is longer than a line may be.
@@ -22,9 +22,12 @@ pub(crate) enum Taken {
 
 /// Takes a line from the reader, with its line feed, which isn't kept; nor is more of a line that is too long. `None` at the end of the
 /// reader, of which there was no line feed left.
-pub(crate) fn take_line<R: Read>(reader: &mut R, line: &mut Vec<u8>) -> Result<Option<Taken>, Fault>
-    ensures taken { IfOk result (IsTaken (R.remaining reader.old) (R.remaining reader.new) line.new.items) }
-    ensures part { OnErr result (HasTaken (R.remaining reader.old) (R.remaining reader.new)) }
+pub(crate) fn take_line<R: Read>(
+    reader: &mut R,
+    line: &mut Vec<u8>,
+) -> Result<Option<LineTaken>, Fault>
+    ensures taken { IfOk result (IsLineTaken (R.remaining reader.old) (R.remaining reader.new) line.new.items) }
+    ensures part { OnErr result (HasTakenPart (R.remaining reader.old) (R.remaining reader.new)) }
     ensures fault { IfErr result IsReadingFault }
 {
     line.clear();
@@ -33,8 +36,8 @@ pub(crate) fn take_line<R: Read>(reader: &mut R, line: &mut Vec<u8>) -> Result<O
         match take_byte(reader) {
             Err(fault) => return Err(fault),
             Ok(None) => return Ok(None),
-            Ok(Some(b'\n')) if is_long => return Ok(Some(Taken::TooLong)),
-            Ok(Some(b'\n')) => return Ok(Some(Taken::Line)),
+            Ok(Some(b'\n')) if is_long => return Ok(Some(LineTaken::TooLong)),
+            Ok(Some(b'\n')) => return Ok(Some(LineTaken::Line)),
             Ok(Some(byte)) => match keep_byte(line, is_long, byte) {
                 Err(fault) => return Err(fault),
                 Ok(is_longer) => is_long = is_longer,

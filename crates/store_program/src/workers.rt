@@ -1,20 +1,20 @@
 //! The device workers of a schedule: what is handed in for a work that a line finishes.
 ghost use Rattle.std.specs.Prelude.{◌≡◌, ◌<◌, [], not, length, filter, find, option_map, IfOk, OnOk};
 ghost use Rattle.obj_id.specs.declared.works.DeviceKey.{DeviceKey};
-ghost use Rattle.spill_device.specs.Held.{bytes_at};
-ghost use Rattle.store_program.specs.Workers.{Calls, IsCrewAfter, call_answer, called, damaged as damaged_lem, handed_in, held_by, is_at as is_at_lem, noted, bytes_after, written_for};
+ghost use Rattle.spill_device.specs.Held.{held_bytes_at};
+ghost use Rattle.store_program.specs.Workers.{Calls, IsCrewAfter, call_answer, called, damaged_answer as damaged_lem, handed_in, held_by, is_taken_at as is_at_lem, noted, bytes_after, written_for};
 
 use bytes::Bytes;
 use obj_id::{DeviceAnswer, JobNo, Refusal, Reply, Work};
 use private_store::{Event, Step, StepAnswer};
-use schedule_text::Outcome;
+use schedule_text::FinishWord;
 use spill_device::{DeviceFault, MemoryDevice, SpillDevice};
 use std::alloc::{AllocError, Global};
 use std::marker::Model;
 
 /// A work that a line took at a node.
 #[derive(Drop)]
-pub(crate) struct Taken {
+pub(crate) struct InService {
     node: u32,
     work: Work<Bytes>,
 }
@@ -24,7 +24,7 @@ pub(crate) struct Taken {
 pub(crate) struct Workers {
     alloc: Global,
     devices: Vec<MemoryDevice>,
-    taken: Vec<Taken>,
+    taken: Vec<InService>,
 }
 
 impl Model for Workers {
@@ -58,16 +58,16 @@ impl Workers {
         node: u32,
         job: JobNo,
         number: u64,
-        outcome: Outcome,
+        outcome: FinishWord,
     ) -> Result<DeviceAnswer, AllocError>
         requires { node < length self.old.devices }
         ensures answer { IfOk result (λ answer. answer ≡ handed_in self.old.taken (held_by self.old.devices) node job number outcome) }
         ensures calls { IfOk result (λ answer. Calls self.old node job number answer self.new) }
     {
         match outcome {
-            Outcome::Fail => Ok(DeviceAnswer::Failed),
-            Outcome::Ok => self.call(node, job, number),
-            Outcome::Damage => {
+            FinishWord::Fail => Ok(DeviceAnswer::Failed),
+            FinishWord::Ok => self.call(node, job, number),
+            FinishWord::Damage => {
                 let answer = self.call(node, job, number)?;
                 damaged(self.alloc, answer)
             }
@@ -97,7 +97,7 @@ impl Workers {
     {
         match (step, answer) {
             (Step::At(node, Event::Take), StepAnswer::Told(Reply::Work(work))) => {
-                self.taken.push(Taken { node: *node, work })?;
+                self.taken.push(InService { node: *node, work })?;
             }
             (
                 Step::At(_, Event::Finish { .. }),
@@ -120,21 +120,21 @@ impl Workers {
 }
 
 /// The job's work under the number at the node, if it is kept.
-fn find_at(taken: &[Taken], node: u32, job: JobNo, number: u64) -> Option<&Taken>
+fn find_at(taken: &[InService], node: u32, job: JobNo, number: u64) -> Option<&InService>
     ensures { option_map (λ t. t.now) result ≡ find (is_at_lem node job number) taken.now }
 {
     taken.iter().find(|taken| is_at(taken, node, job, number))
 }
 
 /// Takes out the job's work under the number at the node.
-fn take_out(taken: &mut Vec<Taken>, node: u32, job: JobNo, number: u64)
+fn take_out(taken: &mut Vec<InService>, node: u32, job: JobNo, number: u64)
     ensures { taken.new.items ≡ filter (λ t. not (is_at_lem node job number t)) taken.old.items }
 {
     taken.retain(|taken| !is_at(taken, node, job, number));
 }
 
 /// Whether it is the job's work under the number at the node.
-fn is_at(taken: &Taken, node: u32, job: JobNo, number: u64) -> bool
+fn is_at(taken: &InService, node: u32, job: JobNo, number: u64) -> bool
     ensures { result ≡ is_at_lem node job number taken.now }
 {
     taken.node == node && taken.work.job == job && taken.work.number == number
@@ -143,8 +143,8 @@ fn is_at(taken: &Taken, node: u32, job: JobNo, number: u64) -> bool
 /// What the device answers to the work, which is called: a write's bytes are kept under its key, and a read's are
 /// those that are. The error is out of memory.
 fn answer_of(device: &mut MemoryDevice, work: &Work<Bytes>) -> Result<DeviceAnswer, AllocError>
-    ensures answer { IfOk result (λ answer. answer ≡ call_answer (bytes_at device.old work.now.key) work.now) }
-    ensures holds { OnOk result ((key : DeviceKey) → bytes_at device.new key ≡ bytes_after (written_for work.now key) (bytes_at device.old key)) }
+    ensures answer { IfOk result (λ answer. answer ≡ call_answer (held_bytes_at device.old work.now.key) work.now) }
+    ensures holds { OnOk result ((key : DeviceKey) → held_bytes_at device.new key ≡ bytes_after (written_for work.now key) (held_bytes_at device.old key)) }
 {
     let answer = match work.payload.as_ref() {
         Some(bytes) => device.write(work.key, bytes).map(|()| DeviceAnswer::Done),

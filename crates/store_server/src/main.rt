@@ -23,7 +23,7 @@ use std::{env, fs, io};
 use store_program::{
     Fault, Keep, RunJournal, ScheduleRun, Task, read_task, run_text, status_of, status_of_error,
 };
-use world_core::Shape;
+use world_core::ClusterSize;
 
 fn main(rt: HostRuntime) -> io::Result<ExitCode> {
     let words: Vec<String> = env::args(&rt)?.collect(rt.alloc())?;
@@ -68,7 +68,7 @@ fn run(rt: &HostRuntime, running: ScheduleRun) -> Result<(), Fault>
 }
 
 /// Runs the schedule on standard input, prints its answers, and gives the text of its journal, if one is kept.
-fn run_kept(rt: &HostRuntime, shape: Shape, keep: Keep) -> Result<Option<Vec<u8>>, Fault>
+fn run_kept(rt: &HostRuntime, shape: ClusterSize, keep: Keep) -> Result<Option<Vec<u8>>, Fault>
     requires { is_shape shape ≡ true }
 {
     let alloc = rt.alloc();

@@ -23,7 +23,7 @@ use store_program::{Fault, Serving, serve_text, write_report};
 
 /// The socket of a node.
 #[derive(Drop)]
-struct Door {
+struct NodeListener {
     file: SocketFile,
     listening: Listening,
 }
@@ -33,7 +33,7 @@ struct Door {
 struct Served<L: Ledger> {
     folders: Vec<SpillFolder>,
     workers: Vec<Working<L>>,
-    doors: Vec<Door>,
+    listeners: Vec<NodeListener>,
     control: Option<Connecting<L>>,
 }
 
@@ -117,7 +117,7 @@ fn serve_named<
     let mut served = Served {
         folders: Vec::new(alloc),
         workers: Vec::new(alloc),
-        doors: Vec::new(alloc),
+        listeners: Vec::new(alloc),
         control: None,
     };
     let outcome = match cluster.connect(rt) {
@@ -152,10 +152,10 @@ fn end_nodes<L: Ledger, R: Threads + Wait + Files>(
     let Served {
         folders,
         workers,
-        doors,
+        listeners,
         control,
     } = served;
-    close_doors(rt, doors);
+    close_doors(rt, listeners);
     let control = match control {
         Some(connecting) => {
             connecting.control.quiet(rt);
@@ -239,7 +239,7 @@ fn open_nodes<
 ) -> Result<(), ServeFault> {
     served.folders.reserve(serving.shape.nodes as usize)?;
     served.workers.reserve(serving.shape.nodes as usize)?;
-    served.doors.reserve(serving.shape.nodes as usize)?;
+    served.listeners.reserve(serving.shape.nodes as usize)?;
     let telling = Telling::new(host.alloc())?;
     for number in 0..serving.shape.nodes {
         let Some(node) = cluster.node(number) else {
@@ -257,8 +257,8 @@ fn open_nodes<
             folder.as_str(),
             telling.share()?,
         )?);
-        let door = open_door(rt, host.alloc(), node, serving.socket, number)?;
-        let _ = served.doors.push(door);
+        let door = open_listener(rt, host.alloc(), node, serving.socket, number)?;
+        let _ = served.listeners.push(door);
     }
     Ok(())
 }
@@ -285,7 +285,7 @@ fn start_worker<
 }
 
 /// Opens the node's socket.
-fn open_door<
+fn open_listener<
     L: Ledger + Send + Sync + 'static,
     R: Threads + Wait + Clock + Files + Net + Copy + Send + 'static,
 >(
@@ -294,7 +294,7 @@ fn open_door<
     node: &Arc<SharedNode<L>>,
     socket: &str,
     number: u32,
-) -> Result<Door, ServeFault> {
+) -> Result<NodeListener, ServeFault> {
     let node = Arc::try_clone(node)?;
     let path = format!(in alloc; "{socket}.{number}")?;
     let listener = match bind(&rt, path.as_str()) {
@@ -303,7 +303,7 @@ fn open_door<
     };
     let file = SocketFile::new(&rt, path);
     match listen(rt, alloc, node, listener) {
-        Ok(listening) => Ok(Door { file, listening }),
+        Ok(listening) => Ok(NodeListener { file, listening }),
         Err(error) => {
             file.remove(&rt);
             Err(ServeFault::Socket {
@@ -315,9 +315,9 @@ fn open_door<
 }
 
 /// Accepts no stream any more, and removes the sockets' files, unless somebody has put others in their places.
-fn close_doors<R: Threads + Files>(rt: &R, doors: Vec<Door>) {
-    for door in doors {
-        let Door { file, listening } = door;
+fn close_doors<R: Threads + Files>(rt: &R, listeners: Vec<NodeListener>) {
+    for door in listeners {
+        let NodeListener { file, listening } = door;
         let _ = listening.end(rt);
         file.remove(rt);
     }

@@ -2,8 +2,8 @@
 use assertions::same;
 use bytes::Bytes;
 use obj_id::{
-    CopyState, DeviceKey, GrantedItem, Items, JobKey, JobNo, Kind, Message, ObjectId, OwnItem,
-    PeerMessage, Place, Quota, Refusal, Reply, TaskNo, Usage, Work, WorkKind,
+    CopyState, DeviceKey, Endpoint, GrantedItem, Items, JobKey, JobNo, Kind, Message, ObjectId,
+    OwnItem, PeerMessage, Quota, Refusal, Reply, TaskNo, Usage, Work, WorkKind,
 };
 use private_store::{Event, Step, StepAnswer};
 use schedule_text::{Prefix, answer_line};
@@ -329,8 +329,8 @@ fn a_step_says_who_is_answered(rt: HostRuntime) {
     same!(rt; Prefix::of(&Step::At(0, Event::Take)), DEVICE);
     let deliver = Step::Deliver {
         job: JobNo(1),
-        from: Place::Directory,
-        to: Place::Node(0),
+        from: Endpoint::Directory,
+        to: Endpoint::Node(0),
         number: 1,
         damaged: false,
     };

@@ -122,7 +122,7 @@ fn ask_for_read<L: Ledger, R: Wait + Abort>(rt: &R, node: &SharedNode<L>) {
     holds!(rt; is_pending(&told(rt, node, SPILLED, Command::Get(first))));
 }
 
-/// The read that failed is told once, and asked for again.
+/// The read that failed is answered once, and asked for again.
 fn ask_for_read_again<L: Ledger, R: Wait + Abort>(rt: &R, node: &SharedNode<L>) {
     let first = object(rt, SPILLED, 1);
     let reply = told(rt, node, SPILLED, Command::Get(first));

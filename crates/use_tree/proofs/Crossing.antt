@@ -3,7 +3,7 @@ use denote.Param.Send.{IsSend, sendable}
 use denote.Param.SendFields.{declared_send}
 use Rattle.std.proofs.Crossing.{crosses}
 use Rattle.augmented_tree.proofs.Crossing.{tree_send}
-use Rattle.use_tree.proofs.choices.Choices.TheSendSync.{the_send as choices_send}
+use Rattle.use_tree.proofs.classes.VictimClasses.TheSendSync.{the_send as choices_send}
 use Rattle.use_tree.proofs.uses.Use.TheSendSync.{the_send as use_send}
 use Rattle.use_tree.specs.contracts.uses.Uses as Uses
 use Rattle.use_tree.specs.contracts.uses.Uses.TheInside as Inside

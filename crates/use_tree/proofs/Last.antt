@@ -6,11 +6,11 @@ use Rattle.augmented_tree.specs.declared.Node.{Node}
 use Rattle.augmented_tree.specs.Lists.{AllOf}
 use Rattle.augmented_tree.specs.Shape.{items}
 use Rattle.augmented_tree.proofs.ForCallers.{all_map}
-use Rattle.use_tree.specs.declared.choices.Choice.{Choice}
-use Rattle.use_tree.specs.declared.choices.Choices.{Choices}
+use Rattle.use_tree.specs.declared.classes.VictimClass.{VictimClass}
+use Rattle.use_tree.specs.declared.classes.VictimClasses.{VictimClasses}
 use Rattle.use_tree.specs.declared.uses.Use.{Use}
-use Rattle.use_tree.specs.Choices.{has}
-use Rattle.use_tree.specs.Uses.{IsRising, any_chosen, either, last_chosen}
+use Rattle.use_tree.specs.Classes.{has}
+use Rattle.use_tree.specs.Uses.{AreUsesRising, any_chosen, either, last_chosen}
 
 pub either_first : (o p : Option Use) → is_some o ≡ true → either o p ≡ o
 either_first (Some x) p h = refl
@@ -20,10 +20,10 @@ pub either_second : (o p : Option Use) → is_some o ≡ false → either o p �
 either_second (Some x) p h = cc
 either_second None p h = refl
 
-module _ (k : Choice) where
+module _ (k : VictimClass) where
   pub any_both : (xs ys : List Use) → any_chosen k (xs ++ ys) ≡ any_chosen k xs || any_chosen k ys
   any_both [] ys = refl
-  any_both (z ∷ zs) ys = elim (has k z.choices) as (λ b. b || any_chosen k (zs ++ ys) ≡ (b || any_chosen k zs) || any_chosen k ys) [
+  any_both (z ∷ zs) ys = elim (has k z.classes) as (λ b. b || any_chosen k (zs ++ ys) ≡ (b || any_chosen k zs) || any_chosen k ys) [
     | true ↦ refl
     | false ↦ any_both zs ys
   ]
@@ -40,13 +40,13 @@ module _ (k : Choice) where
         none_after (Some x) = refl
         none_after None = refl
     last_both (x ∷ xs) ys =
-        let last = if nat_lt x.turn b && has k x.choices then Some x else None in
+        let last = if nat_lt x.turn b && has k x.classes then Some x else None in
         ap (λ o. either o last) (last_both xs ys) ∙ either_both (last_chosen k b ys) (last_chosen k b xs) last
 
     -- no use has the choice
     pub last_unchosen : (xs : List Use) → any_chosen k xs ≡ false → last_chosen k b xs ≡ None
     last_unchosen [] h = refl
-    last_unchosen (x ∷ xs) h = (elim (has k x.choices) as (λ c. c || any_chosen k xs ≡ false → either (last_chosen k b xs) (if nat_lt x.turn b && c then Some x else None) ≡ None) [
+    last_unchosen (x ∷ xs) h = (elim (has k x.classes) as (λ c. c || any_chosen k xs ≡ false → either (last_chosen k b xs) (if nat_lt x.turn b && c then Some x else None) ≡ None) [
       | true ↦ λ h. cc
       | false ↦ λ h. rw (last_unchosen xs h) (elim (nat_lt x.turn b) as (λ c. (if c && false then Some x else None) ≡ None) [
         | true ↦ refl
@@ -62,7 +62,7 @@ module _ (k : Choice) where
         rw (last_above xs h.1, e) refl
 
 -- where the last use with a choice is
-module _ (k : Choice) (b : ℕ) (n : Node Use Choices) (rising : IsRising (n.here ∷ (items n.left ++ items n.right))) where
+module _ (k : VictimClass) (b : ℕ) (n : Node Use VictimClasses) (rising : AreUsesRising (n.here ∷ (items n.left ++ items n.right))) where
   abbrev all : Option Use
   all = last_chosen k b (n.here ∷ (items n.left ++ items n.right))
 
@@ -71,7 +71,7 @@ module _ (k : Choice) (b : ℕ) (n : Node Use Choices) (rising : IsRising (n.her
 
   module _ (low : n.here.turn < b) (right left : Option Use) (right_is : right ≡ last_chosen k b (items n.right)) (left_is : left ≡ last_chosen k b (items n.left)) where
     abbrev at_node : Option Use
-    at_node = if has k n.here.choices then Some n.here else None
+    at_node = if has k n.here.classes then Some n.here else None
 
     parts : all ≡ either (either right left) at_node
     parts =

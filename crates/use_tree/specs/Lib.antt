@@ -1,2 +1,2 @@
-pub mod Choices
+pub mod Classes
 pub mod Uses

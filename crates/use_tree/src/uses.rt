@@ -1,12 +1,12 @@
 //! Uses in a tree by turn, each node of which knows the choices of all uses at it and below.
 ghost use Rattle.std.specs.Prelude.{◌≡◌, ◌<◌, ◌≤◌, List, [], ◌∷◌, is_some};
 ghost use Rattle.augmented_tree.specs.Lists.{AllOf};
-ghost use Rattle.augmented_tree.specs.Shape.{items, IsTold, IsTree};
-ghost use Rattle.use_tree.specs.declared.choices.Choice.{Choice};
+ghost use Rattle.augmented_tree.specs.Shape.{items, HasSummaries, IsTree};
+ghost use Rattle.use_tree.specs.declared.classes.VictimClass.{VictimClass};
 ghost use Rattle.use_tree.specs.declared.uses.Use.{Use};
-ghost use Rattle.use_tree.specs.Uses.{turn_of, IsAny, AreOf, with_choices, IsRising, take_use, has_use, choose_use, last_chosen, start as start_lem};
+ghost use Rattle.use_tree.specs.Uses.{turn_of, IsAnyUse, AreClassesOf, use_in_classes, AreUsesRising, take_use, has_use, use_with_classes, last_chosen, start as start_lem};
 
-use crate::choices::{Choice, Choices};
+use crate::classes::{VictimClass, VictimClasses};
 use augmented_tree::{Keyed, Marked, Tree, summary};
 use obj_id::ObjectId;
 use std::alloc::{AllocError, Global};
@@ -19,40 +19,40 @@ pub struct Use {
     pub turn: u64,
     /// Of which copy.
     pub id: ObjectId,
-    /// The walks that choose it.
-    pub choices: Choices,
+    /// The classes of victims that it is in.
+    pub classes: VictimClasses,
 }
 
-impl Keyed<Choices> for Use {
+impl Keyed<VictimClasses> for Use {
     ghost key = { turn_of };
 
-    ghost fits = { IsAny };
+    ghost fits = { IsAnyUse };
 
-    ghost tells = { AreOf };
+    ghost tells = { AreClassesOf };
 
     fn key(self) -> u64 {
         self.turn
     }
 
-    fn none() -> Choices {
-        Choices::none()
+    fn none() -> VictimClasses {
+        VictimClasses::none()
     }
 
-    fn alone(self) -> Choices {
-        self.choices
+    fn alone(self) -> VictimClasses {
+        self.classes
     }
 
-    fn joined(first: Choices, second: Choices) -> Choices {
+    fn joined(first: VictimClasses, second: VictimClasses) -> VictimClasses {
         first.or(second)
     }
 }
 
-impl Marked<Choices, Choices> for Use {
-    ghost marked = { with_choices };
+impl Marked<VictimClasses, VictimClasses> for Use {
+    ghost marked = { use_in_classes };
 
-    fn marked(self, mark: Choices) -> Use {
+    fn marked(self, mark: VictimClasses) -> Use {
         Use {
-            choices: mark,
+            classes: mark,
             ..self
         }
     }
@@ -65,28 +65,28 @@ impl Marked<Choices, Choices> for Use {
 }
 
 /// Room for one use, so that adding it takes no memory.
-pub struct Room {
-    node: augmented_tree::Room<Use, Choices>,
+pub struct SpareNode {
+    node: augmented_tree::SpareNode<Use, VictimClasses>,
 }
 
 // By hand, so that it is proved here and not in each crate above.
-impl Drop for Room {
+impl Drop for SpareNode {
     fn drop(self) {
-        let Room { node: _node } = self;
+        let SpareNode { node: _node } = self;
     }
 }
 
-impl Room {
+impl SpareNode {
     /// Takes the memory of one use. Which one stands in it until then doesn't matter.
-    pub fn new(alloc: Global, here: Use) -> Result<Room, AllocError> {
-        Ok(Room {
-            node: augmented_tree::Room::new(alloc, here)?,
+    pub fn new(alloc: Global, here: Use) -> Result<SpareNode, AllocError> {
+        Ok(SpareNode {
+            node: augmented_tree::SpareNode::new(alloc, here)?,
         })
     }
 
     /// The memory.
-    fn into_node(self) -> augmented_tree::Room<Use, Choices> {
-        let Room { node } = self;
+    fn into_node(self) -> augmented_tree::SpareNode<Use, VictimClasses> {
+        let SpareNode { node } = self;
         node
     }
 }
@@ -95,7 +95,7 @@ impl Room {
 pub struct Uses {
     // Over the last turns of all, 2 to the number of bits. Turns count down from the end, so a tree over all turns would be as deep
     // as a turn has bits, however few have been given out.
-    tree: Tree<Use, Choices>,
+    tree: Tree<Use, VictimClasses>,
     bits: u32,
 }
 
@@ -112,14 +112,14 @@ impl Drop for Uses {
 impl Model for Uses {
     ghost use Rattle.std.specs.Prelude.{◌≤◌, List};
     ghost use Rattle.augmented_tree.specs.Shape.{items, IsTree};
-    ghost use Rattle.use_tree.specs.Uses.{turn_of, IsAny, AreOf, start};
+    ghost use Rattle.use_tree.specs.Uses.{turn_of, IsAnyUse, AreClassesOf, start};
     ghost use Rattle.use_tree.specs.declared.uses.Use.{Use};
 
     ghost Value = { List Use };
 
     ghost view = { λ a. items a.tree };
 
-    ghost invariant = { λ a. (a.bits ≤ 62) × IsTree turn_of IsAny AreOf (start a.bits) 4611686018427387904 a.tree };
+    ghost invariant = { λ a. (a.bits ≤ 62) × IsTree turn_of IsAnyUse AreClassesOf (start a.bits) 4611686018427387904 a.tree };
 }
 
 /// Where the turns end.
@@ -136,8 +136,8 @@ impl Uses {
         }
     }
 
-    /// Puts a use before all others, whose turns are greater. It uses the room, and takes no memory.
-    pub fn push(&mut self, room: Room, latest: Use)
+    /// Puts a use before all others, whose turns are greater. It uses the spare node, and takes no memory.
+    pub fn push(&mut self, room: SpareNode, latest: Use)
         requires first { AllOf (λ u. latest.turn < u.turn) self.old }
         requires range { latest.turn < 4611686018427387904 }
         ensures { self.new ≡ latest ∷ self.old }
@@ -152,24 +152,24 @@ impl Uses {
         );
     }
 
-    /// Takes out the use of a turn, if there is one, and gives the room that it leaves. Takes no memory.
-    pub fn take(&mut self, turn: u64) -> Option<Room>
-        ensures rising { IsRising self.old }
+    /// Takes out the use of a turn, if there is one, and gives the spare node that it leaves. Takes no memory.
+    pub fn take(&mut self, turn: u64) -> Option<SpareNode>
+        ensures rising { AreUsesRising self.old }
         ensures uses { self.new ≡ take_use turn self.old }
         ensures there { is_some result ≡ has_use turn self.old }
     {
         match augmented_tree::take(&mut self.tree, turn, start(self.bits), END) {
             None => None,
-            Some(node) => Some(Room { node }),
+            Some(node) => Some(SpareNode { node }),
         }
     }
 
-    /// The copy of the use of a turn is chosen by these walks, if there is such a use. Takes no memory.
-    pub fn choose(&mut self, turn: u64, choices: Choices)
-        ensures rising { IsRising self.old }
-        ensures uses { self.new ≡ choose_use turn choices self.old }
+    /// The copy of the use of a turn is in these classes of victims, if there is such a use. Takes no memory.
+    pub fn set_classes(&mut self, turn: u64, classes: VictimClasses)
+        ensures rising { AreUsesRising self.old }
+        ensures uses { self.new ≡ use_with_classes turn classes self.old }
     {
-        augmented_tree::set_mark(&mut self.tree, turn, choices, start(self.bits), END);
+        augmented_tree::set_mark(&mut self.tree, turn, classes, start(self.bits), END);
     }
 
     /// What all turns are below.
@@ -183,11 +183,11 @@ impl Uses {
     }
 
     /// The use of the greatest turn below this one whose copy the walk chooses.
-    pub fn last(&self, choice: Choice, below: u64) -> Option<Use>
-        ensures rising { IsRising self.now }
-        ensures last { result ≡ last_chosen choice below self.now }
+    pub fn last(&self, class: VictimClass, below: u64) -> Option<Use>
+        ensures rising { AreUsesRising self.now }
+        ensures last { result ≡ last_chosen class below self.now }
     {
-        last(&self.tree, choice, below)
+        last(&self.tree, class, below)
     }
 }
 
@@ -200,10 +200,10 @@ fn start(bits: u32) -> u64
 }
 
 /// Widens the tree until it is over the turn too, and answers over how many turns it is then, in bits.
-fn widen_to(tree: &mut Tree<Use, Choices>, bits: u32, turn: u64) -> u32
-    requires tree { (bits ≤ 62) × IsTree turn_of IsAny AreOf (start_lem bits) 4611686018427387904 tree.old }
+fn widen_to(tree: &mut Tree<Use, VictimClasses>, bits: u32, turn: u64) -> u32
+    requires tree { (bits ≤ 62) × IsTree turn_of IsAnyUse AreClassesOf (start_lem bits) 4611686018427387904 tree.old }
     ensures range { (result ≤ 62) × (start_lem result ≤ turn) }
-    ensures tree { IsTree turn_of IsAny AreOf (start_lem result) 4611686018427387904 tree.new × (items tree.new ≡ items tree.old) }
+    ensures tree { IsTree turn_of IsAnyUse AreClassesOf (start_lem result) 4611686018427387904 tree.new × (items tree.new ≡ items tree.old) }
 {
     if turn >= start(bits) {
         return bits;
@@ -213,12 +213,12 @@ fn widen_to(tree: &mut Tree<Use, Choices>, bits: u32, turn: u64) -> u32
 }
 
 /// The use of the greatest turn below this one whose copy the walk chooses. Goes into at most two nodes of each depth.
-fn last(tree: &Tree<Use, Choices>, choice: Choice, below: u64) -> Option<Use>
-    requires told { IsTold IsAny AreOf tree.now }
-    requires rising { IsRising (items tree.now) }
-    ensures { result ≡ last_chosen choice below (items tree.now) }
+fn last(tree: &Tree<Use, VictimClasses>, class: VictimClass, below: u64) -> Option<Use>
+    requires told { HasSummaries IsAnyUse AreClassesOf tree.now }
+    requires rising { AreUsesRising (items tree.now) }
+    ensures { result ≡ last_chosen class below (items tree.now) }
 {
-    if !summary(tree).has(choice) {
+    if !summary(tree).has(class) {
         return None;
     }
     match tree {
@@ -228,15 +228,15 @@ fn last(tree: &Tree<Use, Choices>, choice: Choice, below: u64) -> Option<Use>
             if node.here.turn >= below {
                 return None;
             }
-            let right = last(&node.right, choice, below);
+            let right = last(&node.right, class, below);
             if right.is_some() {
                 return right;
             }
-            let left = last(&node.left, choice, below);
+            let left = last(&node.left, class, below);
             if left.is_some() {
                 return left;
             }
-            if !node.here.choices.has(choice) {
+            if !node.here.classes.has(class) {
                 return None;
             }
             Some(node.here)

@@ -3,7 +3,7 @@ use Rattle.std.proofs.Common.{◌≤◌, ℕ, List, [], ◌∷◌, ◌++◌, len
 use Rattle.obj_id.specs.Ids.{id_bytes}
 use Rattle.obj_id.specs.declared.commands.OwnItem.{OwnItem}
 use Rattle.obj_id.specs.declared.commands.GrantedItem.{GrantedItem}
-use Rattle.private_store.specs.Frames.{be4, granted_bytes, kind_byte, own_bytes, state_byte}
+use Rattle.private_store.specs.rules.Frames.{be4, granted_bytes, kind_byte, own_bytes, state_byte}
 
 items_below : {A : Type 0} (f : A → List ℕ) → ((x : A) → 1 ≤ length (f x)) → (xs : List A) → length xs ≤ length (flat_map f xs)
 items_below f some [] = omega arith

@@ -1,7 +1,7 @@
 -- Whether a reader has met a fault.
 use Rattle.std.proofs.Common.{◌≡◌, ◌≢◌, ℕ, Bool, true, false, List, [], ◌∷◌, ◌++◌, refl, sym, ap, ◌∙◌, append-nil}
 use Rattle.store_facts.proofs.Tests.{true_false}
-use Rattle.private_store.specs.Frames.{End, clean, mid_frame, malformed, stopped, stream_of}
+use Rattle.private_store.specs.rules.Frames.{End, clean, mid_frame, malformed, stopped, stream_of}
 use Rattle.wire_frames.specs.Heads.{IsPart, cut_end}
 use Rattle.wire_frames.specs.Reading.{Reading, unfinished, failed, answer_of, continued, fed, is_fault, reading_after, reading_at, reading_of}
 use Rattle.wire_frames.proofs.Pieces.{IsKept, IsKept-reading_after}

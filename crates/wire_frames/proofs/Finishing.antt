@@ -5,12 +5,12 @@ use Rattle.std.proofs.lemmas.List.{take-append-drop}
 use Rattle.std.proofs.Math.Seq.{take-add, take-length}
 use Rattle.store_facts.proofs.Tests.{true_false}
 use Rattle.private_store.specs.declared.frames.Item.{Item}
-use Rattle.private_store.specs.Frames.{malformed, Stream, stopped, after_item, is_command_length, number_at, stream_of}
-use Rattle.wire_frames.specs.Filled.{filled}
+use Rattle.private_store.specs.rules.Frames.{malformed, Stream, stopped, after_item, is_command_length, number_at, stream_of}
+use Rattle.wire_frames.specs.Filled.{filled_item}
 use Rattle.wire_frames.specs.Finishing.{IsCompleted, IsFilled, IsWholeFrame}
 use Rattle.wire_frames.specs.Heads.{IsPart, stream_read}
-use Rattle.wire_frames.specs.Reading.{Fed, unfinished, answer_of, fed, fed_by, reading_after, told}
-use Rattle.wire_frames.specs.declared.bodies.Said.{Said}
+use Rattle.wire_frames.specs.Reading.{Fed, unfinished, answer_of, fed, fed_by, reading_after, reading_told}
+use Rattle.wire_frames.specs.declared.bodies.FrameBody.{FrameBody}
 use Rattle.wire_frames.proofs.Pieces.{IsKept, IsKept-reading_after, onward, stream_of-append}
 use Rattle.wire_frames.proofs.Streams.{number_at-append}
 
@@ -21,7 +21,7 @@ rest_taken bytes n = ap (λ k. take k (drop n bytes)) (sym (length-drop n bytes)
 
 -- what a reader tells of a stream, and what it keeps
 abbrev told_of : Stream → Fed
-told_of s = told (answer_of s) (reading_after s)
+told_of s = reading_told (answer_of s) (reading_after s)
 
 stream_read-told : (items : List Item) (faulty : Bool) (rest : List ℕ) → told_of (stream_read items faulty rest) ≡ fed_by items faulty rest
 stream_read-told items true rest = refl
@@ -113,9 +113,9 @@ after_item-stream_read x items true rest = refl
 after_item-stream_read x items false rest = refl
 
 -- a whole frame, and the frames after it
-pub fed-whole_frame : (said : Said) (kept following : List ℕ) (items : List Item) (faulty : Bool) (rest : List ℕ) → IsWholeFrame said kept
-    → stream_of following ≡ stream_read items faulty rest → fed (unfinished kept) following ≡ fed_by (filled said (drop 5 kept) ∷ items) faulty rest
+pub fed-whole_frame : (said : FrameBody) (kept following : List ℕ) (items : List Item) (faulty : Bool) (rest : List ℕ) → IsWholeFrame said kept
+    → stream_of following ≡ stream_read items faulty rest → fed (unfinished kept) following ≡ fed_by (filled_item said (drop 5 kept) ∷ items) faulty rest
 fed-whole_frame said kept following items faulty rest whole is =
-    let x = filled said (drop 5 kept) in
+    let x = filled_item said (drop 5 kept) in
     fed-stream_read kept following (x ∷ items) faulty rest
     (stream_of-append kept following ∙ ap (λ s. onward s following) whole.stream ∙ ap (after_item x) is ∙ after_item-stream_read x items faulty rest)

@@ -4,7 +4,7 @@ use Rattle.std.specs.Prelude.{All, option_map, slice_index, unwrap_or}
 use Rattle.std.proofs.Math.Seq.{drop-cons}
 use Rattle.std.proofs.lemmas.List.{length-take-le, take-append-drop}
 use Rattle.private_store.specs.declared.frames.Item.{Item}
-use Rattle.private_store.specs.Frames.{Stream, after_item, be4, frame, is_command_length, item_frame, malformed, stopped, stream_of}
+use Rattle.private_store.specs.rules.Frames.{Stream, after_item, be4, frame, is_command_length, item_frame, malformed, stopped, stream_of}
 use Rattle.wire_frames.specs.Items.{AreBytes, HasFrame, is_bad_id}
 use Rattle.wire_frames.specs.Writing.{is_some_of_length}
 use Rattle.wire_frames.proofs.Pieces.{alone}

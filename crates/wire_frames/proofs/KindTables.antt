@@ -7,7 +7,7 @@ use Rattle.std.specs.Prelude.{◌==◌, if◌then◌else◌, slice_get}
 use Rattle.private_store.specs.declared.frames.Item.{Item}
 use Rattle.std.specs.Ordering.{eq_by_cmp, nat_cmp}
 use Rattle.std.specs.FinMap.{find}
-use Rattle.private_store.specs.Frames.{Read, item_of, is_create, kinds}
+use Rattle.private_store.specs.rules.Frames.{Read, item_of, is_create, kinds}
 use Rattle.wire_frames.specs.Kinds.{byte_of, read_of}
 use Rattle.wire_frames.specs.declared.kinds.FrameKind.{FrameKind}
 use Rattle.wire_frames.specs.declared.kinds.FrameKind.TheVariants as frame

@@ -4,9 +4,9 @@ use Rattle.std.proofs.lemmas.Bool.{and_parts, leb-true}
 use Rattle.std.proofs.lemmas.List.{drop-append-le}
 use Rattle.std.specs.Prelude.{nat_le}
 use Rattle.private_store.specs.declared.frames.Item.{Item}
-use Rattle.private_store.specs.Frames.{End, clean, mid_frame, malformed, Stream, stopped, after_item, number_at, stream_of}
+use Rattle.private_store.specs.rules.Frames.{End, clean, mid_frame, malformed, Stream, stopped, after_item, number_at, stream_of}
 use Rattle.wire_frames.specs.Heads.{IsPart, after_items, cut_end}
-use Rattle.wire_frames.specs.Laws.{Feeding, IsLessThanAFrame, feeding, given_by, items_in}
+use Rattle.wire_frames.specs.Laws.{Feeding, IsLessThanAFrame, feeding, frame_given_by, items_in}
 use Rattle.wire_frames.specs.Reading.{Reading, unfinished, failed, answer_at, answer_of, continued, reading_after}
 use Rattle.wire_frames.proofs.Streams.{HeadOf, cut, fault, whole, head_of}
 
@@ -62,16 +62,16 @@ given_onto items f = record { items = items ++ f.items; reader = f.reader }
 
 given-onward : (end : End) (items : List Item) (rest piece : List ℕ)
     → let s : Stream = record { items = items; rest = rest; end = end } in
-    given_by (onward s piece) ≡ given_onto items (given_by (continued (reading_after s) piece))
+    frame_given_by (onward s piece) ≡ given_onto items (frame_given_by (continued (reading_after s) piece))
 given-onward clean items rest piece = refl
 given-onward mid_frame items rest piece = refl
 given-onward malformed items rest piece = λ i. record { items = sym (append-nil items) i; reader = failed }
 
 pub given-append : (before piece : List ℕ)
-    → given_by (stream_of (before ++ piece)) ≡ given_onto (stream_of before).items (given_by (continued (reading_after (stream_of before)) piece))
+    → frame_given_by (stream_of (before ++ piece)) ≡ given_onto (stream_of before).items (frame_given_by (continued (reading_after (stream_of before)) piece))
 given-append before piece =
     let s = stream_of before in
-    ap given_by (stream_of-append before piece) ∙ given-onward s.end s.items s.rest piece
+    ap frame_given_by (stream_of-append before piece) ∙ given-onward s.end s.items s.rest piece
 
 items_in-answer : (end : End) (items : List Item) → items_in (answer_at end items) ≡ items
 items_in-answer clean items = refl
@@ -80,10 +80,10 @@ items_in-answer malformed [] = refl
 items_in-answer malformed (x ∷ xs) = refl
 
 fed_on : (pieces : List (List ℕ)) (before : List ℕ)
-    → given_onto (stream_of before).items (feeding (reading_after (stream_of before)) pieces) ≡ given_by (stream_of (before ++ flat_map (λ piece. piece) pieces))
+    → given_onto (stream_of before).items (feeding (reading_after (stream_of before)) pieces) ≡ frame_given_by (stream_of (before ++ flat_map (λ piece. piece) pieces))
 fed_on [] before =
     let s = stream_of before in
-    (λ i. record { items = append-nil s.items i; reader = reading_after s }) ∙ ap (λ b. given_by (stream_of b)) (sym (append-nil before))
+    (λ i. record { items = append-nil s.items i; reader = reading_after s }) ∙ ap (λ b. frame_given_by (stream_of b)) (sym (append-nil before))
 fed_on (piece ∷ pieces) before =
     let s = stream_of before in
     let t = continued (reading_after s) piece in
@@ -94,10 +94,10 @@ fed_on (piece ∷ pieces) before =
     ∙ ap (λ items. record { items = items; reader = (feeding (reading_after t) pieces).reader }) (sym (append_assoc s.items t.items (feeding (reading_after t) pieces).items))
     ∙ ap (λ f. put f.items f.reader) (sym next)
     ∙ fed_on pieces (before ++ piece)
-    ∙ ap (λ b. given_by (stream_of b)) (append_assoc before piece (flat_map (λ p. p) pieces))
+    ∙ ap (λ b. frame_given_by (stream_of b)) (append_assoc before piece (flat_map (λ p. p) pieces))
 
 -- a new reader gives the items of the whole stream, and keeps what the whole stream leaves
-pub feeding-stream : (pieces : List (List ℕ)) → feeding (unfinished []) pieces ≡ given_by (stream_of (flat_map (λ piece. piece) pieces))
+pub feeding-stream : (pieces : List (List ℕ)) → feeding (unfinished []) pieces ≡ frame_given_by (stream_of (flat_map (λ piece. piece) pieces))
 feeding-stream pieces = fed_on pieces []
 
 -- ---- what is kept

@@ -12,9 +12,9 @@ use Rattle.obj_id.specs.declared.commands.Command.{Command}
 use Rattle.obj_id.specs.declared.commands.Command.TheVariants as command
 use Rattle.private_store.specs.declared.frames.Item.{Item}
 use Rattle.private_store.specs.declared.frames.Item.TheVariants as item
-use Rattle.private_store.specs.Frames.{bare, be4, command_body, hello, id_at, is_create, is_id, item_body, item_of, kind_byte, kind_of, number_at, task_at, with_id}
-use Rattle.wire_frames.specs.Items.{AreBytes, IsCommand, IsItem, is_bad_id}
-use Rattle.wire_frames.specs.Kinds.{byte_of, end_task, fits, object_byte, read_about, read_of, said}
+use Rattle.private_store.specs.rules.Frames.{bare, be4, command_body, hello, id_at, is_create, is_id, item_body, item_of, kind_byte, kind_of, number_at, task_at, with_id}
+use Rattle.wire_frames.specs.Items.{AreBytes, IsCommandBytes, IsItemBytes, is_bad_id}
+use Rattle.wire_frames.specs.Kinds.{byte_of, end_task_item, fits_kind, object_byte, read_about, read_of, said}
 use Rattle.wire_frames.specs.declared.kinds.FrameKind.{FrameKind}
 use Rattle.wire_frames.specs.declared.kinds.FrameKind.TheVariants as frame
 use Rattle.wire_frames.specs.declared.kinds.ObjectKind.{ObjectKind}
@@ -146,7 +146,7 @@ ranged_well : (body : List ℕ) → AreBytes body → (length body == 36) ≡ tr
     → IsId (id_at body) × (number_at body 28 < 2 ^ 32) × (number_at body 32 < 2 ^ 32)
 ranged_well body h f is = let e = sized body 36 f in (id_well body h (omega arith) is, number_small body 28 h, number_small body 32 h)
 
-said_well : (kind : ObjectKind) (body : List ℕ) → AreBytes body → fits kind body ≡ true → is_id (id_at body) ≡ true → IsItem (said kind (id_at body) body)
+said_well : (kind : ObjectKind) (body : List ℕ) → AreBytes body → fits_kind kind body ≡ true → is_id (id_at body) ≡ true → IsItemBytes (said kind (id_at body) body)
 said_well object.Create body h f is = copy_well body h f is
 said_well object.Write body h f is =
     let long : 32 ≤ length body = leb-true 32 (length body) f in
@@ -166,7 +166,7 @@ said_well object.GetWait body h f is = alone_well body h f is
 said_well object.CreateWait body h f is = copy_well body h f is
 
 -- what is said is spelled as it was read
-said_spelled : (kind : ObjectKind) (body : List ℕ) → AreBytes body → fits kind body ≡ true
+said_spelled : (kind : ObjectKind) (body : List ℕ) → AreBytes body → fits_kind kind body ≡ true
     → item_body (said kind (id_at body) body) ≡ Some (object_byte kind ∷ body)
 said_spelled object.Create body h f = ap (λ b. Some (0x02 ∷ b)) (with_copy body h f)
 said_spelled object.Write body h f = ap (λ b. Some (0x03 ∷ b)) (with_bytes body h (leb-true 32 (length body) f))
@@ -189,7 +189,7 @@ said_spelled object.CreateWait body h f = ap (λ b. Some (0x14 ∷ b)) (with_cop
 -- the item is of a program's parts, and these are its kind's byte and its body
 pub record IsSpelled (byte : ℕ) (body : List ℕ) (x : Item) : Type 0 where
   pub spelled : item_body x ≡ Some (byte ∷ body)
-  pub well : IsItem x
+  pub well : IsItemBytes x
 
 some_if : (b : Bool) (y x : Item) → (if b then Some y else None) ≡ Some x → (b ≡ true) × (y ≡ x)
 some_if true y x e = (refl, cc)
@@ -203,7 +203,7 @@ nothing : (body : List ℕ) → (length body == 0) ≡ true → [] ≡ body
 nothing [] h = refl
 nothing (b ∷ bs) h = absurd (omega (arith, eqb-true (length (b ∷ bs)) 0 h))
 
-bare_spelled : (c : Command (List ℕ)) (byte : ℕ) (body : List ℕ) (x : Item) → command_body c ≡ byte ∷ [] → IsCommand c → bare c body ≡ Some x
+bare_spelled : (c : Command (List ℕ)) (byte : ℕ) (body : List ℕ) (x : Item) → command_body c ≡ byte ∷ [] → IsCommandBytes c → bare c body ≡ Some x
     → IsSpelled byte body x
 bare_spelled c byte body x spelled is e =
     let p = some_if (length body == 0) (item.Command c) x e in
@@ -222,7 +222,7 @@ hello_spelled body x h e =
       well = (number_small body 0 h, omega (arith, length-drop 4 body));
     })
 
-end_task_spelled : (body : List ℕ) (x : Item) → AreBytes body → end_task body ≡ Some x → IsSpelled 0x0c body x
+end_task_spelled : (body : List ℕ) (x : Item) → AreBytes body → end_task_item body ≡ Some x → IsSpelled 0x0c body x
 end_task_spelled body x h e =
     let p = some_if (length body == 20) (item.Command (command.EndTask (task_at body 0))) x e in
     let long = sized body 20 p.0 in
@@ -235,7 +235,7 @@ about_spelled : (kind : ObjectKind) (body : List ℕ) (x : Item) → AreBytes bo
     → IsSpelled (object_byte kind) body x
 about_spelled kind body x h e ok =
     let said_here = said kind (id_at body) body in
-    let p = some_if (fits kind body) (with_id body said_here) x e in
+    let p = some_if (fits_kind kind body) (with_id body said_here) x e in
     let same = not_bad (is_id (id_at body)) said_here x p.1 ok in
     subst (IsSpelled (object_byte kind) body) same.1 (record { spelled = said_spelled kind body h p.0; well = said_well kind body h p.0 same.0 })
 

@@ -7,7 +7,7 @@ use Rattle.std.proofs.lemmas.List.{drop-append-le, take-append-le}
 use Rattle.std.proofs.Math.ListN.{get_or-append}
 use Rattle.wire_frames.specs.Heads.{IsPart, cut_end}
 use Rattle.private_store.specs.declared.frames.Item.{Item}
-use Rattle.private_store.specs.Frames.{clean, mid_frame, malformed, Stream, stopped, after_item, frames_of, is_command_length, item_of, number_at, stream_of}
+use Rattle.private_store.specs.rules.Frames.{clean, mid_frame, malformed, Stream, stopped, after_item, frames_of, is_command_length, item_of, number_at, stream_of}
 
 -- the bytes after a frame
 abbrev pub following : List ℕ → List ℕ

@@ -13,10 +13,10 @@ use Rattle.obj_id.specs.declared.commands.Kind.{Kind}
 use Rattle.obj_id.specs.declared.commands.Kind.TheVariants.{Primary, Secondary}
 use Rattle.private_store.specs.declared.frames.Item.{Item}
 use Rattle.private_store.specs.declared.frames.Item.TheVariants as item
-use Rattle.private_store.specs.Frames.{be4, command_body, create_body, id_at, is_create, is_id, item_of, kind_byte, kind_of, number_at, range_body, stream_of, task_at, with_id, after_item, awaited_body, is_command_length, item_frame, frame as frame_of_body}
+use Rattle.private_store.specs.rules.Frames.{be4, command_body, create_body, id_at, is_create, is_id, item_of, kind_byte, kind_of, number_at, range_body, stream_of, task_at, with_id, after_item, awaited_body, is_command_length, item_frame, frame as frame_of_body}
 use Rattle.obj_id.specs.declared.commands.Command.{Command}
 use Rattle.obj_id.specs.declared.commands.Command.TheVariants as command
-use Rattle.wire_frames.specs.Items.{HasFrame, IsAwaited, IsCommand}
+use Rattle.wire_frames.specs.Items.{HasFrame, IsAwaited, IsCommandBytes}
 use Rattle.wire_frames.specs.Heads.{after_items}
 use Rattle.wire_frames.specs.declared.kinds.FrameKind.TheVariants as frame
 use Rattle.wire_frames.specs.declared.kinds.ObjectKind.TheVariants as object
@@ -26,7 +26,7 @@ use Rattle.wire_frames.proofs.Streams.{stream_of-head}
 use Rattle.obj_id.specs.declared.works.JobKey.{JobKey}
 use Rattle.private_store.specs.declared.frames.Awaited.{Awaited}
 use Rattle.private_store.specs.declared.frames.Awaited.TheVariants as awaited
-use Rattle.wire_frames.specs.Kinds.{fits, read_about, said}
+use Rattle.wire_frames.specs.Kinds.{fits_kind, read_about, said}
 use Rattle.wire_frames.specs.declared.kinds.ObjectKind.{ObjectKind}
 
 -- ---- parts of bytes
@@ -74,7 +74,7 @@ is_id-IsId id is = rw (positive id.job.0 is.job_positive, positive id.index is.i
 
 -- ---- bodies that begin with an id
 
-read_about-written : (kind : ObjectKind) (id : ObjectId) (rest : List ℕ) → IsId id → fits kind (id_bytes id ++ rest) ≡ true
+read_about-written : (kind : ObjectKind) (id : ObjectId) (rest : List ℕ) → IsId id → fits_kind kind (id_bytes id ++ rest) ≡ true
     → read_about kind (id_bytes id ++ rest) ≡ Some (said kind id (id_bytes id ++ rest))
 read_about-written kind id rest is fit =
     let body = id_bytes id ++ rest in
@@ -87,10 +87,10 @@ is_of_length : (bytes : List ℕ) (n : ℕ) → length bytes ≡ n → (length b
 is_of_length bytes n e = grind (arith, nat_tests)
 
 -- an id alone
-alone : (kind : ObjectKind) (id : ObjectId) → IsId id → fits kind (id_bytes id) ≡ true → read_about kind (id_bytes id) ≡ Some (said kind id (id_bytes id))
+alone : (kind : ObjectKind) (id : ObjectId) → IsId id → fits_kind kind (id_bytes id) ≡ true → read_about kind (id_bytes id) ≡ Some (said kind id (id_bytes id))
 alone kind id is fit =
     let nil = append-nil (id_bytes id) in
-    subst (λ b. read_about kind b ≡ Some (said kind id b)) nil (read_about-written kind id [] is (ap (fits kind) nil ∙ fit))
+    subst (λ b. read_about kind b ≡ Some (said kind id b)) nil (read_about-written kind id [] is (ap (fits_kind kind) nil ∙ fit))
 
 alone_fits : (id : ObjectId) → IsId id → (length (id_bytes id) == 28) ≡ true
 alone_fits id is = is_of_length (id_bytes id) 28 (length-id_bytes id is)
@@ -122,11 +122,11 @@ front_of_two id offset is = omega (arith, length-id_bytes id is, length-append (
 first_of_two : (id : ObjectId) (offset : ℕ) (rest : List ℕ) → IsId id → offset < 2 ^ 32 → number_at (two id offset rest) 28 ≡ offset
 first_of_two id offset rest is small = subst (λ b. number_at b 28 ≡ offset) (two_parts id offset rest) (number_after id offset rest is small)
 
-read_about-two : (kind : ObjectKind) (id : ObjectId) (offset : ℕ) (rest : List ℕ) → IsId id → fits kind (two id offset rest) ≡ true
+read_about-two : (kind : ObjectKind) (id : ObjectId) (offset : ℕ) (rest : List ℕ) → IsId id → fits_kind kind (two id offset rest) ≡ true
     → read_about kind (two id offset rest) ≡ Some (said kind id (two id offset rest))
 read_about-two kind id offset rest is fit =
     let parts = two_parts id offset rest in
-    subst (λ b. read_about kind b ≡ Some (said kind id b)) parts (read_about-written kind id (be4 offset ++ rest) is (ap (fits kind) parts ∙ fit))
+    subst (λ b. read_about kind b ≡ Some (said kind id b)) parts (read_about-written kind id (be4 offset ++ rest) is (ap (fits_kind kind) parts ∙ fit))
 
 range_fits : (id : ObjectId) (offset n : ℕ) → IsId id → (length (range_body id offset n) == 36) ≡ true
 range_fits id offset n is = is_of_length (range_body id offset n) 36 (omega (arith, front_of_two id offset is, length-append (id_bytes id ++ be4 offset) (be4 n)))
@@ -170,7 +170,7 @@ kind_read id kind n is = ap kind_of (kind_after id kind n is) ∙ kind_of-kind_b
 -- ---- what is written is read
 
 -- the body of a command is read as that command
-pub item_of-command_body : (c : Command (List ℕ)) → IsCommand c → item_of (slice_index (command_body c) 0) (drop 1 (command_body c)) ≡ Some (item.Command c)
+pub item_of-command_body : (c : Command (List ℕ)) → IsCommandBytes c → item_of (slice_index (command_body c) 0) (drop 1 (command_body c)) ≡ Some (item.Command c)
 item_of-command_body (command.Create id kind n) is =
     item_of-byte_of (frame.About object.Create) (create_body id kind n)
     ∙ read_about-written object.Create id (kind_byte kind ∷ be4 n) is.0 (create_fits id kind n is.0)

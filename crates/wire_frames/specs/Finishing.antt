@@ -1,9 +1,9 @@
 -- How a part of a frame is made whole.
 use Rattle.std.specs.Prelude.{◌≡◌, ℕ, ◌+◌, ◌≤◌, ◌⊎◌, true, List, [], ◌++◌, length, take, drop}
-use Rattle.private_store.specs.Frames.{clean, is_command_length, number_at, stopped, after_item, stream_of}
-use Rattle.wire_frames.specs.Filled.{HasPayload, filled}
+use Rattle.private_store.specs.rules.Frames.{clean, is_command_length, number_at, stopped, after_item, stream_of}
+use Rattle.wire_frames.specs.Filled.{HasPayload, filled_item}
 use Rattle.wire_frames.specs.Heads.{IsPart}
-use Rattle.wire_frames.specs.declared.bodies.Said.{Said}
+use Rattle.wire_frames.specs.declared.bodies.FrameBody.{FrameBody}
 
 -- so many bytes of a piece were added, up to this length or to the piece's end
 pub record IsFilled (goal : ℕ) (before piece : List ℕ) (taken : ℕ) (after : List ℕ) : Type 0 where
@@ -20,7 +20,7 @@ pub record IsCompleted (before piece : List ℕ) (taken : ℕ) (after : List ℕ
   pub no_more : is_command_length (number_at after 0) ≡ true → 4 + number_at after 0 ≤ length after → length after ≡ 4 + number_at after 0
 
 -- one frame and nothing else, which says this
-pub record IsWholeFrame (said : Said) (bytes : List ℕ) : Type 0 where
-  pub stream : stream_of bytes ≡ after_item (filled said (drop 5 bytes)) (stopped [] clean)
+pub record IsWholeFrame (said : FrameBody) (bytes : List ℕ) : Type 0 where
+  pub stream : stream_of bytes ≡ after_item (filled_item said (drop 5 bytes)) (stopped [] clean)
   pub has_kind : 5 ≤ length bytes
   pub payload : HasPayload said (drop 5 bytes)

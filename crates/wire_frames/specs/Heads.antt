@@ -1,9 +1,9 @@
 -- What stands at the head of bytes, and how frame after frame is taken from it.
 use Rattle.std.specs.Prelude.{◌≡◌, ℕ, ◌+◌, ◌-◌, ◌<◌, ◌≤◌, ◌⊎◌, Bool, true, false, List, [], ◌∷◌, ◌++◌, length, take, drop}
 use Rattle.private_store.specs.declared.frames.Item.{Item}
-use Rattle.private_store.specs.Frames.{End, clean, mid_frame, malformed, Stream, stopped, after_item, is_command_length, number_at, stream_of}
-use Rattle.wire_frames.specs.Filled.{HasPayload, filled}
-use Rattle.wire_frames.specs.declared.bodies.Said.{Said}
+use Rattle.private_store.specs.rules.Frames.{End, clean, mid_frame, malformed, Stream, stopped, after_item, is_command_length, number_at, stream_of}
+use Rattle.wire_frames.specs.Filled.{HasPayload, filled_item}
+use Rattle.wire_frames.specs.declared.bodies.FrameBody.{FrameBody}
 use Rattle.wire_frames.specs.declared.frames.Head.{Head}
 use Rattle.wire_frames.specs.declared.frames.Head.TheVariants as head
 
@@ -20,14 +20,14 @@ body_at_head bytes size = take (size - 5) (drop 5 bytes)
 abbrev pub stream_from : Head → List ℕ → Stream
 stream_from head.Cut bytes = stopped bytes (cut_end bytes)
 stream_from head.Fault bytes = stopped bytes malformed
-stream_from (head.Frame said size) bytes = after_item (filled said (body_at_head bytes size)) (stream_of (drop size bytes))
+stream_from (head.Frame said size) bytes = after_item (filled_item said (body_at_head bytes size)) (stream_of (drop size bytes))
 
 -- a part of a frame: some of its length, or a length that can be and fewer bytes
 abbrev pub IsPart : List ℕ → Type 0
 IsPart bytes = (length bytes < 4) ⊎ ((is_command_length (number_at bytes 0) ≡ true) × (length bytes < 4 + number_at bytes 0))
 
 -- a frame at the head of bytes has the bytes that its length says
-pub record IsFrame (bytes : List ℕ) (said : Said) (size : ℕ) : Type 0 where
+pub record IsFrame (bytes : List ℕ) (said : FrameBody) (size : ℕ) : Type 0 where
   pub in_range : is_command_length (number_at bytes 0) ≡ true
   pub number : size ≡ 4 + number_at bytes 0
   pub has_kind : 5 ≤ size

@@ -5,7 +5,7 @@ use Rattle.obj_id.specs.declared.commands.Command.TheVariants as command
 use Rattle.private_store.specs.declared.frames.Awaited.TheVariants as awaited
 use Rattle.private_store.specs.declared.frames.Item.{Item}
 use Rattle.private_store.specs.declared.frames.Item.TheVariants as item
-use Rattle.private_store.specs.Frames.{Read, bare, hello, id_at, is_create, kind_of, number_at, of_length, task_at, with_id}
+use Rattle.private_store.specs.rules.Frames.{Read, bare, hello, id_at, is_create, kind_of, number_at, of_length, task_at, with_id}
 use Rattle.wire_frames.specs.declared.kinds.FrameKind.{FrameKind}
 use Rattle.wire_frames.specs.declared.kinds.FrameKind.TheVariants as frame
 use Rattle.wire_frames.specs.declared.kinds.ObjectKind.{ObjectKind}
@@ -37,22 +37,22 @@ byte_of frame.Leave = 0x12
 byte_of (frame.About kind) = object_byte kind
 
 -- whether a body has the form of its kind
-abbrev pub fits : ObjectKind → List ℕ → Bool
-fits object.Create body = is_create body && (length body == 33)
-fits object.Write body = nat_le 32 (length body)
-fits object.Seal body = length body == 28
-fits object.Get body = length body == 28
-fits object.Read body = length body == 36
-fits object.Release body = length body == 28
-fits object.Unpin body = length body == 48
-fits object.Borrow body = length body == 48
-fits object.GiveUp body = length body == 48
-fits object.Delete body = length body == 28
-fits object.Grant body = length body == 32
-fits object.Withdraw body = length body == 32
-fits object.Peek body = length body == 36
-fits object.GetWait body = length body == 28
-fits object.CreateWait body = is_create body && (length body == 33)
+abbrev pub fits_kind : ObjectKind → List ℕ → Bool
+fits_kind object.Create body = is_create body && (length body == 33)
+fits_kind object.Write body = nat_le 32 (length body)
+fits_kind object.Seal body = length body == 28
+fits_kind object.Get body = length body == 28
+fits_kind object.Read body = length body == 36
+fits_kind object.Release body = length body == 28
+fits_kind object.Unpin body = length body == 48
+fits_kind object.Borrow body = length body == 48
+fits_kind object.GiveUp body = length body == 48
+fits_kind object.Delete body = length body == 28
+fits_kind object.Grant body = length body == 32
+fits_kind object.Withdraw body = length body == 32
+fits_kind object.Peek body = length body == 36
+fits_kind object.GetWait body = length body == 28
+fits_kind object.CreateWait body = is_create body && (length body == 33)
 
 -- what is said of an object
 abbrev pub said : ObjectKind → ObjectId → List ℕ → Item
@@ -73,15 +73,15 @@ said object.GetWait id body = item.Wait (awaited.Get id)
 said object.CreateWait id body = item.Wait (awaited.Create id (kind_of (slice_index body 28)) (number_at body 29))
 
 abbrev pub read_about : ObjectKind → Read
-read_about kind body = if fits kind body then Some (with_id body (said kind (id_at body) body)) else None
+read_about kind body = if fits_kind kind body then Some (with_id body (said kind (id_at body) body)) else None
 
-abbrev pub end_task : Read
-end_task body = of_length body 20 (item.Command (command.EndTask (task_at body 0)))
+abbrev pub end_task_item : Read
+end_task_item body = of_length body 20 (item.Command (command.EndTask (task_at body 0)))
 
 -- how a body of this kind is read
 abbrev pub read_of : FrameKind → Read
 read_of frame.Hello = hello
-read_of frame.EndTask = end_task
+read_of frame.EndTask = end_task_item
 read_of frame.List = bare command.List
 read_of frame.Usage = bare command.Usage
 read_of frame.Leave = bare command.Leave

@@ -2,7 +2,7 @@
 use Rattle.std.specs.Prelude.{ℕ, ◌<◌, length, List, [], ◌∷◌, ◌++◌, Result, Ok, Err}
 use Rattle.obj_id.specs.declared.refusals.Refusal.{Refusal}
 use Rattle.private_store.specs.declared.frames.Item.{Item}
-use Rattle.private_store.specs.Frames.{Stream}
+use Rattle.private_store.specs.rules.Frames.{Stream}
 use Rattle.wire_frames.specs.Reading.{Reading, unfinished, failed, fed, reading_after}
 
 -- pieces fed one after the other: all items that were answered, and what the reader keeps
@@ -21,8 +21,8 @@ feeding reader (piece ∷ pieces) =
     record { items = items_in (fed reader piece).answer ++ others.items; reader = others.reader }
 
 -- what a stream gives, and what a reader keeps after it
-abbrev pub given_by : Stream → Feeding
-given_by stream = record { items = stream.items; reader = reading_after stream }
+abbrev pub frame_given_by : Stream → Feeding
+frame_given_by stream = record { items = stream.items; reader = reading_after stream }
 
 -- a frame has 65,604 bytes at most, with its length
 abbrev pub IsLessThanAFrame : Reading → Type 0

@@ -3,7 +3,7 @@ use Rattle.std.specs.Prelude.{ℕ, Bool, true, false, not, List, [], ◌∷◌, 
 use Rattle.obj_id.specs.declared.refusals.Refusal.{Refusal}
 use Rattle.obj_id.specs.declared.refusals.Refusal.TheVariants.{Malformed}
 use Rattle.private_store.specs.declared.frames.Item.{Item}
-use Rattle.private_store.specs.Frames.{End, clean, mid_frame, malformed, Stream, stopped, stream_of}
+use Rattle.private_store.specs.rules.Frames.{End, clean, mid_frame, malformed, Stream, stopped, stream_of}
 
 -- the bytes of a frame that isn't whole yet, or that the stream has a fault
 pub data Reading : Type 0 where
@@ -56,14 +56,14 @@ pub record Fed : Type 0 where
   pub answer : Result (List Item) Refusal
   pub reader : Reading
 
-abbrev pub told : Result (List Item) Refusal → Reading → Fed
-told answer reader = record { answer = answer; reader = reader }
+abbrev pub reading_told : Result (List Item) Refusal → Reading → Fed
+reading_told answer reader = record { answer = answer; reader = reader }
 
 -- a piece is fed to a reader
 abbrev pub fed : Reading → List ℕ → Fed
-fed reader piece = told (answer_of (continued reader piece)) (reading_after (continued reader piece))
+fed reader piece = reading_told (answer_of (continued reader piece)) (reading_after (continued reader piece))
 
 -- a piece by the items that it gives and what is left, where a fault stands after them or doesn't
 abbrev pub fed_by : List Item → Bool → List ℕ → Fed
-fed_by items true rest = told (answer_at malformed items) failed
-fed_by items false rest = told (Ok items) (unfinished rest)
+fed_by items true rest = reading_told (answer_at malformed items) failed
+fed_by items false rest = reading_told (Ok items) (unfinished rest)

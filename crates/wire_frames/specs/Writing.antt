@@ -4,7 +4,7 @@ use Rattle.std.specs.List.{list_all}
 use Rattle.obj_id.specs.declared.commands.Reply.{Reply}
 use Rattle.obj_id.specs.declared.commands.Reply.TheVariants as reply
 use Rattle.private_store.specs.declared.frames.Item.{Item}
-use Rattle.private_store.specs.Frames.{is_command_length, item_body, reply_body}
+use Rattle.private_store.specs.rules.Frames.{is_command_length, item_body, reply_body}
 
 abbrev pub is_some_of_length : (ℕ → Bool) → Option (List ℕ) → Bool
 is_some_of_length fits (Some body) = fits (length body)

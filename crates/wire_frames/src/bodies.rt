@@ -1,8 +1,8 @@
 //! What the bodies of frames say.
 ghost use Rattle.std.specs.Prelude.{◌≡◌, ◌+◌, ◌≤◌, Some, None, IsTrue, if◌then◌else◌, IfOk, IfSome, length, slice_index};
-ghost use Rattle.private_store.specs.Frames.{bare as bare_lem, hello as hello_lem, id_at as id_at_lem, is_id, kind_of, number_at as number_at_lem, task_at as task_at_lem};
-ghost use Rattle.wire_frames.specs.Kinds.{end_task as end_task_lem, fits as fits_lem, read_about, read_of, said as said_lem};
-ghost use Rattle.wire_frames.specs.Filled.{HasPayload, filled, option_filled};
+ghost use Rattle.private_store.specs.rules.Frames.{bare as bare_lem, hello as hello_lem, id_at as id_at_lem, is_id, kind_of, number_at as number_at_lem, task_at as task_at_lem};
+ghost use Rattle.wire_frames.specs.Kinds.{end_task_item as end_task_lem, fits_kind as fits_lem, read_about, read_of, said as said_lem};
+ghost use Rattle.wire_frames.specs.Filled.{HasPayload, filled_item, option_filled};
 
 use crate::kinds::{FrameKind, ObjectKind};
 use bytes::Bytes;
@@ -15,21 +15,21 @@ const BEFORE_PAYLOAD: usize = 32;
 
 /// What a body says, but for the payload of a write.
 #[derive(Debug, Drop)]
-pub(crate) enum Said {
+pub(crate) enum FrameBody {
     Item(Item),
     /// A write to the object at the offset. Its payload is what the body has after its first 32 bytes.
     Write(ObjectId, u32),
 }
 
-impl Said {
+impl FrameBody {
     /// The item, with the payload copied out of the body.
     pub(crate) fn copied(self, alloc: Global, body: &[u8]) -> Result<Item, AllocError>
         requires { HasPayload self body.now }
-        ensures { IfOk result (λ item. item ≡ filled self body.now) }
+        ensures { IfOk result (λ item. item ≡ filled_item self body.now) }
     {
         match self {
-            Said::Item(item) => Ok(item),
-            Said::Write(id, offset) => {
+            FrameBody::Item(item) => Ok(item),
+            FrameBody::Write(id, offset) => {
                 let payload = Bytes::copy_from_slice(alloc, &body[BEFORE_PAYLOAD..])?;
                 Ok(Item::Command(Command::Write {
                     id,
@@ -43,11 +43,11 @@ impl Said {
     /// The item. Its payload stays where the body is.
     pub(crate) fn shared(self, mut body: Bytes) -> Item
         requires { HasPayload self body }
-        ensures { result ≡ filled self body }
+        ensures { result ≡ filled_item self body }
     {
         match self {
-            Said::Item(item) => item,
-            Said::Write(id, offset) => {
+            FrameBody::Item(item) => item,
+            FrameBody::Write(id, offset) => {
                 body.advance(BEFORE_PAYLOAD);
                 Item::Command(Command::Write {
                     id,
@@ -60,7 +60,7 @@ impl Said {
 }
 
 /// What a frame of this kind and body says; `None` if the body has another form.
-pub(crate) fn read_body(kind: FrameKind, body: &[u8]) -> Option<Said>
+pub(crate) fn read_body(kind: FrameKind, body: &[u8]) -> Option<FrameBody>
     ensures reads { option_filled result body.now ≡ read_of kind body.now }
     ensures payload { IfSome result (λ said. HasPayload said body.now) }
 {
@@ -72,7 +72,7 @@ pub(crate) fn read_body(kind: FrameKind, body: &[u8]) -> Option<Said>
         FrameKind::Leave => bare(Command::Leave, body),
         FrameKind::About(kind) => return about(kind, body),
     };
-    Some(Said::Item(item?))
+    Some(FrameBody::Item(item?))
 }
 
 /// A job and its key.
@@ -109,7 +109,7 @@ fn bare(command: Command<Bytes>, body: &[u8]) -> Option<Item>
 }
 
 /// An object's id, and what its kind has after it.
-fn about(kind: ObjectKind, body: &[u8]) -> Option<Said>
+fn about(kind: ObjectKind, body: &[u8]) -> Option<FrameBody>
     ensures reads { option_filled result body.now ≡ read_about kind body.now }
     ensures payload { IfSome result (λ said. HasPayload said body.now) }
 {
@@ -117,7 +117,7 @@ fn about(kind: ObjectKind, body: &[u8]) -> Option<Said>
         return None;
     }
     match id_at(body) {
-        None => Some(Said::Item(Item::BadId)),
+        None => Some(FrameBody::Item(Item::BadId)),
         Some(id) => Some(about_object(kind, id, body)),
     }
 }
@@ -141,50 +141,59 @@ fn fits(kind: ObjectKind, body: &[u8]) -> bool
 }
 
 /// What a body that has the form of its kind says of its object.
-fn about_object(kind: ObjectKind, id: ObjectId, body: &[u8]) -> Said
+fn about_object(kind: ObjectKind, id: ObjectId, body: &[u8]) -> FrameBody
     requires { IsTrue (fits_lem kind body.now) }
-    ensures reads { filled result body.now ≡ said_lem kind id body.now }
+    ensures reads { filled_item result body.now ≡ said_lem kind id body.now }
     ensures payload { HasPayload result body.now }
 {
     match kind {
         ObjectKind::Create => {
             let kind = kind_at(body);
-            Said::Item(Item::Command(Command::Create {
+            FrameBody::Item(Item::Command(Command::Create {
                 id,
                 kind,
                 length: number_at(body, 29),
             }))
         }
-        ObjectKind::Write => Said::Write(id, number_at(body, 28)),
-        ObjectKind::Seal => Said::Item(Item::Command(Command::Seal(id))),
-        ObjectKind::Get => Said::Item(Item::Command(Command::Get(id))),
+        ObjectKind::Write => FrameBody::Write(id, number_at(body, 28)),
+        ObjectKind::Seal => FrameBody::Item(Item::Command(Command::Seal(id))),
+        ObjectKind::Get => FrameBody::Item(Item::Command(Command::Get(id))),
         ObjectKind::Read => {
             let offset = number_at(body, 28);
-            Said::Item(Item::Command(Command::Read {
+            FrameBody::Item(Item::Command(Command::Read {
                 id,
                 offset,
                 count: number_at(body, 32),
             }))
         }
-        ObjectKind::Release => Said::Item(Item::Command(Command::Release(id))),
-        ObjectKind::Unpin => Said::Item(Item::Command(Command::Unpin(id, task_at(body, 28)))),
-        ObjectKind::Borrow => Said::Item(Item::Command(Command::Borrow(id, task_at(body, 28)))),
-        ObjectKind::GiveUp => Said::Item(Item::Command(Command::GiveUp(id, task_at(body, 28)))),
-        ObjectKind::Delete => Said::Item(Item::Command(Command::Delete(id))),
-        ObjectKind::Grant => Said::Item(Item::Command(Command::Grant(id, target_at(body)))),
-        ObjectKind::Withdraw => Said::Item(Item::Command(Command::Withdraw(id, target_at(body)))),
+        ObjectKind::Release => FrameBody::Item(Item::Command(Command::Release(id))),
+        ObjectKind::Unpin => FrameBody::Item(Item::Command(Command::Unpin(id, task_at(body, 28)))),
+        ObjectKind::Borrow => FrameBody::Item(Item::Command(Command::Borrow(
+            id,
+            task_at(body, 28),
+        ))),
+        ObjectKind::GiveUp => FrameBody::Item(Item::Command(Command::GiveUp(
+            id,
+            task_at(body, 28),
+        ))),
+        ObjectKind::Delete => FrameBody::Item(Item::Command(Command::Delete(id))),
+        ObjectKind::Grant => FrameBody::Item(Item::Command(Command::Grant(id, target_at(body)))),
+        ObjectKind::Withdraw => FrameBody::Item(Item::Command(Command::Withdraw(
+            id,
+            target_at(body),
+        ))),
         ObjectKind::Peek => {
             let offset = number_at(body, 28);
-            Said::Item(Item::Command(Command::Peek {
+            FrameBody::Item(Item::Command(Command::Peek {
                 id,
                 offset,
                 count: number_at(body, 32),
             }))
         }
-        ObjectKind::GetWait => Said::Item(Item::Wait(Awaited::Get(id))),
+        ObjectKind::GetWait => FrameBody::Item(Item::Wait(Awaited::Get(id))),
         ObjectKind::CreateWait => {
             let kind = kind_at(body);
-            Said::Item(Item::Wait(Awaited::Create {
+            FrameBody::Item(Item::Wait(Awaited::Create {
                 id,
                 kind,
                 length: number_at(body, 29),

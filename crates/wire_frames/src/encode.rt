@@ -1,6 +1,6 @@
 //! The frames of commands, and how a frame is put together.
 ghost use Rattle.std.specs.Prelude.{◌≡◌, ◌<◌, ◌++◌, ◌^◌, ◌+◌, ◌∷◌, IsTrue, IfOk, flat_map, length};
-ghost use Rattle.private_store.specs.Frames.{be4, command_body, create_body, frame, is_command_length, item_frame, kind_byte as kind_byte_lem, range_body};
+ghost use Rattle.private_store.specs.rules.Frames.{be4, command_body, create_body, frame, is_command_length, item_frame, kind_byte as kind_byte_lem, range_body};
 ghost use Rattle.obj_id.specs.Ids.{id_bytes};
 ghost use Rattle.wire_frames.specs.Writing.{has_command_frame};
 

@@ -1,10 +1,10 @@
 //! The whole frames at the head of bytes.
 ghost use Rattle.std.specs.Prelude.{◌≡◌, ◌≤◌, IfOk, IfSome, length, drop};
-ghost use Rattle.private_store.specs.Frames.{is_command_length as is_command_length_lem, item_of, stream_of};
+ghost use Rattle.private_store.specs.rules.Frames.{is_command_length as is_command_length_lem, item_of, stream_of};
 ghost use Rattle.wire_frames.specs.Filled.{HasPayload, option_filled};
 ghost use Rattle.wire_frames.specs.Heads.{StandsAtHead, stream_from, stream_read};
 
-use crate::bodies::{Said, number_at, read_body};
+use crate::bodies::{FrameBody, number_at, read_body};
 use crate::kinds::FrameKind;
 use private_store::Item;
 use std::alloc::{AllocError, Global};
@@ -23,7 +23,7 @@ pub(crate) enum Head {
     /// No frame, whatever follows.
     Fault,
     /// A whole frame: what it says, and its length with all its bytes.
-    Frame(Said, usize),
+    Frame(FrameBody, usize),
 }
 
 /// The whole frames at the head of bytes.
@@ -100,7 +100,7 @@ pub(crate) fn is_command_length(size: u32) -> bool
 
 /// What a frame says by its kind's byte and its body; `None` if there is no such kind or the body has another
 /// form.
-fn said_by(kind: u8, body: &[u8]) -> Option<Said>
+fn said_by(kind: u8, body: &[u8]) -> Option<FrameBody>
     ensures reads { option_filled result body.now ≡ item_of kind body.now }
     ensures payload { IfSome result (λ said. HasPayload said body.now) }
 {

@@ -1,7 +1,7 @@
 //! The frames of replies.
 ghost use Rattle.std.specs.Prelude.{◌≡◌, ◌<◌, ◌++◌, ◌^◌, ◌∷◌, IsTrue, IfOk, flat_map, length, nat_lt};
 ghost use Rattle.std.specs.List.{list_all};
-ghost use Rattle.private_store.specs.Frames.{be4, be8, frame, granted_bytes as granted_bytes_lem, own_bytes as own_bytes_lem, reply_frame, state_byte as state_byte_lem};
+ghost use Rattle.private_store.specs.rules.Frames.{be4, be8, frame, granted_bytes as granted_bytes_lem, own_bytes as own_bytes_lem, reply_frame, state_byte as state_byte_lem};
 ghost use Rattle.wire_frames.specs.Writing.{has_reply_frame};
 
 use crate::encode::{frame_of, kind_byte};

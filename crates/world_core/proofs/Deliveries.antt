@@ -6,8 +6,8 @@ use Rattle.obj_id.specs.declared.ids.JobNo.{JobNo}
 use Rattle.obj_id.specs.declared.refusals.Refusal.TheVariants.{Stale}
 use Rattle.obj_id.specs.declared.commands.Reply.{Reply}
 use Rattle.obj_id.specs.declared.commands.Reply.TheVariants as reply
-use Rattle.obj_id.specs.declared.messages.Place.{Place}
-use Rattle.obj_id.specs.declared.messages.Place.TheVariants.{Node, Directory}
+use Rattle.obj_id.specs.declared.messages.Endpoint.{Endpoint}
+use Rattle.obj_id.specs.declared.messages.Endpoint.TheVariants.{Node, Directory}
 use Rattle.obj_id.specs.declared.messages.Arrival.{Arrival}
 use Rattle.obj_id.specs.declared.messages.DirectoryMessage.{DirectoryMessage}
 use Rattle.obj_id.specs.declared.messages.Message.{Message}
@@ -15,23 +15,23 @@ use Rattle.private_store.specs.declared.inputs.Input.TheVariants as input
 use Rattle.private_store.specs.declared.schedules.StepAnswer.{StepAnswer}
 use Rattle.private_store.specs.declared.schedules.StepAnswer.TheVariants.{Told, HandedOver, NoMessage}
 use Rattle.private_store.specs.declared.schedules.Traced.{Traced}
-use Rattle.private_store.specs.Contents.{View}
-use Rattle.private_store.specs.Private.{Store, view_of, view_step}
-use Rattle.private_store.specs.Directory.{locations_after, directory_posts}
-use Rattle.private_store.specs.Cluster.{Cluster, ClusterOutcome, at_node, deliver, posted, unmoved, input_at, told_directory, handed_over, message_at, damaged, cluster_step, cluster_from}
-use Rattle.private_store.specs.Trace.{is_no_memory, cluster_until}
-use Rattle.private_store.specs.Shared.{AskedWork, LiveJob, leaves, waiting, asked_by, works_asked_by, outcome_works, lives_step, is_admission, is_live_at, goes_to_live, deliver_answer, shared_answer, answer_due}
-use Rattle.private_store.specs.Shared as shared
+use Rattle.private_store.specs.rules.Contents.{View}
+use Rattle.private_store.specs.rules.Private.{Store, view_of, view_step}
+use Rattle.private_store.specs.rules.Directory.{locations_after, directory_posts}
+use Rattle.private_store.specs.rules.Cluster.{Cluster, ClusterOutcome, at_node, deliver, posted, unmoved, input_at, told_directory, handed_over, message_at, damaged, cluster_step, cluster_from}
+use Rattle.private_store.specs.rules.Trace.{is_no_memory, cluster_until}
+use Rattle.private_store.specs.rules.Shared.{AskedWork, LiveJob, leaves, waiting, asked_by, works_asked_by, outcome_works, lives_step, is_admission, is_live_at, goes_to_live, deliver_answer, shared_answer, answer_due}
+use Rattle.private_store.specs.rules.Shared as shared
 use Rattle.job_admission.specs.Admissions.{Admissions, live_at, lives_of}
 use Rattle.job_admission.proofs.ForCallers.{any_live}
 use Rattle.owner_directory.specs.Locations.{locations_of}
 use Rattle.world_core.specs.Logs.{sent_of, message_in}
 use Rattle.private_store.specs.declared.schedules.NodeEvent.TheVariants.{Arrive}
-use Rattle.private_store.specs.NodeInputs.{JobInput, Before, before_at, wants_memory, own_here, inputs_to}
+use Rattle.private_store.specs.laws.NodeInputs.{JobInput, Before, before_at, wants_memory, own_here, inputs_to}
 use Rattle.node_core.specs.Hosted.{Hosted}
-use Rattle.node_core.specs.Steps.{answered, stale_unless}
+use Rattle.node_core.specs.Steps.{answer_of_check, stale_unless}
 use Rattle.world_core.specs.Worlds.{Hosting, untaken, IsNodeAfter, IsJobAfter, IsAfter}
-use Rattle.world_core.specs.Moves.{MovesDirectory, as_damaged, handed}
+use Rattle.world_core.specs.WorldSteps.{MovesDirectory, as_damaged, handed}
 use Rattle.world_core.proofs.Lines.{filter_all}
 use Rattle.world_core.proofs.Numbers.{itself, apart_number, same_number}
 use Rattle.world_core.proofs.Clusters.{input_found}
@@ -41,11 +41,11 @@ use Rattle.world_core.proofs.Idling.{IsIdle, world_idle, job_idle, delivery, own
 
 -- ---- the message
 
-at_is : (cluster : Cluster) (from to : Place) (m : ℕ) → message_at cluster from to m ≡ message_in cluster.sent from to m
+at_is : (cluster : Cluster) (from to : Endpoint) (m : ℕ) → message_at cluster from to m ≡ message_in cluster.sent from to m
 at_is cluster from to zero = refl
 at_is cluster from to (suc m) = refl
 
-module _ (nodes memory : ℕ) (history : List Traced) (old : Hosting) (h : IsAfter nodes memory old history) (job : JobNo) (from to : Place) (m : ℕ) (damage : Bool) where
+module _ (nodes memory : ℕ) (history : List Traced) (old : Hosting) (h : IsAfter nodes memory old history) (job : JobNo) (from to : Endpoint) (m : ℕ) (damage : Bool) where
   abbrev cluster : Cluster
   cluster = cluster_until nodes job.0 history
 
@@ -70,7 +70,7 @@ module _ (nodes memory : ℕ) (history : List Traced) (old : Hosting) (h : IsAft
 
 -- ---- what changes no node
 
-module _ (nodes memory : ℕ) (history : List Traced) (job : JobNo) (from to : Place) (m : ℕ) (damage : Bool) (told : StepAnswer) (n : is_no_memory told ≡ false) where
+module _ (nodes memory : ℕ) (history : List Traced) (job : JobNo) (from to : Endpoint) (m : ℕ) (damage : Bool) (told : StepAnswer) (n : is_no_memory told ≡ false) where
   abbrev entry : Traced
   entry = delivery nodes memory history job from to m damage told n
 
@@ -163,30 +163,30 @@ pub live_is : (memory place : ℕ) (history : List Traced) (a : Admissions) (job
 live_is memory place history a job lives = ap (list_any (shared.job_is job.0)) (sym lives) ∙ any_live job a.live
 
 -- what is told by the node is told of the delivery
-pub handed_is : (msg : Message) (fine : Bool) → handed msg (answered (stale_unless fine)) ≡ cond fine (HandedOver msg) (Told (reply.Refused Stale))
+pub handed_is : (msg : Message) (fine : Bool) → handed msg (answer_of_check (stale_unless fine)) ≡ cond fine (HandedOver msg) (Told (reply.Refused Stale))
 handed_is msg true = refl
 handed_is msg false = refl
 
-pub handed_wants : (msg : Message) (fine : Bool) → is_no_memory (handed msg (answered (stale_unless fine))) ≡ false
+pub handed_wants : (msg : Message) (fine : Bool) → is_no_memory (handed msg (answer_of_check (stale_unless fine))) ≡ false
 handed_wants msg true = refl
 handed_wants msg false = refl
 
-pub stale_answers : (fine : Bool) → wants_memory (answered (stale_unless fine)) ≡ false
+pub stale_answers : (fine : Bool) → wants_memory (answer_of_check (stale_unless fine)) ≡ false
 stale_answers true = refl
 stale_answers false = refl
 
-module _ (nodes memory place : ℕ) (history : List Traced) (job : JobNo) (from : Place) (m : ℕ) (damage : Bool) (msg : Message) (a : Arrival) (fine : Bool)
+module _ (nodes memory place : ℕ) (history : List Traced) (job : JobNo) (from : Endpoint) (m : ℕ) (damage : Bool) (msg : Message) (a : Arrival) (fine : Bool)
     (node : Hosted) (p : IsNodeAfter nodes memory place node history) (store : ℕ → Store) (found : (job : ℕ) → slice_get (cluster_until nodes job history).stores place ≡ Some (store job))
     (taken : cluster_step (cluster_until nodes job.0 history) (deliver from (Node place) m damage) ≡ input_at (cluster_until nodes job.0 history) place (input.Arrive a))
-    (due : deliver_answer nodes memory history job.0 from (Node place) m damage ≡ handed msg (answered (stale_unless fine))) where
+    (due : deliver_answer nodes memory history job.0 from (Node place) m damage ≡ handed msg (answer_of_check (stale_unless fine))) where
   abbrev v : ℕ → View
   v job = view_of (store job)
 
   abbrev pub told : StepAnswer
-  told = handed msg (answered (stale_unless fine))
+  told = handed msg (answer_of_check (stale_unless fine))
 
   abbrev r : Reply (List ℕ)
-  r = answered (stale_unless fine)
+  r = answer_of_check (stale_unless fine)
 
   pub n : is_no_memory told ≡ false
   n = handed_wants msg fine

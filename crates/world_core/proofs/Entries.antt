@@ -4,20 +4,20 @@ use Rattle.std.specs.Prelude.{nat_le}
 use Rattle.std.specs.Option.{option_map_or}
 use Rattle.obj_id.specs.declared.commands.Reply.{Reply}
 use Rattle.private_store.specs.declared.schedules.Traced.{Traced}
-use Rattle.private_store.specs.Hands.{Hand}
-use Rattle.private_store.specs.Contents.{View}
-use Rattle.private_store.specs.Private.{view_step}
-use Rattle.private_store.specs.Cluster.{at_node, cluster_from, told_from}
-use Rattle.private_store.specs.Trace.{hands_at, hands_step, out_after, cluster_until, reply_of, is_answered}
-use Rattle.private_store.specs.Shared.{AskedWork, LiveJob, leaves, asked_by, lives_step, is_admission, answer_due}
+use Rattle.private_store.specs.rules.Hands.{Hand}
+use Rattle.private_store.specs.rules.Contents.{View}
+use Rattle.private_store.specs.rules.Private.{view_step}
+use Rattle.private_store.specs.rules.Cluster.{at_node, cluster_from, told_from}
+use Rattle.private_store.specs.rules.Trace.{hands_at, hands_step, out_after, cluster_until, reply_of, is_answered}
+use Rattle.private_store.specs.rules.Shared.{AskedWork, LiveJob, leaves, asked_by, lives_step, is_admission, answer_due}
 use Rattle.store_facts.proofs.Runs.{inputs_now}
 use Rattle.spill_work.specs.declared.queue.Queued.{Queued}
 use Rattle.job_admission.specs.Admissions.{Admissions}
 use Rattle.private_store.specs.declared.schedules.NodeEvent.{NodeEvent}
-use Rattle.private_store.specs.NodeInputs.{own_here, inputs_to, hands_after}
-use Rattle.node_core.specs.Steps.{is_taken, line_left, admissions_after, lives_after}
+use Rattle.private_store.specs.laws.NodeInputs.{own_here, inputs_to, hands_after}
+use Rattle.node_core.specs.Steps.{is_taken, line_left, admissions_after, live_jobs_after}
 use Rattle.world_core.specs.Worlds.{untaken}
-use Rattle.private_store.specs.NodeInputs.{before_at}
+use Rattle.private_store.specs.laws.NodeInputs.{before_at}
 
 -- hands and works
 pub record IsTableEntry (nodes place : ℕ) (e : NodeEvent) (told : Reply (List ℕ)) (v : ℕ → View) (works : List Queued) (history : List Traced) (entry : Traced) : Type 0 where
@@ -33,7 +33,7 @@ pub record IsTableEntry (nodes place : ℕ) (e : NodeEvent) (told : Reply (List 
 
 -- live jobs
 pub record IsLivesEntry (memory place : ℕ) (e : NodeEvent) (told : Reply (List ℕ)) (a : Admissions) (entry : Traced) : Type 0 where
-  pub lives_here : (lives : List LiveJob) → lives_after memory lives e told ≡ lives_step memory place lives entry.step entry.answer
+  pub lives_here : (lives : List LiveJob) → live_jobs_after memory lives e told ≡ lives_step memory place lives entry.step entry.answer
   pub lives_there : (other : ℕ) → place ≢ other → (lives : List LiveJob) → lives_step memory other lives entry.step entry.answer ≡ lives
   pub greatest : (job : ℕ) (before : Bool) → before ≡ nat_le job a.greatest → (is_admission place job entry.step entry.answer || before) ≡ nat_le job (admissions_after a e told).greatest
   pub admission_there : (other job : ℕ) → place ≢ other → is_admission other job entry.step entry.answer ≡ false
@@ -43,6 +43,6 @@ pub record IsEntry (nodes memory place : ℕ) (e : NodeEvent) (told : Reply (Lis
   pub lives : IsLivesEntry memory place e told a entry
   -- the job's cluster moves by what the event is to the job
   pub moves : (job : ℕ) → cluster_until nodes job (entry ∷ history) ≡ cluster_from (cluster_until nodes job history) (map (at_node place) (inputs_to (before_at nodes place history) e told job))
-  -- what is told is the private cluster's
+  -- what is answered is the private cluster's
   pub replies : (job : ℕ) → filter is_answered (option_to_list (reply_of job entry.step entry.answer)) ≡ told_from (cluster_until nodes job history) (inputs_now nodes job entry history)
   pub due : entry.answer ≡ answer_due nodes memory history entry

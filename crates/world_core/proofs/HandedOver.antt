@@ -6,8 +6,8 @@ use Rattle.obj_id.specs.declared.ids.JobNo.{JobNo}
 use Rattle.obj_id.specs.declared.refusals.Refusal.TheVariants.{Stale}
 use Rattle.obj_id.specs.declared.commands.Reply.{Reply}
 use Rattle.obj_id.specs.declared.commands.Reply.TheVariants as reply
-use Rattle.obj_id.specs.declared.messages.Place.{Place}
-use Rattle.obj_id.specs.declared.messages.Place.TheVariants.{Node, Directory}
+use Rattle.obj_id.specs.declared.messages.Endpoint.{Endpoint}
+use Rattle.obj_id.specs.declared.messages.Endpoint.TheVariants.{Node, Directory}
 use Rattle.obj_id.specs.declared.messages.Arrival.{Arrival}
 use Rattle.obj_id.specs.declared.messages.DirectoryMessage.{DirectoryMessage}
 use Rattle.obj_id.specs.declared.messages.Message.{Message}
@@ -18,17 +18,17 @@ use Rattle.private_store.specs.declared.schedules.StepAnswer.{StepAnswer}
 use Rattle.private_store.specs.declared.schedules.StepAnswer.TheVariants.{Told, HandedOver, NoMessage}
 use Rattle.private_store.specs.declared.schedules.Traced.{Traced}
 use Rattle.private_store.specs.declared.schedules.NodeEvent.TheVariants.{Arrive}
-use Rattle.private_store.specs.Private.{Store}
-use Rattle.private_store.specs.Cluster.{Cluster, arrival_of, deliver, unmoved, input_at, told_directory, handed_to_directory, cluster_step}
-use Rattle.private_store.specs.NodeInputs.{wants_memory}
-use Rattle.private_store.specs.Shared.{deliver_answer}
-use Rattle.private_store.specs.Trace.{is_no_memory, cluster_until}
+use Rattle.private_store.specs.rules.Private.{Store}
+use Rattle.private_store.specs.rules.Cluster.{Cluster, arrival_of, deliver, unmoved, input_at, told_directory, handed_to_directory, cluster_step}
+use Rattle.private_store.specs.laws.NodeInputs.{wants_memory}
+use Rattle.private_store.specs.rules.Shared.{deliver_answer}
+use Rattle.private_store.specs.rules.Trace.{is_no_memory, cluster_until}
 use Rattle.store_facts.proofs.Tests.{some_value, none_some, true_false}
 use Rattle.job_admission.specs.Admissions.{live_at}
-use Rattle.node_core.specs.Steps.{Given, answered, stale_unless}
+use Rattle.node_core.specs.Steps.{NodeGiven, answer_of_check, stale_unless}
 use Rattle.world_core.specs.Logs.{sent_of, message_in}
 use Rattle.world_core.specs.Worlds.{Hosting, IsAfter, is_place}
-use Rattle.world_core.specs.Moves.{Moves, as_damaged, handed, message_of, for_directory, Hands, to_directory, past_directory, to_node, past_node, nothing, hands, Turns, delivers, Arrives}
+use Rattle.world_core.specs.WorldSteps.{HostingStep, as_damaged, handed, message_of, for_directory, Hands, to_directory, past_directory, to_node, past_node, nothing, hands, WorldStep, delivers, Arrives}
 use Rattle.world_core.proofs.Numbers.{is_less}
 use Rattle.world_core.proofs.Entries.{IsEntry}
 use Rattle.world_core.proofs.Stepping.{here, view_at, shown, after_event}
@@ -47,24 +47,24 @@ directory_leaves cluster (message.Located id number entries) is = refl
 directory_leaves cluster (message.ToPeer m) is = refl
 
 -- the world after a message arrived at a node
-after_arrival : (nodes memory place : ℕ) (history : List Traced) (old new : Hosting) (job : JobNo) (from : Place) (m : ℕ) (damage : Bool) (msg : Message) (a : Arrival) (given : Given)
-    (h : IsAfter nodes memory old history) (within : place < nodes) (moves : Moves old place (Arrive job a) given new) (fine : Bool)
-    → given.reply ≡ answered (stale_unless fine)
-    → deliver_answer nodes memory history job.0 from (Node place) m damage ≡ handed msg (answered (stale_unless fine))
+after_arrival : (nodes memory place : ℕ) (history : List Traced) (old new : Hosting) (job : JobNo) (from : Endpoint) (m : ℕ) (damage : Bool) (msg : Message) (a : Arrival) (given : NodeGiven)
+    (h : IsAfter nodes memory old history) (within : place < nodes) (moves : HostingStep old place (Arrive job a) given new) (fine : Bool)
+    → given.reply ≡ answer_of_check (stale_unless fine)
+    → deliver_answer nodes memory history job.0 from (Node place) m damage ≡ handed msg (answer_of_check (stale_unless fine))
     → cluster_step (cluster_until nodes job.0 history) (deliver from (Node place) m damage) ≡ input_at (cluster_until nodes job.0 history) place (input.Arrive a)
     → IsAfter nodes memory new (record { step = Deliver job from (Node place) m damage; answer = handed msg given.reply } ∷ history)
 after_arrival nodes memory place history old new job from m damage msg a given h within moves fine is due taken =
     let p = h.each_node place moves.before moves.found in
     let store : ℕ → Store = λ job. (here nodes memory place old history h within moves.before moves.found job).0 in
     subst (λ r. IsAfter nodes memory new (record { step = Deliver job from (Node place) m damage; answer = handed msg r } ∷ history)) (sym is)
-    (after_event nodes memory place (Arrive job a) given old new history (record { step = Deliver job from (Node place) m damage; answer = handed msg (answered (stale_unless fine)) }) h within moves
+    (after_event nodes memory place (Arrive job a) given old new history (record { step = Deliver job from (Node place) m damage; answer = handed msg (answer_of_check (stale_unless fine)) }) h within moves
     (ap wants_memory is ∙ stale_answers fine)
     (subst (λ r. IsEntry nodes memory place (Arrive job a) r (view_at nodes memory place old history h within moves.before moves.found) moves.before.works.works moves.before.admissions history
-    (record { step = Deliver job from (Node place) m damage; answer = handed msg (answered (stale_unless fine)) })) (sym is)
+    (record { step = Deliver job from (Node place) m damage; answer = handed msg (answer_of_check (stale_unless fine)) })) (sym is)
     (is_arrival nodes memory place history job from m damage msg a fine moves.before p store (λ job. (here nodes memory place old history h within moves.before moves.found job).1) taken due)))
 
 -- the world after a message was handed over
-pub after_handed : (nodes memory : ℕ) (history : List Traced) (old new : Hosting) (job : JobNo) (from to : Place) (m : ℕ) (damage : Bool) (sent : Message) (told : StepAnswer)
+pub after_handed : (nodes memory : ℕ) (history : List Traced) (old new : Hosting) (job : JobNo) (from to : Endpoint) (m : ℕ) (damage : Bool) (sent : Message) (told : StepAnswer)
     → IsAfter nodes memory old history → is_place nodes to ≡ true → message_in (sent_of old.messages job.0) from to m ≡ Some sent → Hands old job from (as_damaged damage sent) new to told
     → IsAfter nodes memory new (record { step = Deliver job from to m damage; answer = told } ∷ history)
 after_handed nodes memory history old new job from to m damage sent told h inside some (to_directory d is moves) =
@@ -91,16 +91,16 @@ after_handed nodes memory history old new job from to m damage sent told h insid
     let within = is_less place nodes inside in
     let p = h.each_node place node found in
     let fine = is_some (live_at node.admissions job) in
-    subst (λ w. IsAfter nodes memory w (record { step = Deliver job from (Node place) m damage; answer = handed (as_damaged damage sent) (answered (stale_unless fine)) } ∷ history)) (sym same)
-    (after_nothing nodes memory history job from (Node place) m damage (handed (as_damaged damage sent) (answered (stale_unless fine))) (handed_wants (as_damaged damage sent) fine) old h
+    subst (λ w. IsAfter nodes memory w (record { step = Deliver job from (Node place) m damage; answer = handed (as_damaged damage sent) (answer_of_check (stale_unless fine)) } ∷ history)) (sym same)
+    (after_nothing nodes memory history job from (Node place) m damage (handed (as_damaged damage sent) (answer_of_check (stale_unless fine))) (handed_wants (as_damaged damage sent) fine) old h
     (step_is nodes memory history old h job from (Node place) m damage sent some
     ∙ ap (λ o. option_map_or (λ a. input_at (cluster_until nodes job.0 history) place (input.Arrive a)) o (unmoved (cluster_until nodes job.0 history))) is)
     (handed_is (as_damaged damage sent) fine
     ∙ sym (answer_is nodes memory history old h job from (Node place) m damage sent some
     ∙ ap (λ t. cond t (HandedOver (as_damaged damage sent)) (Told (reply.Refused Stale))) (live_is memory place history node.admissions job p.lives))))
 
--- what is told of a message that was handed over is never that there is no memory, unless nothing was done
-pub handed_wants_none : (nodes memory : ℕ) (history : List Traced) (old new : Hosting) (job : JobNo) (from to : Place) (m : Message) (told : StepAnswer)
+-- a message that was handed over is never answered NoMemory, unless nothing was done
+pub handed_wants_none : (nodes memory : ℕ) (history : List Traced) (old new : Hosting) (job : JobNo) (from to : Endpoint) (m : Message) (told : StepAnswer)
     → IsAfter nodes memory old history → is_place nodes to ≡ true → Hands old job from m new to told → is_no_memory told ≡ true → new ≡ old
 handed_wants_none nodes memory history old new job from to m told h inside (to_directory d is moves) n = true_false n
 handed_wants_none nodes memory history old new job from to m told h inside (past_directory is same) n = same
@@ -110,12 +110,12 @@ handed_wants_none nodes memory history old new job from to m told h inside (to_n
     true_false (sym (ap (λ r. is_no_memory (handed m r)) s.operator ∙ handed_wants m (is_some (live_at moves.before.admissions job))) ∙ n)
 handed_wants_none nodes memory history old new job from to m told h inside (past_node place node found is same) n = same
 
-abbrev is_directory : Place → Bool
+abbrev is_directory : Endpoint → Bool
 is_directory Directory = true
 is_directory (Node place) = false
 
 -- the directory takes what is handed to it, and the nodes are as they were
-pub nodes_stay : (old : Hosting) (job : JobNo) (from to : Place) (m : Message) (new : Hosting) (told : StepAnswer) → is_directory to ≡ true → Hands old job from m new to told → new.nodes ≡ old.nodes
+pub nodes_stay : (old : Hosting) (job : JobNo) (from to : Endpoint) (m : Message) (new : Hosting) (told : StepAnswer) → is_directory to ≡ true → Hands old job from m new to told → new.nodes ≡ old.nodes
 nodes_stay old job from to m new told at (to_directory d is moves) = moves.nodes
 nodes_stay old job from to m new told at (past_directory is same) = ap (λ w. w.nodes) same
 nodes_stay old job from to m new told at (to_node place given a is moves) = true_false at
@@ -123,7 +123,7 @@ nodes_stay old job from to m new told at (past_node place node found is same) = 
 
 -- ---- what the parts of a delivery give
 
-pub arrived : (old new : Hosting) (place : ℕ) (job : JobNo) (from : Place) (m : Message) (a : Arrival) (r : Reply (List ℕ)) (told : StepAnswer) → arrival_of from m ≡ Some a → Arrives old place job a r new
+pub arrived : (old new : Hosting) (place : ℕ) (job : JobNo) (from : Endpoint) (m : Message) (a : Arrival) (r : Reply (List ℕ)) (told : StepAnswer) → arrival_of from m ≡ Some a → Arrives old place job a r new
     → told ≡ handed m r → Hands old job from m new (Node place) told
 arrived old new place job from m a r told is k t =
     subst (λ t. Hands old job from m new (Node place) t) (sym t)
@@ -131,7 +131,7 @@ arrived old new place job from m a r told is k t =
     (to_node place k.given a is (record { before = k.before; after = k.after; found = k.found; steps = k.steps; nodes = k.nodes; tables = k.tables; sent = k.sent })))
 
 -- an arrival is of the message that it was made of
-pub message_again : (from : Place) (m : Message) (a : Arrival) → arrival_of from m ≡ Some a → message_of a ≡ m
+pub message_again : (from : Endpoint) (m : Message) (a : Arrival) → arrival_of from m ≡ Some a → message_of a ≡ m
 message_again Directory (message.Located id number entries) a is = ap message_of (sym (some_value _ a is))
 message_again (Node from) (message.ToPeer m) a is = ap message_of (sym (some_value _ a is))
 message_again Directory (message.ToPeer m) a is = none_some a is
@@ -140,15 +140,15 @@ message_again (Node from) (message.Located id number entries) a is = none_some a
 message_again (Node from) (message.ToDirectory m) a is = none_some a is
 
 -- what was looked up in the world as it is kept, which shows the old one
-module _ (kept old : Hosting) (shown_as : kept ≡ old) (job : JobNo) (from to : Place) (m : ℕ) (damage : Bool) (o : Option Message) (looked : o ≡ message_in (sent_of kept.messages job.0) from to m) where
+module _ (kept old : Hosting) (shown_as : kept ≡ old) (job : JobNo) (from to : Endpoint) (m : ℕ) (damage : Bool) (o : Option Message) (looked : o ≡ message_in (sent_of kept.messages job.0) from to m) where
   found : message_in (sent_of old.messages job.0) from to m ≡ o
   found = sym (ap (λ w. message_in (sent_of w.messages job.0) from to m) shown_as) ∙ sym looked
 
-  pub none_delivered : o ≡ None → Turns old old (Deliver job from to m damage) NoMessage
+  pub none_delivered : o ≡ None → WorldStep old old (Deliver job from to m damage) NoMessage
   none_delivered none = delivers job from to m damage NoMessage (nothing (found ∙ none) refl)
 
-  pub one_delivered : (sent : Message) → o ≡ Some sent → (new : Hosting) (msg : Message) (told : StepAnswer) (p : Place) → msg ≡ as_damaged damage sent → to ≡ p
-      → Hands old job from msg new p told → Turns old new (Deliver job from to m damage) told
+  pub one_delivered : (sent : Message) → o ≡ Some sent → (new : Hosting) (msg : Message) (told : StepAnswer) (p : Endpoint) → msg ≡ as_damaged damage sent → to ≡ p
+      → Hands old job from msg new p told → WorldStep old new (Deliver job from to m damage) told
   one_delivered sent some new msg told p is there k =
       delivers job from to m damage told (hands sent told (found ∙ some) (subst (λ p. Hands old job from (as_damaged damage sent) new p told) (sym there) (subst (λ x. Hands old job from x new p told) is k)))
 

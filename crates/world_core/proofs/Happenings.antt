@@ -21,30 +21,30 @@ use Rattle.private_store.specs.declared.schedules.Event.TheVariants as event
 use Rattle.private_store.specs.declared.schedules.Step.TheVariants.{At}
 use Rattle.private_store.specs.declared.schedules.StepAnswer.TheVariants.{Told}
 use Rattle.private_store.specs.declared.schedules.Traced.{Traced}
-use Rattle.private_store.specs.Limits.{is_quota, most_live_jobs}
-use Rattle.private_store.specs.Extents.{first}
-use Rattle.private_store.specs.Tables.{at}
-use Rattle.private_store.specs.Shape.{Copy, WorkInFlight}
-use Rattle.private_store.specs.Jobs.{same_job}
-use Rattle.private_store.specs.Hands.{Hand}
-use Rattle.private_store.specs.Contents.{View}
-use Rattle.private_store.specs.Private.{Store, view_of, view_step, private_outcome}
-use Rattle.private_store.specs.Cluster.{Cluster, at_node, input_at, told, told_from, cluster_from}
-use Rattle.private_store.specs.Cluster.{Told as ToldTo}
-use Rattle.private_store.specs.Trace.{hands_by, hands_step, hands_at, is_no_memory, out_after, is_out, cluster_until, reply_of, is_answered}
-use Rattle.private_store.specs.Shared.{AskedWork, LiveJob, leaves, waiting, works_asked_by, outcome_works, is_admission, first_refusal, ok_unless, can_widen, holds_quota, store_at, admit_answer, requota_answer, take_answer, given_of, is_live_at, shared_answer, answer_due, lives_step}
-use Rattle.private_store.specs.Shared as shared
+use Rattle.private_store.specs.rules.Limits.{is_quota, most_live_jobs}
+use Rattle.private_store.specs.rules.Extents.{first}
+use Rattle.private_store.specs.rules.Tables.{at}
+use Rattle.private_store.specs.rules.Shape.{Copy, WorkInFlight}
+use Rattle.private_store.specs.rules.Jobs.{same_job}
+use Rattle.private_store.specs.rules.Hands.{Hand}
+use Rattle.private_store.specs.rules.Contents.{View}
+use Rattle.private_store.specs.rules.Private.{Store, view_of, view_step, private_outcome}
+use Rattle.private_store.specs.rules.Cluster.{Cluster, at_node, input_at, told, told_from, cluster_from}
+use Rattle.private_store.specs.rules.Cluster.{Told as ToldTo}
+use Rattle.private_store.specs.rules.Trace.{hands_by, hands_step, hands_at, is_no_memory, out_after, is_out, cluster_until, reply_of, is_answered}
+use Rattle.private_store.specs.rules.Shared.{AskedWork, LiveJob, leaves, waiting, works_asked_by, outcome_works, is_admission, first_refusal, ok_unless, can_widen, holds_quota, store_at, admit_answer, requota_answer, take_answer, given_of, is_live_at, shared_answer, answer_due, lives_step}
+use Rattle.private_store.specs.rules.Shared as shared
 use Rattle.store_facts.proofs.Tests.{true_false, false_true, some_value, none_some, both_left, both_right, both}
 use Rattle.store_facts.proofs.Runs.{cluster_until-step}
-use Rattle.job_admission.specs.Admissions.{Admissions, lives_of, live_at, admit_check, admitted, place_for}
+use Rattle.job_admission.specs.Admissions.{Admissions, lives_of, live_at, admit_check, with_admitted, window_place_for}
 use Rattle.job_admission.proofs.ForCallers.{any_live}
-use Rattle.spill_work.specs.declared.queue.Asked.{Asked}
+use Rattle.spill_work.specs.declared.queue.IoRequest.{IoRequest}
 use Rattle.spill_work.specs.declared.queue.Queued.{Queued}
 use Rattle.spill_work.specs.Line.{is_at, is_of, front_of}
 use Rattle.private_store.specs.declared.schedules.NodeEvent.TheVariants.{Own}
-use Rattle.private_store.specs.NodeInputs.{JobInput, Before, before_at, wants_memory, own_here, own_due, hands_after}
+use Rattle.private_store.specs.laws.NodeInputs.{JobInput, Before, before_at, wants_memory, own_here, own_due, hands_after}
 use Rattle.node_core.specs.Hosted.{Hosted}
-use Rattle.node_core.specs.Steps.{is_taken, line_left, work_of, take_told, answered, end_check, requota_check, stale_unless, IsEventAnswer, admissions_after, lives_after, IsGiven}
+use Rattle.node_core.specs.Steps.{is_taken, line_left, row_work_of, take_told, answer_of_check, end_check, requota_check, stale_unless, IsEventAnswer, admissions_after, live_jobs_after, IsGiven}
 use Rattle.node_core.specs.Steps as steps
 use Rattle.world_core.specs.Worlds.{is_waiting, asked_of, untaken, IsNodeAfter}
 use Rattle.store_facts.proofs.StepInputs.{given_there, want_same, own_is, inputs_are}
@@ -82,41 +82,41 @@ found_number (x ∷ ws) number w e = by (x.number == number) refl e (found_numbe
 
 -- the work that a Take gives is the front's
 record IsFront (works : List Queued) (work : Work (List ℕ)) : Type 0 where
-  asked : Asked
+  asked : IoRequest
   front : front_of works ≡ Some asked
   job : work.job.0 ≡ asked.job.0
   number : work.number ≡ asked.number
 
-work_of_is : (asked : Asked) (view : View) (work : Work (List ℕ)) → work_of asked.job.0 asked.number view ≡ Some work → (work.job.0 ≡ asked.job.0) × (work.number ≡ asked.number)
+work_of_is : (asked : IoRequest) (view : View) (work : Work (List ℕ)) → row_work_of asked.job.0 asked.number view ≡ Some work → (work.job.0 ≡ asked.job.0) × (work.number ≡ asked.number)
 work_of_is asked view work e = by (find (λ w. w.number == asked.number) view.shape.works) refl e
   where
     by : (o : Option WorkInFlight) → find (λ w. w.number == asked.number) view.shape.works ≡ o
-        → option_and_then (λ w. option_map (steps.work_given asked.job.0 view w) (at view.shape.copies w.id)) o ≡ Some work
+        → option_and_then (λ w. option_map (steps.row_work_given asked.job.0 view w) (at view.shape.copies w.id)) o ≡ Some work
         → (work.job.0 ≡ asked.job.0) × (work.number ≡ asked.number)
     by None is f = none_some work f
     by (Some w) is f = with_copy (at view.shape.copies w.id) f
       where
-        with_copy : (c : Option Copy) → option_map (steps.work_given asked.job.0 view w) c ≡ Some work → (work.job.0 ≡ asked.job.0) × (work.number ≡ asked.number)
+        with_copy : (c : Option Copy) → option_map (steps.row_work_given asked.job.0 view w) c ≡ Some work → (work.job.0 ≡ asked.job.0) × (work.number ≡ asked.number)
         with_copy None g = none_some work g
         with_copy (Some copy) g =
-            let same = some_value (steps.work_given asked.job.0 view w copy) work g in
+            let same = some_value (steps.row_work_given asked.job.0 view w copy) work g in
             (ap (λ x. x.job.0) (sym same), ap (λ x. x.number) (sym same) ∙ found_number view.shape.works asked.number w is)
 
 front_is : (works : List Queued) (v : ℕ → View) (work : Work (List ℕ)) → reply.Work work ≡ take_told works v → IsFront works work
 front_is works v work e = by (front_of works) refl e
   where
-    by : (o : Option Asked) → front_of works ≡ o → reply.Work work ≡ option_map_or (λ asked. option_map_or reply.Work (work_of asked.job.0 asked.number (v asked.job.0)) reply.NoWork) o reply.NoWork → IsFront works work
+    by : (o : Option IoRequest) → front_of works ≡ o → reply.Work work ≡ option_map_or (λ asked. option_map_or reply.Work (row_work_of asked.job.0 asked.number (v asked.job.0)) reply.NoWork) o reply.NoWork → IsFront works work
     by None is f = work_isnt work f
-    by (Some asked) is f = by_work (work_of asked.job.0 asked.number (v asked.job.0)) refl f
+    by (Some asked) is f = by_work (row_work_of asked.job.0 asked.number (v asked.job.0)) refl f
       where
-        by_work : (o : Option (Work (List ℕ))) → work_of asked.job.0 asked.number (v asked.job.0) ≡ o → reply.Work work ≡ option_map_or reply.Work o reply.NoWork → IsFront works work
+        by_work : (o : Option (Work (List ℕ))) → row_work_of asked.job.0 asked.number (v asked.job.0) ≡ o → reply.Work work ≡ option_map_or reply.Work o reply.NoWork → IsFront works work
         by_work None w g = work_isnt work g
         by_work (Some found) w g =
             let same : work ≡ found = ap (the_work work) g in
             let both = work_of_is asked (v asked.job.0) work (w ∙ ap (λ x. Some x) (sym same)) in
             record { asked = asked; front = is; job = both.0; number = both.1 }
 
-front_there : (works : List Queued) (asked : Asked) (job : JobNo) (number : ℕ) → front_of works ≡ Some asked → job.0 ≡ asked.job.0 → number ≡ asked.number → list_any (is_at job number) works ≡ true
+front_there : (works : List Queued) (asked : IoRequest) (job : JobNo) (number : ℕ) → front_of works ≡ Some asked → job.0 ≡ asked.job.0 → number ≡ asked.number → list_any (is_at job number) works ≡ true
 front_there [] asked job number e j n = none_some asked e
 front_there (q ∷ works) asked job number e j n = by q.taken e (λ f. front_there works asked job number f j n)
   where
@@ -240,7 +240,7 @@ left_there place other apart (event.Call j session c) told waiting = filter_all 
 
 -- ---- live jobs
 
-lives_here : (memory place : ℕ) (lives : List LiveJob) (e : Event) (told : Reply (List ℕ)) → lives_after memory lives (Own e) told ≡ lives_step memory place lives (At place e) (Told told)
+lives_here : (memory place : ℕ) (lives : List LiveJob) (e : Event) (told : Reply (List ℕ)) → live_jobs_after memory lives (Own e) told ≡ lives_step memory place lives (At place e) (Told told)
 lives_here memory place lives (event.Admit job quota key) reply.Ok = sym (ap (λ t. cond t (shared.admitted memory job.0 quota.window lives) lives) (itself place))
 lives_here memory place lives (event.Admit job quota key) _ = refl
 lives_here memory place lives (event.Requota job quota) reply.Ok = sym (ap (λ t. cond t (map (shared.widened job.0 quota.window) lives) lives) (itself place))
@@ -262,20 +262,20 @@ lives_there memory place other lives (event.Call job session c) told apart = ref
 lives_there memory place other lives event.Take told apart = refl
 lives_there memory place other lives (event.Finish job number a) told apart = refl
 
-refused_isnt_ok : {B : Type 0} (o : Option Refusal) → is_some o ≡ true → reply.Ok ≡ answered o → B
+refused_isnt_ok : {B : Type 0} (o : Option Refusal) → is_some o ≡ true → reply.Ok ≡ answer_of_check o → B
 refused_isnt_ok None t e = true_false t
 refused_isnt_ok (Some r) t e = absurd (subst (λ (q : Reply (List ℕ)). elim q as (λ _. Type 0) [ reply.Ok ↦ Unit {0} | _ ↦ ⊥ ]) e tt)
 
 -- what is so of a job that was admitted
 record IsAdmittable (a : Admissions) (job : JobNo) (quota : Quota) : Type 0 where
   greater : nat_le job.0 a.greatest ≡ false
-  placed : is_none (place_for a quota.window) ≡ false
+  placed : is_none (window_place_for a quota.window) ≡ false
 
-admittable : (a : Admissions) (job : JobNo) (quota : Quota) → reply.Ok ≡ answered (admit_check a job quota) → IsAdmittable a job quota
-admittable a job quota e = by (job.0 == 0) (not (is_quota quota)) (nat_le job.0 a.greatest) (nat_le most_live_jobs (length (lives_of a.live))) (is_none (place_for a quota.window)) refl refl e
+admittable : (a : Admissions) (job : JobNo) (quota : Quota) → reply.Ok ≡ answer_of_check (admit_check a job quota) → IsAdmittable a job quota
+admittable a job quota e = by (job.0 == 0) (not (is_quota quota)) (nat_le job.0 a.greatest) (nat_le most_live_jobs (length (lives_of a.live))) (is_none (window_place_for a quota.window)) refl refl e
   where
-    by : (zero_ bad old many nowhere : Bool) → nat_le job.0 a.greatest ≡ old → is_none (place_for a quota.window) ≡ nowhere
-        → reply.Ok ≡ answered (first_refusal ((zero_, BadId) ∷ (bad, BadSize) ∷ (old, Exists) ∷ (many || nowhere, NoRoom) ∷ [])) → IsAdmittable a job quota
+    by : (zero_ bad old many nowhere : Bool) → nat_le job.0 a.greatest ≡ old → is_none (window_place_for a quota.window) ≡ nowhere
+        → reply.Ok ≡ answer_of_check (first_refusal ((zero_, BadId) ∷ (bad, BadSize) ∷ (old, Exists) ∷ (many || nowhere, NoRoom) ∷ [])) → IsAdmittable a job quota
     by true bad old many nowhere o w e = refused_isnt_ok (Some BadId) refl e
     by false true old many nowhere o w e = refused_isnt_ok (Some BadSize) refl e
     by false false true many nowhere o w e = refused_isnt_ok (Some Exists) refl e
@@ -283,8 +283,8 @@ admittable a job quota e = by (job.0 == 0) (not (is_quota quota)) (nat_le job.0 
     by false false false false true o w e = refused_isnt_ok (Some NoRoom) refl e
     by false false false false false o w e = record { greater = o; placed = w }
 
-greatest_is : (a : Admissions) (job : JobNo) (quota : Quota) (key : JobKey) → is_none (place_for a quota.window) ≡ false → (admitted a job quota key).greatest ≡ job.0
-greatest_is a job quota key placed = by (place_for a quota.window) placed
+greatest_is : (a : Admissions) (job : JobNo) (quota : Quota) (key : JobKey) → is_none (window_place_for a quota.window) ≡ false → (with_admitted a job quota key).greatest ≡ job.0
+greatest_is a job quota key placed = by (window_place_for a quota.window) placed
   where
     by : (o : Option ℕ) → is_none o ≡ false → (option_map_or (λ offset. record a { greatest = job.0; live = a.live ++ (job, record { quota = quota; key = key; offset = offset; entered = 0 }) ∷ [] }) o a).greatest ≡ job.0
     by None t = false_true t
@@ -337,8 +337,8 @@ module _ (nodes memory place : ℕ) (history : List Traced) (node : Hosted) (p :
   abbrev a : Admissions
   a = node.admissions
 
-  admit_due : (job : JobNo) (quota : Quota) → admit_answer memory place history job.0 quota ≡ Told (answered (admit_check a job quota))
-  admit_due job quota = ap (λ o. Told (answered o)) (by (job.0 == 0) refl)
+  admit_due : (job : JobNo) (quota : Quota) → admit_answer memory place history job.0 quota ≡ Told (answer_of_check (admit_check a job quota))
+  admit_due job quota = ap (λ o. Told (answer_of_check o)) (by (job.0 == 0) refl)
     where
       by : (t : Bool) → (job.0 == 0) ≡ t
           → first_refusal ((t, BadId) ∷ later_checks quota (list_any (λ entry. is_admission place job.0 entry.step entry.answer) history) memory (shared.lives_after memory place history))
@@ -346,17 +346,17 @@ module _ (nodes memory place : ℕ) (history : List Traced) (node : Hosted) (p :
       by true z = refl
       by false z = λ i. first_refusal (later_checks quota (p.greatest job.0 z i) (sym p.size i) (sym p.lives i))
 
-  requota_due : (job : JobNo) (quota : Quota) → requota_answer nodes memory place history job.0 quota ≡ Told (answered (requota_check a (v job.0) job quota))
+  requota_due : (job : JobNo) (quota : Quota) → requota_answer nodes memory place history job.0 quota ≡ Told (answer_of_check (requota_check a (v job.0) job quota))
   requota_due job quota = λ i.
-      Told (answered (first_refusal (
+      Told (answer_of_check (first_refusal (
       (not (list_any (shared.job_is job.0) (sym p.lives i)), NotAdmitted)
       ∷ (not (is_quota quota), BadSize)
       ∷ (not (holds_quota quota (found job.0 i)), Full)
       ∷ (not (can_widen (sym p.size i) job.0 quota.window (sym p.lives i)), NoRoom)
       ∷ [])))
 
-  end_due : (job : JobNo) → ok_unless ((not (is_live_at memory place history job.0), NotAdmitted) ∷ []) ≡ Told (answered (end_check a job))
-  end_due job = ap (λ l. Told (answered (cond (not l) (Some NotAdmitted) None))) (ap (list_any (shared.job_is job.0)) (sym p.lives) ∙ any_live job a.live) ∙ ap (λ o. Told (answered o)) (turn_round (is_some (live_at a job)))
+  end_due : (job : JobNo) → ok_unless ((not (is_live_at memory place history job.0), NotAdmitted) ∷ []) ≡ Told (answer_of_check (end_check a job))
+  end_due job = ap (λ l. Told (answer_of_check (cond (not l) (Some NotAdmitted) None))) (ap (list_any (shared.job_is job.0)) (sym p.lives) ∙ any_live job a.live) ∙ ap (λ o. Told (answer_of_check o)) (turn_round (is_some (live_at a job)))
     where
       turn_round : (l : Bool) → cond (not l) (Some NotAdmitted) None ≡ cond l None (Some NotAdmitted)
       turn_round true = refl
@@ -368,7 +368,7 @@ module _ (nodes memory place : ℕ) (history : List Traced) (node : Hosted) (p :
     where
       by : (t : Bool) → elim (untaken works) [ [] ↦ reply.NoWork | asked ∷ _ ↦ option_map_or reply.Work (given_of asked.job asked.number (store_at nodes place history asked.job)) reply.NoWork ] ≡ take_told works v
           → elim (map asked_of (cond (not t) (q ∷ filter is_waiting works) (filter is_waiting works))) [ [] ↦ reply.NoWork | asked ∷ _ ↦ option_map_or reply.Work (given_of asked.job asked.number (store_at nodes place history asked.job)) reply.NoWork ]
-          ≡ option_map_or (λ asked. option_map_or reply.Work (work_of asked.job.0 asked.number (v asked.job.0)) reply.NoWork) (option_map (λ (w : Queued). w.asked) (cond (not t) (Some q) (find (λ w. not w.taken) works))) reply.NoWork
+          ≡ option_map_or (λ asked. option_map_or reply.Work (row_work_of asked.job.0 asked.number (v asked.job.0)) reply.NoWork) (option_map (λ (w : Queued). w.asked) (cond (not t) (Some q) (find (λ w. not w.taken) works))) reply.NoWork
       by true rest = rest
       by false rest = ap (λ o. option_map_or reply.Work (given_of q.asked.job.0 q.asked.number o) reply.NoWork) (found q.asked.job.0)
 
@@ -377,8 +377,8 @@ module _ (nodes memory place : ℕ) (history : List Traced) (node : Hosted) (p :
       ap (λ (ws : List AskedWork). Told (elim ws [ [] ↦ reply.NoWork | asked ∷ _ ↦ option_map_or reply.Work (given_of asked.job asked.number (store_at nodes place history asked.job)) reply.NoWork ])) (sym p.waiting)
       ∙ ap Told (take_is node.works.works)
 
-  finish_due : (job : JobNo) (number : ℕ) → ok_unless ((not (is_out place job.0 number history), Stale) ∷ []) ≡ Told (answered (stale_unless (is_taken node.works.works job.0 number)))
-  finish_due job number = ap (λ t. Told (answered (cond (not t) (Some Stale) None))) (sym (p.out job.0 number)) ∙ ap (λ o. Told (answered o)) (turn_round (is_taken node.works.works job.0 number))
+  finish_due : (job : JobNo) (number : ℕ) → ok_unless ((not (is_out place job.0 number history), Stale) ∷ []) ≡ Told (answer_of_check (stale_unless (is_taken node.works.works job.0 number)))
+  finish_due job number = ap (λ t. Told (answer_of_check (cond (not t) (Some Stale) None))) (sym (p.out job.0 number)) ∙ ap (λ o. Told (answer_of_check o)) (turn_round (is_taken node.works.works job.0 number))
     where
       turn_round : (l : Bool) → cond (not l) (Some Stale) None ≡ cond l None (Some Stale)
       turn_round true = refl
@@ -411,7 +411,7 @@ module _ (nodes memory place : ℕ) (history : List Traced) (node : Hosted) (p :
 
   -- ---- what is told
 
-  module _ (e : Event) (given : steps.Given) (n : is_no_memory (Told given.reply) ≡ false) (is : IsEventAnswer node v e given.reply)
+  module _ (e : Event) (given : steps.NodeGiven) (n : is_no_memory (Told given.reply) ≡ false) (is : IsEventAnswer node v e given.reply)
       (g : IsGiven place v (own_due (before_at nodes place history) (Own e) given.reply) given) where
     abbrev entry : Traced
     entry = record { step = At place e; answer = Told given.reply }

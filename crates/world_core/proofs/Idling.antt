@@ -5,18 +5,18 @@ use Rattle.std.specs.List.{list_any}
 use Rattle.obj_id.specs.declared.ids.JobNo.{JobNo}
 use Rattle.obj_id.specs.declared.refusals.Refusal.TheVariants.{NoMemory}
 use Rattle.obj_id.specs.declared.commands.Reply.TheVariants as reply
-use Rattle.obj_id.specs.declared.messages.Place.{Place}
+use Rattle.obj_id.specs.declared.messages.Endpoint.{Endpoint}
 use Rattle.private_store.specs.declared.schedules.Event.TheVariants as event
 use Rattle.private_store.specs.declared.schedules.Step.{Step}
 use Rattle.private_store.specs.declared.schedules.Step.TheVariants.{At, Deliver}
 use Rattle.private_store.specs.declared.schedules.StepAnswer.{StepAnswer}
 use Rattle.private_store.specs.declared.schedules.StepAnswer.TheVariants.{Told}
 use Rattle.private_store.specs.declared.schedules.Traced.{Traced}
-use Rattle.private_store.specs.Hands.{Hand}
-use Rattle.private_store.specs.Cluster.{Cluster, ClusterInput, deliver, cluster_step, cluster_from, told_from}
-use Rattle.private_store.specs.Trace.{Given, hands_at, hands_step, out_after, is_out, is_no_memory, own_input, notes, for_job, inputs_until, cluster_until, reply_of, is_answered}
-use Rattle.private_store.specs.Shared.{AskedWork, LiveJob, leaves, waiting, asked_by, works_asked_by, lives_step, is_admission, answer_due}
-use Rattle.private_store.specs.Shared as shared
+use Rattle.private_store.specs.rules.Hands.{Hand}
+use Rattle.private_store.specs.rules.Cluster.{Cluster, ClusterInput, deliver, cluster_step, cluster_from, told_from}
+use Rattle.private_store.specs.rules.Trace.{Given, hands_at, hands_step, out_after, is_out, is_no_memory, own_input, notes, for_job, inputs_until, cluster_until, reply_of, is_answered}
+use Rattle.private_store.specs.rules.Shared.{AskedWork, LiveJob, leaves, waiting, asked_by, works_asked_by, lives_step, is_admission, answer_due}
+use Rattle.private_store.specs.rules.Shared as shared
 use Rattle.store_facts.proofs.Runs.{inputs_now, cluster_until-step}
 use Rattle.owner_directory.specs.Locations.{locations_of}
 use Rattle.world_core.specs.Logs.{sent_of}
@@ -175,7 +175,7 @@ module _ (nodes memory : ℕ) (history : List Traced) where
 
 -- ---- a delivery
 
-module _ (nodes memory : ℕ) (history : List Traced) (job : JobNo) (from to : Place) (m : ℕ) (damage : Bool) (told : StepAnswer) (answered : is_no_memory told ≡ false) where
+module _ (nodes memory : ℕ) (history : List Traced) (job : JobNo) (from to : Endpoint) (m : ℕ) (damage : Bool) (told : StepAnswer) (answered : is_no_memory told ≡ false) where
   abbrev pub delivery : Traced
   delivery = record { step = Deliver job from to m damage; answer = told }
 

@@ -6,8 +6,8 @@ use Rattle.std.specs.Map.{lookup, set_value}
 use Rattle.std.proofs.lemmas.Bool.Decides.{nat_tests}
 use Rattle.std.proofs.lemmas.Map.Made.{lookup-map_values}
 use Rattle.obj_id.specs.declared.ids.JobNo.{JobNo}
-use Rattle.private_store.specs.Jobs.{same_job}
-use Rattle.private_store.specs.Cluster.{Sent}
+use Rattle.private_store.specs.rules.Jobs.{same_job}
+use Rattle.private_store.specs.rules.Cluster.{Sent}
 use Rattle.store_facts.proofs.Tests.{some_value, both, both_left, both_right}
 use Rattle.world_core.proofs.Numbers.{same_number, is_less}
 use Rattle.world_core.specs.Logs.{Log, AllLogs, has_places, has_room, messages_of, sent_of}

@@ -8,10 +8,10 @@ use Rattle.std.proofs.lemmas.List.Elements.{filter-append}
 use Rattle.indexmap.specs.IndexMap.{insert_entry}
 use Rattle.indexmap.proofs.MapLemmas.{absent_from_lookup, insert_entry-absent}
 use Rattle.obj_id.specs.declared.messages.Message.{Message}
-use Rattle.obj_id.specs.declared.messages.Place.{Place}
-use Rattle.obj_id.specs.declared.messages.Place.TheVariants.{Node, Directory}
-use Rattle.obj_id.specs.contracts.messages.PlacePartialEq.TheImpl as place
-use Rattle.private_store.specs.Cluster.{Sent, same_place, messages_between}
+use Rattle.obj_id.specs.declared.messages.Endpoint.{Endpoint}
+use Rattle.obj_id.specs.declared.messages.Endpoint.TheVariants.{Node, Directory}
+use Rattle.obj_id.specs.contracts.messages.EndpointPartialEq.TheImpl as place
+use Rattle.private_store.specs.rules.Cluster.{Sent, same_place, messages_between}
 use Rattle.store_facts.proofs.Tests.{both_left, both_right}
 use Rattle.world_core.proofs.Numbers.{turned, same_number}
 use Rattle.world_core.specs.declared.messages.Link.{Link}
@@ -22,7 +22,7 @@ use Rattle.world_core.specs.Logs.{same_link, same_numbered, message_in, count_ov
 
 -- ---- links
 
-place_eq : (a b : Place) → (place.eq-value).it a b ≡ same_place a b
+place_eq : (a b : Endpoint) → (place.eq-value).it a b ≡ same_place a b
 place_eq (Node a) (Node b) = refl
 place_eq (Node a) Directory = refl
 place_eq Directory (Node b) = refl
@@ -34,13 +34,13 @@ link_eq a b = λ i. place_eq a.from b.from i && place_eq a.to b.to i
 pub number_eq : (a b : Numbered) → (numbered.eq-value).it a b ≡ same_numbered a b
 number_eq a b = ap (λ t. t && (a.number == b.number)) (link_eq a.link b.link)
 
-same_places : (a b : Place) → same_place a b ≡ true → a ≡ b
+same_places : (a b : Endpoint) → same_place a b ≡ true → a ≡ b
 same_places (Node a) (Node b) t = ap Node (same_number a b t)
 same_places (Node a) Directory t = absurd cc
 same_places Directory (Node b) t = absurd cc
 same_places Directory Directory t = refl
 
-turned_place : (a b : Place) → same_place a b ≡ same_place b a
+turned_place : (a b : Endpoint) → same_place a b ≡ same_place b a
 turned_place (Node a) (Node b) = turned a b
 turned_place (Node a) Directory = refl
 turned_place Directory (Node b) = refl
@@ -60,7 +60,7 @@ turned_link a b = λ i. turned_place a.from b.from i && turned_place a.to b.to i
 abbrev one_if : {X : Type 0} → Bool → X → List X
 one_if t x = cond t (x ∷ []) []
 
-between-push : (from to : Place) (sent : List Sent) (x : Sent) → messages_between from to (sent ++ x ∷ []) ≡ messages_between from to sent ++ one_if (same_place from x.from && same_place to x.to) x.message
+between-push : (from to : Endpoint) (sent : List Sent) (x : Sent) → messages_between from to (sent ++ x ∷ []) ≡ messages_between from to sent ++ one_if (same_place from x.from && same_place to x.to) x.message
 between-push from to sent x =
     ap (map (λ (s : Sent). s.message)) (filter-append (λ (s : Sent). same_place from s.from && same_place to s.to) sent (x ∷ []))
     ∙ map-append (λ (s : Sent). s.message) (filter (λ (s : Sent). same_place from s.from && same_place to s.to) sent) (one_if (same_place from x.from && same_place to x.to) x)
@@ -71,7 +71,7 @@ between-push from to sent x =
     by false = refl
 
 -- where nothing was sent there is no message
-pub none_in_none : (from to : Place) (m : ℕ) → message_in [] from to m ≡ None
+pub none_in_none : (from to : Endpoint) (m : ℕ) → message_in [] from to m ≡ None
 none_in_none from to zero = refl
 none_in_none from to (suc m) = refl
 
@@ -90,7 +90,7 @@ slice_get-more [] y (suc i) = ap (λ t. cond t (Some y) None) (sym (not_zero i))
 slice_get-more (x ∷ xs) y zero = ap (λ t. cond t (Some y) (Some x)) (sym (not_first (length xs)))
 slice_get-more (x ∷ xs) y (suc i) = slice_get-more xs y i ∙ ap (λ t. cond t (Some y) (slice_get xs i)) (sym (both_next i (length xs)))
 
-message_in-push : (sent : List Sent) (x : Sent) (from to : Place) (m : ℕ)
+message_in-push : (sent : List Sent) (x : Sent) (from to : Endpoint) (m : ℕ)
     → message_in (sent ++ x ∷ []) from to m ≡ cond (same_place from x.from && same_place to x.to) (cond (m == suc (count_over sent from to)) (Some x.message) (message_in sent from to m)) (message_in sent from to m)
 message_in-push sent x from to zero = by (same_place from x.from && same_place to x.to)
   where
@@ -110,7 +110,7 @@ length-more : {X : Type 0} (xs : List X) (y : X) → length (xs ++ y ∷ []) ≡
 length-more [] y = refl
 length-more (x ∷ xs) y = ap (λ n. suc n) (length-more xs y)
 
-count_over-push : (sent : List Sent) (x : Sent) (from to : Place) → count_over (sent ++ x ∷ []) from to ≡ cond (same_place from x.from && same_place to x.to) (suc (count_over sent from to)) (count_over sent from to)
+count_over-push : (sent : List Sent) (x : Sent) (from to : Endpoint) → count_over (sent ++ x ∷ []) from to ≡ cond (same_place from x.from && same_place to x.to) (suc (count_over sent from to)) (count_over sent from to)
 count_over-push sent x from to = ap length (between-push from to sent x) ∙ by (same_place from x.from && same_place to x.to)
   where
     by : (t : Bool) → length (messages_between from to sent ++ one_if t x.message) ≡ cond t (suc (count_over sent from to)) (count_over sent from to)
@@ -204,7 +204,7 @@ module _ (kept : List (Numbered × Message)) (counts : List (Link × ℕ)) (h : 
         (numbered_more more new last put.1 put.2, sent_more more new last put.1 put.2))
 
 -- no more went over a link than there are
-pub count_within : (kept : List (Numbered × Message)) (from to : Place) → count_over (sent_in kept) from to ≤ length kept
+pub count_within : (kept : List (Numbered × Message)) (from to : Endpoint) → count_over (sent_in kept) from to ≤ length kept
 count_within [] from to = omega arith
 count_within (e ∷ kept) from to = by (same_place from e.0.link.from && same_place to e.0.link.to) (count_within kept from to)
   where

@@ -10,18 +10,18 @@ use Rattle.obj_id.specs.declared.ids.JobNo.{JobNo}
 use Rattle.private_store.specs.declared.schedules.Step.{Step}
 use Rattle.private_store.specs.declared.schedules.StepAnswer.{StepAnswer}
 use Rattle.private_store.specs.declared.schedules.Traced.{Traced}
-use Rattle.private_store.specs.Private.{view_of}
-use Rattle.private_store.specs.Cluster.{Sent, private_run}
-use Rattle.private_store.specs.Trace.{replies_of, is_answered, Agree, IsPrivate}
-use Rattle.private_store.specs.Shared.{AreSharedAnswers}
+use Rattle.private_store.specs.rules.Private.{view_of}
+use Rattle.private_store.specs.rules.Cluster.{Sent, private_run}
+use Rattle.private_store.specs.rules.Trace.{replies_of, is_answered, Agree, IsPrivate}
+use Rattle.private_store.specs.rules.Shared.{AreSharedAnswers}
 use Rattle.store_facts.proofs.Tests.{both, both_right}
 use Rattle.job_admission.specs.Admissions.{lives_of}
-use Rattle.owner_directory.specs.Locations.{Rows, locations_of}
+use Rattle.owner_directory.specs.Locations.{DirectoryRows, locations_of}
 use Rattle.world_core.specs.Logs.{sent_of}
 use Rattle.node_core.specs.Hosted.{Hosted, Shows}
 use Rattle.node_core.specs.Steps.{is_taken}
 use Rattle.world_core.specs.Worlds.{Hosting, untaken, is_within, IsNodeAfter, IsAfter, IsNew, AreNew}
-use Rattle.world_core.specs.Moves.{Turns}
+use Rattle.world_core.specs.WorldSteps.{WorldStep}
 use Rattle.world_core.specs.Runs.{is_replied, all_replied}
 use Rattle.world_core.proofs.Places.{slice_get-push}
 use Rattle.world_core.proofs.Stores.{no_cluster_at}
@@ -53,7 +53,7 @@ new_node nodes memory place node k = record {
   out = λ job number. ap (λ works. is_taken works job number) k.works;
 }
 
-pub new_world : (nodes memory : ℕ) (hosted : List Hosted) (tables : Rows) (messages : List (JobNo × List Sent)) → AreNew memory nodes hosted → tables ≡ [] → messages ≡ []
+pub new_world : (nodes memory : ℕ) (hosted : List Hosted) (tables : DirectoryRows) (messages : List (JobNo × List Sent)) → AreNew memory nodes hosted → tables ≡ [] → messages ≡ []
     → IsAfter nodes memory (record { nodes = hosted; tables = tables; messages = messages }) []
 new_world nodes memory hosted tables messages h empty nothing = record {
   count = h.count;
@@ -66,7 +66,7 @@ new_world nodes memory hosted tables messages h empty nothing = record {
 
 pub data IsRunTo (nodes : ℕ) (start : Hosting) : Hosting → List Traced → Type 0 where
   begun : IsRunTo nodes start start []
-  stepped : (old new : Hosting) (history : List Traced) (step : Step) (told : StepAnswer) → IsRunTo nodes start old history → is_within nodes step ≡ true → Turns old new step told
+  stepped : (old new : Hosting) (history : List Traced) (step : Step) (told : StepAnswer) → IsRunTo nodes start old history → is_within nodes step ≡ true → WorldStep old new step told
       → IsRunTo nodes start new (record { step = step; answer = told } ∷ history)
 
 pub after_run : (nodes memory : ℕ) (start world : Hosting) (history : List Traced) → IsAfter nodes memory start [] → IsRunTo nodes start world history → IsAfter nodes memory world history

@@ -7,23 +7,23 @@ use Rattle.std.proofs.lemmas.Bool.{cases_eq}
 use Rattle.std.proofs.lemmas.List.{reverse-append}
 use Rattle.std.proofs.lemmas.List.Elements.{filter-append, filter_map-append}
 use Rattle.obj_id.specs.declared.ids.ObjectId.{ObjectId}
-use Rattle.obj_id.specs.declared.messages.Place.TheVariants.{Node}
+use Rattle.obj_id.specs.declared.messages.Endpoint.TheVariants.{Node}
 use Rattle.private_store.specs.declared.inputs.Input.{Input}
 use Rattle.private_store.specs.declared.inputs.Input.TheVariants as input
 use Rattle.private_store.specs.declared.schedules.Traced.{Traced}
-use Rattle.private_store.specs.Contents.{View, bytes_at}
-use Rattle.private_store.specs.Private.{Store, view_of, view_from, store_from, private_outcome}
-use Rattle.private_store.specs.Cluster.{Cluster, Sent, posted, told_from, no_cluster, private_run}
-use Rattle.private_store.specs.Cluster.{Told as ToldTo}
-use Rattle.private_store.specs.Trace.{hands_at, is_out, out_after, granted_bytes, inputs_until, cluster_until, reply_of, replies_of, is_answered}
-use Rattle.private_store.specs.Shared.{is_admission, waiting}
-use Rattle.private_store.specs.Shared as shared
+use Rattle.private_store.specs.rules.Contents.{View, bytes_at}
+use Rattle.private_store.specs.rules.Private.{Store, view_of, view_from, store_from, private_outcome}
+use Rattle.private_store.specs.rules.Cluster.{Cluster, Sent, posted, told_from, no_cluster, private_run}
+use Rattle.private_store.specs.rules.Cluster.{Told as ToldTo}
+use Rattle.private_store.specs.rules.Trace.{hands_at, is_out, out_after, granted_bytes, inputs_until, cluster_until, reply_of, replies_of, is_answered}
+use Rattle.private_store.specs.rules.Shared.{is_admission, waiting}
+use Rattle.private_store.specs.rules.Shared as shared
 use Rattle.store_facts.proofs.Tests.{some_value}
 use Rattle.store_facts.proofs.Runs.{inputs_now, told_from-append}
 use Rattle.store_facts.proofs.Stamped.{view_of_run}
-use Rattle.job_admission.specs.Admissions.{Admissions, place_for, live_at}
+use Rattle.job_admission.specs.Admissions.{Admissions, window_place_for, live_at}
 use Rattle.std.specs.Map.{set_value}
-use Rattle.private_store.specs.Jobs.{same_job}
+use Rattle.private_store.specs.rules.Jobs.{same_job}
 use Rattle.private_store.specs.declared.schedules.Event.TheVariants as event
 use Rattle.obj_id.specs.declared.commands.Reply.{Reply}
 use Rattle.obj_id.specs.declared.commands.Reply.TheVariants as reply
@@ -31,12 +31,12 @@ use Rattle.private_store.specs.declared.schedules.NodeEvent.TheVariants.{Own, Ar
 use Rattle.owner_directory.specs.Locations.{locations_of}
 use Rattle.world_core.specs.Logs.{sent_of}
 use Rattle.private_store.specs.declared.schedules.NodeEvent.{NodeEvent}
-use Rattle.private_store.specs.NodeInputs.{JobInput, Before, wants_memory, own_here, own_due, inputs_to, hands_after}
+use Rattle.private_store.specs.laws.NodeInputs.{JobInput, Before, wants_memory, own_here, own_due, inputs_to, hands_after}
 use Rattle.node_core.specs.Hosted.{Hosted, Shows, ShowsAll}
-use Rattle.node_core.specs.Steps.{Given, StepsFrom, IsGiven, before_of, is_taken, job_of, line_left, asked_now, admissions_after, lives_after}
+use Rattle.node_core.specs.Steps.{NodeGiven, NodeStepFrom, IsGiven, before_of, is_taken, job_of, line_left, asked_now, admissions_after, live_jobs_after}
 use Rattle.world_core.specs.Worlds.{Hosting, untaken, IsNodeAfter, IsJobAfter, IsAfter}
-use Rattle.world_core.specs.Moves.{Moves}
-use Rattle.private_store.specs.NodeInputs.{before_at}
+use Rattle.world_core.specs.WorldSteps.{HostingStep}
+use Rattle.private_store.specs.laws.NodeInputs.{before_at}
 use Rattle.world_core.proofs.Entries.{IsEntry}
 use Rattle.world_core.proofs.Lines.{is_taken_queued, untaken_queued}
 use Rattle.world_core.proofs.Clusters.{posts_from, own_of, own_posts, IsMovedBy, moved_by}
@@ -67,7 +67,7 @@ replies_more nodes job entry history before now =
 -- the admissions after keep the node's memory
 pub memory_stays : (a : Admissions) (e : NodeEvent) (told : Reply (List ℕ)) → (admissions_after a e told).memory ≡ a.memory
 memory_stays a (Own (event.Admit job quota key)) reply.Ok =
-    elim (place_for a quota.window) as (λ o. (option_map_or (λ offset. record a { greatest = job.0; live = a.live ++ (job, record { quota = quota; key = key; offset = offset; entered = 0 }) ∷ [] }) o a).memory ≡ a.memory) [ None ↦ refl | Some offset ↦ refl ]
+    elim (window_place_for a quota.window) as (λ o. (option_map_or (λ offset. record a { greatest = job.0; live = a.live ++ (job, record { quota = quota; key = key; offset = offset; entered = 0 }) ∷ [] }) o a).memory ≡ a.memory) [ None ↦ refl | Some offset ↦ refl ]
 memory_stays a (Own (event.Requota job quota)) reply.Ok =
     elim (live_at a job) as (λ o. (option_map_or (λ live. record a { live = set_value (same_job job) a.live (record live { quota = quota }) }) o a).memory ≡ a.memory) [ None ↦ refl | Some live ↦ refl ]
 memory_stays a (Own (event.JobEnd job)) reply.Ok = refl
@@ -135,8 +135,8 @@ module _ (nodes memory place : ℕ) (old : Hosting) (history : List Traced) (h :
   pub before_same : before_of before view_at ≡ before_at nodes place history
   before_same = λ i. record { out = λ job number. at_place.out job number i; bytes = λ id. bytes_are id i; hands = at_place.hands i }
 
-module _ (nodes memory place : ℕ) (e : NodeEvent) (given : Given) (old new : Hosting) (history : List Traced) (entry : Traced)
-    (h : IsAfter nodes memory old history) (within : place < nodes) (m : Moves old place e given new) (n : wants_memory given.reply ≡ false)
+module _ (nodes memory place : ℕ) (e : NodeEvent) (given : NodeGiven) (old new : Hosting) (history : List Traced) (entry : Traced)
+    (h : IsAfter nodes memory old history) (within : place < nodes) (m : HostingStep old place e given new) (n : wants_memory given.reply ≡ false)
     (k : IsEntry nodes memory place e given.reply (view_at nodes memory place old history h within m.before m.found) m.before.works.works m.before.admissions history entry) where
   abbrev v : ℕ → View
   v = view_at nodes memory place old history h within m.before m.found
@@ -156,7 +156,7 @@ module _ (nodes memory place : ℕ) (e : NodeEvent) (given : Given) (old new : H
   p : IsNodeAfter nodes memory place m.before history
   p = h.each_node place m.before m.found
 
-  s : StepsFrom m.before v e given m.after
+  s : NodeStepFrom m.before v e given m.after
   s = m.steps.each v (shown nodes memory place old history h within m.before m.found)
 
   abbrev xs : ℕ → List Input
@@ -200,7 +200,7 @@ module _ (nodes memory place : ℕ) (e : NodeEvent) (given : Given) (old new : H
   node_here = record {
     number = m.steps.number ∙ p.number;
     size = ap (λ a. a.memory) m.steps.admissions ∙ memory_stays m.before.admissions e given.reply ∙ p.size;
-    lives = m.steps.lives ∙ (λ i. lives_after (p.size i) (p.lives i) e given.reply) ∙ k.lives.lives_here (shared.lives_after memory place history);
+    lives = m.steps.lives ∙ (λ i. live_jobs_after (p.size i) (p.lives i) e given.reply) ∙ k.lives.lives_here (shared.lives_after memory place history);
     greatest = λ job z. k.lives.greatest job _ (p.greatest job z) ∙ ap (λ a. nat_le job a.greatest) (sym m.steps.admissions);
     shows = shows_here;
     hands = m.steps.hands ∙ ap (λ hands. hands_after hands e given.reply) p.hands ∙ sym k.tables.hands_here;

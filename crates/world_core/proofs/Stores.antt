@@ -2,14 +2,14 @@
 use Rattle.std.proofs.Common.{◌≡◌, ◌≢◌, ℕ, zero, suc, cond, ◌<◌, List, [], ◌∷◌, length, Some, None, slice_get, slice_set, refl, sym, ap, subst, ◌∙◌, ⊎_elim}
 use Rattle.std.specs.Option.{option_map_or}
 use Rattle.std.proofs.lemmas.Bool.{cases_eq}
-use Rattle.obj_id.specs.declared.messages.Place.{Place}
-use Rattle.obj_id.specs.declared.messages.Place.TheVariants.{Node, Directory}
+use Rattle.obj_id.specs.declared.messages.Endpoint.{Endpoint}
+use Rattle.obj_id.specs.declared.messages.Endpoint.TheVariants.{Node, Directory}
 use Rattle.obj_id.specs.declared.messages.Message.{Message}
 use Rattle.obj_id.specs.declared.messages.Message.TheVariants as message
 use Rattle.private_store.specs.declared.inputs.Input.{Input}
 use Rattle.private_store.specs.declared.inputs.Input.TheVariants.{Arrive}
-use Rattle.private_store.specs.Private.{Store, no_store, private_outcome, private_step}
-use Rattle.private_store.specs.Cluster.{Cluster, ClusterInput, at_node, deliver, input_at, moved_at, unmoved, message_at, damaged, handed_over, handed_to_directory, arrival_of, cluster_step, cluster_from, stores_of, no_cluster}
+use Rattle.private_store.specs.rules.Private.{Store, no_store, private_outcome, private_step}
+use Rattle.private_store.specs.rules.Cluster.{Cluster, ClusterInput, at_node, deliver, input_at, moved_at, unmoved, message_at, damaged, handed_over, handed_to_directory, arrival_of, cluster_step, cluster_from, stores_of, no_cluster}
 use Rattle.store_facts.proofs.Tests.{none_some, some_value}
 use Rattle.store_facts.proofs.Stamped.{IsStamped, private_step_IsStamped, no_store_IsStamped}
 use Rattle.world_core.proofs.Places.{length-slice_set, slice_get-slice_set, slice_get-slice_set_other, found_within}
@@ -60,7 +60,7 @@ module _ (nodes : ℕ) (cluster : Cluster) (h : AreStamped nodes cluster.stores)
   directory_AreStamped (message.Located id number entries) = h
   directory_AreStamped (message.ToPeer m) = h
 
-  handed_AreStamped : (from to : Place) (m : Message) → AreStamped nodes (handed_over cluster from to m).cluster.stores
+  handed_AreStamped : (from to : Endpoint) (m : Message) → AreStamped nodes (handed_over cluster from to m).cluster.stores
   handed_AreStamped from (Node place) m =
       elim (arrival_of from m) as (λ o. AreStamped nodes (option_map_or (λ a. input_at cluster place (Arrive a)) o (unmoved cluster)).cluster.stores) [
         | None ↦ h

@@ -2,7 +2,7 @@
 use Rattle.std.proofs.Common.{◌≡◌, ℕ, true, false, ◌<◌, List, ◌∷◌, length, refl, sym, ap, subst, ◌∙◌}
 use Rattle.obj_id.specs.declared.ids.JobNo.{JobNo}
 use Rattle.obj_id.specs.declared.messages.Message.{Message}
-use Rattle.obj_id.specs.declared.messages.Place.{Place}
+use Rattle.obj_id.specs.declared.messages.Endpoint.{Endpoint}
 use Rattle.obj_id.specs.declared.refusals.Refusal.TheVariants.{NoMemory}
 use Rattle.obj_id.specs.declared.commands.Reply.{Reply}
 use Rattle.obj_id.specs.declared.commands.Reply.TheVariants as reply
@@ -13,14 +13,14 @@ use Rattle.private_store.specs.declared.schedules.StepAnswer.{StepAnswer}
 use Rattle.private_store.specs.declared.schedules.StepAnswer.TheVariants.{Told, NoMessage}
 use Rattle.private_store.specs.declared.schedules.Traced.{Traced}
 use Rattle.private_store.specs.declared.schedules.NodeEvent.TheVariants.{Own}
-use Rattle.private_store.specs.NodeInputs.{before_at, own_due}
-use Rattle.private_store.specs.Private.{Store}
-use Rattle.private_store.specs.Trace.{is_no_memory}
+use Rattle.private_store.specs.laws.NodeInputs.{before_at, own_due}
+use Rattle.private_store.specs.rules.Private.{Store}
+use Rattle.private_store.specs.rules.Trace.{is_no_memory}
 use Rattle.store_facts.proofs.StepInputs.{want_same}
 use Rattle.store_facts.proofs.Tests.{true_false}
-use Rattle.node_core.specs.Steps.{Given, IsGiven, StepsFrom}
+use Rattle.node_core.specs.Steps.{NodeGiven, IsGiven, NodeStepFrom}
 use Rattle.world_core.specs.Worlds.{Hosting, IsNodeAfter, IsAfter, is_within}
-use Rattle.world_core.specs.Moves.{Moves, as_damaged, Hands, to_directory, past_directory, to_node, past_node, nothing, hands, Turns, at, delivers, wants, Happens}
+use Rattle.world_core.specs.WorldSteps.{HostingStep, as_damaged, Hands, to_directory, past_directory, to_node, past_node, nothing, hands, WorldStep, at, delivers, wants, EventStep}
 use Rattle.world_core.proofs.Numbers.{is_less}
 use Rattle.world_core.proofs.Places.{length-slice_set}
 use Rattle.world_core.proofs.Stepping.{here, view_at, shown, before_same, after_event}
@@ -30,15 +30,15 @@ use Rattle.world_core.proofs.Idling.{after_wanting}
 use Rattle.world_core.proofs.Deliveries.{no_step, no_answer, after_nothing}
 use Rattle.world_core.proofs.HandedOver.{after_handed, handed_wants_none}
 
-module _ (nodes memory place : ℕ) (e : Event) (given : Given) (old new : Hosting) (history : List Traced)
-    (h : IsAfter nodes memory old history) (within : place < nodes) (m : Moves old place (Own e) given new) where
+module _ (nodes memory place : ℕ) (e : Event) (given : NodeGiven) (old new : Hosting) (history : List Traced)
+    (h : IsAfter nodes memory old history) (within : place < nodes) (m : HostingStep old place (Own e) given new) where
   abbrev store : ℕ → Store
   store job = (here nodes memory place old history h within m.before m.found job).0
 
   p : IsNodeAfter nodes memory place m.before history
   p = h.each_node place m.before m.found
 
-  s : StepsFrom m.before (view_at nodes memory place old history h within m.before m.found) (Own e) given m.after
+  s : NodeStepFrom m.before (view_at nodes memory place old history h within m.before m.found) (Own e) given m.after
   s = m.steps.each (view_at nodes memory place old history h within m.before m.found) (shown nodes memory place old history h within m.before m.found)
 
   due_given : IsGiven place (view_at nodes memory place old history h within m.before m.found) (own_due (before_at nodes place history) (Own e) given.reply) given
@@ -63,7 +63,7 @@ module _ (nodes memory place : ℕ) (e : Event) (given : Given) (old new : Hosti
 
 -- what a step does leaves the world after a history with one step more
 pub after_turn : (nodes memory : ℕ) (history : List Traced) (old new : Hosting) (step : Step) (told : StepAnswer)
-    → IsAfter nodes memory old history → is_within nodes step ≡ true → Turns old new step told → IsAfter nodes memory new (record { step = step; answer = told } ∷ history)
+    → IsAfter nodes memory old history → is_within nodes step ≡ true → WorldStep old new step told → IsAfter nodes memory new (record { step = step; answer = told } ∷ history)
 after_turn nodes memory history old new step told h inside (at place e given moves) = after_at nodes memory place e given old new history h (is_less place nodes inside) moves
 after_turn nodes memory history old new step told h inside (wants s same) =
     subst (λ w. IsAfter nodes memory w (record { step = s; answer = Told (reply.Refused NoMemory) } ∷ history)) (sym same) (after_wanting nodes memory history s old h)
@@ -75,20 +75,20 @@ after_turn nodes memory history old new step told h inside (delivers job from to
 
 -- an answer that is out of memory is a step that did nothing
 pub turn_wants : (nodes memory : ℕ) (history : List Traced) (old new : Hosting) (step : Step) (told : StepAnswer)
-    → IsAfter nodes memory old history → is_within nodes step ≡ true → Turns old new step told → is_no_memory told ≡ true → new ≡ old
+    → IsAfter nodes memory old history → is_within nodes step ≡ true → WorldStep old new step told → is_no_memory told ≡ true → new ≡ old
 turn_wants nodes memory history old new step told h inside (at place e given moves) n = true_false (sym (event_answered nodes memory place e given old new history h (is_less place nodes inside) moves) ∙ n)
 turn_wants nodes memory history old new step told h inside (wants s same) n = same
 turn_wants nodes memory history old new step told h inside (delivers job from to m damage answer (nothing none same)) n = same
 turn_wants nodes memory history old new step told h inside (delivers job from to m damage answer (hands sent t some k)) n = handed_wants_none nodes memory history old new job from to (as_damaged damage sent) t h inside k n
 
 -- no node comes or goes
-hands_count : (old new : Hosting) (job : JobNo) (from to : Place) (m : Message) (told : StepAnswer) → Hands old job from m new to told → length new.nodes ≡ length old.nodes
+hands_count : (old new : Hosting) (job : JobNo) (from to : Endpoint) (m : Message) (told : StepAnswer) → Hands old job from m new to told → length new.nodes ≡ length old.nodes
 hands_count old new job from to m told (to_directory d is moves) = ap length moves.nodes
 hands_count old new job from to m told (past_directory is same) = ap (λ w. length w.nodes) same
 hands_count old new job from to m told (to_node place given a is moves) = ap length moves.nodes ∙ length-slice_set old.nodes place moves.after
 hands_count old new job from to m told (past_node place node found is same) = ap (λ w. length w.nodes) same
 
-pub turn_count : (old new : Hosting) (step : Step) (told : StepAnswer) → Turns old new step told → length new.nodes ≡ length old.nodes
+pub turn_count : (old new : Hosting) (step : Step) (told : StepAnswer) → WorldStep old new step told → length new.nodes ≡ length old.nodes
 turn_count old new step told (at place e given moves) = ap length moves.nodes ∙ length-slice_set old.nodes place moves.after
 turn_count old new step told (wants s same) = ap (λ w. length w.nodes) same
 turn_count old new step told (delivers job from to m damage answer (nothing none same)) = ap (λ w. length w.nodes) same
@@ -96,17 +96,17 @@ turn_count old new step told (delivers job from to m damage answer (hands sent t
 
 -- ---- the same of a step as it is given
 
-pub turned_by : (old new : Hosting) (place : ℕ) (e : Event) (told : Reply (List ℕ)) → Happens old place e told new → Turns old new (At place e) (Told told)
+pub turned_by : (old new : Hosting) (place : ℕ) (e : Event) (told : Reply (List ℕ)) → EventStep old place e told new → WorldStep old new (At place e) (Told told)
 turned_by old new place e told k =
-    subst (λ r. Turns old new (At place e) (Told r)) k.reply
+    subst (λ r. WorldStep old new (At place e) (Told r)) k.reply
     (at place e k.given (record { before = k.before; after = k.after; found = k.found; steps = k.steps; nodes = k.nodes; tables = k.tables; sent = k.sent }))
 
 module _ (nodes memory : ℕ) (history : List Traced) (old new : Hosting) (step : Step) (h : IsAfter nodes memory old history) (inside : is_within (length old.nodes) step ≡ true) where
   within_nodes : is_within nodes step ≡ true
   within_nodes = subst (λ n. is_within n step ≡ true) h.count inside
 
-  pub world_after : (told : StepAnswer) → Turns old new step told → IsAfter nodes memory new (record { step = step; answer = told } ∷ history)
+  pub world_after : (told : StepAnswer) → WorldStep old new step told → IsAfter nodes memory new (record { step = step; answer = told } ∷ history)
   world_after told t = after_turn nodes memory history old new step told h within_nodes t
 
-  pub world_same : (told : StepAnswer) → Turns old new step told → is_no_memory told ≡ true → new ≡ old
+  pub world_same : (told : StepAnswer) → WorldStep old new step told → is_no_memory told ≡ true → new ≡ old
   world_same told t = turn_wants nodes memory history old new step told h within_nodes t

@@ -1,5 +1,5 @@
 pub mod Logs
-pub mod Moves
+pub mod WorldSteps
 pub mod Runs
 pub mod Worlds
 pub mod Noting

@@ -4,9 +4,9 @@ use Rattle.std.specs.Option.{option_map_or}
 use Rattle.std.specs.Map.{lookup}
 use Rattle.obj_id.specs.declared.ids.JobNo.{JobNo}
 use Rattle.obj_id.specs.declared.messages.Message.{Message}
-use Rattle.obj_id.specs.declared.messages.Place.{Place}
-use Rattle.private_store.specs.Jobs.{same_job}
-use Rattle.private_store.specs.Cluster.{Sent, same_place, messages_between}
+use Rattle.obj_id.specs.declared.messages.Endpoint.{Endpoint}
+use Rattle.private_store.specs.rules.Jobs.{same_job}
+use Rattle.private_store.specs.rules.Cluster.{Sent, same_place, messages_between}
 use Rattle.world_core.specs.declared.messages.Link.{Link}
 use Rattle.world_core.specs.declared.messages.Numbered.{Numbered}
 
@@ -43,12 +43,12 @@ abbrev pub sent_of : List (JobNo × List Sent) → ℕ → List Sent
 sent_of messages job = unwrap_or (lookup (same_job (record { 0 = job })) messages) []
 
 -- the m-th message that was sent from one place to the other, from 1
-abbrev pub message_in : List Sent → Place → Place → ℕ → Option Message
+abbrev pub message_in : List Sent → Endpoint → Endpoint → ℕ → Option Message
 message_in sent from to zero = None
 message_in sent from to (suc m) = slice_get (messages_between from to sent) m
 
 -- how many there are
-abbrev pub count_over : List Sent → Place → Place → ℕ
+abbrev pub count_over : List Sent → Endpoint → Endpoint → ℕ
 count_over sent from to = length (messages_between from to sent)
 
 -- ---- as they are kept

@@ -6,8 +6,8 @@ use Rattle.obj_id.specs.declared.commands.Reply.{Reply}
 use Rattle.obj_id.specs.declared.commands.Reply.TheVariants as reply
 use Rattle.obj_id.specs.declared.messages.Arrival.{Arrival}
 use Rattle.obj_id.specs.declared.messages.Message.{Message}
-use Rattle.obj_id.specs.declared.messages.Place.{Place}
-use Rattle.obj_id.specs.declared.messages.Place.TheVariants.{Node, Directory}
+use Rattle.obj_id.specs.declared.messages.Endpoint.{Endpoint}
+use Rattle.obj_id.specs.declared.messages.Endpoint.TheVariants.{Node, Directory}
 use Rattle.private_store.specs.declared.inputs.Judged.{Judged}
 use Rattle.private_store.specs.declared.schedules.Event.{Event}
 use Rattle.private_store.specs.declared.schedules.NodeEvent.TheVariants.{Own, Arrive}
@@ -15,22 +15,22 @@ use Rattle.private_store.specs.declared.schedules.Step.{Step}
 use Rattle.private_store.specs.declared.schedules.Step.TheVariants.{At, Deliver}
 use Rattle.private_store.specs.declared.schedules.StepAnswer.{StepAnswer}
 use Rattle.private_store.specs.declared.schedules.StepAnswer.TheVariants.{Told, NoMessage}
-use Rattle.private_store.specs.Cluster.{arrival_of}
+use Rattle.private_store.specs.rules.Cluster.{arrival_of}
 use Rattle.node_core.specs.declared.outcome.Note.{Note}
 use Rattle.node_core.specs.Hosted.{Hosted}
 use Rattle.node_core.specs.Judged.{IsJudged, IsArrivalJudged}
 use Rattle.node_core.specs.Outcomes.{inputs_noted}
-use Rattle.node_core.specs.Steps.{Given, Steps}
-use Rattle.world_core.specs.Moves.{handed, message_of}
+use Rattle.node_core.specs.Steps.{NodeGiven, NodeStep}
+use Rattle.world_core.specs.WorldSteps.{handed, message_of}
 use Rattle.world_core.specs.Worlds.{Hosting}
 
--- an event at the place, with this answer: what it was to its own job, and what it told the takers of hands
+-- an event at the place, with this answer: what it was to its own job, and what it told the grantees of hands
 pub record IsEventNoted (old new : Hosting) (place : ℕ) (e : Event) (told : Reply (List ℕ)) (was : Option Judged) (noted : List Note) : Type 0 where
   pub before : Hosted
-  pub given : Given
+  pub given : NodeGiven
   pub after : Hosted
   pub found : slice_get old.nodes place ≡ Some before
-  pub steps : Steps before (Own e) given after
+  pub steps : NodeStep before (Own e) given after
   pub nodes : new.nodes ≡ slice_set old.nodes place after
   pub reply : given.reply ≡ told
   pub judged : IsJudged before e told was
@@ -39,10 +39,10 @@ pub record IsEventNoted (old new : Hosting) (place : ℕ) (e : Event) (told : Re
 -- the same of a job's message that arrives at the place, which tells nobody of a hand
 pub record IsArrivalNoted (old new : Hosting) (place : ℕ) (job : JobNo) (a : Arrival) (told : Reply (List ℕ)) (was : Option Judged) (noted : List Note) : Type 0 where
   pub before : Hosted
-  pub given : Given
+  pub given : NodeGiven
   pub after : Hosted
   pub found : slice_get old.nodes place ≡ Some before
-  pub steps : Steps before (Arrive job a) given after
+  pub steps : NodeStep before (Arrive job a) given after
   pub nodes : new.nodes ≡ slice_set old.nodes place after
   -- what comes too late is nothing there
   pub stale : told ≡ reply.Refused Stale → after ≡ before
@@ -59,12 +59,12 @@ pub record NotesNothing (old new : Hosting) (judged : Option Judged) (notes : Li
 -- what a step with this answer was to the jobs
 pub data IsNoted (old new : Hosting) (judged : Option Judged) (notes : List Note) : Step → StepAnswer → Type 0 where
   keeps_event : (place : ℕ) (e : Event) (told : Reply (List ℕ)) → IsEventNoted old new place e told judged notes → IsNoted old new judged notes (At place e) (Told told)
-  keeps_arrival : (job : JobNo) (from : Place) (place m : ℕ) (damage : Bool) (a : Arrival) (told : Reply (List ℕ))
+  keeps_arrival : (job : JobNo) (from : Endpoint) (place m : ℕ) (damage : Bool) (a : Arrival) (told : Reply (List ℕ))
       → arrival_of from (message_of a) ≡ Some a → IsArrivalNoted old new place job a told judged notes
       → IsNoted old new judged notes (Deliver job from (Node place) m damage) (handed (message_of a) told)
   -- what isn't made for a node
-  passes_node : (job : JobNo) (from : Place) (place m : ℕ) (damage : Bool) (msg : Message) (told : Reply (List ℕ)) → arrival_of from msg ≡ None → NotesNothing old new judged notes
+  passes_node : (job : JobNo) (from : Endpoint) (place m : ℕ) (damage : Bool) (msg : Message) (told : Reply (List ℕ)) → arrival_of from msg ≡ None → NotesNothing old new judged notes
       → IsNoted old new judged notes (Deliver job from (Node place) m damage) (handed msg told)
-  tells_directory : (job : JobNo) (from : Place) (m : ℕ) (damage : Bool) (told : StepAnswer) → NotesNothing old new judged notes → IsNoted old new judged notes (Deliver job from Directory m damage) told
-  finds_nothing : (job : JobNo) (from to : Place) (m : ℕ) (damage : Bool) → NotesNothing old new judged notes → IsNoted old new judged notes (Deliver job from to m damage) NoMessage
+  tells_directory : (job : JobNo) (from : Endpoint) (m : ℕ) (damage : Bool) (told : StepAnswer) → NotesNothing old new judged notes → IsNoted old new judged notes (Deliver job from Directory m damage) told
+  finds_nothing : (job : JobNo) (from to : Endpoint) (m : ℕ) (damage : Bool) → NotesNothing old new judged notes → IsNoted old new judged notes (Deliver job from to m damage) NoMessage
   wants_memory : (step : Step) → NotesNothing old new judged notes → IsNoted old new judged notes step (Told (reply.Refused NoMemory))

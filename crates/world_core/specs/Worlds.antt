@@ -2,19 +2,19 @@
 use Rattle.std.specs.Prelude.{◌≡◌, ℕ, ◌==◌, nat_le, nat_lt, Bool, true, false, not, ◌&&◌, List, [], length, map, reverse, filter, slice_get, Some}
 use Rattle.std.specs.List.{list_any}
 use Rattle.obj_id.specs.declared.ids.JobNo.{JobNo}
-use Rattle.obj_id.specs.declared.messages.Place.{Place}
-use Rattle.obj_id.specs.declared.messages.Place.TheVariants.{Node, Directory}
+use Rattle.obj_id.specs.declared.messages.Endpoint.{Endpoint}
+use Rattle.obj_id.specs.declared.messages.Endpoint.TheVariants.{Node, Directory}
 use Rattle.private_store.specs.declared.schedules.Step.{Step}
 use Rattle.private_store.specs.declared.schedules.Step.TheVariants.{At, Deliver}
 use Rattle.private_store.specs.declared.schedules.Traced.{Traced}
-use Rattle.private_store.specs.Private.{Store, view_of, no_store}
-use Rattle.private_store.specs.Cluster.{Sent, private_run}
-use Rattle.private_store.specs.Trace.{hands_at, is_out, inputs_until, cluster_until, replies_of, is_answered}
-use Rattle.private_store.specs.Shared.{AskedWork, waiting, lives_after, is_admission, answers_due}
+use Rattle.private_store.specs.rules.Private.{Store, view_of, no_store}
+use Rattle.private_store.specs.rules.Cluster.{Sent, private_run}
+use Rattle.private_store.specs.rules.Trace.{hands_at, is_out, inputs_until, cluster_until, replies_of, is_answered}
+use Rattle.private_store.specs.rules.Shared.{AskedWork, waiting, lives_after, is_admission, answers_due}
 use Rattle.spill_work.specs.declared.queue.Queued.{Queued}
 use Rattle.job_admission.specs.Admissions.{largest_memory, lives_of}
-use Rattle.world_core.specs.declared.Shape.{Shape}
-use Rattle.owner_directory.specs.Locations.{Rows, Locations, locations_of}
+use Rattle.world_core.specs.declared.ClusterSize.{ClusterSize}
+use Rattle.owner_directory.specs.Locations.{DirectoryRows, Locations, locations_of}
 use Rattle.world_core.specs.Logs.{sent_of}
 use Rattle.node_core.specs.Hosted.{Hosted, Shows}
 use Rattle.node_core.specs.Steps.{is_taken}
@@ -24,12 +24,12 @@ pub record Hosting : Type 0 where
   -- by number
   pub nodes : List Hosted
   -- by job, the directory's locations
-  pub tables : Rows
+  pub tables : DirectoryRows
   -- by job, all messages ever sent, oldest first
   pub messages : List (JobNo × List Sent)
 
 -- one of the nodes, or the directory
-abbrev pub is_place : ℕ → Place → Bool
+abbrev pub is_place : ℕ → Endpoint → Bool
 is_place nodes (Node place) = nat_lt place nodes
 is_place nodes Directory = true
 
@@ -103,5 +103,5 @@ abbrev pub most_nodes : ℕ
 most_nodes = 8
 
 -- a node at least, and none with more than the largest memory
-abbrev pub is_shape : Shape → Bool
+abbrev pub is_shape : ClusterSize → Bool
 is_shape shape = nat_le 1 shape.nodes && nat_le shape.nodes most_nodes && nat_le shape.memory largest_memory

@@ -1,20 +1,20 @@
 //! Messages that are handed over, to a node or to the directory.
 ghost use Rattle.std.specs.Prelude.{◌≡◌, ℕ, ◌<◌, Bool, true, length, slice_get, Some, is_some, IfOk, OnOk, OnErr};
-ghost use Rattle.obj_id.specs.declared.messages.Place.TheVariants as places;
+ghost use Rattle.obj_id.specs.declared.messages.Endpoint.TheVariants as places;
 ghost use Rattle.private_store.specs.declared.schedules.Step.TheVariants as steps;
 ghost use Rattle.job_admission.specs.Admissions.{live_at};
 ghost use Rattle.node_core.specs.Hosted.{Hosted};
-ghost use Rattle.node_core.specs.Steps.{answered, stale_unless};
+ghost use Rattle.node_core.specs.Steps.{answer_of_check, stale_unless};
 ghost use Rattle.world_core.specs.Worlds.{is_place};
-ghost use Rattle.world_core.specs.Moves.{Arrives, MovesDirectory, Hands, Turns};
+ghost use Rattle.world_core.specs.WorldSteps.{Arrives, MovesDirectory, Hands, WorldStep};
 ghost use Rattle.world_core.specs.Noting.{IsNoted, IsArrivalNoted};
 
 use crate::World;
 use crate::on_the_way::{answers, arrival, as_it_arrives, for_directory, handed, message_of};
 use crate::stepped::{Given, Stepped};
 use bytes::Bytes;
-use node_core::Outcome;
-use obj_id::{Arrival, DirectoryMessage, JobNo, Message, Place, Refusal, Reply};
+use node_core::NodeOutcome;
+use obj_id::{Arrival, DirectoryMessage, Endpoint, JobNo, Message, Refusal, Reply};
 use owner_directory::DirectoryReply;
 use private_store::StepAnswer;
 use std::alloc::AllocError;
@@ -25,13 +25,13 @@ impl World {
     pub(crate) fn deliver(
         &mut self,
         job: JobNo,
-        from: Place,
-        to: Place,
+        from: Endpoint,
+        to: Endpoint,
         number: u64,
         damaged: bool,
     ) -> Result<Stepped, AllocError>
         requires { is_place (length self.old.nodes) to ≡ true }
-        ensures ok { IfOk result (λ s. Turns self.old self.new (steps.Deliver job from to number damaged) s.answer) }
+        ensures ok { IfOk result (λ s. WorldStep self.old self.new (steps.Deliver job from to number damaged) s.answer) }
         ensures kept { IfOk result (λ s. IsNoted self.old self.new s.judged s.notes (steps.Deliver job from to number damaged) s.answer) }
         ensures err { OnErr result (self.new ≡ self.old) }
     {
@@ -40,8 +40,8 @@ impl World {
         };
         let message = as_it_arrives(self.alloc, sent, damaged)?;
         match to {
-            Place::Node(place) => self.hand_to_node(job, from, place, message),
-            Place::Directory => {
+            Endpoint::Node(place) => self.hand_to_node(job, from, place, message),
+            Endpoint::Directory => {
                 let answer = self.hand_to_directory(job, from, message)?;
                 Ok(Stepped::alone(self.alloc, answer))
             }
@@ -52,7 +52,7 @@ impl World {
     fn hand_to_node(
         &mut self,
         job: JobNo,
-        from: Place,
+        from: Endpoint,
         place: u32,
         message: Message,
     ) -> Result<Stepped, AllocError>
@@ -91,14 +91,14 @@ impl World {
             .most_messages;
         self.messages.reserve(job, most)?;
         let outcome = self.nodes[place as usize].arrive(job, arrival)?;
-        let Outcome {
+        let NodeOutcome {
             reply,
             messages,
             notes,
             judged,
             ..
         } = outcome;
-        self.messages.add(job, Place::Node(place), messages);
+        self.messages.add(job, Endpoint::Node(place), messages);
         Ok(Given {
             reply,
             judged,
@@ -109,7 +109,7 @@ impl World {
     /// What the node of the place answers if nothing is made of a message: Ok, or `Stale` if the job isn't live.
     fn reply_to_nothing(&self, job: JobNo, place: u32) -> Reply<Bytes>
         requires { place < length self.now.nodes }
-        ensures { (node : Hosted) → slice_get self.now.nodes place ≡ Some node → result ≡ answered (stale_unless (is_some (live_at node.admissions job))) }
+        ensures { (node : Hosted) → slice_get self.now.nodes place ≡ Some node → result ≡ answer_of_check (stale_unless (is_some (live_at node.admissions job))) }
     {
         match self.nodes[place as usize].usage(job) {
             Ok(_) => Reply::Ok,
@@ -121,7 +121,7 @@ impl World {
     fn hand_to_directory(
         &mut self,
         job: JobNo,
-        from: Place,
+        from: Endpoint,
         message: Message,
     ) -> Result<StepAnswer, AllocError>
         ensures ok { IfOk result (λ told. Hands self.old job from message self.new places.Directory told) }
@@ -155,7 +155,7 @@ impl World {
                 entries,
             };
             self.messages
-                .send(job, Place::Directory, Place::Node(to), located);
+                .send(job, Endpoint::Directory, Endpoint::Node(to), located);
         }
         Ok(())
     }

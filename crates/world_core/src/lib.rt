@@ -4,10 +4,10 @@
 
 ghost use Rattle.std.specs.Prelude.{◌≡◌, ℕ, ◌<◌, List, [], ◌∷◌, true, length, IfOk, OnErr};
 ghost use Rattle.private_store.specs.declared.schedules.Traced.{Traced};
-ghost use Rattle.private_store.specs.Trace.{is_no_memory};
+ghost use Rattle.private_store.specs.rules.Trace.{is_no_memory};
 ghost use Rattle.node_core.specs.Steps.{job_of_event};
 ghost use Rattle.world_core.specs.Worlds.{is_shape, is_within as is_within_lem, AreNew, IsAfter};
-ghost use Rattle.world_core.specs.Moves.{Happens, Turns};
+ghost use Rattle.world_core.specs.WorldSteps.{EventStep, WorldStep};
 ghost use Rattle.world_core.specs.Noting.{IsNoted, IsEventNoted};
 ghost use Rattle.world_core.specs.Runs.{is_replied};
 
@@ -19,8 +19,8 @@ mod stepped;
 mod within;
 
 use messages::Messages;
-use node_core::{Node, Outcome};
-use obj_id::{JobNo, Place};
+use node_core::{Node, NodeOutcome};
+use obj_id::{Endpoint, JobNo};
 use owner_directory::Directory;
 use private_store::{Event, Step, StepAnswer};
 pub use runs::{Trace, run};
@@ -32,7 +32,7 @@ pub use within::is_within;
 
 /// How many nodes a world has, 1 to 8, and the bytes of each one's memory, 0 to 17,179,869,184.
 #[derive(Clone, Copy, Debug, PartialEq, Eq)]
-pub struct Shape {
+pub struct ClusterSize {
     pub nodes: u32,
     pub memory: u64,
 }
@@ -68,7 +68,7 @@ impl Model for World {
 
 impl World {
     /// A world in which nothing has happened. The error is out of memory.
-    pub fn new(alloc: Global, shape: Shape) -> Result<World, AllocError>
+    pub fn new(alloc: Global, shape: ClusterSize) -> Result<World, AllocError>
         requires { is_shape shape ≡ true }
         ensures ok { IfOk result (λ world. IsAfter shape.nodes shape.memory world []) }
     {
@@ -113,7 +113,7 @@ impl World {
     /// The same, and out of memory is an error.
     fn turn(&mut self, step: &Step) -> Result<Stepped, AllocError>
         requires { is_within_lem (length self.old.nodes) step.now ≡ true }
-        ensures ok { IfOk result (λ s. Turns self.old self.new step.now s.answer) }
+        ensures ok { IfOk result (λ s. WorldStep self.old self.new step.now s.answer) }
         ensures replied { IfOk result (λ s. is_replied step.now s.answer ≡ true) }
         ensures kept { IfOk result (λ s. IsNoted self.old self.new s.judged s.notes step.now s.answer) }
         ensures err { OnErr result (self.new ≡ self.old) }
@@ -140,7 +140,7 @@ impl World {
     /// An event at the node of the place. The error is out of memory, and then nothing has changed.
     fn apply(&mut self, place: u32, event: &Event) -> Result<Given, AllocError>
         requires { place < length self.old.nodes }
-        ensures ok { IfOk result (λ given. Happens self.old place event.now given.reply self.new) }
+        ensures ok { IfOk result (λ given. EventStep self.old place event.now given.reply self.new) }
         ensures kept { IfOk result (λ given. IsEventNoted self.old self.new place event.now given.reply given.judged given.notes) }
         ensures err { OnErr result (self.new ≡ self.old) }
     {
@@ -149,14 +149,14 @@ impl World {
         let most = self.nodes[place as usize].foresee(event).most_messages;
         self.messages.reserve(job, most)?;
         let outcome = self.nodes[place as usize].apply(event)?;
-        let Outcome {
+        let NodeOutcome {
             reply,
             messages,
             notes,
             judged,
             ..
         } = outcome;
-        self.messages.add(job, Place::Node(place), messages);
+        self.messages.add(job, Endpoint::Node(place), messages);
         Ok(Given {
             reply,
             judged,
@@ -166,7 +166,7 @@ impl World {
 }
 
 /// Nodes in which nothing has happened, by number.
-fn new_nodes(alloc: Global, shape: Shape) -> Result<Vec<Node>, AllocError>
+fn new_nodes(alloc: Global, shape: ClusterSize) -> Result<Vec<Node>, AllocError>
     requires { is_shape shape ≡ true }
     ensures { IfOk result (λ nodes. AreNew shape.memory shape.nodes nodes.items) }
 {

@@ -1,11 +1,11 @@
 //! The messages that the jobs of a world sent. A contract sees of each job all that it ever sent, oldest
 //! first, and how many more messages take no memory.
 ghost use Rattle.std.specs.Prelude.{◌≡◌, ◌≤◌, ℕ, ◌==◌, ◌+◌, ◌++◌, [], ◌∷◌, length, true, if◌then◌else◌, option_copied, OnOk, IsOk};
-ghost use Rattle.private_store.specs.Cluster.{posted};
+ghost use Rattle.private_store.specs.rules.Cluster.{posted};
 ghost use Rattle.world_core.specs.Logs.{messages_of, sent_of, message_in, count_over, has_places, has_room};
 
 use indexmap::IndexMap;
-use obj_id::{Items, JobNo, Message, Place};
+use obj_id::{Endpoint, Items, JobNo, Message};
 use std::alloc::{AllocError, Global};
 use std::marker::Model;
 use std::mem;
@@ -13,8 +13,8 @@ use std::mem;
 /// From where to where messages are sent.
 #[derive(Clone, Copy, PartialEq, Eq, Hash)]
 pub struct Link {
-    from: Place,
-    to: Place,
+    from: Endpoint,
+    to: Endpoint,
 }
 
 /// The message of this number over a link, from 1.
@@ -160,7 +160,7 @@ impl Messages {
     }
 
     /// The message of this number, from 1, that the job sent from the one place to the other.
-    pub fn find(&self, job: JobNo, from: Place, to: Place, number: u64) -> Option<&Message>
+    pub fn find(&self, job: JobNo, from: Endpoint, to: Endpoint, number: u64) -> Option<&Message>
         ensures { option_copied result ≡ message_in (sent_of (messages_of self.now.logs) job.0) from to number }
     {
         let log = self.logs.get(&job)?;
@@ -168,7 +168,7 @@ impl Messages {
     }
 
     /// Adds a message that the job sent. There is room for it: this takes no memory.
-    pub fn send(&mut self, job: JobNo, from: Place, to: Place, message: Message)
+    pub fn send(&mut self, job: JobNo, from: Endpoint, to: Endpoint, message: Message)
         requires { has_room self.old job 1 ≡ true }
         ensures sent { (other : ℕ) → sent_of (messages_of self.new.logs) other
             ≡ (if job.0 == other then sent_of (messages_of self.old.logs) other ++ record { from = from; to = to; message = message } ∷ [] else sent_of (messages_of self.old.logs) other) }
@@ -185,7 +185,7 @@ impl Messages {
     }
 
     /// Adds the messages that a step sent for the job from the place. There is room for them: this takes no memory.
-    pub fn add(&mut self, job: JobNo, from: Place, posts: Items<(Place, Message)>)
+    pub fn add(&mut self, job: JobNo, from: Endpoint, posts: Items<(Endpoint, Message)>)
         requires { 1 ≤ length posts → has_room self.old job (length posts) ≡ true }
         ensures { (other : ℕ) → sent_of (messages_of self.new.logs) other ≡ (if job.0 == other then sent_of (messages_of self.old.logs) other ++ posted from posts else sent_of (messages_of self.old.logs) other) }
     {

@@ -1,12 +1,12 @@
 //! Messages on their way: as they arrive, and what the places make of them.
 ghost use Rattle.std.specs.Prelude.{◌≡◌, Some, None, if◌then◌else◌, length, IfOk, IfErr};
-ghost use Rattle.private_store.specs.Cluster.{arrival_of, damaged_bytes, damaged_peer};
-ghost use Rattle.private_store.specs.Directory.{directory_posts};
+ghost use Rattle.private_store.specs.rules.Cluster.{arrival_of, damaged_bytes, damaged_peer};
+ghost use Rattle.private_store.specs.rules.Directory.{directory_posts};
 ghost use Rattle.owner_directory.specs.Locations.{Locations};
-ghost use Rattle.world_core.specs.Moves.{as_damaged, for_directory as for_directory_lem, handed as handed_lem, message_of as message_of_lem};
+ghost use Rattle.world_core.specs.WorldSteps.{as_damaged, for_directory as for_directory_lem, handed as handed_lem, message_of as message_of_lem};
 
 use bytes::Bytes;
-use obj_id::{Arrival, DirectoryMessage, Items, Message, PeerMessage, Place, Reply};
+use obj_id::{Arrival, DirectoryMessage, Endpoint, Items, Message, PeerMessage, Reply};
 use private_store::StepAnswer;
 use std::alloc::{AllocError, Global};
 
@@ -131,14 +131,14 @@ pub(crate) fn answers(message: &DirectoryMessage) -> usize
 }
 
 /// What a node makes of the message; the message itself, if it isn't made for a node.
-pub(crate) fn arrival(from: Place, message: Message) -> Result<Arrival, Message>
+pub(crate) fn arrival(from: Endpoint, message: Message) -> Result<Arrival, Message>
     ensures made { IfOk result (λ a. arrival_of from message ≡ Some a) }
     ensures same { IfErr result (λ m. m ≡ message) }
     ensures none { IfErr result (λ m. arrival_of from message ≡ None) }
 {
     match (from, message) {
         (
-            Place::Directory,
+            Endpoint::Directory,
             Message::Located {
                 id,
                 number,
@@ -151,7 +151,7 @@ pub(crate) fn arrival(from: Place, message: Message) -> Result<Arrival, Message>
                 entries,
             })
         }
-        (Place::Node(node), Message::ToPeer(told)) => Ok(Arrival::FromPeer(node, told)),
+        (Endpoint::Node(node), Message::ToPeer(told)) => Ok(Arrival::FromPeer(node, told)),
         (_, other) => Err(other),
     }
 }

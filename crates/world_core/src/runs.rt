@@ -1,12 +1,12 @@
 //! Runs of whole schedules.
 ghost use Rattle.std.specs.Prelude.{◌≡◌, ℕ, List, [], ◌∷◌, ◌++◌, true, map, IfOk, OnOk, OnErr};
 ghost use Rattle.std.specs.List.{list_all};
-ghost use Rattle.private_store.specs.Trace.{IsPrivate};
-ghost use Rattle.private_store.specs.Shared.{AreSharedAnswers};
+ghost use Rattle.private_store.specs.rules.Trace.{IsPrivate};
+ghost use Rattle.private_store.specs.rules.Shared.{AreSharedAnswers};
 ghost use Rattle.world_core.specs.Worlds.{is_shape, is_within};
 ghost use Rattle.world_core.specs.Runs.{all_replied};
 
-use crate::{Shape, World};
+use crate::{ClusterSize, World};
 use private_store::{Step, Traced};
 use std::alloc::{AllocError, Global};
 use std::marker::Model;
@@ -59,7 +59,7 @@ impl Trace {
 /// its private cluster, which nobody else uses, on its own inputs; and what neighbours share is answered
 /// as it is due. The error is out of memory for the world or the trace; a step that is out of memory is
 /// answered `NoMemory`.
-pub fn run(alloc: Global, shape: Shape, schedule: Vec<Step>) -> Result<Trace, AllocError>
+pub fn run(alloc: Global, shape: ClusterSize, schedule: Vec<Step>) -> Result<Trace, AllocError>
     requires shape { is_shape shape ≡ true }
     requires places { list_all (is_within shape.nodes) schedule.items ≡ true }
     ensures steps { IfOk result (λ trace. map (λ entry. entry.step) trace ≡ schedule.items) }

@@ -16,7 +16,7 @@ pub struct Stepped {
     pub answer: StepAnswer,
     /// What it was to its own job; nothing, if it was no input of it.
     pub judged: Option<Judged>,
-    /// What it told the takers of hands, in order.
+    /// What it told the grantees of hands, in order.
     pub notes: Items<Note>,
 }
 

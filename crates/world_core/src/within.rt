@@ -2,7 +2,7 @@
 ghost use Rattle.std.specs.Prelude.{◌≡◌};
 ghost use Rattle.world_core.specs.Worlds.{is_within as is_within_lem, is_place as is_place_lem};
 
-use obj_id::Place;
+use obj_id::Endpoint;
 use private_store::Step;
 
 /// Whether a world of so many nodes has the node of an event, or the place to which a message is delivered.
@@ -16,11 +16,11 @@ pub fn is_within(nodes: u32, step: &Step) -> bool
 }
 
 /// Whether the place is there, in a world of so many nodes.
-fn is_place(nodes: u32, place: Place) -> bool
+fn is_place(nodes: u32, place: Endpoint) -> bool
     ensures { result ≡ is_place_lem nodes place }
 {
     match place {
-        Place::Node(node) => node < nodes,
-        Place::Directory => true,
+        Endpoint::Node(node) => node < nodes,
+        Endpoint::Directory => true,
     }
 }

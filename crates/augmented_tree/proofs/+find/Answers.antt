@@ -1,6 +1,6 @@
 use Rattle.std.proofs.Common.{◌≢◌, sym, ◌∙◌, ap, arith}
 use Rattle.augmented_tree.specs.Lists.{find_item}
-use Rattle.augmented_tree.proofs.Kept.{node_at, items_at, find_left, find_right}
+use Rattle.augmented_tree.proofs.WellOrdered.{node_at, items_at, find_left, find_right}
 use Rattle.augmented_tree.proofs.+find.Goals as goal
 
 pub returns-then-key-middle : goal.returns-then-key-middle

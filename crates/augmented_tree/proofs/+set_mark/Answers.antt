@@ -1,5 +1,5 @@
 use Rattle.std.proofs.Common.{◌≢◌, ◌+◌, sym, ◌∙◌, ap, subst, arith}
-use Rattle.augmented_tree.proofs.Kept.{told, node_at, items_at, change_here, change_left, change_right}
+use Rattle.augmented_tree.proofs.WellOrdered.{told, node_at, items_at, change_here, change_left, change_right}
 use Rattle.augmented_tree.specs.Lists.{change_item}
 use Rattle.augmented_tree.specs.Shape.{IsTree, middle}
 use Rattle.augmented_tree.proofs.+set_mark.Goals as goal

@@ -1,6 +1,6 @@
 use Rattle.std.proofs.Common.{◌≢◌, ◌+◌, sym, ◌∙◌, ap, subst, arith}
 use Rattle.std.specs.Prelude.{is_some}
-use Rattle.augmented_tree.proofs.Kept.{told, told_at, node_at, items_at, take_left, take_right, has_left, has_right}
+use Rattle.augmented_tree.proofs.WellOrdered.{told, told_at, node_at, items_at, take_left, take_right, has_left, has_right}
 use Rattle.augmented_tree.specs.Lists.{take_item, has_item}
 use Rattle.augmented_tree.specs.Shape.{IsTree, middle}
 use Rattle.augmented_tree.proofs.+take.Goals as goal

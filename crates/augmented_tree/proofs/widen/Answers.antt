@@ -1,5 +1,5 @@
 use Rattle.std.proofs.Common.{◌≡◌, ◌∷◌, sym, ◌∙◌}
-use Rattle.augmented_tree.proofs.Kept.{told, kept_empty, fits_first, widened}
+use Rattle.augmented_tree.proofs.WellOrdered.{told, kept_empty, fits_first, widened}
 use Rattle.augmented_tree.specs.Shape.{items, IsTree, middle as middle_of}
 use Rattle.augmented_tree.proofs.widen.Goals as goal
 

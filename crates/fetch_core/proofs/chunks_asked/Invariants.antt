@@ -1,5 +1,5 @@
 use Rattle.std.proofs.Common.{◌≡◌, take, length}
-use Rattle.private_store.specs.Private.{chunks_asked}
+use Rattle.private_store.specs.rules.Private.{chunks_asked}
 use Rattle.fetch_core.proofs.chunks_asked.Given as goal
 
 abbrev pub invariant-loop-index : goal.invariant-loop-index

@@ -1,5 +1,5 @@
 use Rattle.std.proofs.Common.{◌≡◌, drop}
-use Rattle.private_store.specs.Contents.{entry_elsewhere}
+use Rattle.private_store.specs.rules.Contents.{entry_elsewhere}
 use Rattle.fetch_core.proofs.elsewhere.Given as goal
 
 abbrev pub invariant-loop-entry : goal.invariant-loop-entry

@@ -1,4 +1,4 @@
-use Rattle.private_store.specs.Private.{no_store}
+use Rattle.private_store.specs.rules.Private.{no_store}
 use Rattle.store_facts.proofs.Stamped.{view_of_run, replies_of_run, no_store_IsStamped}
 use Rattle.store_laws.proofs.stamps_are_the_order_of_use.Goals as goal
 

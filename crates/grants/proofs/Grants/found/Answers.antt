@@ -1,7 +1,7 @@
 use Rattle.std.proofs.Common.{sym, ap, ◌∙◌}
 use Rattle.std.specs.List.{list_any}
 use Rattle.grants.specs.Table.{ends}
-use Rattle.grants.specs.Links.{are_apart}
+use Rattle.grants.specs.Links.{links_are_apart}
 use Rattle.grants.proofs.Ranked.{ended_apart}
 use Rattle.grants.proofs.Left.{none_end, some_pass}
 use Rattle.grants.proofs.Grants.found.Goals as goal
@@ -12,7 +12,7 @@ returns-then-not-any_ends-clause-found c =
     c.none.ensures ∙ sym (none_end (ends c.args.ending) c.args.self.now none)
 
 pub of-requires : goal.of-requires
-of-requires c = ap are_apart c.in_ok-gone.ensures ∙ ended_apart (ends c.args.ending) c.self.inside.hands.items c.self.invariant
+of-requires c = ap links_are_apart c.in_ok-gone.ensures ∙ ended_apart (ends c.args.ending) c.self.inside.hands.items c.self.invariant
 
 pub returns-in_err-gone-clause-succeeds : goal.returns-in_err-gone-clause-succeeds
 returns-in_err-gone-clause-succeeds c =

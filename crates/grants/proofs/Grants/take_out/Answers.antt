@@ -1,6 +1,6 @@
 use Rattle.std.proofs.Common.{List, not, filter, sym, ap, subst, ◌∙◌}
 use Rattle.std.specs.List.{list_any}
-use Rattle.private_store.specs.Hands.{Hand, same_hand}
+use Rattle.private_store.specs.rules.Hands.{Hand, same_hand}
 use Rattle.grants.specs.Table.{AreHands, ends_found}
 use Rattle.grants.proofs.Left.{left_are_hands, none_left}
 use Rattle.grants.proofs.Grants.take_out.Goals as goal

@@ -1,5 +1,5 @@
 use Rattle.std.proofs.Common.{◌≡◌, [], drop}
-use Rattle.private_store.specs.Hands.{ended_from}
+use Rattle.private_store.specs.rules.Hands.{ended_from}
 use Rattle.grants.specs.Table.{ends}
 use Rattle.grants.proofs.endings.ended.Given as goal
 

@@ -1,6 +1,6 @@
 use Rattle.std.proofs.Common.{◌≡◌, ◌+◌, ◌-◌, ◌<◌, drop, length, ap, ◌∙◌, arith}
 use Rattle.std.specs.BTreeMap.{insert_entry}
-use Rattle.private_store.specs.Hands.{hands_sorted}
+use Rattle.private_store.specs.rules.Hands.{hands_sorted}
 use Rattle.grants.proofs.Ranked.{rank_cmp, ranked_step}
 use Rattle.grants.proofs.endings.sorted.Goals as goal
 

@@ -1,6 +1,6 @@
 use Rattle.std.proofs.Common.{◌≡◌, ◌≤◌, drop, length}
 use Rattle.std.specs.Map.{values_of}
-use Rattle.private_store.specs.Hands.{hands_sorted}
+use Rattle.private_store.specs.rules.Hands.{hands_sorted}
 use Rattle.grants.proofs.Ranked.{AreRanked}
 use Rattle.grants.proofs.endings.sorted.Given as goal
 

@@ -1,7 +1,7 @@
 use Rattle.std.proofs.Common.{ap, cond, is_some, Some, sym, ◌∙◌, arith}
 use Rattle.std.specs.Map.{lookup}
 use Rattle.std.specs.Option.{option_copied_mut}
-use Rattle.private_store.specs.Jobs.{same_job}
+use Rattle.private_store.specs.rules.Jobs.{same_job}
 use Rattle.job_admission.specs.Admissions.{Admissions, live_at, enter_check}
 use Rattle.job_admission.proofs.Entering.{one_more, number_left, entered_kept}
 use Rattle.job_admission.proofs.Admission.enter.Goals as goal

@@ -1,7 +1,7 @@
 use Rattle.std.proofs.Common.{arith, ap, not, filter, ◌∙◌}
-use Rattle.private_store.specs.Jobs.{same_job}
+use Rattle.private_store.specs.rules.Jobs.{same_job}
 use Rattle.job_admission.specs.Admissions.{Admissions, lives_of, is_live_kept}
-use Rattle.private_store.specs.Shared.{job_is}
+use Rattle.private_store.specs.rules.Shared.{job_is}
 use Rattle.job_admission.proofs.Neighbours.{lives_of-finished}
 use Rattle.job_admission.proofs.AllKept.{all_removed, apart_removed}
 use Rattle.job_admission.proofs.Admission.finish_job.Goals as goal

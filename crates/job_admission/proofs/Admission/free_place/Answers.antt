@@ -1,5 +1,5 @@
 use Rattle.std.proofs.Common.{ap, sym, subst, ◌∙◌, arith}
-use Rattle.job_admission.specs.Admissions.{Admissions, AreKept, windows}
+use Rattle.job_admission.specs.Admissions.{Admissions, AreAdmissionsKept, windows}
 use Rattle.job_admission.proofs.Search.{at, is_in_the_way, place_found, place_none, passed_over, found_has, ends_after}
 use Rattle.job_admission.proofs.AllKept.{is_laid, all_laid, laid_end, window_is}
 use Rattle.job_admission.proofs.Admission.free_place.Goals as goal
@@ -13,7 +13,7 @@ returns-in_default c =
 pub overflow_add-offset-in-loop-offset : goal.overflow_add-offset-in-loop-offset
 overflow_add-offset-in-loop-offset c =
     let a = c.args.self.now in
-    let kept : AreKept a = subst AreKept c.self.view_is c.self.invariant in
+    let kept : AreAdmissionsKept a = subst AreAdmissionsKept c.self.view_is c.self.invariant in
     let found = sym c.window_in_the_way.ensures ∙ c.in-Some.is in
     let end = laid_end a.memory c.in-Some.window (found_has (is_in_the_way (at c.loop-offset.offset c.args.length)) (is_laid a.memory) (windows a.live) c.in-Some.window (all_laid a.memory a.greatest a.live kept.each) found) in
     omega (arith, end.1, kept.memory)
@@ -21,7 +21,7 @@ overflow_add-offset-in-loop-offset c =
 pub loop-offset-smaller : goal.loop-offset-smaller
 loop-offset-smaller c =
     let a = c.args.self.now in
-    let kept : AreKept a = subst AreKept c.self.view_is c.self.invariant in
+    let kept : AreAdmissionsKept a = subst AreAdmissionsKept c.self.view_is c.self.invariant in
     let found = sym c.window_in_the_way.ensures ∙ c.in-Some.is in
     let end = laid_end a.memory c.in-Some.window (found_has (is_in_the_way (at c.loop-offset.offset c.args.length)) (is_laid a.memory) (windows a.live) c.in-Some.window (all_laid a.memory a.greatest a.live kept.each) found) in
     let later = ends_after (windows a.live) c.in-Some.window c.args.length c.loop-offset.offset found in
@@ -30,7 +30,7 @@ loop-offset-smaller c =
 pub loop-offset-preserved : goal.loop-offset-preserved
 loop-offset-preserved c =
     let a = c.args.self.now in
-    let kept : AreKept a = subst AreKept c.self.view_is c.self.invariant in
+    let kept : AreAdmissionsKept a = subst AreAdmissionsKept c.self.view_is c.self.invariant in
     let found = sym c.window_in_the_way.ensures ∙ c.in-Some.is in
     let end = laid_end a.memory c.in-Some.window (found_has (is_in_the_way (at c.loop-offset.offset c.args.length)) (is_laid a.memory) (windows a.live) c.in-Some.window (all_laid a.memory a.greatest a.live kept.each) found) in
     record {

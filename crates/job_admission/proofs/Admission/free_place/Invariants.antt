@@ -1,5 +1,5 @@
 use Rattle.std.proofs.Common.{◌≡◌, ◌<◌, ◌≤◌, ◌%◌, ◌-◌, ℕ, false}
-use Rattle.private_store.specs.Extents.{is_free}
+use Rattle.private_store.specs.rules.Extents.{is_free}
 use Rattle.job_admission.specs.Admissions.{windows}
 use Rattle.job_admission.proofs.Admission.free_place.Given as goal
 

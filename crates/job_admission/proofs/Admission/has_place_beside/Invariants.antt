@@ -1,7 +1,7 @@
 use Rattle.std.proofs.Common.{◌≡◌, true}
 use Rattle.std.specs.List.{list_all}
-use Rattle.private_store.specs.Extents.{is_apart}
-use Rattle.private_store.specs.Shared.{windows_without}
+use Rattle.private_store.specs.rules.Extents.{is_apart}
+use Rattle.private_store.specs.rules.Shared.{windows_without}
 use Rattle.job_admission.specs.Admissions.{lives_of, is_live_kept}
 use Rattle.job_admission.proofs.Admission.has_place_beside.Given as goal
 

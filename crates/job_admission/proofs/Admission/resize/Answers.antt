@@ -1,12 +1,12 @@
 use Rattle.std.proofs.Common.{ap, map, is_some, sym, ◌∙◌, arith}
 use Rattle.std.specs.Option.{option_copied_mut}
-use Rattle.private_store.specs.Extents.{is_apart}
+use Rattle.private_store.specs.rules.Extents.{is_apart}
 use Rattle.store_facts.proofs.Tests.{both_left, both_right}
 use Rattle.job_admission.specs.declared.Live.{Live}
-use Rattle.private_store.specs.Jobs.{same_job}
+use Rattle.private_store.specs.rules.Jobs.{same_job}
 use Rattle.job_admission.specs.Admissions.{Admissions, lives_of, live_at, is_live_kept, window_of, resize_check}
 use Rattle.job_admission.proofs.Lookups.{check_absent, check_passed, same_refusal}
-use Rattle.private_store.specs.Shared.{widened}
+use Rattle.private_store.specs.rules.Shared.{widened}
 use Rattle.job_admission.proofs.Neighbours.{lives_of-resized}
 use Rattle.job_admission.proofs.AllKept.{all_set, apart_put, other_found, kept_resized}
 use Rattle.job_admission.proofs.Admission.resize.Goals as goal

@@ -1,7 +1,7 @@
 use Rattle.std.proofs.Common.{map, ap, sym, ◌∙◌}
 use Rattle.std.specs.Prelude.{find}
 use Rattle.std.specs.List.{list_all}
-use Rattle.private_store.specs.Kept.{is_placed}
+use Rattle.private_store.specs.laws.Invariants.{is_placed}
 use Rattle.job_admission.specs.Admissions.{Admissions, window_of, windows}
 use Rattle.job_admission.proofs.Search.{is_in_the_way}
 use Rattle.job_admission.proofs.AllKept.{values_placed, windows-values}

@@ -2,7 +2,7 @@ use Rattle.std.proofs.Common.{◌≡◌, ℕ, List, [], length, take, Option, So
 use Rattle.std.specs.Prelude.{IsSomeAnd}
 use Rattle.std.specs.Map.{lookup}
 use Rattle.obj_id.specs.declared.works.Extent.{Extent}
-use Rattle.private_store.specs.Contents.{digest_of}
+use Rattle.private_store.specs.rules.Contents.{digest_of}
 use Rattle.job_region.specs.Layout.{zipped}
 use Rattle.job_region.specs.Region.{Region, IsAt}
 use Rattle.job_region.proofs.Bisected.{laid_rising}

@@ -2,7 +2,7 @@ use Rattle.std.proofs.Common.{ℕ, ◌≡◌, ◌<◌, ◌+◌, List, Option, sy
 use Rattle.std.specs.List.Sorted.{IsNonDecreasingBy}
 use Rattle.std.proofs.lemmas.List.{take_rest}
 use Rattle.obj_id.specs.declared.works.Extent.{Extent}
-use Rattle.job_region.specs.Layout.{Before, After, gap, gap_among, last_end, first_start}
+use Rattle.job_region.specs.Layout.{LiesBefore, After, gap, gap_among, last_end, first_start}
 use Rattle.job_region.proofs.Bisected.{laid_rising, drop_laid, same_there}
 use Rattle.job_region.proofs.Going.{none_go}
 use Rattle.job_region.proofs.Walked.{IsWalked, walk_begins, differs, walk_on, walked_on, walked_past, start_fits, gap_now}
@@ -35,7 +35,7 @@ loop-e-preserved-then-not-is_at c =
     let w = c.loop-e.invariant.walked in
     let is = same_there gone i e none c.loop-e-test.true in
     let rest = take_rest es next in
-    let before = subst (λ (ys : List Extent). Before e.offset ys k) rest c.place_of-passed.ensures.before in
+    let before = subst (λ (ys : List Extent). LiesBefore e.offset ys k) rest c.place_of-passed.ensures.before in
     let after = subst (λ (ys : List Extent). After e.offset ys k) rest c.place_of-passed.ensures.after in
     let no = subst (λ (ys : List Extent). k < length ys → (d : Extent) → (get_or ys k d).offset ≡ e.offset → ⊥) rest (c.is_at.ensures.no c.if-not-is_at.true) in
     let none_there = differs e.offset k (drop next es) (laid_rising q 0 (drop next es) (drop_laid q 0 next es c.requires.laid)) before after no in
@@ -57,7 +57,7 @@ end_of_last-start-requires c =
     let is = same_there gone i e none c.loop-e-test.true in
     let rest = take_rest es next in
     let there = subst (λ (ys : List Extent). (k < length ys) × ((d : Extent) → (get_or ys k d).offset ≡ e.offset)) rest (c.is_at.ensures.yes c.if-not-is_at.false) in
-    let before = subst (λ (ys : List Extent). Before e.offset ys k) rest c.place_of-passed.ensures.before in
+    let before = subst (λ (ys : List Extent). LiesBefore e.offset ys k) rest c.place_of-passed.ensures.before in
     let x = get_or (drop next es) k none in
     let fits = start_fits q es gone c.requires.laid c.requires.rising i next c.loop-e.start e c.loop-e-test.true is c.loop-e.invariant.walked k x there.0 (same_there (drop next es) k x none there.0) (there.1 none) before in
     rw rest (omega (arith, fits.0, fits.1, c.requires.small))
@@ -74,7 +74,7 @@ with_gap-least-requires c =
     let is = same_there gone i e none c.loop-e-test.true in
     let rest = take_rest es next in
     let there = subst (λ (ys : List Extent). (k < length ys) × ((d : Extent) → (get_or ys k d).offset ≡ e.offset)) rest (c.is_at.ensures.yes c.if-not-is_at.false) in
-    let before = subst (λ (ys : List Extent). Before e.offset ys k) rest c.place_of-passed.ensures.before in
+    let before = subst (λ (ys : List Extent). LiesBefore e.offset ys k) rest c.place_of-passed.ensures.before in
     let x = get_or (drop next es) k none in
     let fits = start_fits q es gone c.requires.laid c.requires.rising i next c.loop-e.start e c.loop-e-test.true is c.loop-e.invariant.walked k x there.0 (same_there (drop next es) k x none there.0) (there.1 none) before in
     let start = c.end_of_last-start.ensures ∙ ap (λ (ys : List Extent). last_end c.loop-e.start (take k ys)) rest in
@@ -95,7 +95,7 @@ loop-e-preserved c =
     let is = same_there gone i e none c.loop-e-test.true in
     let rest = take_rest es next in
     let there = subst (λ (ys : List Extent). (k < length ys) × ((d : Extent) → (get_or ys k d).offset ≡ e.offset)) rest (c.is_at.ensures.yes c.if-not-is_at.false) in
-    let before = subst (λ (ys : List Extent). Before e.offset ys k) rest c.place_of-passed.ensures.before in
+    let before = subst (λ (ys : List Extent). LiesBefore e.offset ys k) rest c.place_of-passed.ensures.before in
     let x = get_or (drop next es) k none in
     let at = same_there (drop next es) k x none there.0 in
     let start = c.end_of_last-start.ensures ∙ ap (λ (ys : List Extent). last_end c.loop-e.start (take k ys)) rest in

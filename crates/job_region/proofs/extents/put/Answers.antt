@@ -1,7 +1,7 @@
 use Rattle.std.proofs.Common.{◌∙◌, ◌++◌, ◌∷◌, sym, ap, subst, arith, List, length, take, drop, is_ok, ◌≤◌}
 use Rattle.std.specs.Prelude.{if◌then◌else◌}
 use Rattle.obj_id.specs.declared.works.Extent.{Extent}
-use Rattle.job_region.specs.Layout.{Before, After}
+use Rattle.job_region.specs.Layout.{LiesBefore, After}
 use Rattle.job_region.proofs.Bisected.{put_at}
 use Rattle.job_region.proofs.Zipped.{filled_length, put_filled, put_zipped}
 use Rattle.job_region.proofs.extents.put.Goals as goal
@@ -15,7 +15,7 @@ insert-requires-2 c =
     let o = e.offset in
     let same = c.deref.ensures.value in
     let within : k ≤ length es = omega (arith, c.place_of-at.ensures.within, ap length same) in
-    let before : Before o es k = subst (λ (xs : List Extent). Before o xs k) same c.place_of-at.ensures.before in
+    let before : LiesBefore o es k = subst (λ (xs : List Extent). LiesBefore o xs k) same c.place_of-at.ensures.before in
     let after : After o es k = subst (λ (xs : List Extent). After o xs k) same c.place_of-at.ensures.after in
     omega (arith, within, filled_length es bs c.requires.filled)
 
@@ -28,7 +28,7 @@ returns-clause-extents c =
     let o = e.offset in
     let same = c.deref.ensures.value in
     let within : k ≤ length es = omega (arith, c.place_of-at.ensures.within, ap length same) in
-    let before : Before o es k = subst (λ (xs : List Extent). Before o xs k) same c.place_of-at.ensures.before in
+    let before : LiesBefore o es k = subst (λ (xs : List Extent). LiesBefore o xs k) same c.place_of-at.ensures.before in
     let after : After o es k = subst (λ (xs : List Extent). After o xs k) same c.place_of-at.ensures.after in
     let extents = c.insert.ensures.items ∙ ap (λ r. if is_ok r then take k es ++ e ∷ drop k es else es) c.unwrap.ensures in
     extents ∙ sym (put_at o e.length k es within before after)
@@ -42,7 +42,7 @@ returns-clause-filled c =
     let o = e.offset in
     let same = c.deref.ensures.value in
     let within : k ≤ length es = omega (arith, c.place_of-at.ensures.within, ap length same) in
-    let before : Before o es k = subst (λ (xs : List Extent). Before o xs k) same c.place_of-at.ensures.before in
+    let before : LiesBefore o es k = subst (λ (xs : List Extent). LiesBefore o xs k) same c.place_of-at.ensures.before in
     let after : After o es k = subst (λ (xs : List Extent). After o xs k) same c.place_of-at.ensures.after in
     let extents = c.insert.ensures.items ∙ ap (λ r. if is_ok r then take k es ++ e ∷ drop k es else es) c.unwrap.ensures in
     let buffers = c.insert-2.ensures.items ∙ ap (λ r. if is_ok r then take k bs ++ c.args.buffer ∷ drop k bs else bs) c.unwrap-2.ensures in
@@ -57,7 +57,7 @@ returns-clause-placed c =
     let o = e.offset in
     let same = c.deref.ensures.value in
     let within : k ≤ length es = omega (arith, c.place_of-at.ensures.within, ap length same) in
-    let before : Before o es k = subst (λ (xs : List Extent). Before o xs k) same c.place_of-at.ensures.before in
+    let before : LiesBefore o es k = subst (λ (xs : List Extent). LiesBefore o xs k) same c.place_of-at.ensures.before in
     let after : After o es k = subst (λ (xs : List Extent). After o xs k) same c.place_of-at.ensures.after in
     let extents = c.insert.ensures.items ∙ ap (λ r. if is_ok r then take k es ++ e ∷ drop k es else es) c.unwrap.ensures in
     let buffers = c.insert-2.ensures.items ∙ ap (λ r. if is_ok r then take k bs ++ c.args.buffer ∷ drop k bs else bs) c.unwrap-2.ensures in

@@ -1,6 +1,6 @@
 use Rattle.std.proofs.Common.{◌<◌, ◌≡◌, Some, get_or, length, subst, sym, ap, ◌∙◌, List, arith}
 use Rattle.obj_id.specs.declared.works.Extent.{Extent}
-use Rattle.job_region.specs.Layout.{Before, After}
+use Rattle.job_region.specs.Layout.{LiesBefore, After}
 use Rattle.job_region.proofs.Bisected.{taken_at, none_at, above_place}
 use Rattle.job_region.proofs.Zipped.{filled_length, taken_filled, taken_zipped, none_removed}
 use Rattle.job_region.proofs.extents.take_out.Goals as goal
@@ -14,7 +14,7 @@ returns-then-not-is_at-clause-left c =
     let none = above_place o k es c.requires.rising
     (subst (λ (xs : List Extent). After o xs k) c.deref.ensures.value c.place_of-at.ensures.after)
     (subst (λ (xs : List Extent). k < length xs → (d : Extent) → (get_or xs k d).offset ≡ o → ⊥) c.deref-2.ensures.value (c.is_at.ensures.no c.if-not-is_at.true)) in
-    let absent = none_at o k es (subst (λ (xs : List Extent). Before o xs k) c.deref.ensures.value c.place_of-at.ensures.before) none in
+    let absent = none_at o k es (subst (λ (xs : List Extent). LiesBefore o xs k) c.deref.ensures.value c.place_of-at.ensures.before) none in
     sym absent.0
 
 pub returns-then-not-is_at-clause-taken : goal.returns-then-not-is_at-clause-taken
@@ -26,7 +26,7 @@ returns-then-not-is_at-clause-taken c =
     let none = above_place o k es c.requires.rising
     (subst (λ (xs : List Extent). After o xs k) c.deref.ensures.value c.place_of-at.ensures.after)
     (subst (λ (xs : List Extent). k < length xs → (d : Extent) → (get_or xs k d).offset ≡ o → ⊥) c.deref-2.ensures.value (c.is_at.ensures.no c.if-not-is_at.true)) in
-    let absent = none_at o k es (subst (λ (xs : List Extent). Before o xs k) c.deref.ensures.value c.place_of-at.ensures.before) none in
+    let absent = none_at o k es (subst (λ (xs : List Extent). LiesBefore o xs k) c.deref.ensures.value c.place_of-at.ensures.before) none in
     sym absent.1
 
 pub returns-then-not-is_at-clause-placed : goal.returns-then-not-is_at-clause-placed
@@ -38,7 +38,7 @@ returns-then-not-is_at-clause-placed c =
     let none = above_place o k es c.requires.rising
     (subst (λ (xs : List Extent). After o xs k) c.deref.ensures.value c.place_of-at.ensures.after)
     (subst (λ (xs : List Extent). k < length xs → (d : Extent) → (get_or xs k d).offset ≡ o → ⊥) c.deref-2.ensures.value (c.is_at.ensures.no c.if-not-is_at.true)) in
-    let absent = none_at o k es (subst (λ (xs : List Extent). Before o xs k) c.deref.ensures.value c.place_of-at.ensures.before) none in
+    let absent = none_at o k es (subst (λ (xs : List Extent). LiesBefore o xs k) c.deref.ensures.value c.place_of-at.ensures.before) none in
     sym (none_removed o es bs absent.1)
 
 pub remove-requires : goal.remove-requires
@@ -57,7 +57,7 @@ returns-clause-left c =
     let o = c.args.offset in
     let k = c.place_of-at.result in
     let there = subst (λ (xs : List Extent). (k < length xs) × ((d : Extent) → (get_or xs k d).offset ≡ o)) c.deref-2.ensures.value (c.is_at.ensures.yes c.if-not-is_at.false) in
-    let before : Before o es k = subst (λ (xs : List Extent). Before o xs k) c.deref.ensures.value c.place_of-at.ensures.before in
+    let before : LiesBefore o es k = subst (λ (xs : List Extent). LiesBefore o xs k) c.deref.ensures.value c.place_of-at.ensures.before in
     let d = c.remove-extent.result in
     c.remove-extent.ensures.items ∙ sym (taken_at o k es d there.0 before (there.1 d)).0
 
@@ -68,7 +68,7 @@ returns-clause-taken c =
     let o = c.args.offset in
     let k = c.place_of-at.result in
     let there = subst (λ (xs : List Extent). (k < length xs) × ((d : Extent) → (get_or xs k d).offset ≡ o)) c.deref-2.ensures.value (c.is_at.ensures.yes c.if-not-is_at.false) in
-    let before : Before o es k = subst (λ (xs : List Extent). Before o xs k) c.deref.ensures.value c.place_of-at.ensures.before in
+    let before : LiesBefore o es k = subst (λ (xs : List Extent). LiesBefore o xs k) c.deref.ensures.value c.place_of-at.ensures.before in
     let d = c.remove-extent.result in
     ap (λ (e : Extent). Some e) c.remove-extent.ensures.value ∙ sym (taken_at o k es d there.0 before (there.1 d)).1
 
@@ -79,7 +79,7 @@ returns-clause-filled c =
     let o = c.args.offset in
     let k = c.place_of-at.result in
     let there = subst (λ (xs : List Extent). (k < length xs) × ((d : Extent) → (get_or xs k d).offset ≡ o)) c.deref-2.ensures.value (c.is_at.ensures.yes c.if-not-is_at.false) in
-    let before : Before o es k = subst (λ (xs : List Extent). Before o xs k) c.deref.ensures.value c.place_of-at.ensures.before in
+    let before : LiesBefore o es k = subst (λ (xs : List Extent). LiesBefore o xs k) c.deref.ensures.value c.place_of-at.ensures.before in
     let d = c.remove-extent.result in
     rw (c.remove-extent.ensures.items, c.remove.ensures.items) (taken_filled o k es bs c.requires.filled there.0)
 
@@ -90,6 +90,6 @@ returns-clause-placed c =
     let o = c.args.offset in
     let k = c.place_of-at.result in
     let there = subst (λ (xs : List Extent). (k < length xs) × ((d : Extent) → (get_or xs k d).offset ≡ o)) c.deref-2.ensures.value (c.is_at.ensures.yes c.if-not-is_at.false) in
-    let before : Before o es k = subst (λ (xs : List Extent). Before o xs k) c.deref.ensures.value c.place_of-at.ensures.before in
+    let before : LiesBefore o es k = subst (λ (xs : List Extent). LiesBefore o xs k) c.deref.ensures.value c.place_of-at.ensures.before in
     let d = c.remove-extent.result in
     rw (c.remove-extent.ensures.items, c.remove.ensures.items) (taken_zipped o k es bs d c.requires.filled there.0 before (there.1 d))

@@ -2,7 +2,7 @@ use Rattle.std.proofs.Common.{◌≡◌, ◌≤◌, ◌+◌, ℕ, List, [], leng
 use Rattle.std.specs.Prelude.{IsSomeAnd, unwrap_or}
 use Rattle.std.specs.Map.{lookup, set_value}
 use Rattle.obj_id.specs.declared.works.Extent.{Extent}
-use Rattle.private_store.specs.Contents.{overwritten}
+use Rattle.private_store.specs.rules.Contents.{overwritten}
 use Rattle.job_region.specs.Layout.{zipped}
 use Rattle.job_region.proofs.Parts.{length-overwritten}
 use Rattle.job_region.proofs.Zipped.{some_of, filled_length, is_there, zipped_at, set_filled, set_zipped}

@@ -2,7 +2,7 @@ use Rattle.std.proofs.Common.{refl, sym, ap, ◌∙◌, arith, take, get_or, nat
 use Rattle.std.specs.Map.{remove_entry}
 use Rattle.std.proofs.lemmas.List.{take_all}
 use Rattle.obj_id.specs.declared.works.Extent.{Extent}
-use Rattle.job_region.specs.Layout.{kept, placed_in, without_extent}
+use Rattle.job_region.specs.Layout.{staying, placed_in, without_extent}
 use Rattle.job_region.specs.Region.{without}
 use Rattle.job_region.proofs.Kept.{kept_laid, placed_kept}
 use Rattle.job_region.proofs.Places.{taken_placed}
@@ -29,7 +29,7 @@ loop-e-preserved c =
     let m = memory_of c.args.quota c.args.extents.now.items c.args.buffers.now.items in
     record {
       left = c.free_at.ensures.left ∙ ap (without_extent e.offset) c.loop-e.invariant.left
-          ∙ without_is_kept e c.args.quota 0 (kept (take i gone) es) (kept_laid (take i gone) c.args.quota 0 es c.requires.laid)
+          ∙ without_is_kept e c.args.quota 0 (staying (take i gone) es) (kept_laid (take i gone) c.args.quota 0 es c.requires.laid)
           ∙ sym (kept_next gone i none es c.loop-e-test.true);
       free = c.free_at.ensures.free;
       spare = omega (arith, c.free_at.ensures.spare, c.loop-e.invariant.spare);
@@ -46,5 +46,5 @@ returns-clause-placed c =
     let es = c.args.extents.now.items in
     let bs = c.args.buffers.now.items in
     let m = memory_of c.args.quota es bs in
-    let left = c.loop-e.invariant.left ∙ ap (λ (g : List Extent). kept g es) (take_all c.loop-e.e-index gone (omega (arith, c.loop-e-test.false))) in
+    let left = c.loop-e.invariant.left ∙ ap (λ (g : List Extent). staying g es) (take_all c.loop-e.e-index gone (omega (arith, c.loop-e-test.false))) in
     c.loop-e.invariant.placed ∙ ap (placed_in m) left ∙ placed_kept m gone es ∙ ap (without gone) (memory_placed c.args.quota es bs c.requires.laid c.requires.filled)

@@ -2,4 +2,4 @@ use Rattle.journal_text.proofs.PlainCommands.{Reads-brief_command}
 use Rattle.journal_text.proofs.calls.command_of.Goals as goal
 
 pub returns-in_default : goal.returns-in_default
-returns-in_default c = Reads-brief_command _ c.args.word _ _ c.in_default.not-Write c.plain_command.ensures
+returns-in_default c = Reads-brief_command _ c.args.word _ _ c.in_default.not-Write c.command_without_payload.ensures

@@ -6,8 +6,8 @@ use Rattle.lru_evictor.proofs.candidates.next_chosen.Goals as goal
 
 pub returns-in_err-found : goal.returns-in_err-found
 returns-in_err-found c =
-    let none = walk-ends c.args.choice c.args.below.now c.args.uses.now (sym c.last.ensures.last ∙ c.in_err-found.was) in
-    subst (λ r. TakesFirst (λ x. x) (chosen_ids c.args.choice c.args.below.now c.args.uses.now) r (chosen_ids c.args.choice c.args.below.now c.args.uses.now)) (sym c.from_residual.ensures) (none, none)
+    let none = walk-ends c.args.class c.args.below.now c.args.uses.now (sym c.last.ensures.last ∙ c.in_err-found.was) in
+    subst (λ r. TakesFirst (λ x. x) (chosen_ids c.args.class c.args.below.now c.args.uses.now) r (chosen_ids c.args.class c.args.below.now c.args.uses.now)) (sym c.from_residual.ensures) (none, none)
 
 pub returns : goal.returns
-returns c = walk-goes-on c.args.choice c.args.below.now c.args.uses.now c.in_ok-found.found c.last.ensures.rising (sym c.last.ensures.last ∙ c.in_ok-found.was)
+returns c = walk-goes-on c.args.class c.args.below.now c.args.uses.now c.in_ok-found.found c.last.ensures.rising (sym c.last.ensures.last ∙ c.in_ok-found.was)

@@ -1,5 +1,5 @@
 use Rattle.std.proofs.Common.{◌≡◌, ◌≤◌, ◌++◌, ◌-◌, take, length}
-use Rattle.use_tree.specs.declared.choices.Choice.TheVariants.{Spillable}
+use Rattle.use_tree.specs.declared.classes.VictimClass.TheVariants.{Spillable}
 use Rattle.lru_evictor.specs.Indexed.{chosen_ids}
 use Rattle.lru_evictor.proofs.plans.spillable.Given as goal
 

@@ -3,7 +3,7 @@ use Rattle.std.proofs.lemmas.List.{take_all, take-append-le}
 use Rattle.lru_evictor.specs.Facts.{fits_without}
 use Rattle.lru_evictor.specs.Searches.{AreEnough}
 use Rattle.lru_evictor.specs.Facts.{chosen}
-use Rattle.use_tree.specs.declared.choices.Choice.TheVariants.{Evictable}
+use Rattle.use_tree.specs.declared.classes.VictimClass.TheVariants.{Evictable}
 use Rattle.lru_evictor.proofs.Free.{fits-more}
 use Rattle.lru_evictor.proofs.Needed.{found_at_once, found_here, found-last, whole-pushed}
 use Rattle.lru_evictor.proofs.search.shortest.Goals as goal

@@ -1,7 +1,7 @@
 use Rattle.std.proofs.Common.{◌≡◌, ◌++◌, ◌<◌, ◌≤◌, false, take, length}
 use Rattle.lru_evictor.specs.Facts.{chosen}
 use Rattle.lru_evictor.specs.Facts.{fits_without}
-use Rattle.use_tree.specs.declared.choices.Choice.TheVariants.{Evictable}
+use Rattle.use_tree.specs.declared.classes.VictimClass.TheVariants.{Evictable}
 use Rattle.lru_evictor.proofs.search.shortest.Given as goal
 
 abbrev pub invariant-loop-id : goal.invariant-loop-id

@@ -1,7 +1,7 @@
 use Rattle.std.proofs.Common.{◌≡◌, ◌+◌, [], take, sym, ap, ◌∙◌, false}
 use Rattle.std.specs.Option.{option_map}
 use Rattle.extent_tree.specs.Residents.{has_gap}
-use Rattle.lru_evictor.specs.Spilling.{leaves_gap, marked, unmarked}
+use Rattle.lru_evictor.specs.Spilling.{leaves_gap, marked_draining, unmarked}
 use Rattle.lru_evictor.proofs.Needed.{found_at_once}
 use Rattle.lru_evictor.proofs.Spills.{none-marked, goes-marked, marked-back, shortest-nothing, count-next}
 use Rattle.lru_evictor.proofs.spilling.+count_spills.Goals as goal
@@ -24,7 +24,7 @@ returns-in_err-others-clause-count g t c =
     let facts = g.C.CopyLookup.facts c.args.copies.now in
     let residents = c.args.residents.now in
     let bad : leaves_gap c.args.gap facts residents [] ≡ false = sym (c.has_gap.ensures ∙ ap (has_gap c.args.gap.quota c.args.gap.need) c.span.ensures.span ∙ none-marked c.args.gap facts residents) ∙ c.if-has_gap.false in
-    let is = c.mark-before.ensures.marked ∙ ap (λ e. marked e residents) c.extent_of-extent.ensures in
+    let is = c.mark-before.ensures.marked ∙ ap (λ e. marked_draining e residents) c.extent_of-extent.ensures in
     ap (option_map (λ k. take k c.args.candidates.now)) c.from_residual-in_err-others.ensures
     ∙ sym (ap (option_map (λ k. take (k + 1) c.args.candidates.now)) c.in_err-others.was)
     ∙ count-next (leaves_gap c.args.gap facts residents) (leaves_gap c.args.gap facts c.mark-before.new.residents) c.args.candidates.now c.next.new.self c.in_ok-id.id c.in_ok-id.ensures.steps bad
@@ -42,7 +42,7 @@ returns-clause-count g t c =
     let facts = g.C.CopyLookup.facts c.args.copies.now in
     let residents = c.args.residents.now in
     let bad : leaves_gap c.args.gap facts residents [] ≡ false = sym (c.has_gap.ensures ∙ ap (has_gap c.args.gap.quota c.args.gap.need) c.span.ensures.span ∙ none-marked c.args.gap facts residents) ∙ c.if-has_gap.false in
-    let is = c.mark-before.ensures.marked ∙ ap (λ e. marked e residents) c.extent_of-extent.ensures in
+    let is = c.mark-before.ensures.marked ∙ ap (λ e. marked_draining e residents) c.extent_of-extent.ensures in
     sym (ap (option_map (λ k. take (k + 1) c.args.candidates.now)) c.in_ok-others.was)
     ∙ count-next (leaves_gap c.args.gap facts residents) (leaves_gap c.args.gap facts c.mark-before.new.residents) c.args.candidates.now c.next.new.self c.in_ok-id.id c.in_ok-id.ensures.steps bad
     (λ ys. ap (λ xs. leaves_gap c.args.gap facts xs ys) is ∙ goes-marked c.args.gap facts residents c.span.ensures.rising c.in_ok-id.id ys)

@@ -3,13 +3,13 @@ use Rattle.std.specs.Map.{lookup}
 use Rattle.indexmap.proofs.CallerLemmas.{insert_entry-new}
 use Rattle.obj_id.specs.declared.commands.Reply.TheVariants as reply
 use Rattle.obj_id.specs.declared.ids.JobNo.{JobNo}
-use Rattle.private_store.specs.Jobs.{same_job}
+use Rattle.private_store.specs.rules.Jobs.{same_job}
 use Rattle.private_store.specs.declared.schedules.Event.TheVariants as event
 use Rattle.job_admission.specs.Admissions.{admit_check}
 use Rattle.node_table.specs.Row.{Row, new_row}
 use Rattle.node_table.specs.Shown.{only}
 use Rattle.node_core.specs.Hosted.{Hosted}
-use Rattle.node_core.specs.OneJob.{StepsOne}
+use Rattle.node_core.specs.OneJob.{NodeStepOne}
 use Rattle.node_core.proofs.Admitting.{absent, admitted_hosted, admit_steps}
 use Rattle.node_core.proofs.Node.add_row.Goals as goal
 
@@ -35,7 +35,7 @@ returns-in-Ok-insert-clause-ok c =
     let passed = ap (λ (n : Hosted). admit_check n.admissions c.args.job c.args.quota) c.self.view_is ∙ c.requires in
     let e = event.Admit c.args.job c.args.quota c.args.key in
     let after : Hosted = record { number = c.self.inside.number; admissions = c.admit.new.self; works = c.self.inside.works; hands = c.self.inside.hands; rows = new } in
-    subst (λ old. StepsOne old e (only reply.Ok) after) c.self.view_is
+    subst (λ old. NodeStepOne old e (only reply.Ok) after) c.self.view_is
     (admit_steps c.self.inside.number c.self.inside.admission c.admit.new.self c.self.inside.works c.self.inside.hands c.args.job c.args.quota c.args.key rows new c.self.invariant.jobs passed c.in-Ok-admit.ensures.ok
     (λ q. c.in-Ok-insert.ensures.updates.0 q
     ∙ ap (λ (r : Row). cond (same_job c.args.job q) (Some r) (lookup (same_job q) c.reserve.new.self.entries)) c.in-Ok.ensures.ok

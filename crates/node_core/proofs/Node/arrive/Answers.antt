@@ -3,16 +3,16 @@ use Rattle.std.specs.Prelude.{option_map}
 use Rattle.std.specs.Map.{lookup, set_value}
 use Rattle.std.specs.Option.{option_copied_mut}
 use Rattle.std.proofs.lemmas.Map.Steps.{set_value_same}
-use Rattle.private_store.specs.Jobs.{same_job}
-use Rattle.private_store.specs.Contents.{judge}
+use Rattle.private_store.specs.rules.Jobs.{same_job}
+use Rattle.private_store.specs.rules.Contents.{judge}
 use Rattle.private_store.specs.declared.inputs.Input.TheVariants as input
 use Rattle.private_store.specs.declared.schedules.NodeEvent.TheVariants.{Arrive}
-use Rattle.node_table.specs.Outcomes.{given_of}
+use Rattle.node_table.specs.Outcomes.{row_given_of}
 use Rattle.node_core.specs.Hosted.{Hosted, Shows}
 use Rattle.node_core.specs.Judged.{arrived}
-use Rattle.node_core.specs.Late.{is_accepted, IsLate}
+use Rattle.node_core.specs.MemoryLast.{is_accepted, IsMemoryLast}
 use Rattle.node_core.specs.Outcomes.{with_no_notes}
-use Rattle.node_core.specs.Steps.{Given, answered, stale_unless, Steps}
+use Rattle.node_core.specs.Steps.{NodeGiven, answer_of_check, stale_unless, NodeStep}
 use Rattle.store_facts.proofs.Tests.{false_true}
 use Rattle.node_core.proofs.Arriving.{stale_steps, row_steps, row_judged}
 use Rattle.node_core.proofs.Asking.{live-is}
@@ -29,25 +29,25 @@ returns-in_default-clause-ok c =
     let absent = sym c.get_mut.ensures.value ∙ ap option_copied_mut c.in_default.is in
     let hands = c.self.inside.hands in
     let all = node_of c.self.inside.number a line hands in
-    subst (λ given. Steps c.args.self.now (Arrive c.args.job c.args.arrival.now) given (all rows)) (sym (c.of_row.ensures.given ∙ ap with_no_notes c.only-outcome.ensures))
-    (subst (λ old. Steps old (Arrive c.args.job c.args.arrival.now) _ (all rows)) (ap all same ∙ c.self.view_is)
+    subst (λ given. NodeStep c.args.self.now (Arrive c.args.job c.args.arrival.now) given (all rows)) (sym (c.of_row.ensures.given ∙ ap with_no_notes c.only-outcome.ensures))
+    (subst (λ old. NodeStep old (Arrive c.args.job c.args.arrival.now) _ (all rows)) (ap all same ∙ c.self.view_is)
     (stale_steps c.self.inside.number a line hands c.args.job c.args.arrival.now rows (ap (lookup (same_job c.args.job)) same ∙ absent)
     (sym (live-is a c.self.inside.rows.entries c.self.invariant.jobs c.args.job) ∙ ap is_some absent)))
 
 pub returns-in_default-clause-judged : goal.returns-in_default-clause-judged
 returns-in_default-clause-judged c view h =
-    ap (λ (g : Given). option_map (judge c.args.self.now.number view) (arrived c.args.arrival.now g.reply)) (c.of_row.ensures.given ∙ ap with_no_notes c.only-outcome.ensures)
+    ap (λ (g : NodeGiven). option_map (judge c.args.self.now.number view) (arrived c.args.arrival.now g.reply)) (c.of_row.ensures.given ∙ ap with_no_notes c.only-outcome.ensures)
     ∙ sym c.of_row.ensures.judged
 
 pub returns-in_default-clause-stale : goal.returns-in_default-clause-stale
 returns-in_default-clause-stale c late =
     ap (node_of c.self.inside.number c.self.inside.admission c.self.inside.works c.self.inside.hands) (ap (λ r. r.entries) c.get_mut.follows.holds-at-none) ∙ c.self.view_is
 
-pub returns-in_err-outcome-clause-late : goal.returns-in_err-outcome-clause-late
-returns-in_err-outcome-clause-late c =
+pub returns-in_err-outcome-clause-memory_last : goal.returns-in_err-outcome-clause-memory_last
+returns-in_err-outcome-clause-memory_last c =
     let found = sym c.get_mut.ensures.value ∙ ap option_copied_mut c.in-Some.is in
-    always_err c.from_residual.result (subst (λ node. IsLate node (Arrive c.args.job c.args.arrival.now)) c.self.view_is (λ v shows.
-    ap (λ b. is_accepted (answered (stale_unless b))) (sym (live-is c.self.inside.admission c.self.inside.rows.entries c.self.invariant.jobs c.args.job) ∙ ap is_some found)))
+    always_err c.from_residual.result (subst (λ node. IsMemoryLast node (Arrive c.args.job c.args.arrival.now)) c.self.view_is (λ v shows.
+    ap (λ b. is_accepted (answer_of_check (stale_unless b))) (sym (live-is c.self.inside.admission c.self.inside.rows.entries c.self.invariant.jobs c.args.job) ∙ ap is_some found)))
 
 pub returns-in_err-outcome-clause-err : goal.returns-in_err-outcome-clause-err
 returns-in_err-outcome-clause-err c =
@@ -64,12 +64,12 @@ returns-clause-ok c =
     let x = input.Arrive c.args.arrival.now in
     let rows = c.self.inside.rows.entries in
     let new = (c.get_mut.follows.lender c.deliver.new.row).entries in
-    let told = given_of c.in_ok-outcome.outcome in
+    let told = row_given_of c.in_ok-outcome.outcome in
     let found = sym c.get_mut.ensures.value ∙ ap option_copied_mut c.in-Some.is in
     let hands = c.self.inside.hands in
     let after = node_of c.self.inside.number a c.deliver.new.works hands new in
-    subst (λ given. Steps c.args.self.now (Arrive c.args.job c.args.arrival.now) given after) (sym c.of_row-2.ensures.given)
-    (subst (λ old. Steps old (Arrive c.args.job c.args.arrival.now) (with_no_notes told) after) c.self.view_is
+    subst (λ given. NodeStep c.args.self.now (Arrive c.args.job c.args.arrival.now) given after) (sym c.of_row-2.ensures.given)
+    (subst (λ old. NodeStep old (Arrive c.args.job c.args.arrival.now) (with_no_notes told) after) c.self.view_is
     (row_steps c.self.inside.number a line hands c.self.invariant.table c.args.job c.args.arrival.now rows new c.in-Some.row.now c.deliver.new.row c.deliver.new.works told found ((c.get_mut.follows.holds c.deliver.new.row).3 (ap is_some found)).0
     c.in_ok-outcome.ensures.ok c.in_ok-outcome.ensures.line c.deliver.ensures.others
     (sym (live-is a rows c.self.invariant.jobs c.args.job) ∙ ap is_some found) c.in_ok-outcome.ensures.told))
@@ -80,10 +80,10 @@ returns-clause-judged c view h =
     let line = c.self.inside.works in
     let rows = c.self.inside.rows.entries in
     let new = (c.get_mut.follows.lender c.deliver.new.row).entries in
-    let told = given_of c.in_ok-outcome.outcome in
+    let told = row_given_of c.in_ok-outcome.outcome in
     let found = sym c.get_mut.ensures.value ∙ ap option_copied_mut c.in-Some.is in
     let done = c.in_ok-outcome.ensures in
-    ap (λ (g : Given). option_map (judge c.args.self.now.number view) (arrived c.args.arrival.now g.reply)) c.of_row-2.ensures.given
+    ap (λ (g : NodeGiven). option_map (judge c.args.self.now.number view) (arrived c.args.arrival.now g.reply)) c.of_row-2.ensures.given
     ∙ ap (λ (n : Hosted). option_map (judge n.number view) (arrived c.args.arrival.now told.reply)) (sym c.self.view_is)
     ∙ row_judged c.self.inside.number a line c.self.inside.hands c.self.invariant.table c.args.job c.args.arrival.now rows new c.in-Some.row.now c.deliver.new.row c.deliver.new.works told found ((c.get_mut.follows.holds c.deliver.new.row).3 (ap is_some found)).0
     done.ok done.line c.deliver.ensures.others (sym (live-is a rows c.self.invariant.jobs c.args.job) ∙ ap is_some found) done.told
@@ -92,4 +92,4 @@ returns-clause-judged c view h =
 
 pub returns-clause-stale : goal.returns-clause-stale
 returns-clause-stale c late =
-    false_true (ap is_accepted (sym (ap (λ (g : Given). g.reply) c.of_row-2.ensures.given ∙ c.in_ok-outcome.ensures.told) ∙ late))
+    false_true (ap is_accepted (sym (ap (λ (g : NodeGiven). g.reply) c.of_row-2.ensures.given ∙ c.in_ok-outcome.ensures.told) ∙ late))

@@ -2,12 +2,12 @@ use Rattle.std.proofs.Common.{is_some, sym, ap, subst, ◌∙◌}
 use Rattle.std.specs.Map.{lookup, set_value}
 use Rattle.std.specs.Option.{option_copied_mut}
 use Rattle.std.proofs.lemmas.Map.Steps.{set_value_same}
-use Rattle.private_store.specs.Jobs.{same_job}
+use Rattle.private_store.specs.rules.Jobs.{same_job}
 use Rattle.private_store.specs.declared.schedules.Event.TheVariants as event
-use Rattle.node_table.specs.Outcomes.{given_of}
+use Rattle.node_table.specs.Outcomes.{row_given_of}
 use Rattle.node_core.specs.Calls.{takes_no_memory}
 use Rattle.node_core.specs.Hosted.{row_at, bytes_here}
-use Rattle.node_core.specs.OneJob.{StepsOne}
+use Rattle.node_core.specs.OneJob.{NodeStepOne}
 use Rattle.node_core.proofs.Calling.{if_ok_on, both_err, row_by_hands}
 use Rattle.node_core.proofs.Giving.{unrefused}
 use Rattle.node_core.proofs.Views.{node_of, call_steps, refused_steps}
@@ -19,8 +19,8 @@ returns-in_default-clause-ok c =
     let same = ap (λ r. r.entries) c.get_mut.follows.holds-at-none in
     let none = ap (lookup (same_job c.args.job)) same ∙ sym c.get_mut.ensures.value ∙ ap option_copied_mut c.in_default.is in
     let all = node_of c.self.inside.number c.self.inside.admission c.self.inside.works c.self.inside.hands in
-    subst (λ given. StepsOne c.args.self.now (event.Call c.args.job c.args.session c.args.command.now) given (all rows)) (sym c.only.ensures)
-    (subst (λ old. StepsOne old (event.Call c.args.job c.args.session c.args.command.now) _ (all rows)) (ap all same ∙ c.self.view_is)
+    subst (λ given. NodeStepOne c.args.self.now (event.Call c.args.job c.args.session c.args.command.now) given (all rows)) (sym c.only.ensures)
+    (subst (λ old. NodeStepOne old (event.Call c.args.job c.args.session c.args.command.now) _ (all rows)) (ap all same ∙ c.self.view_is)
     (refused_steps c.self.inside.number c.self.inside.admission c.self.inside.works c.self.inside.hands c.args.job c.args.session c.args.command.now rows none))
 
 pub returns-clause-ok : goal.returns-clause-ok
@@ -30,8 +30,8 @@ returns-clause-ok c =
     let found = sym c.get_mut.ensures.value ∙ ap option_copied_mut c.in-Some.is in
     let wrote = c.get_mut.follows.holds c.carry_out.new.row in
     if_ok_on c.carry_out.result c.carry_out.ensures.ok c.carry_out.ensures.line (λ o h line.
-    subst (λ old. StepsOne old (event.Call c.args.job c.args.session c.args.command.now) (given_of o) (node_of c.self.inside.number c.self.inside.admission c.carry_out.new.works c.self.inside.hands new)) c.self.view_is
-    (call_steps c.self.inside.number c.self.inside.admission c.self.inside.works c.self.inside.hands c.args.job c.args.session c.args.command.now c.self.invariant.table rows new c.in-Some.row.now c.carry_out.new.row c.carry_out.new.works (given_of o)
+    subst (λ old. NodeStepOne old (event.Call c.args.job c.args.session c.args.command.now) (row_given_of o) (node_of c.self.inside.number c.self.inside.admission c.carry_out.new.works c.self.inside.hands new)) c.self.view_is
+    (call_steps c.self.inside.number c.self.inside.admission c.self.inside.works c.self.inside.hands c.args.job c.args.session c.args.command.now c.self.invariant.table rows new c.in-Some.row.now c.carry_out.new.row c.carry_out.new.works (row_given_of o)
     found (wrote.3 (ap is_some found)).0 line (h c.self.inside.hands (bytes_here rows)) c.carry_out.ensures.others))
 
 pub returns-clause-err : goal.returns-clause-err
@@ -43,14 +43,14 @@ returns-clause-err c =
     (λ i. node_of c.self.inside.number c.self.inside.admission (works i) c.self.inside.hands
     ((wrote.0 ∙ ap (set_value (same_job c.args.job) rows) same ∙ set_value_same (same_job c.args.job) rows c.in-Some.row.now found) i)) ∙ c.self.view_is)
 
-pub returns-clause-frugal : goal.returns-clause-frugal
-returns-clause-frugal c frugal =
+pub returns-clause-without_memory : goal.returns-clause-without_memory
+returns-clause-without_memory c frugal =
     let found = sym c.get_mut.ensures.value ∙ ap option_copied_mut c.in-Some.is in
-    c.carry_out.ensures.frugal (ap (λ o. takes_no_memory o c.args.command.now) (sym (ap (λ n. row_at n c.args.job) (sym c.self.view_is) ∙ found)) ∙ frugal)
+    c.carry_out.ensures.without_memory (ap (λ o. takes_no_memory o c.args.command.now) (sym (ap (λ n. row_at n c.args.job) (sym c.self.view_is) ∙ found)) ∙ frugal)
 
-pub returns-clause-late : goal.returns-clause-late
-returns-clause-late c =
-    both_err c.carry_out.result c.carry_out.ensures.late c.carry_out.ensures.room (λ late room.
+pub returns-clause-memory_last : goal.returns-clause-memory_last
+returns-clause-memory_last c =
+    both_err c.carry_out.result c.carry_out.ensures.memory_last c.carry_out.ensures.room (λ late room.
     unrefused c.self.inside.number c.self.inside.admission c.self.inside.works c.self.inside.hands c.self.invariant.table c.args.job c.args.session c.args.command.now
     c.self.inside.rows.entries c.in-Some.row.now c.args.self.now c.self.view_is (sym c.get_mut.ensures.value ∙ ap option_copied_mut c.in-Some.is) late
     (row_by_hands (node_of c.self.inside.number c.self.inside.admission c.self.inside.works c.self.inside.hands c.self.inside.rows.entries) c.in-Some.row.now c.args.job.0 c.args.command.now c.requires) room)

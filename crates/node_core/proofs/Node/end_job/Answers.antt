@@ -1,26 +1,26 @@
 use Rattle.std.proofs.Common.{is_some, length, map, sym, ap, subst, ◌∙◌, arith}
 use Rattle.private_store.specs.declared.schedules.Event.TheVariants as event
 use Rattle.private_store.specs.declared.schedules.NodeEvent.TheVariants.{Own}
-use Rattle.private_store.specs.Hands.{hands_sorted, hands_ended, is_given_by}
+use Rattle.private_store.specs.rules.Hands.{hands_sorted, hands_ended, is_given_by}
 use Rattle.job_admission.specs.Admissions.{live_at}
-use Rattle.node_table.specs.Outcomes.{given_of as row_given_of}
+use Rattle.node_table.specs.Outcomes.{row_given_of}
 use Rattle.node_core.specs.declared.outcome.Note.{Note}
-use Rattle.node_core.specs.Foreseen.{takers_told, AreTakers}
+use Rattle.node_core.specs.Foreseen.{grantees_told, AreTakers}
 use Rattle.node_core.specs.Hosted.{Hosted, IsHosted}
 use Rattle.node_core.specs.Outcomes.{with_ends}
-use Rattle.node_core.specs.Steps.{Steps}
+use Rattle.node_core.specs.Steps.{NodeStep}
 use Rattle.node_core.proofs.Ending.{end_refused, job_ends}
-use Rattle.node_core.proofs.Small.{takers_noted}
+use Rattle.node_core.proofs.Small.{grantees_noted}
 use Rattle.node_core.proofs.Node.end_job.Goals as goal
 
 pub returns-then-not-is_live-clause-ok : goal.returns-then-not-is_live-clause-ok
 returns-then-not-is_live-clause-ok c =
     let none = ap (λ (n : Hosted). is_some (live_at n.admissions c.args.job)) (sym c.self.view_is) ∙ sym c.is_live.ensures ∙ c.if-not-is_live.true in
-    subst (λ given. Steps c.args.self.now (Own (event.JobEnd c.args.job)) given c.args.self.now) (sym c.refused.ensures.given)
+    subst (λ given. NodeStep c.args.self.now (Own (event.JobEnd c.args.job)) given c.args.self.now) (sym c.refused.ensures.given)
     (end_refused c.args.self.now c.args.job none)
 
-pub returns-then-not-is_live-clause-takers : goal.returns-then-not-is_live-clause-takers
-returns-then-not-is_live-clause-takers c =
+pub returns-then-not-is_live-clause-grantees : goal.returns-then-not-is_live-clause-grantees
+returns-then-not-is_live-clause-grantees c =
     subst (λ told. AreTakers c.args.self.now.hands (event.JobEnd c.args.job) told (map (λ (note : Note). note.job) c.refused.result.notes))
     (sym (ap (λ g. g.reply) c.refused.ensures.given))
     (ap (map (λ (note : Note). note.job)) c.refused.ensures.notes)
@@ -36,12 +36,12 @@ returns-clause-ok c =
     let hosted = subst (λ (n : Hosted). IsHosted n.admissions n.hands n.rows) c.self.view_is c.self.invariant in
     let live = ap (λ (n : Hosted). is_some (live_at n.admissions c.args.job)) (sym c.self.view_is) ∙ sym c.is_live.ensures ∙ c.if-not-is_live.false in
     let ended = c.hands-2.ensures ∙ ap hands_sorted c.in_ok-ends.ensures.found ∙ ap (λ (n : Hosted). hands_ended (is_given_by c.args.job.0) n.hands) c.self.view_is in
-    subst (λ given. Steps c.args.self.now e given c.let_job_go.new.self) (sym (c.with_ends.ensures.given ∙ ap (with_ends (row_given_of c.in_ok-outcome.outcome)) ended))
+    subst (λ given. NodeStep c.args.self.now e given c.let_job_go.new.self) (sym (c.with_ends.ensures.given ∙ ap (with_ends (row_given_of c.in_ok-outcome.outcome)) ended))
     (job_ends c.args.self.now c.let_job_go.new.self c.args.job (row_given_of c.in_ok-outcome.outcome) hosted live c.in_ok-outcome.ensures c.let_job_go.ensures)
 
-pub returns-clause-takers : goal.returns-clause-takers
-returns-clause-takers c =
+pub returns-clause-grantees : goal.returns-clause-grantees
+returns-clause-grantees c =
     subst (λ told. AreTakers c.args.self.now.hands (event.JobEnd c.args.job) told (map (λ (note : Note). note.job) c.with_ends.result.notes))
     (sym (ap (λ g. g.reply) (c.with_ends.ensures.given ∙ ap (λ given. with_ends given c.hands-2.result.now) c.in_ok-outcome.ensures.is)))
-    (takers_noted c.with_ends.result.notes c.hands-2.result.now (ap (λ g. g.notes) c.with_ends.ensures.given)
-    ∙ ap takers_told (c.hands-2.ensures ∙ ap hands_sorted c.in_ok-ends.ensures.found ∙ ap (λ (n : Hosted). hands_ended (is_given_by c.args.job.0) n.hands) c.self.view_is))
+    (grantees_noted c.with_ends.result.notes c.hands-2.result.now (ap (λ g. g.notes) c.with_ends.ensures.given)
+    ∙ ap grantees_told (c.hands-2.ensures ∙ ap hands_sorted c.in_ok-ends.ensures.found ∙ ap (λ (n : Hosted). hands_ended (is_given_by c.args.job.0) n.hands) c.self.view_is))

@@ -10,22 +10,22 @@ use Rattle.obj_id.specs.declared.commands.Reply.TheVariants as reply
 use Rattle.private_store.specs.declared.inputs.Input.TheVariants as input
 use Rattle.private_store.specs.declared.schedules.Event.TheVariants as event
 use Rattle.private_store.specs.declared.schedules.NodeEvent.TheVariants.{Own}
-use Rattle.private_store.specs.Hands.{Hand, hands_sorted, hands_ended, hands_left, is_of_task}
-use Rattle.private_store.specs.Jobs.{same_job}
+use Rattle.private_store.specs.rules.Hands.{Hand, hands_sorted, hands_ended, hands_left, is_of_task}
+use Rattle.private_store.specs.rules.Jobs.{same_job}
 use Rattle.grants.specs.Table.{AreHands}
 use Rattle.grants.proofs.ForCallers.{left_are_hands}
 use Rattle.node_table.specs.Checks.{end_task_check}
 use Rattle.node_table.specs.EndingTasks.{beside_after}
 use Rattle.node_table.specs.Erased.{keys_of}
-use Rattle.node_table.specs.Shown.{only, TakesStep}
+use Rattle.node_table.specs.Shown.{only, RowStep}
 use Rattle.node_core.specs.declared.outcome.Note.{Note}
-use Rattle.node_core.specs.Foreseen.{most_by_command, takers_told, AreTakers}
+use Rattle.node_core.specs.Foreseen.{most_by_command, grantees_told, AreTakers}
 use Rattle.node_core.specs.Hosted.{Hosted, row_at}
-use Rattle.node_core.specs.Late.{task_refusal}
+use Rattle.node_core.specs.MemoryLast.{task_refusal}
 use Rattle.node_core.specs.Outcomes.{with_no_notes, with_ends}
-use Rattle.node_core.specs.Steps.{Given, Steps}
+use Rattle.node_core.specs.Steps.{NodeGiven, NodeStep}
 use Rattle.node_core.proofs.Calling.{always_err}
-use Rattle.node_core.proofs.Small.{takers_noted}
+use Rattle.node_core.proofs.Small.{grantees_noted}
 use Rattle.node_core.proofs.TaskEnds.{task_refused, task_unrefused, task_steps}
 use Rattle.node_core.proofs.Views.{node_of}
 use Rattle.node_core.proofs.Node.end_task.Goals as goal
@@ -34,8 +34,8 @@ pub returns-in-Some-clause-ok : goal.returns-in-Some-clause-ok
 returns-in-Some-clause-ok c =
     let e = Own (event.Call c.args.job c.args.session (command.EndTask c.args.task)) in
     let refusal = ap (λ (n : Hosted). task_refusal (row_at n c.args.job) c.args.task) c.self.view_is ∙ sym c.task_refusal.ensures ∙ c.in-Some.is in
-    subst (λ given. Steps c.args.self.now e given c.args.self.now) (sym (c.of_row.ensures.given ∙ ap with_no_notes c.only-outcome.ensures))
-    (subst (λ node. Steps node e (with_no_notes (only (reply.Refused c.in-Some.refusal))) node) c.self.view_is
+    subst (λ given. NodeStep c.args.self.now e given c.args.self.now) (sym (c.of_row.ensures.given ∙ ap with_no_notes c.only-outcome.ensures))
+    (subst (λ node. NodeStep node e (with_no_notes (only (reply.Refused c.in-Some.refusal))) node) c.self.view_is
     (task_refused c.self.inside.number c.self.inside.admission c.self.inside.works c.self.inside.hands c.self.invariant.table c.args.job c.args.session c.args.task c.self.inside.rows.entries c.in-Some.refusal refusal))
 
 pub returns-in_err-outcome-clause-err : goal.returns-in_err-outcome-clause-err
@@ -72,25 +72,25 @@ returns-clause-ok c =
     let passed : end_task_check row task ≡ None =
     ap (λ o. task_refusal o task) (sym found) ∙ ap (λ (n : Hosted). task_refusal (row_at n job) task) c.self.view_is ∙ sym c.task_refusal.ensures ∙ c.in_default.is in
     let ok : outcome.reply ≡ reply.Ok = c.in_ok-outcome.ensures.reply ∙ ap (λ o. option_map_or reply.Refused o reply.Ok) passed in
-    let told : Reply (List ℕ) → List Hand → Given = λ reply ended. with_ends (record { reply = reply; posts = outcome.messages; erased = keys_of outcome.erase }) ended in
+    let told : Reply (List ℕ) → List Hand → NodeGiven = λ reply ended. with_ends (record { reply = reply; posts = outcome.messages; erased = keys_of outcome.erase }) ended in
     let at_end : List Hand → Hosted = λ hands. node_of c.self.inside.number c.self.inside.admission c.self.inside.works hands new in
-    subst (λ given. Steps c.args.self.now e given (at_end c.take_out.new.self)) (sym (c.with_ends.ensures.given ∙ (λ i. told (ok i) ((c.hands-2.ensures ∙ ap hands_sorted c.in_ok-ends.ensures.found) i))))
-    (subst (λ hands. Steps c.args.self.now e (told reply.Ok ended) (at_end hands)) (sym (c.take_out.ensures.left test c.in_ok-ends.ensures.found))
-    (subst (λ old. Steps old e (told reply.Ok ended) (at_end (hands_left test c.self.inside.hands))) c.self.view_is
+    subst (λ given. NodeStep c.args.self.now e given (at_end c.take_out.new.self)) (sym (c.with_ends.ensures.given ∙ (λ i. told (ok i) ((c.hands-2.ensures ∙ ap hands_sorted c.in_ok-ends.ensures.found) i))))
+    (subst (λ hands. NodeStep c.args.self.now e (told reply.Ok ended) (at_end hands)) (sym (c.take_out.ensures.left test c.in_ok-ends.ensures.found))
+    (subst (λ old. NodeStep old e (told reply.Ok ended) (at_end (hands_left test c.self.inside.hands))) c.self.view_is
     (task_steps c.self.inside.number c.self.inside.admission c.self.inside.works c.self.inside.hands c.self.invariant.table job c.args.session task rows new row after outcome.messages (keys_of outcome.erase)
     found ((c.get_mut.follows.holds after).3 (ap is_some found)).0 passed
     (λ beside contents shown.
-    subst (λ told. TakesStep c.self.inside.number row beside contents (input.Call c.args.session (command.EndTask task)) (record { reply = told; posts = outcome.messages; erased = keys_of outcome.erase }) after (beside_after row task beside)) ok
+    subst (λ told. RowStep c.self.inside.number row beside contents (input.Call c.args.session (command.EndTask task)) (record { reply = told; posts = outcome.messages; erased = keys_of outcome.erase }) after (beside_after row task beside)) ok
     (c.in_ok-outcome.ensures.ok beside contents shown)))))
 
-pub returns-clause-few : goal.returns-clause-few
-returns-clause-few c =
+pub returns-clause-bounded : goal.returns-clause-bounded
+returns-clause-bounded c =
     let found = sym c.get_mut.ensures.value ∙ ap option_copied_mut c.in-Some-get_mut.is in
     subst (λ own. length c.with_ends.result.messages ≤ most_by_command own (command.EndTask c.args.task)) (sym found ∙ ap (λ (n : Hosted). row_at n c.args.job) c.self.view_is)
-    (subst (λ posts. length posts ≤ 2 * length c.in-Some-get_mut.row.now.copies) (sym (ap (λ g. g.posts) c.with_ends.ensures.given)) c.in_ok-outcome.ensures.few)
+    (subst (λ posts. length posts ≤ 2 * length c.in-Some-get_mut.row.now.copies) (sym (ap (λ g. g.posts) c.with_ends.ensures.given)) c.in_ok-outcome.ensures.bounded)
 
-pub returns-clause-takers : goal.returns-clause-takers
-returns-clause-takers c =
+pub returns-clause-grantees : goal.returns-clause-grantees
+returns-clause-grantees c =
     let job = c.args.job in
     let task = c.args.task in
     let found = sym c.get_mut.ensures.value ∙ ap option_copied_mut c.in-Some-get_mut.is in
@@ -98,17 +98,17 @@ returns-clause-takers c =
     ap (λ o. task_refusal o task) (sym found) ∙ ap (λ (n : Hosted). task_refusal (row_at n job) task) c.self.view_is ∙ sym c.task_refusal.ensures ∙ c.in_default.is in
     let ok = ap (λ g. g.reply) c.with_ends.ensures.given ∙ c.in_ok-outcome.ensures.reply ∙ ap (λ o. option_map_or reply.Refused o reply.Ok) passed in
     subst (λ told. AreTakers c.args.self.now.hands (event.Call job c.args.session (command.EndTask task)) told (map (λ (note : Note). note.job) c.with_ends.result.notes)) (sym ok)
-    (takers_noted c.with_ends.result.notes c.hands-2.result.now (ap (λ g. g.notes) c.with_ends.ensures.given)
-    ∙ ap takers_told (c.hands-2.ensures ∙ ap hands_sorted c.in_ok-ends.ensures.found ∙ ap (λ (n : Hosted). hands_ended (is_of_task job.0 task) n.hands) c.self.view_is))
+    (grantees_noted c.with_ends.result.notes c.hands-2.result.now (ap (λ g. g.notes) c.with_ends.ensures.given)
+    ∙ ap grantees_told (c.hands-2.ensures ∙ ap hands_sorted c.in_ok-ends.ensures.found ∙ ap (λ (n : Hosted). hands_ended (is_of_task job.0 task) n.hands) c.self.view_is))
 
-pub returns-in_err-ends-clause-late : goal.returns-in_err-ends-clause-late
-returns-in_err-ends-clause-late c =
+pub returns-in_err-ends-clause-memory_last : goal.returns-in_err-ends-clause-memory_last
+returns-in_err-ends-clause-memory_last c =
     always_err c.from_residual.result (task_unrefused c.args.self.now c.args.job c.args.session c.args.task (sym c.task_refusal.ensures ∙ c.in_default.is))
 
-pub returns-in_err-notes-clause-late : goal.returns-in_err-notes-clause-late
-returns-in_err-notes-clause-late c =
+pub returns-in_err-notes-clause-memory_last : goal.returns-in_err-notes-clause-memory_last
+returns-in_err-notes-clause-memory_last c =
     always_err c.from_residual-in_err-notes.result (task_unrefused c.args.self.now c.args.job c.args.session c.args.task (sym c.task_refusal.ensures ∙ c.in_default.is))
 
-pub returns-in_err-outcome-clause-late : goal.returns-in_err-outcome-clause-late
-returns-in_err-outcome-clause-late c =
+pub returns-in_err-outcome-clause-memory_last : goal.returns-in_err-outcome-clause-memory_last
+returns-in_err-outcome-clause-memory_last c =
     always_err c.from_residual-in_err-outcome.result (task_unrefused c.args.self.now c.args.job c.args.session c.args.task (sym c.task_refusal.ensures ∙ c.in_default.is))

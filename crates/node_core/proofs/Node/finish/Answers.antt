@@ -4,13 +4,13 @@ use Rattle.std.specs.Map.{lookup}
 use Rattle.std.specs.Option.{option_copied_mut}
 use Rattle.obj_id.specs.declared.commands.Reply.TheVariants as reply
 use Rattle.obj_id.specs.declared.refusals.Refusal.TheVariants.{Stale}
-use Rattle.private_store.specs.Jobs.{same_job}
+use Rattle.private_store.specs.rules.Jobs.{same_job}
 use Rattle.private_store.specs.declared.schedules.Event.TheVariants as event
-use Rattle.node_table.specs.Outcomes.{given_of}
+use Rattle.node_table.specs.Outcomes.{row_given_of}
 use Rattle.node_table.specs.Shown.{only}
-use Rattle.private_store.specs.Contents.{judge}
+use Rattle.private_store.specs.rules.Contents.{judge}
 use Rattle.node_core.specs.Hosted.{Hosted, Shows}
-use Rattle.node_core.specs.OneJob.{input_of, StepsOne}
+use Rattle.node_core.specs.OneJob.{event_input_of, NodeStepOne}
 use Rattle.node_core.proofs.Finishing.{Finished, stale_steps, finish_steps, finish_judged}
 use Rattle.node_core.proofs.Views.{node_of}
 use Rattle.node_core.proofs.Node.finish.Goals as goal
@@ -22,8 +22,8 @@ returns-in_default-clause-ok c =
     let none = ap (lookup (same_job c.args.job)) same ∙ sym c.get_mut.ensures.value ∙ ap option_copied_mut c.in_default.is in
     let e = event.Finish c.args.job c.args.number c.args.answer.now in
     let all = node_of c.self.inside.number c.self.inside.admission c.self.inside.works c.self.inside.hands in
-    subst (λ given. StepsOne c.args.self.now e given (all rows)) (sym c.only.ensures)
-    (subst (λ old. StepsOne old e (only (reply.Refused Stale)) (all rows)) (ap all same ∙ c.self.view_is)
+    subst (λ given. NodeStepOne c.args.self.now e given (all rows)) (sym c.only.ensures)
+    (subst (λ old. NodeStepOne old e (only (reply.Refused Stale)) (all rows)) (ap all same ∙ c.self.view_is)
     (stale_steps c.self.inside.number c.self.inside.admission c.self.inside.works c.self.inside.hands c.args.job c.args.number c.args.answer.now rows none))
 
 pub returns-clause-ok : goal.returns-clause-ok
@@ -31,7 +31,7 @@ returns-clause-ok c =
     let rows = c.self.inside.rows.entries in
     let after = c.finish-answered.new.self in
     let works = c.finish-answered.new.works in
-    let told = given_of c.finish-answered.result.outcome in
+    let told = row_given_of c.finish-answered.result.outcome in
     let new = (c.get_mut.follows.lender after).entries in
     let found = sym c.get_mut.ensures.value ∙ ap option_copied_mut c.in-Some.is in
     let wrote = c.get_mut.follows.holds after in
@@ -45,7 +45,7 @@ returns-clause-ok c =
       same = done.same;
       same_line = done.works;
     } in
-    subst (λ old. StepsOne old (event.Finish c.args.job c.args.number c.args.answer.now) told
+    subst (λ old. NodeStepOne old (event.Finish c.args.job c.args.number c.args.answer.now) told
     (node_of c.self.inside.number c.self.inside.admission works c.self.inside.hands new)) c.self.view_is
     (finish_steps c.self.inside.number c.self.inside.admission c.self.inside.works c.self.inside.hands c.args.job c.args.number c.args.answer.now c.self.invariant.table rows new c.in-Some.row.now after works told c.finish-answered.result.verdict
     found (wrote.3 (ap is_some found)).0 wrote.0 finished)
@@ -55,7 +55,7 @@ returns-clause-judged c view h =
     let rows = c.self.inside.rows.entries in
     let after = c.finish-answered.new.self in
     let works = c.finish-answered.new.works in
-    let told = given_of c.finish-answered.result.outcome in
+    let told = row_given_of c.finish-answered.result.outcome in
     let new = (c.get_mut.follows.lender after).entries in
     let found = sym c.get_mut.ensures.value ∙ ap option_copied_mut c.in-Some.is in
     let wrote = c.get_mut.follows.holds after in
@@ -69,6 +69,6 @@ returns-clause-judged c view h =
       same = done.same;
       same_line = done.works;
     } in
-    ap (λ (n : Hosted). option_map (judge n.number view) (input_of (event.Finish c.args.job c.args.number c.args.answer.now) told.reply)) (sym c.self.view_is)
+    ap (λ (n : Hosted). option_map (judge n.number view) (event_input_of (event.Finish c.args.job c.args.number c.args.answer.now) told.reply)) (sym c.self.view_is)
     ∙ finish_judged c.self.inside.number c.self.inside.admission c.self.inside.works c.self.inside.hands c.args.job c.args.number c.args.answer.now c.self.invariant.table rows new c.in-Some.row.now after works told c.finish-answered.result.verdict
     found (wrote.3 (ap is_some found)).0 wrote.0 finished view (subst (λ n. Shows n c.args.job.0 view) (sym c.self.view_is) h) ∙ sym c.if_ok-judged.ensures

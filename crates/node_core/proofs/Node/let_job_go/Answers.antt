@@ -1,5 +1,5 @@
 use Rattle.std.proofs.Common.{refl, sym, ap, subst, ◌∙◌}
-use Rattle.private_store.specs.Hands.{is_given_by}
+use Rattle.private_store.specs.rules.Hands.{is_given_by}
 use Rattle.grants.specs.Table.{AreHands, ends_found}
 use Rattle.grants.proofs.ForCallers.{left_are_hands}
 use Rattle.node_core.specs.Hosted.{Hosted}

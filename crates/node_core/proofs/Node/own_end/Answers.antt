@@ -2,7 +2,7 @@ use Rattle.std.proofs.Common.{is_some, sym, ap, ◌∙◌}
 use Rattle.std.specs.Option.{option_copied}
 use Rattle.obj_id.specs.declared.commands.Reply.TheVariants as reply
 use Rattle.obj_id.specs.declared.messages.DirectoryMessage.TheVariants.{EndJob}
-use Rattle.private_store.specs.Private.{to_directory}
+use Rattle.private_store.specs.rules.Private.{to_directory}
 use Rattle.store_facts.proofs.Tests.{true_false}
 use Rattle.job_admission.specs.Admissions.{live_at}
 use Rattle.node_core.specs.Hosted.{Hosted, row_at}

@@ -2,7 +2,7 @@ use Rattle.std.proofs.Common.{sym, ap, ◌∙◌}
 use Rattle.std.specs.Map.{set_value}
 use Rattle.std.specs.Option.{option_copied_mut}
 use Rattle.std.proofs.lemmas.Map.Steps.{set_value_same}
-use Rattle.private_store.specs.Jobs.{same_job}
+use Rattle.private_store.specs.rules.Jobs.{same_job}
 use Rattle.node_core.proofs.Views.{node_of}
 use Rattle.node_core.proofs.Node.prepare.Goals as goal
 

@@ -3,7 +3,7 @@ use Rattle.std.specs.Prelude.{IfOk, IfErr}
 use Rattle.std.specs.Option.{option_copied}
 use Rattle.std.proofs.lemmas.Bool.{eq-eqb}
 use Rattle.obj_id.specs.declared.ids.JobNo.{JobNo}
-use Rattle.private_store.specs.Contents.{View}
+use Rattle.private_store.specs.rules.Contents.{View}
 use Rattle.node_core.specs.Hosted.{Shows}
 use Rattle.node_core.specs.Borrowed.{borrowed_check, IsBorrowed}
 use Rattle.node_core.proofs.Calling.{if_ok, if_err}

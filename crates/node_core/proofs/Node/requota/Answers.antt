@@ -4,12 +4,12 @@ use Rattle.std.specs.Option.{option_copied_mut}
 use Rattle.std.proofs.lemmas.Map.{keys-set_value}
 use Rattle.std.proofs.lemmas.Map.Steps.{set_value_same}
 use Rattle.obj_id.specs.declared.commands.Reply.TheVariants as reply
-use Rattle.private_store.specs.Contents.{View}
-use Rattle.private_store.specs.Jobs.{same_job}
+use Rattle.private_store.specs.rules.Contents.{View}
+use Rattle.private_store.specs.rules.Jobs.{same_job}
 use Rattle.private_store.specs.declared.schedules.Event.TheVariants as event
 use Rattle.node_table.specs.Shown.{only}
 use Rattle.node_core.specs.Hosted.{Hosted, Shows}
-use Rattle.node_core.specs.OneJob.{StepsOne}
+use Rattle.node_core.specs.OneJob.{NodeStepOne}
 use Rattle.node_core.specs.Quotas.{requota_refusal}
 use Rattle.node_core.specs.Steps.{requota_check}
 use Rattle.node_core.proofs.Requotas.{resized_hosted, requota_steps}
@@ -46,7 +46,7 @@ returns-clause-ok c =
     let shown : (view : View) → Shows (node_of c.self.inside.number c.self.inside.admission c.self.inside.works c.self.inside.hands rows) c.args.job.0 view → None ≡ requota_check c.self.inside.admission view c.args.job c.args.quota =
     subst (λ (n : Hosted). (view : View) → Shows n c.args.job.0 view → None ≡ requota_check n.admissions view c.args.job c.args.quota) (sym c.self.view_is)
     (λ view h. sym c.in_default.is ∙ c.requota_check.ensures.shown view h) in
-    subst (λ given. StepsOne c.args.self.now (event.Requota c.args.job c.args.quota) given after) (sym c.only-2.ensures)
-    (subst (λ old. StepsOne old (event.Requota c.args.job c.args.quota) (only reply.Ok) after) c.self.view_is
+    subst (λ given. NodeStepOne c.args.self.now (event.Requota c.args.job c.args.quota) given after) (sym c.only-2.ensures)
+    (subst (λ old. NodeStepOne old (event.Requota c.args.job c.args.quota) (only reply.Ok) after) c.self.view_is
     (requota_steps c.self.inside.number c.self.inside.admission c.resize.new.self c.self.inside.works c.self.inside.hands c.self.invariant.table c.args.job c.args.quota rows new c.in-Some-get_mut.own_row.now c.requota.new.self
     found (wrote.3 (ap is_some found)).0 c.in-Ok-resize.ensures.ok c.in-Ok-resize.ensures.lives c.in-Ok.ensures.ok none shown))

@@ -1,9 +1,9 @@
 use Rattle.std.proofs.Common.{◌≡◌, Option, Some, None, sym, ap, subst, ◌∙◌}
 use Rattle.std.specs.Option.{option_copied}
 use Rattle.obj_id.specs.declared.refusals.Refusal.TheVariants.{NotAdmitted}
-use Rattle.private_store.specs.Contents.{View}
+use Rattle.private_store.specs.rules.Contents.{View}
 use Rattle.job_admission.specs.Admissions.{resize_check}
-use Rattle.node_table.specs.Quotas.{requota_check as row_check}
+use Rattle.node_table.specs.Quotas.{row_requota_check as row_check}
 use Rattle.node_table.specs.Row.{Row}
 use Rattle.node_core.specs.Hosted.{Hosted, Shows}
 use Rattle.node_core.specs.Quotas.{refused_or, requota_refusal}

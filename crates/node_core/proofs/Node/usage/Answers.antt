@@ -1,7 +1,7 @@
 use Rattle.std.proofs.Common.{◌≡◌, is_some, sym, ap, subst, ◌∙◌}
 use Rattle.std.specs.Option.{option_copied}
-use Rattle.private_store.specs.Commands.{usage_of}
-use Rattle.private_store.specs.Contents.{View}
+use Rattle.private_store.specs.rules.Commands.{usage_of}
+use Rattle.private_store.specs.rules.Contents.{View}
 use Rattle.job_admission.specs.Admissions.{live_at}
 use Rattle.node_core.specs.Hosted.{Hosted, Shows}
 use Rattle.node_core.proofs.Asking.{live-is, usage_told}

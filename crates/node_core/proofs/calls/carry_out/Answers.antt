@@ -5,19 +5,19 @@ use Rattle.obj_id.specs.declared.commands.Command.TheVariants as command
 use Rattle.private_store.specs.declared.inputs.Input.TheVariants as input
 use Rattle.store_facts.proofs.Tests.{true_false}
 use Rattle.node_table.specs.Asked.{HasAsked}
-use Rattle.node_table.specs.Outcomes.{given_of}
+use Rattle.node_table.specs.Outcomes.{row_given_of}
 use Rattle.node_table.specs.Row.{beside_of}
-use Rattle.node_table.specs.Shown.{IsShown, TakesStep}
+use Rattle.node_table.specs.Shown.{IsShown, RowStep}
 use Rattle.node_table.proofs.ForCallers.{each_err}
 use Rattle.node_core.specs.Calls.{is_own, is_plain}
-use Rattle.node_core.specs.Late.{IsRoomDue, IsUnrefused}
+use Rattle.node_core.specs.MemoryLast.{IsRoomDue, IsUnrefused}
 use Rattle.node_core.proofs.Calling.{if_ok, always_ok, always_err, both_err, no_err, not_granted, plain_waits_not}
 use Rattle.node_core.proofs.Lines.{asked_nothing}
 use Rattle.node_core.proofs.calls.carry_out.Goals as goal
 
 pub returns-then-not-is_own-clause-ok : goal.returns-then-not-is_own-clause-ok
 returns-then-not-is_own-clause-ok c hands bytes contents own h =
-    subst (λ told. TakesStep c.args.node c.args.row.now (beside_of c.args.works.now hands bytes c.args.job.0) contents (input.Call c.args.session c.args.command.now) told c.args.row.now (beside_of c.args.works.now hands bytes c.args.job.0))
+    subst (λ told. RowStep c.args.node c.args.row.now (beside_of c.args.works.now hands bytes c.args.job.0) contents (input.Call c.args.session c.args.command.now) told c.args.row.now (beside_of c.args.works.now hands bytes c.args.job.0))
     (sym c.only.ensures)
     (not_granted c.args.node c.args.job.0 c.args.row.now (beside_of c.args.works.now hands bytes c.args.job.0) c.args.session contents own h c.args.command.now (sym c.is_own.ensures ∙ c.if-not-is_own.true))
 
@@ -25,8 +25,8 @@ pub returns-in-Create-clause-ok : goal.returns-in-Create-clause-ok
 returns-in-Create-clause-ok c =
     if_ok c.create.result c.create.ensures.ok (λ o told hands bytes contents own h.
     let mine = ap (λ n. c.in-Create.id.job.0 == n) own ∙ ap (is_own c.args.job.0) (sym c.in-Create.is) ∙ sym c.is_own.ensures ∙ c.if-not-is_own.false in
-    subst (λ d. TakesStep c.args.node c.args.row.now (beside_of c.args.works.now hands bytes c.args.job.0) contents (input.Call c.args.session d) (given_of o) c.create.new.self (beside_of c.create.new.works hands bytes c.args.job.0)) (sym c.in-Create.is)
-    (subst (λ n. TakesStep c.args.node c.args.row.now (beside_of c.args.works.now hands bytes n) contents (input.Call c.args.session (command.Create c.in-Create.id c.in-Create.kind c.in-Create.len)) (given_of o) c.create.new.self (beside_of c.create.new.works hands bytes n)) own
+    subst (λ d. RowStep c.args.node c.args.row.now (beside_of c.args.works.now hands bytes c.args.job.0) contents (input.Call c.args.session d) (row_given_of o) c.create.new.self (beside_of c.create.new.works hands bytes c.args.job.0)) (sym c.in-Create.is)
+    (subst (λ n. RowStep c.args.node c.args.row.now (beside_of c.args.works.now hands bytes n) contents (input.Call c.args.session (command.Create c.in-Create.id c.in-Create.kind c.in-Create.len)) (row_given_of o) c.create.new.self (beside_of c.create.new.works hands bytes n)) own
     (told c.args.session hands bytes contents mine (subst (λ n. IsShown c.args.row.now (beside_of c.args.works.now hands bytes n) contents) (sym own) h))))
 
 pub returns-in-Create-clause-line : goal.returns-in-Create-clause-line
@@ -38,8 +38,8 @@ pub returns-in-Get-clause-ok : goal.returns-in-Get-clause-ok
 returns-in-Get-clause-ok c =
     if_ok c.get.result c.get.ensures.ok (λ o told hands bytes contents own h.
     let mine = ap (λ n. c.in-Get.id.job.0 == n) own ∙ ap (is_own c.args.job.0) (sym c.in-Get.is) ∙ sym c.is_own.ensures ∙ c.if-not-is_own.false in
-    subst (λ d. TakesStep c.args.node c.args.row.now (beside_of c.args.works.now hands bytes c.args.job.0) contents (input.Call c.args.session d) (given_of o) c.get.new.self (beside_of c.get.new.works hands bytes c.args.job.0)) (sym c.in-Get.is)
-    (subst (λ n. TakesStep c.args.node c.args.row.now (beside_of c.args.works.now hands bytes n) contents (input.Call c.args.session (command.Get c.in-Get.id)) (given_of o) c.get.new.self (beside_of c.get.new.works hands bytes n)) own
+    subst (λ d. RowStep c.args.node c.args.row.now (beside_of c.args.works.now hands bytes c.args.job.0) contents (input.Call c.args.session d) (row_given_of o) c.get.new.self (beside_of c.get.new.works hands bytes c.args.job.0)) (sym c.in-Get.is)
+    (subst (λ n. RowStep c.args.node c.args.row.now (beside_of c.args.works.now hands bytes n) contents (input.Call c.args.session (command.Get c.in-Get.id)) (row_given_of o) c.get.new.self (beside_of c.get.new.works hands bytes n)) own
     (told hands bytes contents mine (subst (λ n. IsShown c.args.row.now (beside_of c.args.works.now hands bytes n) contents) (sym own) h))))
 
 pub returns-in-Get-clause-line : goal.returns-in-Get-clause-line
@@ -49,44 +49,44 @@ returns-in-Get-clause-line c =
 
 pub returns-in_default-clause-ok : goal.returns-in_default-clause-ok
 returns-in_default-clause-ok c =
-    if_ok c.carry_out_plain.result c.carry_out_plain.ensures.ok (λ o told. told c.args.job.0 (sym c.is_own.ensures ∙ c.if-not-is_own.false))
+    if_ok c.carry_out_without_work.result c.carry_out_without_work.ensures.ok (λ o told. told c.args.job.0 (sym c.is_own.ensures ∙ c.if-not-is_own.false))
 
 pub returns-in_default-clause-line : goal.returns-in_default-clause-line
-returns-in_default-clause-line c = always_ok c.carry_out_plain.result (asked_nothing c.args.works.now c.args.job)
+returns-in_default-clause-line c = always_ok c.carry_out_without_work.result (asked_nothing c.args.works.now c.args.job)
 
 pub returns-in_default-clause-others : goal.returns-in_default-clause-others
 returns-in_default-clause-others c other differ = record { works = refl; used = refl }
 
-pub returns-in_default-clause-late : goal.returns-in_default-clause-late
-returns-in_default-clause-late c =
-    both_err c.carry_out_plain.result c.carry_out_plain.ensures.late c.carry_out_plain.ensures.late
+pub returns-in_default-clause-memory_last : goal.returns-in_default-clause-memory_last
+returns-in_default-clause-memory_last c =
+    both_err c.carry_out_without_work.result c.carry_out_without_work.ensures.memory_last c.carry_out_without_work.ensures.memory_last
     (λ late again. record { own = sym c.is_own.ensures ∙ c.if-not-is_own.false; passed = late.passed; grows = late.grows })
 
-pub returns-in_default-clause-frugal : goal.returns-in_default-clause-frugal
-returns-in_default-clause-frugal c frugal =
-    no_err c.carry_out_plain.result c.carry_out_plain.ensures.late (λ late. true_false (sym late.grows ∙ frugal))
+pub returns-in_default-clause-without_memory : goal.returns-in_default-clause-without_memory
+returns-in_default-clause-without_memory c frugal =
+    no_err c.carry_out_without_work.result c.carry_out_without_work.ensures.memory_last (λ late. true_false (sym late.grows ∙ frugal))
 
-pub returns-in-Create-clause-late : goal.returns-in-Create-clause-late
-returns-in-Create-clause-late c =
+pub returns-in-Create-clause-memory_last : goal.returns-in-Create-clause-memory_last
+returns-in-Create-clause-memory_last c =
     let mine = ap (is_own c.args.job.0) (sym c.in-Create.is) ∙ sym c.is_own.ensures ∙ c.if-not-is_own.false in
     always_err c.create.result (subst (IsUnrefused c.args.row.now c.args.job.0 c.args.session) (sym c.in-Create.is) (record { own = mine; passed = refl; grows = refl }))
 
 pub returns-in-Create-clause-room : goal.returns-in-Create-clause-room
 returns-in-Create-clause-room c = each_err c.create.result (λ due own.
     let mine = ap (λ n. c.in-Create.id.job.0 == n) own ∙ ap (is_own c.args.job.0) (sym c.in-Create.is) ∙ sym c.is_own.ensures ∙ c.if-not-is_own.false in
-    subst (IsRoomDue c.args.node c.args.row.now c.args.works.now) (sym c.in-Create.is) (due mine)) c.create.ensures.late
+    subst (IsRoomDue c.args.node c.args.row.now c.args.works.now) (sym c.in-Create.is) (due mine)) c.create.ensures.memory_last
 
-pub returns-in-Get-clause-late : goal.returns-in-Get-clause-late
-returns-in-Get-clause-late c =
+pub returns-in-Get-clause-memory_last : goal.returns-in-Get-clause-memory_last
+returns-in-Get-clause-memory_last c =
     let mine = ap (is_own c.args.job.0) (sym c.in-Get.is) ∙ sym c.is_own.ensures ∙ c.if-not-is_own.false in
     always_err c.get.result (subst (IsUnrefused c.args.row.now c.args.job.0 c.args.session) (sym c.in-Get.is) (record { own = mine; passed = refl; grows = refl }))
 
 pub returns-in-Get-clause-room : goal.returns-in-Get-clause-room
 returns-in-Get-clause-room c = each_err c.get.result (λ due own.
     let mine = ap (λ n. c.in-Get.id.job.0 == n) own ∙ ap (is_own c.args.job.0) (sym c.in-Get.is) ∙ sym c.is_own.ensures ∙ c.if-not-is_own.false in
-    subst (IsRoomDue c.args.node c.args.row.now c.args.works.now) (sym c.in-Get.is) (due mine)) c.get.ensures.late
+    subst (IsRoomDue c.args.node c.args.row.now c.args.works.now) (sym c.in-Get.is) (due mine)) c.get.ensures.memory_last
 
 pub returns-in_default-clause-room : goal.returns-in_default-clause-room
 returns-in_default-clause-room c =
     let plain : is_plain c.args.command.now ≡ true = search rules in
-    always_err c.carry_out_plain.result (λ own. plain_waits_not c.args.node c.args.row.now c.args.works.now c.args.command.now plain)
+    always_err c.carry_out_without_work.result (λ own. plain_waits_not c.args.node c.args.row.now c.args.works.now c.args.command.now plain)

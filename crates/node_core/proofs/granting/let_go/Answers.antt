@@ -1,13 +1,13 @@
 use Rattle.std.proofs.Common.{eq-eqb, sym, ap, subst, ◌∙◌}
 use Rattle.obj_id.specs.declared.ids.JobNo.{JobNo}
-use Rattle.node_table.specs.Outcomes.{given_of}
+use Rattle.node_table.specs.Outcomes.{row_given_of}
 use Rattle.node_core.specs.Granting.{TakesWithdraw}
 use Rattle.node_core.proofs.HandCommands.{foreign_is, own_withdrawn, taken_back}
 use Rattle.node_core.proofs.granting.let_go.Goals as goal
 
 pub returns-then-job-clause-step : goal.returns-then-job-clause-step
 returns-then-job-clause-step c =
-    own_withdrawn c.args.row.now c.withdraw.new.self c.args.job c.args.session c.args.id.now c.args.target (given_of c.withdraw.result) (eq-eqb _ _ (ap (λ (j : JobNo). j.0) (sym c.job.ensures.value) ∙ c.if-job.true)) c.args.granted c.withdraw.ensures.step
+    own_withdrawn c.args.row.now c.withdraw.new.self c.args.job c.args.session c.args.id.now c.args.target (row_given_of c.withdraw.result) (eq-eqb _ _ (ap (λ (j : JobNo). j.0) (sym c.job.ensures.value) ∙ c.if-job.true)) c.args.granted c.withdraw.ensures.step
 
 pub returns-clause-step : goal.returns-clause-step
 returns-clause-step c =

@@ -6,5 +6,5 @@ use Rattle.node_journal.proofs.folding.bases_of.Goals as goal
 
 pub returns-clause-full : goal.returns-clause-full
 returns-clause-full c = λ job.
-    let none : drop c.loop-taker.taker-index c.args.takers.now ≡ [] = drop_all c.loop-taker.taker-index c.args.takers.now (omega arith) in
-    full_is c.args.own.0 c.args.takers.now job (length (list_of c.args.logs.now job)) _ _ (c.requires.few job) none (c.loop-taker.invariant.full job)
+    let none : drop c.loop-grantee.grantee-index c.args.grantees.now ≡ [] = drop_all c.loop-grantee.grantee-index c.args.grantees.now (omega arith) in
+    full_is c.args.own.0 c.args.grantees.now job (length (list_of c.args.logs.now job)) _ _ (c.requires.few job) none (c.loop-grantee.invariant.full job)

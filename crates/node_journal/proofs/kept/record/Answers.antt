@@ -7,7 +7,7 @@ use Rattle.node_core.specs.Foreseen.{AreTakers}
 use Rattle.node_core.specs.Outcomes.{inputs_noted}
 use Rattle.node_core.specs.Steps.{job_at}
 use Rattle.node_journal.specs.declared.entries.Line.TheVariants as line
-use Rattle.node_journal.specs.Journals.{Journal, entry_for, event_name, notes_for, folded_if, has_no_room, is_folded_by, most_lines, with_lines}
+use Rattle.node_journal.specs.Journals.{Journal, entry_for, event_name, notes_for, folded_if, list_is_full, is_folded_by, most_lines, with_lines}
 use Rattle.node_journal.specs.Logs.{journal_of, list_of, spare_of}
 use Rattle.node_journal.proofs.Recording.{room_left, added}
 use Rattle.node_journal.proofs.Rooms.{all_few}
@@ -26,19 +26,19 @@ add_notes-requires c =
     let hands = c.args.node.now.hands in
     let reply = c.in_ok-outcome.outcome.reply in
     room_left c.as_slice-4.result.now c.as_slice-2.result.now hands e reply (spare_of c.reserve.new.self) (spare_of c.add.new.self)
-    (subst (λ notes. AreTakers hands e reply (map (λ (note : Note). note.job) notes)) (sym c.as_slice-4.ensures) c.in_ok-outcome.ensures.takers)
-    (c.as_slice-2.ensures ∙ c.in_ok-takers.ensures.takers) c.in_ok-reserve.ensures.room
+    (subst (λ notes. AreTakers hands e reply (map (λ (note : Note). note.job) notes)) (sym c.as_slice-4.ensures) c.in_ok-outcome.ensures.grantees)
+    (c.as_slice-2.ensures ∙ c.in_ok-grantees.ensures.grantees) c.in_ok-reserve.ensures.room
     (λ other. omega (arith, c.fold_all.ensures.spare other, c.add.ensures.spare other))
 
 pub returns-clause-logs : goal.returns-clause-logs
 returns-clause-logs c = λ job.
     let e = c.args.event.now in
     let outcome = c.in_ok-outcome.outcome in
-    let takers = c.as_slice-3.ensures ∙ c.in_ok-takers.ensures.takers in
+    let grantees = c.as_slice-3.ensures ∙ c.in_ok-grantees.ensures.grantees in
     let kept = c.in_ok-reserve.ensures.journals job in
     let own : ℕ = job_at c.args.node.now.works.works (Own e) in
     let made = c.entry_of-entry.ensures ∙ ap (λ named. entry_for c.args.number named outcome.judged outcome.reply) c.name_of.ensures in
-    let full = c.in_ok-bases.ensures.full job ∙ (λ i. has_no_room (c.requires.job i) (takers i) job (length (kept i).list)) in
+    let full = c.in_ok-bases.ensures.full job ∙ (λ i. list_is_full (c.requires.job i) (grantees i) job (length (kept i).list)) in
     let first : Journal = journal_of c.fold_all.new.self job in
     let first_is : first ≡ folded_if (is_folded_by c.args.node.now (Own e) job (list_of c.args.logs.now job)) (journal_of c.args.logs.now job) =
     c.fold_all.ensures.journal job ∙ (λ i. folded_if (full i) (kept i)) in
@@ -55,6 +55,6 @@ pub returns-clause-few : goal.returns-clause-few
 returns-clause-few c = λ job.
     let e = c.args.event.now in
     let outcome = c.in_ok-outcome.outcome in
-    let some = subst (λ (ts : List JobNo). length ts < most_lines) (c.as_slice.ensures ∙ c.in_ok-takers.ensures.takers) (omega arith) in
+    let some = subst (λ (ts : List JobNo). length ts < most_lines) (c.as_slice.ensures ∙ c.in_ok-grantees.ensures.grantees) (omega arith) in
     all_few (job_at c.args.node.now.works.works (Own e)) c.args.node.now.hands e outcome.reply c.args.number job outcome.notes (journal_of c.args.logs.now job) (journal_of c.add_notes.new.self job)
-    (line.Entry (entry_for c.args.number (event_name (Own c.args.event.now)) outcome.judged outcome.reply)) c.in_ok-outcome.ensures.takers some (returns-clause-logs c job)
+    (line.Entry (entry_for c.args.number (event_name (Own c.args.event.now)) outcome.judged outcome.reply)) c.in_ok-outcome.ensures.grantees some (returns-clause-logs c job)

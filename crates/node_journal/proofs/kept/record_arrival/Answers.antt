@@ -3,7 +3,7 @@ use Rattle.std.specs.Prelude.{if◌then◌else◌}
 use Rattle.private_store.specs.declared.schedules.NodeEvent.TheVariants.{Arrive}
 use Rattle.node_core.specs.Outcomes.{inputs_noted}
 use Rattle.node_journal.specs.declared.entries.Line.TheVariants as line
-use Rattle.node_journal.specs.Journals.{Journal, entry_for, event_name, notes_for, folded_if, has_no_room, is_folded_by, most_lines, with_lines}
+use Rattle.node_journal.specs.Journals.{Journal, entry_for, event_name, notes_for, folded_if, list_is_full, is_folded_by, most_lines, with_lines}
 use Rattle.node_journal.specs.Logs.{journal_of, list_of}
 use Rattle.node_journal.proofs.Recording.{added}
 use Rattle.node_journal.proofs.Rooms.{arrival_few}
@@ -24,7 +24,7 @@ returns-clause-logs c = λ job.
     let entry = line.Entry (entry_for c.args.number (event_name (Arrive c.args.job c.args.arrival.now)) outcome.judged outcome.reply) in
     let notes = notes_for c.args.number (inputs_noted outcome.notes) job in
     let kept = c.in_ok-reserve.ensures.journals job in
-    let full = c.in_ok-bases.ensures.full job ∙ ap (λ (j : Journal). has_no_room c.args.job.0 [] job (length j.list)) kept in
+    let full = c.in_ok-bases.ensures.full job ∙ ap (λ (j : Journal). list_is_full c.args.job.0 [] job (length j.list)) kept in
     let first : Journal = journal_of c.fold_all.new.self job in
     let second : Journal = journal_of c.add.new.self job in
     let first_is : first ≡ folded_if (is_folded_by c.args.node.now (Arrive c.args.job c.args.arrival.now) job (list_of c.args.logs.now job)) (journal_of c.args.logs.now job) =

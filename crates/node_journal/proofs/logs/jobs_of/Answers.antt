@@ -1,7 +1,7 @@
 use Rattle.std.proofs.Common.{◌≡◌, ◌==◌, ◌++◌, append-nil, sym, ap, subst, ◌∙◌}
 use Rattle.std.specs.List.{list_any, IsDistinct}
 use Rattle.std.proofs.lemmas.Map.Made.{IsDistinct-keys_filter}
-use Rattle.private_store.specs.Jobs.{same_job}
+use Rattle.private_store.specs.rules.Jobs.{same_job}
 use Rattle.node_journal.specs.Logs.{was_kept, jobs_kept}
 use Rattle.node_journal.proofs.JobsKept.{jobs_are}
 use Rattle.node_journal.proofs.logs.jobs_of.Goals as goal

@@ -1,5 +1,5 @@
 use Rattle.std.specs.Prelude.{[]}
-use Rattle.private_store.specs.Shape.{live}
+use Rattle.private_store.specs.rules.Shape.{live}
 use Rattle.node_table.proofs.Notes.{row_ends, bare_ends, none_given}
 use Rattle.node_table.proofs.laws.what_is_left_stands_beside.Goals as goal
 

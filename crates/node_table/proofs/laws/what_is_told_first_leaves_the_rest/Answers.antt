@@ -3,7 +3,7 @@ use Rattle.node_table.proofs.Notes.{rest_of_other, rest_of_task, rest_of_job}
 use Rattle.node_table.proofs.laws.what_is_told_first_leaves_the_rest.Goals as goal
 
 pub returns-clause-other : goal.returns-clause-other
-returns-clause-other c line hands bytes job giver test own other = rest_of_other hands bytes job line giver test own other
+returns-clause-other c line hands bytes job grantor test own other = rest_of_other hands bytes job line grantor test own other
 
 pub returns-clause-task : goal.returns-clause-task
 returns-clause-task c line hands bytes job task = rest_of_task hands bytes job line task

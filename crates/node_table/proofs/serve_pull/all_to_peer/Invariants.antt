@@ -1,5 +1,5 @@
 use Rattle.std.proofs.Common.{◌≡◌, ◌++◌, map}
-use Rattle.private_store.specs.Private.{to_peer}
+use Rattle.private_store.specs.rules.Private.{to_peer}
 use Rattle.node_table.proofs.serve_pull.all_to_peer.Given as goal
 
 -- the posts so far and those of what is left are all

@@ -3,8 +3,8 @@ use Rattle.std.specs.Map.{lookup, set_value}
 use Rattle.std.specs.Option.{option_copied_mut}
 use Rattle.std.proofs.lemmas.Map.Steps.{set_value_same}
 use Rattle.obj_id.specs.declared.messages.DirectoryMessage.TheVariants.{AddLocation}
-use Rattle.private_store.specs.Jobs.{same_job}
-use Rattle.private_store.specs.Directory.{locations_after, entries_at, entry_placed}
+use Rattle.private_store.specs.rules.Jobs.{same_job}
+use Rattle.private_store.specs.rules.Directory.{locations_after, entries_at, entry_placed}
 use Rattle.owner_directory.specs.Locations.{Locations, Applies, locations_of, is_longer}
 use Rattle.owner_directory.proofs.Objects.{first_is_longer}
 use Rattle.owner_directory.proofs.Jobs.{row_found, no_row, applied, on_err}

@@ -1,6 +1,6 @@
 use Rattle.std.proofs.Common.{sym, ap, ◌∙◌}
 use Rattle.std.specs.Option.{option_copied}
-use Rattle.private_store.specs.Directory.{entries_at}
+use Rattle.private_store.specs.rules.Directory.{entries_at}
 use Rattle.owner_directory.specs.Locations.{Locations, locations_of}
 use Rattle.owner_directory.proofs.Jobs.{row_found}
 use Rattle.owner_directory.proofs.Directory.located.Goals as goal

@@ -1,5 +1,5 @@
 use Rattle.std.proofs.Common.{◌≡◌, ◌≤◌, ◌-◌, drop, take, ◌++◌, length}
-use Rattle.private_store.specs.Directory.{entry_placed}
+use Rattle.private_store.specs.rules.Directory.{entry_placed}
 use Rattle.owner_directory.proofs.entries.put_entry.Given as goal
 
 abbrev pub invariant-loop-at : goal.invariant-loop-at

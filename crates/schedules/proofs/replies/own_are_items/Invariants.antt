@@ -1,7 +1,7 @@
 use Rattle.std.proofs.Common.{take}
 use Rattle.std.specs.Prelude.{All}
-use Rattle.wire_frames.specs.Replies.{IsOwnItem}
+use Rattle.wire_frames.specs.Replies.{IsOwnItemBytes}
 use Rattle.schedules.proofs.replies.own_are_items.Given as goal
 
 abbrev pub invariant-loop-item : goal.invariant-loop-item
-invariant-loop-item l = All IsOwnItem (take l.item-index l.items)
+invariant-loop-item l = All IsOwnItemBytes (take l.item-index l.items)

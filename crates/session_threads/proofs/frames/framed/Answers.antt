@@ -1,6 +1,6 @@
 use Rattle.std.proofs.Common.{◌≡◌, ◌*◌, IsTrue, length, flat_map, subst, sym, ap, ◌∙◌}
-use Rattle.private_store.specs.Answers.{is_small_reply}
-use Rattle.private_store.specs.Frames.{own_bytes, granted_bytes}
+use Rattle.private_store.specs.laws.Answers.{is_small_reply}
+use Rattle.private_store.specs.rules.Frames.{own_bytes, granted_bytes}
 use Rattle.wire_frames.specs.Writing.{has_reply_frame}
 use Rattle.session_threads.proofs.SmallLists.{small_list}
 use Rattle.session_threads.proofs.frames.framed.Goals as goal

@@ -1,5 +1,5 @@
 use Rattle.std.proofs.Common.{◌≡◌, ◌+◌, ◌*◌, length, drop, flat_map}
-use Rattle.private_store.specs.Frames.{own_bytes}
+use Rattle.private_store.specs.rules.Frames.{own_bytes}
 use Rattle.session_threads.proofs.frames.own_items_fit.Given as goal
 
 abbrev pub invariant-loop-item : goal.invariant-loop-item

@@ -5,7 +5,7 @@ use Rattle.std.proofs.lemmas.List.Elements.{filter-append}
 use Rattle.obj_id.specs.declared.ids.JobNo.{JobNo}
 use Rattle.node_core.specs.Hosted.{Hosted}
 use Rattle.session_threads.specs.declared.looking.LiveJob.{LiveJob}
-use Rattle.session_threads.specs.Looking.{IsUsage, is_live}
+use Rattle.session_threads.specs.Looking.{IsUsageShown, is_live_now}
 use Rattle.session_threads.proofs.looking.live_jobs_of.Goals as goal
 
 abbrev none : JobNo
@@ -19,9 +19,9 @@ loop-job-preserved g c =
     let next = get_or jobs i none ∷ [] in
     record {
       listed = c.in_ok-add_live.ensures.listed
-          ∙ ap (λ (n : Hosted). map (λ (l : LiveJob). l.job) c.loop-job.live.items ++ filter (is_live n) next) c.node.ensures
-          ∙ ap (λ (xs : List JobNo). xs ++ filter (is_live node) next) c.loop-job.invariant.listed
-          ∙ sym (filter-append (is_live node) (take i jobs) next)
-          ∙ ap (filter (is_live node)) (sym (take_more jobs i none c.loop-job-test.true));
-      used = subst (λ (n : Hosted). All (IsUsage n) c.loop-job.live.items → All (IsUsage n) c.add_live.new.live.items) c.node.ensures c.in_ok-add_live.ensures.used c.loop-job.invariant.used;
+          ∙ ap (λ (n : Hosted). map (λ (l : LiveJob). l.job) c.loop-job.live.items ++ filter (is_live_now n) next) c.node.ensures
+          ∙ ap (λ (xs : List JobNo). xs ++ filter (is_live_now node) next) c.loop-job.invariant.listed
+          ∙ sym (filter-append (is_live_now node) (take i jobs) next)
+          ∙ ap (filter (is_live_now node)) (sym (take_more jobs i none c.loop-job-test.true));
+      used = subst (λ (n : Hosted). All (IsUsageShown n) c.loop-job.live.items → All (IsUsageShown n) c.add_live.new.live.items) c.node.ensures c.in_ok-add_live.ensures.used c.loop-job.invariant.used;
     }

@@ -1,5 +1,5 @@
 use Rattle.std.proofs.Common.{sym, ap, ◌∙◌}
-use Rattle.node_core.specs.Outcomes.{given_of}
+use Rattle.node_core.specs.Outcomes.{node_given_of}
 use Rattle.node_journal.specs.Journals.{entry_for}
 use Rattle.node_journal.specs.Posts.{is_entered}
 use Rattle.session_threads.proofs.stepping.step_arrival.Goals as goal
@@ -9,11 +9,11 @@ returns-in-Ok-clause-once g c a is =
     let old = c.args.kept.now in
     let made = c.in-Ok.made in
     let done = rw c.in-Ok.is at c.arrive.ensures in
-    let told = c.settled.ensures in
+    let told = c.finish_step.ensures in
     let kept = ap (λ r. r.entry) told.receipt ∙ done.receipt.2 a is in
     record {
       step = record {
-        given = given_of made.outcome;
+        given = node_given_of made.outcome;
         was = made.outcome.judged;
         answer = sym told.reply;
         posts = sym told.mail;

@@ -10,11 +10,11 @@ returns-clause-called g c =
     let e = c.args.event.now in
     let made = c.in_ok-made.made in
     let done = c.in_ok-made.ensures in
-    let told = c.settled.ensures in
+    let told = c.finish_step.ensures in
     let answered = called_by old.node.works.works e made.outcome.reply (witness_of made.receipt) (old.count + 1) made.outcome.judged done.receipt.1 done.receipt.2 done.judged.by_call done.answered in
-    subst (λ r. IsCalledBy e r (witness_of c.settled.result.receipt)) (sym told.reply) (subst (λ t. IsCalledBy e made.outcome.reply (witness_of t)) (sym told.receipt) answered)
+    subst (λ r. IsCalledBy e r (witness_of c.finish_step.result.receipt)) (sym told.reply) (subst (λ t. IsCalledBy e made.outcome.reply (witness_of t)) (sym told.receipt) answered)
 
 pub returns-clause-small : goal.returns-clause-small
 returns-clause-small g c =
     let e = c.args.event.now in
-    subst (IsSmallCall e) (sym c.settled.ensures.reply) (small_call e c.in_ok-made.made.outcome.reply c.in_ok-made.ensures.small)
+    subst (IsSmallCall e) (sym c.finish_step.ensures.reply) (small_call e c.in_ok-made.made.outcome.reply c.in_ok-made.ensures.small)

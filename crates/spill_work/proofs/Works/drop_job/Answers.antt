@@ -1,7 +1,7 @@
 use Rattle.std.proofs.Common.{ap, subst, sym}
 use Rattle.std.specs.Prelude.{unwrap_or}
 use Rattle.spill_work.specs.Line.{WorkLine, Drops}
-use Rattle.spill_work.specs.Numbers.{AreNumbered}
+use Rattle.spill_work.specs.Numbers.{AreWorksNumbered}
 use Rattle.spill_work.proofs.Counted.{dropped_kept}
 use Rattle.spill_work.proofs.LineLemmas.{drops}
 use Rattle.spill_work.proofs.Works.drop_job.Goals as goal
@@ -9,7 +9,7 @@ use Rattle.spill_work.proofs.Works.drop_job.Goals as goal
 pub invariant_of-self : goal.invariant_of-self
 invariant_of-self c =
     let updates = c.shift_remove.ensures.updates in
-    subst (λ works. AreNumbered works c.shift_remove.new.self.entries) (sym c.take_out_all.ensures)
+    subst (λ works. AreWorksNumbered works c.shift_remove.new.self.entries) (sym c.take_out_all.ensures)
     (dropped_kept c.args.job c.self.inside.line c.self.inside.used.entries c.shift_remove.new.self.entries c.self.invariant updates.1 updates.2)
 
 pub returns : goal.returns

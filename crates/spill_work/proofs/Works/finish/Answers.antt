@@ -1,13 +1,13 @@
 use Rattle.std.proofs.Common.{sym, subst, ◌∙◌}
 use Rattle.spill_work.specs.Line.{WorkLine, Finishes}
-use Rattle.spill_work.specs.Numbers.{AreNumbered}
+use Rattle.spill_work.specs.Numbers.{AreWorksNumbered}
 use Rattle.spill_work.proofs.Counted.{finished_kept}
 use Rattle.spill_work.proofs.LineLemmas.{finishes}
 use Rattle.spill_work.proofs.Works.finish.Goals as goal
 
 pub invariant_of-self : goal.invariant_of-self
 invariant_of-self c =
-    subst (λ works. AreNumbered works c.self.inside.used.entries) (sym c.take_out.ensures)
+    subst (λ works. AreWorksNumbered works c.self.inside.used.entries) (sym c.take_out.ensures)
     (finished_kept c.args.job c.args.number c.self.inside.line c.self.inside.used.entries c.self.invariant)
 
 pub returns-in-Some-clause-ok : goal.returns-in-Some-clause-ok

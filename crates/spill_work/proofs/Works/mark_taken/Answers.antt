@@ -1,13 +1,13 @@
 use Rattle.std.proofs.Common.{subst, sym, ◌∙◌}
 use Rattle.spill_work.specs.Line.{WorkLine, MarksTaken}
-use Rattle.spill_work.specs.Numbers.{AreNumbered}
+use Rattle.spill_work.specs.Numbers.{AreWorksNumbered}
 use Rattle.spill_work.proofs.Counted.{one_at, marked_is, marked_kept}
 use Rattle.spill_work.proofs.LineLemmas.{marks_taken}
 use Rattle.spill_work.proofs.Works.mark_taken.Goals as goal
 
 pub invariant_of-self : goal.invariant_of-self
 invariant_of-self c =
-    subst (λ works. AreNumbered works c.self.inside.used.entries) (sym c.mark.ensures)
+    subst (λ works. AreWorksNumbered works c.self.inside.used.entries) (sym c.mark.ensures)
     (marked_kept c.args.job c.args.number c.self.inside.line c.self.inside.used.entries c.self.invariant)
 
 pub returns : goal.returns

@@ -2,7 +2,7 @@ use Rattle.std.proofs.Common.{◌≡◌, ◌∷◌, List, rules, sym, ap, subst,
 use Rattle.std.specs.Vec.Iter.{into_iter_items}
 use Rattle.journal_text.specs.Saved.{IsSaved}
 use Rattle.node_core.specs.declared.outcome.Note.{Note}
-use Rattle.store_program.specs.Kept.{note_mark, with_notes}
+use Rattle.store_program.specs.SavedRuns.{note_mark, with_notes}
 use Rattle.store_program.proofs.journal.add_notes.Goals as goal
 
 pub loop-note-preserved : goal.loop-note-preserved

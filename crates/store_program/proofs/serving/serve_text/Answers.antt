@@ -1,5 +1,5 @@
 use Rattle.std.proofs.Common.{◌≡◌, length, subst}
-use Rattle.store_program.specs.Servings.{Obeys, ServesLine, StopsOrder, close_line}
+use Rattle.store_program.specs.Servings.{CarriesOut, ServesLine, StopsOrder, close_line}
 use Rattle.store_program.proofs.Serves.{begun, reading_failed, input_ended, closed, line_stopped, line_more, too_many}
 use Rattle.store_program.proofs.serving.serve_text.Goals as goal
 
@@ -31,7 +31,7 @@ loop-number-preserved g c =
     let w = g.O.Write.contents c.loop-number.writer in
     let w1 = g.O.Write.contents c.serve_line.new.writer in
     let told = subst (λ go. ServesLine c.args.count c.deref.result.now w w1 go) c.in-Ok-true-serve_line.field-0-test c.in-Ok-true-serve_line.ensures.ok in
-    line_more _ _ _ _ _ _ c.loop-number.invariant _ _ c.next_line.ensures.consumed w1 (subst (λ b. Obeys c.args.count b w w1) c.deref.ensures.value told)
+    line_more _ _ _ _ _ _ c.loop-number.invariant _ _ c.next_line.ensures.consumed w1 (subst (λ b. CarriesOut c.args.count b w w1) c.deref.ensures.value told)
 
 pub returns : goal.returns
 returns g c = too_many _ _ _ _ _ _ c.loop-number.invariant _

@@ -1,4 +1,4 @@
-use Rattle.store_program.specs.Taken.{IsTaking}
+use Rattle.store_program.specs.TakenLines.{IsTaking}
 use Rattle.store_program.proofs.taking.take_line.Given as goal
 
 abbrev pub invariant-loop : goal.invariant-loop

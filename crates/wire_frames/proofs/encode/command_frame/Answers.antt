@@ -2,7 +2,7 @@ use Rattle.std.proofs.Common.{◌<◌, ◌≤◌, ◌∷◌, ◌++◌, ℕ, List
 use Rattle.std.specs.Prelude.{IsTrue, nat_le}
 use Rattle.std.proofs.lemmas.Bool.{and_parts, leb-true}
 use Rattle.obj_id.specs.Ids.{id_bytes}
-use Rattle.private_store.specs.Frames.{be4, command_body, is_command_length}
+use Rattle.private_store.specs.rules.Frames.{be4, command_body, is_command_length}
 use Rattle.wire_frames.proofs.encode.command_frame.Goals as goal
 
 fits_after : (kind : ℕ) (front bytes : List ℕ) → IsTrue (is_command_length (length ((kind ∷ front) ++ bytes))) → length bytes < 65600

@@ -1,5 +1,5 @@
 use Rattle.std.proofs.Common.{◌≡◌, ◌∷◌, ◌++◌, drop, flat_map}
-use Rattle.private_store.specs.Frames.{frame}
+use Rattle.private_store.specs.rules.Frames.{frame}
 use Rattle.wire_frames.proofs.encode.frame_of.Given as goal
 
 abbrev pub invariant-loop-part : goal.invariant-loop-part

@@ -1,5 +1,5 @@
 use Rattle.std.proofs.Common.{◌≡◌, ◌≤◌, ◌-◌, length, drop}
-use Rattle.private_store.specs.Frames.{stream_of}
+use Rattle.private_store.specs.rules.Frames.{stream_of}
 use Rattle.wire_frames.specs.Heads.{after_items}
 use Rattle.wire_frames.proofs.frames.read_frames.Given as goal
 

@@ -1,8 +1,8 @@
 use Rattle.std.proofs.Common.{◌≡◌, ℕ, ◌+◌, ◌-◌, List, Option, Some, drop, take, sym, ap, ◌∙◌, arith}
 use Rattle.std.specs.Prelude.{slice_index}
 use Rattle.private_store.specs.declared.frames.Item.{Item}
-use Rattle.private_store.specs.Frames.{item_of}
-use Rattle.wire_frames.specs.Filled.{filled}
+use Rattle.private_store.specs.rules.Frames.{item_of}
+use Rattle.wire_frames.specs.Filled.{filled_item}
 use Rattle.wire_frames.specs.Heads.{body_at_head}
 use Rattle.wire_frames.proofs.Streams.{stream_of-head}
 use Rattle.wire_frames.proofs.frames.read_head.Goals as goal
@@ -14,7 +14,7 @@ pub returns-in-Some-clause-stream : goal.returns-in-Some-clause-stream
 returns-in-Some-clause-stream c =
     let bytes = c.args.bytes.now in
     let size = c.number_at-size.result in
-    let x = Some (filled c.in-Some.said (body_at_head bytes (4 + size))) in
+    let x = Some (filled_item c.in-Some.said (body_at_head bytes (4 + size))) in
     stream_of-head bytes size x (record {
       number = sym c.number_at-size.ensures;
       in_range = sym c.is_command_length.ensures ∙ c.if-not-is_command_length.false;

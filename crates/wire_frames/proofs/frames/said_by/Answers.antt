@@ -1,5 +1,5 @@
 use Rattle.std.proofs.Common.{◌≡◌, sym, ap, ◌∙◌}
-use Rattle.private_store.specs.Frames.{item_of}
+use Rattle.private_store.specs.rules.Frames.{item_of}
 use Rattle.wire_frames.specs.Kinds.{read_of}
 use Rattle.wire_frames.proofs.KindTables.{item_of-byte_of}
 use Rattle.wire_frames.proofs.frames.said_by.Goals as goal

@@ -1,5 +1,5 @@
 use Rattle.std.proofs.Common.{◌≡◌, ◌+◌, ◌-◌, ◌≤◌, length, take, drop, ap, subst, ◌∙◌, arith}
-use Rattle.private_store.specs.Frames.{number_at}
+use Rattle.private_store.specs.rules.Frames.{number_at}
 use Rattle.wire_frames.specs.Finishing.{IsFilled}
 use Rattle.wire_frames.proofs.Finishing.{completed, rest_taken}
 use Rattle.wire_frames.proofs.reader.complete.Goals as goal

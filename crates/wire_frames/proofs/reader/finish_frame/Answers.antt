@@ -1,5 +1,5 @@
 use Rattle.std.proofs.Common.{◌≡◌, [], true, sym, ap, subst, ◌∙◌}
-use Rattle.private_store.specs.Frames.{malformed, stopped, stream_of}
+use Rattle.private_store.specs.rules.Frames.{malformed, stopped, stream_of}
 use Rattle.wire_frames.specs.Reading.{fed_by}
 use Rattle.wire_frames.proofs.Finishing.{fed-fault}
 use Rattle.wire_frames.proofs.reader.finish_frame.Goals as goal

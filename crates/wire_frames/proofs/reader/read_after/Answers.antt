@@ -1,6 +1,6 @@
 use Rattle.std.proofs.Common.{◌≡◌, ◌∷◌, drop, take, sym, ap, ◌∙◌}
 use Rattle.std.proofs.Math.Seq.{take-length}
-use Rattle.wire_frames.specs.Filled.{filled}
+use Rattle.wire_frames.specs.Filled.{filled_item}
 use Rattle.wire_frames.specs.Reading.{fed_by}
 use Rattle.wire_frames.proofs.Finishing.{fed-whole_frame, rest_taken}
 use Rattle.wire_frames.proofs.reader.read_after.Goals as goal
@@ -12,8 +12,8 @@ returns-clause-fed c =
     let f = c.in_ok-items.field-0 in
     let whole : c.in_ok-body.body ≡ kept = c.in_ok-body.ensures.front ∙ ap (λ n. take n kept) c.len.ensures.value ∙ take-length kept in
     let body : c.advance.new.self ≡ drop 5 kept = c.advance.ensures ∙ ap (drop 5) whole in
-    let first : c.shared.result ≡ filled c.args.said (drop 5 kept) = c.shared.ensures ∙ ap (filled c.args.said) body in
-    let items : c.insert.new.self.items ≡ filled c.args.said (drop 5 kept) ∷ f.items.items =
+    let first : c.shared.result ≡ filled_item c.args.said (drop 5 kept) = c.shared.ensures ∙ ap (filled_item c.args.said) body in
+    let items : c.insert.new.self.items ≡ filled_item c.args.said (drop 5 kept) ∷ f.items.items =
     c.in_ok-insert.ensures.items ∙ ap (λ xs. c.shared.result ∷ xs) c.reserve.ensures.items ∙ ap (λ x. x ∷ f.items.items) first in
     let left : c.in_ok-left.left.items ≡ drop f.used following = c.in_ok-left.ensures ∙ rest_taken following f.used in
     fed-whole_frame c.args.said kept following f.items.items f.faulty (drop f.used following) c.requires c.in_ok-items.ensures.stream

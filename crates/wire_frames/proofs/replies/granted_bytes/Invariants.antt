@@ -1,5 +1,5 @@
 use Rattle.std.proofs.Common.{◌≡◌, ◌++◌, drop, flat_map}
-use Rattle.private_store.specs.Frames.{granted_bytes}
+use Rattle.private_store.specs.rules.Frames.{granted_bytes}
 use Rattle.wire_frames.proofs.replies.granted_bytes.Given as goal
 
 abbrev pub invariant-loop-item : goal.invariant-loop-item

@@ -1,15 +1,15 @@
 use Rattle.std.proofs.Common.{None, [], refl, ap, sym, subst}
 use Rattle.std.specs.Prelude.{option_copied}
-use Rattle.obj_id.specs.declared.messages.Place.TheVariants as places
+use Rattle.obj_id.specs.declared.messages.Endpoint.TheVariants as places
 use Rattle.private_store.specs.declared.schedules.Step.TheVariants as steps
-use Rattle.world_core.specs.Moves.{Turns}
+use Rattle.world_core.specs.WorldSteps.{WorldStep}
 use Rattle.world_core.specs.Noting.{IsNoted, finds_nothing, tells_directory}
 use Rattle.world_core.proofs.HandedOver.{none_delivered, nodes_stay, one_delivered, if_ok}
 use Rattle.world_core.proofs.World.deliver.Goals as goal
 
 pub returns-in_default-clause-ok : goal.returns-in_default-clause-ok
 returns-in_default-clause-ok c =
-    subst (λ told. Turns c.args.self.now c.args.self.now (steps.Deliver c.args.job c.args.from c.args.to c.args.number c.args.damaged) told) (sym (ap (λ s. s.answer) c.alone.ensures))
+    subst (λ told. WorldStep c.args.self.now c.args.self.now (steps.Deliver c.args.job c.args.from c.args.to c.args.number c.args.damaged) told) (sym (ap (λ s. s.answer) c.alone.ensures))
     (none_delivered _ c.args.self.now c.self.view_is c.args.job c.args.from c.args.to c.args.number c.args.damaged (option_copied c.find.result) c.find.ensures (ap option_copied c.in_default.is))
 
 pub returns-in-Node-clause-ok : goal.returns-in-Node-clause-ok
@@ -20,7 +20,7 @@ returns-in-Node-clause-ok c =
 
 pub returns-in_ok-answer-in-Directory-clause-ok : goal.returns-in_ok-answer-in-Directory-clause-ok
 returns-in_ok-answer-in-Directory-clause-ok c =
-    subst (λ told. Turns c.args.self.now c.hand_to_directory.new.self (steps.Deliver c.args.job c.args.from c.args.to c.args.number c.args.damaged) told) (sym (ap (λ s. s.answer) c.alone-in-Directory.ensures))
+    subst (λ told. WorldStep c.args.self.now c.hand_to_directory.new.self (steps.Deliver c.args.job c.args.from c.args.to c.args.number c.args.damaged) told) (sym (ap (λ s. s.answer) c.alone-in-Directory.ensures))
     (one_delivered _ c.args.self.now c.self.view_is c.args.job c.args.from c.args.to c.args.number c.args.damaged (option_copied c.find.result) c.find.ensures
     c.in-Some.sent.now (ap option_copied c.in-Some.is) c.hand_to_directory.new.self c.in_ok-message.message c.in_ok-answer-in-Directory.answer places.Directory c.in_ok-message.ensures c.in-Directory.is
     c.in_ok-answer-in-Directory.ensures.ok)

@@ -1,5 +1,5 @@
 use Rattle.std.proofs.Common.{sym, refl, ◌∙◌}
-use Rattle.world_core.specs.Moves.{to_directory, past_directory}
+use Rattle.world_core.specs.WorldSteps.{to_directory, past_directory}
 use Rattle.world_core.proofs.World.hand_to_directory.Goals as goal
 
 pub returns-in_default-clause-ok : goal.returns-in_default-clause-ok

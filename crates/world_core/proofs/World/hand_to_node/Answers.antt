@@ -1,8 +1,8 @@
 use Rattle.std.proofs.Common.{None, [], sym, ap, subst, refl, ◌∙◌}
-use Rattle.obj_id.specs.declared.messages.Place.TheVariants as places
+use Rattle.obj_id.specs.declared.messages.Endpoint.TheVariants as places
 use Rattle.private_store.specs.declared.schedules.Step.TheVariants as steps
-use Rattle.private_store.specs.Cluster.{arrival_of}
-use Rattle.world_core.specs.Moves.{handed, Hands, past_node}
+use Rattle.private_store.specs.rules.Cluster.{arrival_of}
+use Rattle.world_core.specs.WorldSteps.{handed, Hands, past_node}
 use Rattle.world_core.specs.Noting.{IsNoted, keeps_arrival, passes_node}
 use Rattle.world_core.proofs.HandedOver.{arrived, message_again}
 use Rattle.world_core.proofs.Places.{found_within}

@@ -1,7 +1,7 @@
 use Rattle.std.proofs.Common.{sym, subst}
 use Rattle.private_store.specs.declared.schedules.Step.TheVariants as steps
 use Rattle.private_store.specs.declared.schedules.StepAnswer.TheVariants.{Told}
-use Rattle.world_core.specs.Moves.{Turns}
+use Rattle.world_core.specs.WorldSteps.{WorldStep}
 use Rattle.world_core.specs.Noting.{IsNoted, keeps_event}
 use Rattle.world_core.proofs.HandedOver.{if_ok}
 use Rattle.world_core.proofs.Turning.{turned_by}
@@ -9,7 +9,7 @@ use Rattle.world_core.proofs.World.turn.Goals as goal
 
 pub returns-in_ok-given-in-At-clause-ok : goal.returns-in_ok-given-in-At-clause-ok
 returns-in_ok-given-in-At-clause-ok c =
-    subst (λ s. Turns c.args.self.now c.apply.new.self s (Told c.in_ok-given-in-At.given.reply)) (sym c.in-At.is)
+    subst (λ s. WorldStep c.args.self.now c.apply.new.self s (Told c.in_ok-given-in-At.given.reply)) (sym c.in-At.is)
     (turned_by c.args.self.now c.apply.new.self c.in-At.place c.in-At.event c.in_ok-given-in-At.given.reply c.in_ok-given-in-At.ensures.ok)
 
 pub returns-in_ok-given-in-At-clause-kept : goal.returns-in_ok-given-in-At-clause-kept

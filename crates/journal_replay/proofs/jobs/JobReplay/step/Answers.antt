@@ -1,5 +1,5 @@
 use Rattle.std.proofs.Common.{sym, subst}
-use Rattle.private_store.specs.Listed.{IsBriefKept}
+use Rattle.private_store.specs.laws.Listed.{IsBriefKept}
 use Rattle.store_facts.proofs.BriefKept.{brief_keeps}
 use Rattle.journal_replay.proofs.jobs.JobReplay.step.Goals as goal
 

@@ -1,5 +1,5 @@
 use Rattle.std.proofs.Common.{ap, arith, length}
-use Rattle.use_tree.specs.declared.choices.Choice.TheVariants.{Spillable}
+use Rattle.use_tree.specs.declared.classes.VictimClass.TheVariants.{Spillable}
 use Rattle.lru_evictor.proofs.Uses.{chosen-few}
 use Rattle.lru_evictor.proofs.index.Index.count_spills.Goals as goal
 

@@ -1,6 +1,6 @@
 use Rattle.std.proofs.Common.{ap, subst, sym, ◌∙◌, ◌∷◌, is_some}
 use Rattle.store_facts.proofs.Tests.{true_false}
-use Rattle.use_tree.specs.Uses.{IsRising, take_use, has_use}
+use Rattle.use_tree.specs.Uses.{AreUsesRising, take_use, has_use}
 use Rattle.lru_evictor.specs.Indexed.{use_of}
 use Rattle.lru_evictor.proofs.Spread.{spread-front, front-apart}
 use Rattle.lru_evictor.proofs.Uses.{use-taken, use-there}
@@ -20,7 +20,7 @@ returns c es found is =
     record {
       uses =
           c.stand.ensures.same.0 ∙ ap (λ p. p.0) c.push_use.ensures
-          ∙ ap (λ us. use_of (id, after) ∷ us) (ap (λ p. p.0) taken ∙ ap (take_use before.turn) is.uses ∙ use-taken id before es (subst IsRising is.uses c.in-Some.ensures.rising) found);
+          ∙ ap (λ us. use_of (id, after) ∷ us) (ap (λ p. p.0) taken ∙ ap (take_use before.turn) is.uses ∙ use-taken id before es (subst AreUsesRising is.uses c.in-Some.ensures.rising) found);
       residents = stands.0 ∙ sym (spread-front id before after es found stands.1);
       apart = front-apart id before after es found stands.1;
     }

@@ -1,6 +1,6 @@
 use Rattle.std.proofs.Common.{[], sym, ap, subst, ◌∙◌, refl}
 use Rattle.std.specs.Option.{unwrap_or}
-use Rattle.use_tree.specs.declared.choices.Choice.TheVariants.{Spillable}
+use Rattle.use_tree.specs.declared.classes.VictimClass.TheVariants.{Spillable}
 use Rattle.lru_evictor.specs.Indexed.{HasIndex, chosen_ids}
 use Rattle.lru_evictor.proofs.Planned.{spillable-listed}
 use Rattle.lru_evictor.proofs.Rooms.{ok_then}

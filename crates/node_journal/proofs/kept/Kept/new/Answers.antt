@@ -9,8 +9,8 @@ pub invariant_of-result : goal.invariant_of-result
 invariant_of-result g c =
     let none : (job : ℕ) → journal_of c.new-2.result job ≡ fresh job = λ job. ap (λ logs. journal_of logs job) c.new-2.ensures in
     record {
-      seated = c.requires.seat.0;
-      blank = c.requires.seat.1;
+      seated = c.requires.ledger_share.0;
+      blank = c.requires.ledger_share.1;
       named = c.new.ensures.number;
       numbered = λ job. none_numbered job _ (none job);
       few = λ job. subst (λ (j : Journal). length j.list ≤ most_lines) (sym (none job)) (omega arith);

@@ -1,7 +1,7 @@
 use Rattle.std.proofs.Common.{◌+◌, ◌==◌, ◌≤◌, length, refl, sym, ap, subst, ◌∙◌}
 use Rattle.private_store.specs.declared.schedules.NodeEvent.TheVariants.{Own}
 use Rattle.node_core.specs.Steps.{job_at}
-use Rattle.node_journal.specs.Journals.{Journal, AreNumbered, is_folded_by, most_lines}
+use Rattle.node_journal.specs.Journals.{Journal, AreEntriesNumbered, is_folded_by, most_lines}
 use Rattle.node_journal.specs.Logs.{list_of}
 use Rattle.node_journal.proofs.Telling.{all_told, told_alike, call_never_wants, call_small}
 use Rattle.node_journal.proofs.Numbering.{all_numbered}
@@ -15,7 +15,7 @@ invariant_of-self g c =
       seated = old.seated;
       blank = old.blank;
       named = ap (λ n. n.number) left.err ∙ old.named;
-      numbered = λ job. subst (AreNumbered old.count) (sym (left.unchanged job)) (old.numbered job);
+      numbered = λ job. subst (AreEntriesNumbered old.count) (sym (left.unchanged job)) (old.numbered job);
       few = λ job. subst (λ (j : Journal). length j.list ≤ most_lines) (sym (left.unchanged job)) (old.few job);
       told = told_alike old.node _ _ _ left.err left.unchanged old.told;
     }

@@ -1,7 +1,7 @@
 use Rattle.std.proofs.Common.{◌==◌, [], is_some, sym, ap, ◌∙◌}
 use Rattle.std.specs.Map.{lookup}
 use Rattle.std.specs.Option.{option_copied_mut}
-use Rattle.private_store.specs.Jobs.{same_job}
+use Rattle.private_store.specs.rules.Jobs.{same_job}
 use Rattle.node_journal.specs.Journals.{folded, folded_if, last_of, base_after}
 use Rattle.node_journal.specs.Logs.{journal_of}
 use Rattle.node_journal.proofs.Logging.{journal_in, journal_moved, none_folded}

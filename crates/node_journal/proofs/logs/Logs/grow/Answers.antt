@@ -1,7 +1,7 @@
 use Rattle.std.proofs.Common.{◌≤◌, is_some, sym, ap, subst, ◌∙◌, arith}
 use Rattle.std.specs.Map.{lookup}
 use Rattle.std.specs.Option.{option_copied_mut}
-use Rattle.private_store.specs.Jobs.{same_job}
+use Rattle.private_store.specs.rules.Jobs.{same_job}
 use Rattle.node_journal.specs.Logs.{journal_of, spare_of}
 use Rattle.node_journal.proofs.Logging.{journal_in, spare_in, journal_kept, spare_kept}
 use Rattle.node_journal.proofs.logs.Logs.grow.Goals as goal

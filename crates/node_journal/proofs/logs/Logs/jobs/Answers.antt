@@ -4,7 +4,7 @@ use Rattle.std.proofs.lemmas.Bool.Decides.{nat_tests}
 use Rattle.std.proofs.lemmas.List.Sorted.{list_any-IsPermutation}
 use Rattle.std.proofs.lemmas.Map.Keys.{IsDistinct-IsPermutation}
 use Rattle.obj_id.specs.declared.ids.JobNo.{JobNo}
-use Rattle.private_store.specs.Jobs.{same_job}
+use Rattle.private_store.specs.rules.Jobs.{same_job}
 use Rattle.node_journal.specs.Logs.{journal_of, was_kept}
 use Rattle.node_journal.proofs.logs.Logs.jobs.Goals as goal
 

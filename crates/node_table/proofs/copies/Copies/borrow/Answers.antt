@@ -5,18 +5,18 @@ use Rattle.obj_id.specs.declared.refusals.Refusal.TheVariants.{Absent}
 use Rattle.obj_id.specs.declared.ids.TaskNo.{TaskNo}
 use Rattle.obj_id.specs.Ids.{id_eq}
 use Rattle.node_table.specs.Checks.{borrow_check_of}
-use Rattle.node_table.specs.Kept.{Kept, borrowed}
-use Rattle.node_table.specs.Counted.{taken_of}
+use Rattle.node_table.specs.CopyViews.{CopyView, after_borrow}
+use Rattle.node_table.specs.Counted.{footprint_of}
 use Rattle.node_table.proofs.Changes.{unwritten, on_ok, on_err, checked_there, checked_absent, found_rising}
 use Rattle.node_table.proofs.Holding.{standing_after, over_after}
 use Rattle.node_table.proofs.Sums.{taken-same, taken-either}
 use Rattle.node_table.proofs.copies.Copies.borrow.Goals as goal
 
-abbrev check : TaskNo → Option Kept → Option Refusal
+abbrev check : TaskNo → Option CopyView → Option Refusal
 check task o = elim o [ None ↦ Some Absent | Some k ↦ cond k.copy.doomed (Some Absent) (borrow_check_of k task) ]
 
 pub invariant_of-self : goal.invariant_of-self
-invariant_of-self c = c.self.invariant ∙ sym (ap (λ m. taken_of m.entries) c.get_mut.follows.holds-at-none)
+invariant_of-self c = c.self.invariant ∙ sym (ap (λ m. footprint_of m.entries) c.get_mut.follows.holds-at-none)
 
 pub invariant_of-self-then-doomed : goal.invariant_of-self-then-doomed
 invariant_of-self-then-doomed c =
@@ -25,7 +25,7 @@ invariant_of-self-then-doomed c =
 pub invariant_of-self-2 : goal.invariant_of-self-2
 invariant_of-self-2 c =
     taken-same (id_eq c.args.id.now) c.self.inside.by_id.entries _ c.self.inside.taken c.in-Some.copy.now c.borrow.new.self (sym c.get_mut.ensures.value ∙ ap option_copied_mut c.in-Some.is) (c.get_mut.follows.holds c.borrow.new.self).0
-    (taken-either c.borrow.result (borrowed c.args.task) c.in-Some.copy.now c.borrow.new.self c.borrow.ensures.ok c.borrow.ensures.err refl) c.self.invariant
+    (taken-either c.borrow.result (after_borrow c.args.task) c.in-Some.copy.now c.borrow.new.self c.borrow.ensures.ok c.borrow.ensures.err refl) c.self.invariant
 
 pub returns-in_default-clause-refused : goal.returns-in_default-clause-refused
 returns-in_default-clause-refused c r late e =
@@ -40,11 +40,11 @@ returns-then-doomed-clause-refused c r late e =
 
 pub returns-then-doomed-clause-err : goal.returns-then-doomed-clause-err
 returns-then-doomed-clause-err c =
-    unwritten (borrowed c.args.task) c.args.id.now c.self.inside.by_id.entries c.args.self.now c.self.view_is _ c.in-Some.copy.now c.in-Some.copy.now (sym c.get_mut.ensures.value ∙ ap option_copied_mut c.in-Some.is) refl (c.get_mut.follows.holds c.in-Some.copy.now).0
+    unwritten (after_borrow c.args.task) c.args.id.now c.self.inside.by_id.entries c.args.self.now c.self.view_is _ c.in-Some.copy.now c.in-Some.copy.now (sym c.get_mut.ensures.value ∙ ap option_copied_mut c.in-Some.is) refl (c.get_mut.follows.holds c.in-Some.copy.now).0
 
 pub returns-clause-ok : goal.returns-clause-ok
 returns-clause-ok c =
-    on_ok (borrowed c.args.task) c.args.id.now c.self.inside.by_id.entries c.args.self.now c.self.view_is c.borrow.result _ c.in-Some.copy.now c.borrow.new.self (sym c.get_mut.ensures.value ∙ ap option_copied_mut c.in-Some.is) c.borrow.ensures.ok (c.get_mut.follows.holds c.borrow.new.self).0
+    on_ok (after_borrow c.args.task) c.args.id.now c.self.inside.by_id.entries c.args.self.now c.self.view_is c.borrow.result _ c.in-Some.copy.now c.borrow.new.self (sym c.get_mut.ensures.value ∙ ap option_copied_mut c.in-Some.is) c.borrow.ensures.ok (c.get_mut.follows.holds c.borrow.new.self).0
 
 pub returns-clause-passed : goal.returns-clause-passed
 returns-clause-passed c ok =
@@ -66,12 +66,12 @@ returns-clause-memory c e =
 
 pub returns-clause-err : goal.returns-clause-err
 returns-clause-err c =
-    on_err (borrowed c.args.task) c.args.id.now c.self.inside.by_id.entries c.args.self.now c.self.view_is c.borrow.result _ c.in-Some.copy.now c.borrow.new.self (sym c.get_mut.ensures.value ∙ ap option_copied_mut c.in-Some.is) c.borrow.ensures.err (c.get_mut.follows.holds c.borrow.new.self).0
+    on_err (after_borrow c.args.task) c.args.id.now c.self.inside.by_id.entries c.args.self.now c.self.view_is c.borrow.result _ c.in-Some.copy.now c.borrow.new.self (sym c.get_mut.ensures.value ∙ ap option_copied_mut c.in-Some.is) c.borrow.ensures.err (c.get_mut.follows.holds c.borrow.new.self).0
 
-pub returns-clause-standing : goal.returns-clause-standing
-returns-clause-standing c =
-    standing_after (borrowed c.args.task) c.args.id.now c.args.self.now c.in-Some.copy.now (found_rising c.args.id.now c.self.inside.by_id.entries c.args.self.now c.self.view_is c.in-Some.copy.now (sym c.get_mut.ensures.value ∙ ap option_copied_mut c.in-Some.is)) c.borrow.result c.borrow.ensures.after
+pub returns-clause-eviction_info : goal.returns-clause-eviction_info
+returns-clause-eviction_info c =
+    standing_after (after_borrow c.args.task) c.args.id.now c.args.self.now c.in-Some.copy.now (found_rising c.args.id.now c.self.inside.by_id.entries c.args.self.now c.self.view_is c.in-Some.copy.now (sym c.get_mut.ensures.value ∙ ap option_copied_mut c.in-Some.is)) c.borrow.result c.borrow.ensures.after
 
 pub returns-clause-over : goal.returns-clause-over
 returns-clause-over c =
-    over_after (borrowed c.args.task) c.args.id.now c.args.self.now c.in-Some.copy.now (found_rising c.args.id.now c.self.inside.by_id.entries c.args.self.now c.self.view_is c.in-Some.copy.now (sym c.get_mut.ensures.value ∙ ap option_copied_mut c.in-Some.is)) c.borrow.result c.borrow.ensures.after
+    over_after (after_borrow c.args.task) c.args.id.now c.args.self.now c.in-Some.copy.now (found_rising c.args.id.now c.self.inside.by_id.entries c.args.self.now c.self.view_is c.in-Some.copy.now (sym c.get_mut.ensures.value ∙ ap option_copied_mut c.in-Some.is)) c.borrow.result c.borrow.ensures.after

@@ -1,5 +1,5 @@
 use Rattle.std.proofs.Common.{sym, ap, ◌∙◌}
-use Rattle.private_store.specs.Tables.{at}
+use Rattle.private_store.specs.rules.Tables.{at}
 use Rattle.node_table.proofs.Rising.{at-rising}
 use Rattle.node_table.proofs.copies.Copies.get.Goals as goal
 

@@ -1,13 +1,13 @@
 use Rattle.std.proofs.Common.{sym, ap, ◌∙◌}
 use Rattle.std.specs.Option.{option_copied_mut}
 use Rattle.obj_id.specs.Ids.{id_eq}
-use Rattle.node_table.specs.Counted.{taken_of}
+use Rattle.node_table.specs.Counted.{footprint_of}
 use Rattle.node_table.proofs.Holding.{held_at, unready_at, refused_at, none_at, taken-held}
 use Rattle.node_table.proofs.Sums.{taken-same}
 use Rattle.node_table.proofs.copies.Copies.hold.Goals as goal
 
 pub invariant_of-self : goal.invariant_of-self
-invariant_of-self c = c.self.invariant ∙ sym (ap (λ m. taken_of m.entries) c.get_mut.follows.holds-at-none)
+invariant_of-self c = c.self.invariant ∙ sym (ap (λ m. footprint_of m.entries) c.get_mut.follows.holds-at-none)
 
 pub invariant_of-self-2 : goal.invariant_of-self-2
 invariant_of-self-2 c =

@@ -1,7 +1,7 @@
 use Rattle.std.proofs.Common.{refl, sym, ap, subst, ◌∙◌, arith}
 use Rattle.obj_id.specs.Ids.{id_eq}
-use Rattle.private_store.specs.Tables.{with_entry}
-use Rattle.node_table.specs.Counted.{taken_of}
+use Rattle.private_store.specs.rules.Tables.{with_entry}
+use Rattle.node_table.specs.Counted.{footprint_of}
 use Rattle.node_table.proofs.Rising.{with-rising}
 use Rattle.node_table.proofs.Sums.{IsSmall, taken_any, small_by, can_exchange, taken-insert}
 use Rattle.node_table.proofs.copies.Copies.insert.Goals as goal
@@ -12,7 +12,7 @@ exchanged-self-inside-requires c =
     (c.by_any-before.ensures ∙ ap taken_any (c.as_ref.ensures.value ∙ c.in_ok-replaced.ensures.old)) (subst IsSmall (sym c.by-after.ensures) (small_by c.args.copy)) (omega (arith, c.len-count.ensures.len, c.len-count.ensures.small))
 
 pub invariant_of-self : goal.invariant_of-self
-invariant_of-self c = c.self.invariant ∙ sym (ap taken_of c.in_err-replaced.ensures.err)
+invariant_of-self c = c.self.invariant ∙ sym (ap footprint_of c.in_err-replaced.ensures.err)
 
 pub invariant_of-self-2 : goal.invariant_of-self-2
 invariant_of-self-2 c =

@@ -1,6 +1,6 @@
 use Rattle.std.proofs.Common.{sym, ap, subst, ◌∙◌, arith}
 use Rattle.obj_id.specs.Ids.{id_eq}
-use Rattle.private_store.specs.Tables.{at, without_entry}
+use Rattle.private_store.specs.rules.Tables.{at, without_entry}
 use Rattle.node_table.proofs.Rising.{at-rising, without-rising}
 use Rattle.node_table.proofs.Sums.{IsSmall, taken_any, small_nothing, can_exchange, taken-remove}
 use Rattle.node_table.proofs.copies.Copies.take.Goals as goal

@@ -6,10 +6,10 @@ use Rattle.obj_id.specs.declared.ids.TaskNo.{TaskNo}
 use Rattle.obj_id.specs.Ids.{same_task}
 use Rattle.pins_holds.proofs.ForCallers.{task_eq, task_eq-same}
 use Rattle.node_table.specs.Checks.{unpin_check_of}
-use Rattle.node_table.specs.Kept.{Kept}
+use Rattle.node_table.specs.CopyViews.{CopyView}
 use Rattle.node_table.proofs.copies.Copies.unpin_farewell.Goals as goal
 
-abbrev check : TaskNo → TaskNo → Option Kept → Option Refusal
+abbrev check : TaskNo → TaskNo → Option CopyView → Option Refusal
 check owner task o = elim o [ None ↦ Some Absent | Some k ↦ cond k.copy.doomed (Some Absent) (unpin_check_of k (same_task task owner)) ]
 
 pub returns-in-Some-unpin_check-clause-refused : goal.returns-in-Some-unpin_check-clause-refused

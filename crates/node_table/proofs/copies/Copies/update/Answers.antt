@@ -1,28 +1,28 @@
 use Rattle.std.proofs.Common.{Bool, false, Option, sym, ap, subst, ◌∙◌, arith}
 use Rattle.std.specs.Option.{option_copied_mut, option_map, option_map_or}
-use Rattle.lru_evictor.specs.declared.facts.Standing.{Standing}
-use Rattle.lru_evictor.specs.Facts.{standing_of, nowhere}
+use Rattle.lru_evictor.specs.declared.facts.EvictionInfo.{EvictionInfo}
+use Rattle.lru_evictor.specs.Facts.{info_of, nowhere}
 use Rattle.obj_id.specs.Ids.{id_eq}
-use Rattle.node_table.specs.Counted.{taken_of}
+use Rattle.node_table.specs.Counted.{footprint_of}
 use Rattle.node_table.specs.Dropping.{is_over}
-use Rattle.node_table.specs.Kept.{Kept}
-use Rattle.node_table.specs.RoomPlans.{facts_of}
+use Rattle.node_table.specs.CopyViews.{CopyView}
+use Rattle.node_table.specs.RoomPlans.{row_facts_of}
 use Rattle.node_table.proofs.Changes.{not_written, written, found_rising, checked_unwritten, checked_written}
 use Rattle.node_table.proofs.Sums.{IsSmall, taken_any, small_by, can_exchange, taken-set}
 use Rattle.node_table.proofs.copies.Copies.update.Goals as goal
 
 -- what is told of the copy that is there, or isn't
-abbrev standing_told : Option Kept → Standing
-standing_told o = option_map_or standing_of (option_map facts_of o) nowhere
+abbrev standing_told : Option CopyView → EvictionInfo
+standing_told o = option_map_or info_of (option_map row_facts_of o) nowhere
 
-abbrev over_told : Option Kept → Bool
+abbrev over_told : Option CopyView → Bool
 over_told o = option_map_or is_over o false
 
 pub returns-in_default-clause-copies : goal.returns-in_default-clause-copies
 returns-in_default-clause-copies g c f same = not_written f c.args.id.now c.self.inside.by_id.entries c.args.self.now c.self.view_is _ (sym c.get_mut.ensures.value ∙ ap option_copied_mut c.in_default.is) (ap (λ m. m.entries) c.get_mut.follows.holds-at-none)
 
-pub returns-in_default-clause-standing : goal.returns-in_default-clause-standing
-returns-in_default-clause-standing g c =
+pub returns-in_default-clause-eviction_info : goal.returns-in_default-clause-eviction_info
+returns-in_default-clause-eviction_info g c =
     c.nowhere.ensures
     ∙ sym (checked_unwritten standing_told c.args.id.now c.self.inside.by_id.entries _ (sym c.get_mut.ensures.value ∙ ap option_copied_mut c.in_default.is) (ap (λ m. m.entries) c.get_mut.follows.holds-at-none))
 
@@ -39,7 +39,7 @@ exchanged-self-inside-requires g c =
     (c.by-before.ensures ∙ ap taken_any (ap option_copied_mut (sym c.in-Some.is) ∙ c.get_mut.ensures.value)) (subst IsSmall (sym c.by-after.ensures) (small_by c.change.new.arg2)) (omega (arith, c.len-count.ensures.len, c.len-count.ensures.small))
 
 pub invariant_of-self : goal.invariant_of-self
-invariant_of-self g c = c.self.invariant ∙ sym (ap (λ m. taken_of m.entries) c.get_mut.follows.holds-at-none)
+invariant_of-self g c = c.self.invariant ∙ sym (ap (λ m. footprint_of m.entries) c.get_mut.follows.holds-at-none)
 
 pub invariant_of-self-2 : goal.invariant_of-self-2
 invariant_of-self-2 g c =
@@ -52,9 +52,9 @@ returns-clause-copies g c f same =
     written f c.args.id.now c.self.inside.by_id.entries c.args.self.now c.self.view_is _ c.in-Some.copy.now c.change.new.arg2 (sym c.get_mut.ensures.value ∙ ap option_copied_mut c.in-Some.is)
     (same _ _ c.change.ensures) (c.get_mut.follows.holds c.change.new.arg2).0
 
-pub returns-clause-standing : goal.returns-clause-standing
-returns-clause-standing g c =
-    ap (λ a. a.standing) c.after_change-told.ensures
+pub returns-clause-eviction_info : goal.returns-clause-eviction_info
+returns-clause-eviction_info g c =
+    ap (λ a. a.eviction_info) c.after_change-told.ensures
     ∙ sym (checked_written standing_told c.args.id.now c.self.inside.by_id.entries _ c.in-Some.copy.now c.change.new.arg2 (sym c.get_mut.ensures.value ∙ ap option_copied_mut c.in-Some.is) (c.get_mut.follows.holds c.change.new.arg2).0)
 
 pub returns-clause-over : goal.returns-clause-over

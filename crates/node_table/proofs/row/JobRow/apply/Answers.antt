@@ -1,5 +1,5 @@
 use Rattle.std.proofs.Common.{sym, ap, ◌∙◌}
-use Rattle.private_store.specs.Tables.{at}
+use Rattle.private_store.specs.rules.Tables.{at}
 use Rattle.node_table.specs.Marks.{marked_by}
 use Rattle.node_table.specs.Row.{Row}
 use Rattle.node_table.proofs.FollowsCopies.{extent_there, one_stays}
@@ -14,12 +14,12 @@ pub invariant_of-self : goal.invariant_of-self
 invariant_of-self c =
     let lies = marked_lies c.args.mark c.requires.lies in (
       now_placed c.self.inside.window.placed c.self.inside.copies c.self.invariant.0 (marked_by c.args.mark) lies c.args.id.now c.apply-after.new.self c.apply-after.ensures.copies,
-      one_stays (marked_by c.args.mark) c.args.id.now c.self.inside.copies c.apply-after.new.self c.apply-after.ensures.copies c.apply-after.result.standing c.apply-after.ensures.standing
-          c.self.inside.order c.choose.new.self c.choose.ensures.standings lies c.self.invariant.1,
+      one_stays (marked_by c.args.mark) c.args.id.now c.self.inside.copies c.apply-after.new.self c.apply-after.ensures.copies c.apply-after.result.eviction_info c.apply-after.ensures.eviction_info
+          c.self.inside.order c.set_info.new.self c.set_info.ensures.infos lies c.self.invariant.1,
     )
 
 pub returns-clause-place : goal.returns-clause-place
-returns-clause-place c = ap (λ s. s.extent) c.apply-after.ensures.standing ∙ extent_there c.apply-after.new.self c.args.id.now
+returns-clause-place c = ap (λ s. s.extent) c.apply-after.ensures.eviction_info ∙ extent_there c.apply-after.new.self c.args.id.now
 
 pub returns-clause-placed : goal.returns-clause-placed
 returns-clause-placed c =

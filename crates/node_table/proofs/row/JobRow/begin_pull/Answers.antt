@@ -3,21 +3,21 @@ use Rattle.std.specs.Option.{option_copied, option_map_or}
 use Rattle.obj_id.specs.declared.commands.Command.TheVariants as command
 use Rattle.obj_id.specs.declared.commands.CopyState.TheVariants.{Fetching}
 use Rattle.private_store.specs.declared.inputs.Input.TheVariants as input
-use Rattle.private_store.specs.Kept.{is_remembered}
-use Rattle.private_store.specs.Room.{make_room}
-use Rattle.private_store.specs.Shape.{sized}
-use Rattle.private_store.specs.Tables.{at}
+use Rattle.private_store.specs.laws.Invariants.{is_remembered}
+use Rattle.private_store.specs.rules.Room.{make_room}
+use Rattle.private_store.specs.rules.Shape.{sized}
+use Rattle.private_store.specs.rules.Tables.{at}
 use Rattle.node_table.specs.Checks.{can_pull_at, visible_state}
 use Rattle.node_table.specs.Evicting.{IsPlacement, MayGo}
-use Rattle.node_table.specs.Kept.{waits_for_place}
-use Rattle.node_table.specs.MadeRooms.{IsMade, IsPlannedFor, TellsRoom, WaitsForPlace, is_told}
-use Rattle.node_table.specs.Outcomes.{given_of}
+use Rattle.node_table.specs.CopyViews.{waits_for_place}
+use Rattle.node_table.specs.MadeRooms.{IsRoomMade, IsPlannedFor, TellsRoom, WaitsForPlace, tells_refusal}
+use Rattle.node_table.specs.Outcomes.{row_given_of}
 use Rattle.node_table.specs.RoomPlans.{MakesPlace}
 use Rattle.node_table.specs.Row.{Row, beside_of, shape_of}
-use Rattle.node_table.specs.Shown.{IsShown, TakesStep}
+use Rattle.node_table.specs.Shown.{IsShown, RowStep}
 use Rattle.node_table.proofs.Fetching.{phase_is}
 use Rattle.node_table.proofs.Getting.{each_ok, always_err, seen_at}
-use Rattle.node_table.proofs.Late.{pull_due}
+use Rattle.node_table.proofs.MemoryLast.{pull_due}
 use Rattle.node_table.proofs.Pulling.{own_job, sized_at, unasked_at, waits, quiet_get, f, by_room}
 use Rattle.node_table.proofs.row.JobRow.begin_pull.Goals as goal
 
@@ -50,10 +50,10 @@ returns-in-Place-clause-ok c =
     each_ok c.pull_in_place.result (λ o told session hands bytes contents mine h.
     let own = c.job.ensures.value ∙ own_job c.args.id.now.job c.args.self.now.job mine in
     let kept = subst (λ m. WaitsForPlace m c.args.self.now c.args.works.now c.length-len.result c.room_for.new.self c.room_for.new.works) c.in-Place.is c.in_ok-placement.ensures.place in
-    let makes = subst (λ m. IsMade m c.args.self.now (beside_of c.args.works.now hands bytes c.args.self.now.job) contents c.length-len.result c.room_for.new.self (beside_of c.room_for.new.works hands bytes c.args.self.now.job)) c.in-Place.is (c.in_ok-placement.ensures.ok hands bytes contents own h) in
-    subst (λ w. TakesStep c.args.node c.args.self.now (beside_of c.args.works.now hands bytes c.args.self.now.job) contents (input.Call session (command.Get c.args.id.now)) (given_of o) c.pull_in_place.new.self (beside_of w hands bytes c.args.self.now.job)) (sym kept.1)
+    let makes = subst (λ m. IsRoomMade m c.args.self.now (beside_of c.args.works.now hands bytes c.args.self.now.job) contents c.length-len.result c.room_for.new.self (beside_of c.room_for.new.works hands bytes c.args.self.now.job)) c.in-Place.is (c.in_ok-placement.ensures.ok hands bytes contents own h) in
+    subst (λ w. RowStep c.args.node c.args.self.now (beside_of c.args.works.now hands bytes c.args.self.now.job) contents (input.Call session (command.Get c.args.id.now)) (row_given_of o) c.pull_in_place.new.self (beside_of w hands bytes c.args.self.now.job)) (sym kept.1)
     (subst (λ r. (c.args.id.now.job.0 == r.job) ≡ true → IsShown r (beside_of c.args.works.now hands bytes c.args.self.now.job) contents → MakesPlace (make_room r.order (shape_of r (beside_of c.args.works.now hands bytes c.args.self.now.job)) c.length-len.result) (shape_of r (beside_of c.args.works.now hands bytes c.args.self.now.job)) c.length-len.result c.in-Place.placement.victims
-    → TakesStep c.args.node r (beside_of c.args.works.now hands bytes c.args.self.now.job) contents (input.Call session (command.Get c.args.id.now)) (given_of o) c.pull_in_place.new.self (beside_of c.args.works.now hands bytes c.args.self.now.job)) kept.0 (told session (beside_of c.args.works.now hands bytes c.args.self.now.job) contents) mine h
+    → RowStep c.args.node r (beside_of c.args.works.now hands bytes c.args.self.now.job) contents (input.Call session (command.Get c.args.id.now)) (row_given_of o) c.pull_in_place.new.self (beside_of c.args.works.now hands bytes c.args.self.now.job)) kept.0 (told session (beside_of c.args.works.now hands bytes c.args.self.now.job) contents) mine h
     makes)) c.pull_in_place.ensures.ok
 
 pub returns-in-Told-clause-ok : goal.returns-in-Told-clause-ok
@@ -62,35 +62,35 @@ returns-in-Told-clause-ok c =
     let found = ap (λ t. at t c.args.id.now) (sym c.copies.ensures.copies) ∙ sym c.get.ensures ∙ ap option_copied c.in-Some.is in
     let st = seen_at c.args.self.now.copies c.args.id.now Fetching k found c.requires.visible in
     let z = sized_at c.args.self.now c.args.id.now k found c.requires.sized in
-    each_ok c.told.result (λ o said session hands bytes contents mine h.
+    each_ok c.refuse.result (λ o said session hands bytes contents mine h.
     let own = c.job.ensures.value ∙ own_job c.args.id.now.job c.args.self.now.job mine in
-    let made = subst (λ m. IsMade m c.args.self.now (beside_of c.args.works.now hands bytes c.args.self.now.job) contents c.length-len.result c.room_for.new.self (beside_of c.room_for.new.works hands bytes c.args.self.now.job)) c.in-Told.is (c.in_ok-placement.ensures.ok hands bytes contents own h) in
+    let made = subst (λ m. IsRoomMade m c.args.self.now (beside_of c.args.works.now hands bytes c.args.self.now.job) contents c.length-len.result c.room_for.new.self (beside_of c.room_for.new.works hands bytes c.args.self.now.job)) c.in-Told.is (c.in_ok-placement.ensures.ok hands bytes contents own h) in
     let tells = subst (λ n. TellsRoom c.args.self.now (beside_of c.args.works.now hands bytes c.args.self.now.job) contents n c.in-Told.refusal c.room_for.new.self (beside_of c.room_for.new.works hands bytes c.args.self.now.job)) c.length-len.ensures made in
-    subst (λ t. TakesStep c.args.node c.args.self.now (beside_of c.args.works.now hands bytes c.args.self.now.job) contents (input.Call session (command.Get c.args.id.now)) t c.room_for.new.self (beside_of c.room_for.new.works hands bytes c.args.self.now.job)) (sym said)
-    (tells.tells c.args.node (input.Call session (command.Get c.args.id.now)) (f c.args.node c.args.self.now (beside_of c.args.works.now hands bytes c.args.self.now.job) contents h (input.Call session (command.Get c.args.id.now)) (quiet_get c.args.node c.args.self.now (beside_of c.args.works.now hands bytes c.args.self.now.job) contents session c.args.id.now) c.args.id.now k found st.1 z.fetch z.source z.fetched z.is z.fine (phase_is c.args.node c.args.self.now (beside_of c.args.works.now hands bytes c.args.self.now.job) contents session c.args.id.now mine c.requires.alive h k found st.0 st.1 z.fetch z.fetched (sized z.source) z.is)) (quiet_get c.args.node c.args.self.now (beside_of c.args.works.now hands bytes c.args.self.now.job) contents session c.args.id.now) (λ none. by_room c.args.node c.args.self.now (beside_of c.args.works.now hands bytes c.args.self.now.job) contents h (input.Call session (command.Get c.args.id.now)) (quiet_get c.args.node c.args.self.now (beside_of c.args.works.now hands bytes c.args.self.now.job) contents session c.args.id.now) c.args.id.now k found st.1 z.fetch z.source z.fetched z.is z.fine (phase_is c.args.node c.args.self.now (beside_of c.args.works.now hands bytes c.args.self.now.job) contents session c.args.id.now mine c.requires.alive h k found st.0 st.1 z.fetch z.fetched (sized z.source) z.is)))) c.told.ensures.ok
+    subst (λ t. RowStep c.args.node c.args.self.now (beside_of c.args.works.now hands bytes c.args.self.now.job) contents (input.Call session (command.Get c.args.id.now)) t c.room_for.new.self (beside_of c.room_for.new.works hands bytes c.args.self.now.job)) (sym said)
+    (tells.tells c.args.node (input.Call session (command.Get c.args.id.now)) (f c.args.node c.args.self.now (beside_of c.args.works.now hands bytes c.args.self.now.job) contents h (input.Call session (command.Get c.args.id.now)) (quiet_get c.args.node c.args.self.now (beside_of c.args.works.now hands bytes c.args.self.now.job) contents session c.args.id.now) c.args.id.now k found st.1 z.fetch z.source z.fetched z.is z.fine (phase_is c.args.node c.args.self.now (beside_of c.args.works.now hands bytes c.args.self.now.job) contents session c.args.id.now mine c.requires.alive h k found st.0 st.1 z.fetch z.fetched (sized z.source) z.is)) (quiet_get c.args.node c.args.self.now (beside_of c.args.works.now hands bytes c.args.self.now.job) contents session c.args.id.now) (λ none. by_room c.args.node c.args.self.now (beside_of c.args.works.now hands bytes c.args.self.now.job) contents h (input.Call session (command.Get c.args.id.now)) (quiet_get c.args.node c.args.self.now (beside_of c.args.works.now hands bytes c.args.self.now.job) contents session c.args.id.now) c.args.id.now k found st.1 z.fetch z.source z.fetched z.is z.fine (phase_is c.args.node c.args.self.now (beside_of c.args.works.now hands bytes c.args.self.now.job) contents session c.args.id.now mine c.requires.alive h k found st.0 st.1 z.fetch z.fetched (sized z.source) z.is)))) c.refuse.ensures.ok
 
 pub pull_in_place-requires-clause-may_go : goal.pull_in_place-requires-clause-may_go
 pull_in_place-requires-clause-may_go c =
     let kept = subst (λ m. WaitsForPlace m c.args.self.now c.args.works.now c.length-len.result c.room_for.new.self c.room_for.new.works) c.in-Place.is c.in_ok-placement.ensures.place in
     subst (λ (r : Row). MayGo r.copies c.in-Place.placement.victims) (sym kept.0) kept.2
 
-pub returns-in_err-placement-clause-late : goal.returns-in_err-placement-clause-late
-returns-in_err-placement-clause-late c =
+pub returns-in_err-placement-clause-memory_last : goal.returns-in_err-placement-clause-memory_last
+returns-in_err-placement-clause-memory_last c =
     let k = c.in-Some.copy.now in
     let found = ap (λ t. at t c.args.id.now) (sym c.copies.ensures.copies) ∙ sym c.get.ensures ∙ ap option_copied c.in-Some.is in
     let st = seen_at c.args.self.now.copies c.args.id.now Fetching k found c.requires.visible in
     let z = sized_at c.args.self.now c.args.id.now k found c.requires.sized in
     always_err c.from_residual.result (λ mine. pull_due c.args.node c.args.self.now c.args.works.now c.args.id.now c.requires.alive k found st.0 st.1 z
-    (subst (IsPlannedFor c.args.self.now c.args.works.now) c.length-len.ensures (c.in_err-placement.ensures.late (c.job.ensures.value ∙ own_job c.args.id.now.job c.args.self.now.job mine))) mine)
+    (subst (IsPlannedFor c.args.self.now c.args.works.now) c.length-len.ensures (c.in_err-placement.ensures.memory_last (c.job.ensures.value ∙ own_job c.args.id.now.job c.args.self.now.job mine))) mine)
 
-pub returns-in-Place-clause-late : goal.returns-in-Place-clause-late
-returns-in-Place-clause-late c =
+pub returns-in-Place-clause-memory_last : goal.returns-in-Place-clause-memory_last
+returns-in-Place-clause-memory_last c =
     let k = c.in-Some.copy.now in
     let found = ap (λ t. at t c.args.id.now) (sym c.copies.ensures.copies) ∙ sym c.get.ensures ∙ ap option_copied c.in-Some.is in
     let st = seen_at c.args.self.now.copies c.args.id.now Fetching k found c.requires.visible in
     let z = sized_at c.args.self.now c.args.id.now k found c.requires.sized in
     always_err c.pull_in_place.result (λ mine. pull_due c.args.node c.args.self.now c.args.works.now c.args.id.now c.requires.alive k found st.0 st.1 z
-    (subst (IsPlannedFor c.args.self.now c.args.works.now) c.length-len.ensures (c.in_ok-placement.ensures.made (ap is_told c.in-Place.is) (c.job.ensures.value ∙ own_job c.args.id.now.job c.args.self.now.job mine))) mine)
+    (subst (IsPlannedFor c.args.self.now c.args.works.now) c.length-len.ensures (c.in_ok-placement.ensures.made (ap tells_refusal c.in-Place.is) (c.job.ensures.value ∙ own_job c.args.id.now.job c.args.self.now.job mine))) mine)
 
 pub pull_in_place-requires-clause-place : goal.pull_in_place-requires-clause-place
 pull_in_place-requires-clause-place c =

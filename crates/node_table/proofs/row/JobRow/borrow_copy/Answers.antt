@@ -1,15 +1,15 @@
 use Rattle.std.proofs.Common.{refl, sym, ap, ◌∙◌}
-use Rattle.lru_evictor.specs.Facts.{standing_at}
-use Rattle.node_table.specs.Followed.{facts_in}
-use Rattle.node_table.specs.Kept.{borrowed}
+use Rattle.lru_evictor.specs.Facts.{info_at}
+use Rattle.node_table.specs.InSync.{facts_in}
+use Rattle.node_table.specs.CopyViews.{after_borrow}
 use Rattle.node_table.proofs.Places.{now_placed}
 use Rattle.node_table.proofs.FollowsCopies.{one_stays}
 use Rattle.node_table.proofs.row.JobRow.borrow_copy.Goals as goal
 
 pub invariant_of-self-2 : goal.invariant_of-self-2
 invariant_of-self-2 c = (
-  now_placed c.self.inside.window.placed c.self.inside.copies c.self.invariant.0 (borrowed c.args.task) (λ z. refl) c.args.id.now c.borrow.new.self c.in_ok-after.ensures.ok,
-  one_stays (borrowed c.args.task) c.args.id.now c.self.inside.copies c.borrow.new.self c.in_ok-after.ensures.ok c.in_ok-after.after.standing
-      (c.in_ok-after.ensures.standing ∙ ap (λ t. standing_at (facts_in t) c.args.id.now) (sym c.in_ok-after.ensures.ok))
-      c.self.inside.order c.choose.new.self c.choose.ensures.standings (λ z. refl) c.self.invariant.1,
+  now_placed c.self.inside.window.placed c.self.inside.copies c.self.invariant.0 (after_borrow c.args.task) (λ z. refl) c.args.id.now c.borrow.new.self c.in_ok-after.ensures.ok,
+  one_stays (after_borrow c.args.task) c.args.id.now c.self.inside.copies c.borrow.new.self c.in_ok-after.ensures.ok c.in_ok-after.after.eviction_info
+      (c.in_ok-after.ensures.eviction_info ∙ ap (λ t. info_at (facts_in t) c.args.id.now) (sym c.in_ok-after.ensures.ok))
+      c.self.inside.order c.set_info.new.self c.set_info.ensures.infos (λ z. refl) c.self.invariant.1,
 )

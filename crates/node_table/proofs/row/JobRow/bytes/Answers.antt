@@ -1,6 +1,6 @@
 use Rattle.std.proofs.Common.{sym, ap, ◌∙◌}
 use Rattle.std.specs.Option.{option_and_then, option_copied}
-use Rattle.private_store.specs.Copies.{extent_of}
+use Rattle.private_store.specs.rules.Copies.{extent_of}
 use Rattle.node_table.proofs.row.JobRow.bytes.Goals as goal
 
 pub bytes_of-requires : goal.bytes_of-requires

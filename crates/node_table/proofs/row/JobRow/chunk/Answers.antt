@@ -4,18 +4,18 @@ use Rattle.obj_id.specs.declared.commands.Reply.TheVariants as reply
 use Rattle.obj_id.specs.declared.messages.Arrival.TheVariants as arrival
 use Rattle.obj_id.specs.declared.messages.PeerMessage.TheVariants as peer
 use Rattle.private_store.specs.declared.inputs.Input.TheVariants as input
-use Rattle.private_store.specs.Tables.{at}
+use Rattle.private_store.specs.rules.Tables.{at}
 use Rattle.store_facts.proofs.Tests.{not_true}
-use Rattle.node_table.specs.Arriving.{fills, lacks_only, gap_closed}
+use Rattle.node_table.specs.Arriving.{fills, lacks_only, after_chunk}
 use Rattle.node_table.specs.Scope.{with_copy}
-use Rattle.node_table.specs.Shown.{only, TakesStep}
+use Rattle.node_table.specs.Shown.{only, RowStep}
 use Rattle.node_table.proofs.Passed.{not_not}
 use Rattle.node_table.proofs.Gaps.{not_filled_is, not_filled, filled_at, e, in_place, small, in_extent, part_is, part_done}
 use Rattle.node_table.proofs.row.JobRow.chunk.Goals as goal
 
 pub returns-then-not-fit-clause-ok : goal.returns-then-not-fit-clause-ok
 returns-then-not-fit-clause-ok c beside contents h =
-    subst (λ g. TakesStep c.args.node c.args.self.now beside contents (input.Arrive (arrival.FromPeer c.args.from (peer.Chunk c.args.id.now c.args.number c.args.index c.args.bytes.now))) g c.args.self.now beside) (sym c.only.ensures)
+    subst (λ g. RowStep c.args.node c.args.self.now beside contents (input.Arrive (arrival.FromPeer c.args.from (peer.Chunk c.args.id.now c.args.number c.args.index c.args.bytes.now))) g c.args.self.now beside) (sym c.only.ensures)
     (not_filled c.args.node c.args.self.now beside contents h c.args.id.now c.args.number c.args.from c.args.index c.args.bytes.now
     (ap (λ t. option_map_or (fills c.args.number c.args.from c.args.index (length c.args.bytes.now)) (at t c.args.id.now) false) (sym c.copies.ensures.copies) ∙ sym c.chunk_fit-fit.ensures.fills ∙ not_true c.chunk_fit-fit.result.fills c.if-not-fit.true))
 
@@ -27,9 +27,9 @@ returns-clause-ok c beside contents h =
     (in_place c.args.node c.args.self.now beside contents h c.args.id.now c.args.number c.args.from c.args.index c.args.bytes.now a)
     (small c.args.node c.args.self.now beside contents h c.args.id.now c.args.number c.args.from c.args.index c.args.bytes.now a)
     (in_extent c.args.node c.args.self.now beside contents h c.args.id.now c.args.number c.args.from c.args.index c.args.bytes.now a) in
-    subst (λ g. TakesStep c.args.node c.args.self.now beside contents (input.Arrive (arrival.FromPeer c.args.from (peer.Chunk c.args.id.now c.args.number c.args.index c.args.bytes.now))) g c.apply.new.self beside) (sym c.only-2.ensures)
-    (subst (λ r. TakesStep c.args.node c.args.self.now beside contents (input.Arrive (arrival.FromPeer c.args.from (peer.Chunk c.args.id.now c.args.number c.args.index c.args.bytes.now))) (only reply.Ok) r beside)
-    (sym (c.apply.ensures.row ∙ ap (λ r. with_copy (gap_closed c.args.number c.args.from c.args.index (length c.args.bytes.now)) r c.args.id.now) put))
+    subst (λ g. RowStep c.args.node c.args.self.now beside contents (input.Arrive (arrival.FromPeer c.args.from (peer.Chunk c.args.id.now c.args.number c.args.index c.args.bytes.now))) g c.apply.new.self beside) (sym c.only-2.ensures)
+    (subst (λ r. RowStep c.args.node c.args.self.now beside contents (input.Arrive (arrival.FromPeer c.args.from (peer.Chunk c.args.id.now c.args.number c.args.index c.args.bytes.now))) (only reply.Ok) r beside)
+    (sym (c.apply.ensures.row ∙ ap (λ r. with_copy (after_chunk c.args.number c.args.from c.args.index (length c.args.bytes.now)) r c.args.id.now) put))
     (part_done c.args.node c.args.self.now beside contents h c.args.id.now c.args.number c.args.from c.args.index c.args.bytes.now a c.copies.ensures.placed
     (ap (λ t. option_map_or (lacks_only c.args.index) (at t c.args.id.now) false) (sym c.copies.ensures.copies) ∙ sym c.chunk_fit-fit.ensures.last ∙ c.if-fit.false)))
 

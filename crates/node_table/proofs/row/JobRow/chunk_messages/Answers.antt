@@ -1,5 +1,5 @@
 use Rattle.std.proofs.Common.{length, map, ◌≤◌, sym, ap, subst, ◌∙◌}
-use Rattle.private_store.specs.Private.{to_peer, chunk_of}
+use Rattle.private_store.specs.rules.Private.{to_peer, chunk_of}
 use Rattle.node_table.specs.Serving.{chunks_to}
 use Rattle.node_table.proofs.Serving.{few_chunks}
 use Rattle.node_table.proofs.row.JobRow.chunk_messages.Goals as goal
@@ -9,7 +9,7 @@ returns-clause-ok c k e found lies =
     c.in_ok-all_to_peer.ensures ∙ ap (map (to_peer c.args.from)) c.in_ok-chunks.ensures.ok
     ∙ ap (λ bs. chunks_to bs c.args.from c.args.id.now c.args.number c.args.indexes.now) (c.in_ok-bytes.ensures ∙ c.lent.ensures.bytes k e found lies)
 
-pub returns-clause-few : goal.returns-clause-few
-returns-clause-few c =
+pub returns-clause-bounded : goal.returns-clause-bounded
+returns-clause-bounded c =
     subst (λ posts. length posts ≤ length c.args.indexes.now) (sym (c.in_ok-all_to_peer.ensures ∙ ap (map (to_peer c.args.from)) c.in_ok-chunks.ensures.ok))
     (few_chunks _ (chunk_of c.in_ok-bytes.bytes c.args.id.now c.args.number (length c.in_ok-bytes.bytes)) (to_peer c.args.from) c.args.indexes.now)

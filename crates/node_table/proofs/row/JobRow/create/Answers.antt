@@ -2,58 +2,58 @@ use Rattle.std.proofs.Common.{◌≡◌, ◌==◌, true, sym, ap, subst, ◌∙�
 use Rattle.node_table.specs.Evicting.{IsPlacement, MayGo}
 use Rattle.obj_id.specs.declared.commands.Command.TheVariants as command
 use Rattle.private_store.specs.declared.inputs.Input.TheVariants as input
-use Rattle.private_store.specs.Room.{make_room}
-use Rattle.private_store.specs.Commands.{created}
+use Rattle.private_store.specs.rules.Room.{make_room}
+use Rattle.private_store.specs.rules.Commands.{created}
 use Rattle.node_table.specs.Row.{Row, beside_of, shape_of}
 use Rattle.node_table.specs.RoomPlans.{MakesPlace}
-use Rattle.node_table.specs.MadeRooms.{IsMade, WaitsForPlace, is_told}
-use Rattle.node_table.specs.Shown.{IsShown, TakesStep}
-use Rattle.node_table.specs.Outcomes.{given_of}
+use Rattle.node_table.specs.MadeRooms.{IsRoomMade, WaitsForPlace, tells_refusal}
+use Rattle.node_table.specs.Shown.{IsShown, RowStep}
+use Rattle.node_table.specs.Outcomes.{row_given_of}
 use Rattle.node_table.proofs.Creating.{x, quiet, by_room, create_refused}
 use Rattle.node_table.proofs.Pulling.{own_job}
 use Rattle.node_table.proofs.Getting.{each_ok, always_err}
-use Rattle.node_table.proofs.Late.{create_due}
+use Rattle.node_table.proofs.MemoryLast.{create_due}
 use Rattle.node_table.proofs.row.JobRow.create.Goals as goal
 
 pub returns-in-Some-clause-ok : goal.returns-in-Some-clause-ok
-returns-in-Some-clause-ok c = each_ok c.told.result (λ o said session hands bytes contents mine h.
-    subst (λ t. TakesStep c.args.node c.args.self.now (beside_of c.args.works.now hands bytes c.args.self.now.job) contents (input.Call session (command.Create c.args.id.now c.args.kind c.args.len)) t c.args.self.now (beside_of c.args.works.now hands bytes c.args.self.now.job)) (sym said)
-    (create_refused c.args.node c.args.self.now (beside_of c.args.works.now hands bytes c.args.self.now.job) contents session c.args.id.now c.args.kind c.args.len mine h c.in-Some.refusal (sym c.create_check.ensures ∙ c.in-Some.is))) c.told.ensures.ok
+returns-in-Some-clause-ok c = each_ok c.refuse.result (λ o said session hands bytes contents mine h.
+    subst (λ t. RowStep c.args.node c.args.self.now (beside_of c.args.works.now hands bytes c.args.self.now.job) contents (input.Call session (command.Create c.args.id.now c.args.kind c.args.len)) t c.args.self.now (beside_of c.args.works.now hands bytes c.args.self.now.job)) (sym said)
+    (create_refused c.args.node c.args.self.now (beside_of c.args.works.now hands bytes c.args.self.now.job) contents session c.args.id.now c.args.kind c.args.len mine h c.in-Some.refusal (sym c.create_check.ensures ∙ c.in-Some.is))) c.refuse.ensures.ok
 
 pub returns-in-Place-clause-ok : goal.returns-in-Place-clause-ok
 returns-in-Place-clause-ok c = each_ok c.create_in_place.result (λ o told session hands bytes contents mine h.
     let own = c.job.ensures.value ∙ own_job c.args.id.now.job c.args.self.now.job mine in
     let kept = subst (λ m. WaitsForPlace m c.args.self.now c.args.works.now c.args.len c.room_for.new.self c.room_for.new.works) c.in-Place.is c.in_ok-placement.ensures.place in
-    let makes = subst (λ m. IsMade m c.args.self.now (beside_of c.args.works.now hands bytes c.args.self.now.job) contents c.args.len c.room_for.new.self (beside_of c.room_for.new.works hands bytes c.args.self.now.job)) c.in-Place.is (c.in_ok-placement.ensures.ok hands bytes contents own h) in
-    subst (λ w. TakesStep c.args.node c.args.self.now (beside_of c.args.works.now hands bytes c.args.self.now.job) contents (input.Call session (command.Create c.args.id.now c.args.kind c.args.len)) (given_of o) c.create_in_place.new.self (beside_of w hands bytes c.args.self.now.job)) (sym kept.1)
+    let makes = subst (λ m. IsRoomMade m c.args.self.now (beside_of c.args.works.now hands bytes c.args.self.now.job) contents c.args.len c.room_for.new.self (beside_of c.room_for.new.works hands bytes c.args.self.now.job)) c.in-Place.is (c.in_ok-placement.ensures.ok hands bytes contents own h) in
+    subst (λ w. RowStep c.args.node c.args.self.now (beside_of c.args.works.now hands bytes c.args.self.now.job) contents (input.Call session (command.Create c.args.id.now c.args.kind c.args.len)) (row_given_of o) c.create_in_place.new.self (beside_of w hands bytes c.args.self.now.job)) (sym kept.1)
     (subst (λ r. (c.args.id.now.job.0 == r.job) ≡ true → IsShown r (beside_of c.args.works.now hands bytes c.args.self.now.job) contents → MakesPlace (make_room r.order (shape_of r (beside_of c.args.works.now hands bytes c.args.self.now.job)) c.args.len) (shape_of r (beside_of c.args.works.now hands bytes c.args.self.now.job)) c.args.len c.in-Place.placement.victims
-    → TakesStep c.args.node r (beside_of c.args.works.now hands bytes c.args.self.now.job) contents (input.Call session (command.Create c.args.id.now c.args.kind c.args.len)) (given_of o) c.create_in_place.new.self (beside_of c.args.works.now hands bytes c.args.self.now.job)) kept.0 (told session (beside_of c.args.works.now hands bytes c.args.self.now.job) contents) mine h
+    → RowStep c.args.node r (beside_of c.args.works.now hands bytes c.args.self.now.job) contents (input.Call session (command.Create c.args.id.now c.args.kind c.args.len)) (row_given_of o) c.create_in_place.new.self (beside_of c.args.works.now hands bytes c.args.self.now.job)) kept.0 (told session (beside_of c.args.works.now hands bytes c.args.self.now.job) contents) mine h
     makes)) c.create_in_place.ensures.ok
 
 pub returns-in-Told-clause-ok : goal.returns-in-Told-clause-ok
-returns-in-Told-clause-ok c = each_ok c.told-in-Told.result (λ o said session hands bytes contents mine h.
+returns-in-Told-clause-ok c = each_ok c.refuse-in-Told.result (λ o said session hands bytes contents mine h.
     let passed = sym c.create_check.ensures ∙ c.in_default.is in
     let own = c.job.ensures.value ∙ own_job c.args.id.now.job c.args.self.now.job mine in
-    let made = subst (λ m. IsMade m c.args.self.now (beside_of c.args.works.now hands bytes c.args.self.now.job) contents c.args.len c.room_for.new.self (beside_of c.room_for.new.works hands bytes c.args.self.now.job)) c.in-Told.is (c.in_ok-placement.ensures.ok hands bytes contents own h) in
-    subst (λ t. TakesStep c.args.node c.args.self.now (beside_of c.args.works.now hands bytes c.args.self.now.job) contents (input.Call session (command.Create c.args.id.now c.args.kind c.args.len)) t c.room_for.new.self (beside_of c.room_for.new.works hands bytes c.args.self.now.job)) (sym said)
+    let made = subst (λ m. IsRoomMade m c.args.self.now (beside_of c.args.works.now hands bytes c.args.self.now.job) contents c.args.len c.room_for.new.self (beside_of c.room_for.new.works hands bytes c.args.self.now.job)) c.in-Told.is (c.in_ok-placement.ensures.ok hands bytes contents own h) in
+    subst (λ t. RowStep c.args.node c.args.self.now (beside_of c.args.works.now hands bytes c.args.self.now.job) contents (input.Call session (command.Create c.args.id.now c.args.kind c.args.len)) t c.room_for.new.self (beside_of c.room_for.new.works hands bytes c.args.self.now.job)) (sym said)
     (made.tells c.args.node (x c.args.node c.args.self.now (beside_of c.args.works.now hands bytes c.args.self.now.job) contents session c.args.id.now c.args.kind c.args.len mine h)
     (created c.args.id.now c.args.kind c.args.len) (quiet c.args.node c.args.self.now (beside_of c.args.works.now hands bytes c.args.self.now.job) contents session c.args.id.now c.args.kind c.args.len mine h)
-    (λ none. by_room c.args.node c.args.self.now (beside_of c.args.works.now hands bytes c.args.self.now.job) contents session c.args.id.now c.args.kind c.args.len mine h passed))) c.told-in-Told.ensures.ok
+    (λ none. by_room c.args.node c.args.self.now (beside_of c.args.works.now hands bytes c.args.self.now.job) contents session c.args.id.now c.args.kind c.args.len mine h passed))) c.refuse-in-Told.ensures.ok
 
 pub create_in_place-requires-clause-may_go : goal.create_in_place-requires-clause-may_go
 create_in_place-requires-clause-may_go c =
     let kept = subst (λ m. WaitsForPlace m c.args.self.now c.args.works.now c.args.len c.room_for.new.self c.room_for.new.works) c.in-Place.is c.in_ok-placement.ensures.place in
     subst (λ (r : Row). MayGo r.copies c.in-Place.placement.victims) (sym kept.0) kept.2
 
-pub returns-in_err-placement-clause-late : goal.returns-in_err-placement-clause-late
-returns-in_err-placement-clause-late c =
+pub returns-in_err-placement-clause-memory_last : goal.returns-in_err-placement-clause-memory_last
+returns-in_err-placement-clause-memory_last c =
     always_err c.from_residual.result (λ mine. create_due c.args.node c.args.self.now c.args.works.now c.args.id.now c.args.kind c.args.len (sym c.create_check.ensures ∙ c.in_default.is)
-    (c.in_err-placement.ensures.late (c.job.ensures.value ∙ own_job c.args.id.now.job c.args.self.now.job mine)) mine)
+    (c.in_err-placement.ensures.memory_last (c.job.ensures.value ∙ own_job c.args.id.now.job c.args.self.now.job mine)) mine)
 
-pub returns-in-Place-clause-late : goal.returns-in-Place-clause-late
-returns-in-Place-clause-late c =
+pub returns-in-Place-clause-memory_last : goal.returns-in-Place-clause-memory_last
+returns-in-Place-clause-memory_last c =
     always_err c.create_in_place.result (λ mine. create_due c.args.node c.args.self.now c.args.works.now c.args.id.now c.args.kind c.args.len (sym c.create_check.ensures ∙ c.in_default.is)
-    (c.in_ok-placement.ensures.made (ap is_told c.in-Place.is) (c.job.ensures.value ∙ own_job c.args.id.now.job c.args.self.now.job mine)) mine)
+    (c.in_ok-placement.ensures.made (ap tells_refusal c.in-Place.is) (c.job.ensures.value ∙ own_job c.args.id.now.job c.args.self.now.job mine)) mine)
 
 pub create_in_place-requires-clause-place : goal.create_in_place-requires-clause-place
 create_in_place-requires-clause-place c =

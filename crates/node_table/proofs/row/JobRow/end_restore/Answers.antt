@@ -1,6 +1,6 @@
 use Rattle.std.proofs.Common.{sym, ap, ◌∙◌}
-use Rattle.private_store.specs.Tables.{at}
-use Rattle.node_table.specs.Kept.{restored}
+use Rattle.private_store.specs.rules.Tables.{at}
+use Rattle.node_table.specs.CopyViews.{after_restore}
 use Rattle.node_table.specs.Scope.{with_copy}
 use Rattle.node_table.proofs.row.JobRow.end_restore.Goals as goal
 
@@ -8,4 +8,4 @@ pub apply-requires-clause-can : goal.apply-requires-clause-can
 apply-requires-clause-can c k found = c.requires k (ap (λ t. at t c.args.id.now) (sym c.put_all_bytes.ensures.copies) ∙ found)
 
 pub returns : goal.returns
-returns c e lies fits = c.apply.ensures.row ∙ ap (λ r. with_copy restored r c.args.id.now) (c.put_all_bytes.ensures.row e lies fits)
+returns c e lies fits = c.apply.ensures.row ∙ ap (λ r. with_copy after_restore r c.args.id.now) (c.put_all_bytes.ensures.row e lies fits)

@@ -1,8 +1,8 @@
 use Rattle.std.proofs.Common.{◌≡◌, ◌||◌, Bool, sym, ap, ◌∙◌}
-use Rattle.private_store.specs.Tables.{at}
-use Rattle.lru_evictor.specs.Orders.{ids_of}
+use Rattle.private_store.specs.rules.Tables.{at}
+use Rattle.lru_evictor.specs.Orders.{order_ids}
 use Rattle.node_table.specs.Answering.{written_row}
-use Rattle.node_table.specs.Kept.{written}
+use Rattle.node_table.specs.CopyViews.{after_write}
 use Rattle.node_table.specs.Row.{Row}
 use Rattle.node_table.specs.Scope.{with_copy}
 use Rattle.node_table.proofs.row.JobRow.end_spill.Goals as goal
@@ -21,6 +21,6 @@ returns c =
   where
     row_with : Bool → Row
     row_with b =
-        with_copy (written c.args.number c.args.failed)
-        (record { job = c.self.inside.job.0; window = c.self.inside.window; device = c.self.inside.device; copies = c.self.inside.copies; order = ids_of c.self.inside.order; fetches_begun = c.self.inside.fetches_begun; spill_failed = b; ended_tasks = c.self.inside.ended_tasks.keys })
+        with_copy (after_write c.args.number c.args.failed)
+        (record { job = c.self.inside.job.0; window = c.self.inside.window; device = c.self.inside.device; copies = c.self.inside.copies; order = order_ids c.self.inside.order; fetches_begun = c.self.inside.fetches_begun; spill_failed = b; ended_tasks = c.self.inside.ended_tasks.keys })
         c.args.id.now

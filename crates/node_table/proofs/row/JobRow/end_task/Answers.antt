@@ -4,15 +4,15 @@ use Rattle.obj_id.specs.declared.commands.OwnItem.{OwnItem}
 use Rattle.obj_id.specs.declared.commands.Reply.TheVariants as reply
 use Rattle.private_store.specs.declared.inputs.Input.TheVariants as input
 use Rattle.node_table.specs.EndingTasks.{beside_after, doomed_row, doom_posts, given_up_row, give_up_posts, told_each, keys_of_copies, gone_keys}
-use Rattle.node_table.specs.Shown.{TakesStep}
-use Rattle.node_table.specs.Usages.{item_of}
+use Rattle.node_table.specs.Shown.{RowStep}
+use Rattle.node_table.specs.Usages.{own_item_of}
 use Rattle.node_table.proofs.EndingTasks.{end_task_refused, end_task_done, given}
 use Rattle.node_table.proofs.LeavingEach.{ids-listed}
 use Rattle.node_table.proofs.row.JobRow.end_task.Goals as goal
 
 pub returns-in-Some-clause-ok : goal.returns-in-Some-clause-ok
 returns-in-Some-clause-ok c beside contents h =
-    subst (λ told. TakesStep c.args.node c.args.self.now beside contents (input.Call c.args.session (command.EndTask c.args.task)) told c.args.self.now (beside_after c.args.self.now c.args.task beside)) (sym c.only.ensures)
+    subst (λ told. RowStep c.args.node c.args.self.now beside contents (input.Call c.args.session (command.EndTask c.args.task)) told c.args.self.now (beside_after c.args.self.now c.args.task beside)) (sym c.only.ensures)
     (end_task_refused c.args.node c.args.self.now beside contents c.args.session c.args.task h c.in-Some.refusal (sym c.end_task_check.ensures ∙ c.in-Some.is))
 
 pub returns-clause-ok : goal.returns-clause-ok
@@ -20,7 +20,7 @@ returns-clause-ok c beside contents h =
     let row = c.args.self.now in
     let task = c.args.task in
     let node = c.args.node in
-    let items = c.in_ok-items.ensures.items ∙ ap (map item_of) c.copies.ensures.copies in
+    let items = c.in_ok-items.ensures.items ∙ ap (map own_item_of) c.copies.ensures.copies in
     let ids-1 = ap (map (λ (item : OwnItem). item.id)) (c.as_slice.ensures ∙ items) ∙ ids-listed row.copies in
     let ids-3 = ap (map (λ (item : OwnItem). item.id)) (c.as_slice-3.ensures ∙ items) ∙ ids-listed row.copies in
     let ids-4 = ap (map (λ (item : OwnItem). item.id)) (c.as_slice-4.ensures ∙ items) ∙ ids-listed row.copies in
@@ -31,6 +31,6 @@ returns-clause-ok c beside contents h =
     let first = c.doom_each.ensures.told ∙ (λ i. c.in_ok-messages.ensures.items i ++ told_each (doomed_row task) (doom_posts node task) (e0 i) (ids-3 i)) in
     let posts = c.from_vec.ensures ∙ c.give_up_each.ensures.told ∙ (λ i. first i ++ told_each (given_up_row task) (give_up_posts node task) (e1 i) (ids-4 i)) in
     let erased = c.from_vec-2.ensures ∙ c.push_gone.ensures ∙ (λ i. c.in_ok-erased.ensures.items i ++ gone_keys (e2 i) (keys i)) in
-    subst (λ g. TakesStep node row beside contents (input.Call c.args.session (command.EndTask task)) g c.give_up_each.new.self (beside_after row task beside)) (sym (λ i. record { reply = reply.Ok; posts = posts i; erased = erased i }))
-    (subst (λ r. TakesStep node row beside contents (input.Call c.args.session (command.EndTask task)) (given node row beside contents c.args.session task h) r (beside_after row task beside)) (sym e2)
+    subst (λ g. RowStep node row beside contents (input.Call c.args.session (command.EndTask task)) g c.give_up_each.new.self (beside_after row task beside)) (sym (λ i. record { reply = reply.Ok; posts = posts i; erased = erased i }))
+    (subst (λ r. RowStep node row beside contents (input.Call c.args.session (command.EndTask task)) (given node row beside contents c.args.session task h) r (beside_after row task beside)) (sym e2)
     (end_task_done node row beside contents c.args.session task h c.copies.ensures.placed (sym c.end_task_check.ensures ∙ c.in_default.is)))

@@ -2,7 +2,7 @@ use Rattle.std.proofs.Common.{rules, ◌≡◌, sym, ◌∙◌}
 use Rattle.obj_id.specs.declared.refusals.Refusal.TheVariants.{NoMemory}
 use Rattle.store_facts.proofs.Tests.{true_false}
 use Rattle.node_table.proofs.Getting.{sealed_held, sealed_refused}
-use Rattle.node_table.proofs.Late.{held_due}
+use Rattle.node_table.proofs.MemoryLast.{held_due}
 use Rattle.node_table.proofs.row.JobRow.get_sealed.Goals as goal
 
 pub returns-in-Ok-Some-clause-some : goal.returns-in-Ok-Some-clause-some
@@ -15,7 +15,7 @@ returns-in-Err-2-clause-some c node beside contents mine h =
     sealed_refused node c.args.self.now beside contents c.args.session c.args.id.now mine c.requires h c.in-Err.refusal c.hold_copy.new.self
     (λ e. true_false (sym c.if-eq.false ∙ c.eq.ensures ∙ rw e)) c.in-Err.ensures.refused c.in-Err.ensures.err
 
-pub returns-in-Err-clause-late : goal.returns-in-Err-clause-late
-returns-in-Err-clause-late c node line =
+pub returns-in-Err-clause-memory_last : goal.returns-in-Err-clause-memory_last
+returns-in-Err-clause-memory_last c node line =
     let is : c.in-Err.refusal ≡ NoMemory = search rules in
     held_due node c.args.self.now line c.args.id.now c.requires c.in-Err.refusal is c.hold_copy.new.self.copies c.in-Err.ensures.refused

@@ -1,6 +1,6 @@
 use Rattle.std.proofs.Common.{List, ap, ◌∙◌}
 use Rattle.obj_id.specs.declared.ids.TaskNo.{TaskNo}
-use Rattle.private_store.specs.Kept.{is_remembered}
+use Rattle.private_store.specs.laws.Invariants.{is_remembered}
 use Rattle.node_table.specs.Row.{Row}
 use Rattle.pins_holds.proofs.ForCallers.{any_task}
 use Rattle.node_table.proofs.row.JobRow.has_ended.Goals as goal

@@ -5,15 +5,15 @@ use Rattle.obj_id.specs.declared.messages.Arrival.TheVariants as arrival
 use Rattle.obj_id.specs.declared.messages.PeerMessage.TheVariants as peer
 use Rattle.private_store.specs.declared.faults.FetchFault.TheVariants.{Damaged}
 use Rattle.private_store.specs.declared.inputs.Input.TheVariants as input
-use Rattle.private_store.specs.Tables.{at}
-use Rattle.private_store.specs.Contents.{has_digest}
+use Rattle.private_store.specs.rules.Tables.{at}
+use Rattle.private_store.specs.rules.Contents.{has_digest}
 use Rattle.store_facts.proofs.Tests.{some_value}
-use Rattle.job_region.specs.Region.{bytes_at as placed_bytes}
-use Rattle.node_table.specs.Arriving.{brought, unfetched_row}
-use Rattle.node_table.specs.Kept.{Kept}
+use Rattle.job_region.specs.Region.{region_bytes_at as placed_bytes}
+use Rattle.node_table.specs.Arriving.{after_last_chunk, unfetched_row}
+use Rattle.node_table.specs.CopyViews.{CopyView}
 use Rattle.node_table.specs.Row.{Row, place_of, ArePlaced}
 use Rattle.node_table.specs.Scope.{with_copy}
-use Rattle.node_table.specs.Shown.{only, TakesStep}
+use Rattle.node_table.specs.Shown.{only, RowStep}
 use Rattle.node_table.proofs.Gaps.{filled_at, k, e, lies, in_place, small, in_extent, last_is, damaged_done, whole_done}
 use Rattle.node_table.proofs.row.JobRow.last_chunk.Goals as goal
 
@@ -27,11 +27,11 @@ returns-then-not-has_digest-clause-ok c beside contents h =
     (small c.args.node c.args.self.now beside contents h c.args.id.now c.args.number c.args.from c.args.index c.args.bytes.now a)
     (in_extent c.args.node c.args.self.now beside contents h c.args.id.now c.args.number c.args.from c.args.index c.args.bytes.now a) in
     let same = some_value kept c.in-Some.copy.now (sym a.of.found ∙ ap (λ t. at t c.args.id.now) (sym c.copies.ensures.copies) ∙ sym c.get.ensures ∙ ap option_copied c.in-Some.is) in
-    let has = ap (λ (z : Kept). z.digest) same ∙ sym c.digest.ensures.digest ∙ c.in-Some-digest.is in
+    let has = ap (λ (z : CopyView). z.digest) same ∙ sym c.digest.ensures.digest ∙ c.in-Some-digest.is in
     let test = ap (λ (r : Row). has_digest (take kept.copy.length (placed_bytes at_e r.window.placed)) c.in-Some-digest.digest) (sym put)
     ∙ sym (c.has_digest.ensures kept at_e (ap (λ t. at t c.args.id.now) c.put_chunk.ensures.copies ∙ a.of.found) (lies c.args.node c.args.self.now beside contents h c.args.id.now c.args.number c.args.from c.args.index c.args.bytes.now a)) in
-    subst (λ g. TakesStep c.args.node c.args.self.now beside contents (input.Arrive (arrival.FromPeer c.args.from (peer.Chunk c.args.id.now c.args.number c.args.index c.args.bytes.now))) g c.fail_fetch.new.self beside) (sym c.only.ensures)
-    (subst (λ r. TakesStep c.args.node c.args.self.now beside contents (input.Arrive (arrival.FromPeer c.args.from (peer.Chunk c.args.id.now c.args.number c.args.index c.args.bytes.now))) (only reply.Ok) r beside)
+    subst (λ g. RowStep c.args.node c.args.self.now beside contents (input.Arrive (arrival.FromPeer c.args.from (peer.Chunk c.args.id.now c.args.number c.args.index c.args.bytes.now))) g c.fail_fetch.new.self beside) (sym c.only.ensures)
+    (subst (λ r. RowStep c.args.node c.args.self.now beside contents (input.Arrive (arrival.FromPeer c.args.from (peer.Chunk c.args.id.now c.args.number c.args.index c.args.bytes.now))) (only reply.Ok) r beside)
     (sym (c.fail_fetch.ensures.row ∙ ap (λ r. unfetched_row Damaged r c.args.id.now) put))
     (damaged_done c.args.node c.args.self.now beside contents h c.args.id.now c.args.number c.args.from c.args.index c.args.bytes.now a c.copies.ensures.placed
     c.requires.last c.in-Some-digest.digest has (test ∙ c.if-not-has_digest.true) (subst (λ (r : Row). ArePlaced r.window.placed (place_of r.copies)) put c.fail_fetch.ensures.placed)))
@@ -46,14 +46,14 @@ returns-clause-ok c beside contents h =
     (small c.args.node c.args.self.now beside contents h c.args.id.now c.args.number c.args.from c.args.index c.args.bytes.now a)
     (in_extent c.args.node c.args.self.now beside contents h c.args.id.now c.args.number c.args.from c.args.index c.args.bytes.now a) in
     let same = some_value kept c.in-Some.copy.now (sym a.of.found ∙ ap (λ t. at t c.args.id.now) (sym c.copies.ensures.copies) ∙ sym c.get.ensures ∙ ap option_copied c.in-Some.is) in
-    let has = ap (λ (z : Kept). z.digest) same ∙ sym c.digest.ensures.digest ∙ c.in-Some-digest.is in
+    let has = ap (λ (z : CopyView). z.digest) same ∙ sym c.digest.ensures.digest ∙ c.in-Some-digest.is in
     let test = ap (λ (r : Row). has_digest (take kept.copy.length (placed_bytes at_e r.window.placed)) c.in-Some-digest.digest) (sym put)
     ∙ sym (c.has_digest.ensures kept at_e (ap (λ t. at t c.args.id.now) c.put_chunk.ensures.copies ∙ a.of.found) (lies c.args.node c.args.self.now beside contents h c.args.id.now c.args.number c.args.from c.args.index c.args.bytes.now a)) in
-    subst (λ r. TakesStep c.args.node c.args.self.now beside contents (input.Arrive (arrival.FromPeer c.args.from (peer.Chunk c.args.id.now c.args.number c.args.index c.args.bytes.now))) (record { reply = reply.Ok; posts = c.in_ok-messages.messages; erased = [] }) r beside)
-    (sym (c.freeze_at.ensures ∙ c.apply-after.ensures.row ∙ ap (λ r. with_copy brought r c.args.id.now) put))
+    subst (λ r. RowStep c.args.node c.args.self.now beside contents (input.Arrive (arrival.FromPeer c.args.from (peer.Chunk c.args.id.now c.args.number c.args.index c.args.bytes.now))) (record { reply = reply.Ok; posts = c.in_ok-messages.messages; erased = [] }) r beside)
+    (sym (c.freeze_at.ensures ∙ c.apply-after.ensures.row ∙ ap (λ r. with_copy after_last_chunk r c.args.id.now) put))
     (whole_done c.args.node c.args.self.now beside contents h c.args.id.now c.args.number c.args.from c.args.index c.args.bytes.now a c.copies.ensures.placed
     c.requires.last c.in-Some-digest.digest has (test ∙ c.if-not-has_digest.false) (record { node = c.args.node; length = c.length.result; digest = c.in-Some-digest.digest }) c.in_ok-messages.messages
-    (ap (λ n. record { node = c.args.node; length = n; digest = c.in-Some-digest.digest }) (c.length.ensures ∙ ap (λ (z : Kept). z.copy.length) (sym same))) c.in_ok-messages.ensures)
+    (ap (λ n. record { node = c.args.node; length = n; digest = c.in-Some-digest.digest }) (c.length.ensures ∙ ap (λ (z : CopyView). z.copy.length) (sym same))) c.in_ok-messages.ensures)
 
 pub returns-then-not-has_digest-clause-verdict : goal.returns-then-not-has_digest-clause-verdict
 returns-then-not-has_digest-clause-verdict c beside contents h =
@@ -65,7 +65,7 @@ returns-then-not-has_digest-clause-verdict c beside contents h =
     (small c.args.node c.args.self.now beside contents h c.args.id.now c.args.number c.args.from c.args.index c.args.bytes.now a)
     (in_extent c.args.node c.args.self.now beside contents h c.args.id.now c.args.number c.args.from c.args.index c.args.bytes.now a) in
     let same = some_value kept c.in-Some.copy.now (sym a.of.found ∙ ap (λ t. at t c.args.id.now) (sym c.copies.ensures.copies) ∙ sym c.get.ensures ∙ ap option_copied c.in-Some.is) in
-    let has = ap (λ (z : Kept). z.digest) same ∙ sym c.digest.ensures.digest ∙ c.in-Some-digest.is in
+    let has = ap (λ (z : CopyView). z.digest) same ∙ sym c.digest.ensures.digest ∙ c.in-Some-digest.is in
     let test = ap (λ (r : Row). has_digest (take kept.copy.length (placed_bytes at_e r.window.placed)) c.in-Some-digest.digest) (sym put)
     ∙ sym (c.has_digest.ensures kept at_e (ap (λ t. at t c.args.id.now) c.put_chunk.ensures.copies ∙ a.of.found) (lies c.args.node c.args.self.now beside contents h c.args.id.now c.args.number c.args.from c.args.index c.args.bytes.now a)) in
     sym (last_is c.args.node c.args.self.now beside contents h c.args.id.now c.args.number c.args.from c.args.index c.args.bytes.now a c.copies.ensures.placed
@@ -81,7 +81,7 @@ returns-clause-verdict c beside contents h =
     (small c.args.node c.args.self.now beside contents h c.args.id.now c.args.number c.args.from c.args.index c.args.bytes.now a)
     (in_extent c.args.node c.args.self.now beside contents h c.args.id.now c.args.number c.args.from c.args.index c.args.bytes.now a) in
     let same = some_value kept c.in-Some.copy.now (sym a.of.found ∙ ap (λ t. at t c.args.id.now) (sym c.copies.ensures.copies) ∙ sym c.get.ensures ∙ ap option_copied c.in-Some.is) in
-    let has = ap (λ (z : Kept). z.digest) same ∙ sym c.digest.ensures.digest ∙ c.in-Some-digest.is in
+    let has = ap (λ (z : CopyView). z.digest) same ∙ sym c.digest.ensures.digest ∙ c.in-Some-digest.is in
     let test = ap (λ (r : Row). has_digest (take kept.copy.length (placed_bytes at_e r.window.placed)) c.in-Some-digest.digest) (sym put)
     ∙ sym (c.has_digest.ensures kept at_e (ap (λ t. at t c.args.id.now) c.put_chunk.ensures.copies ∙ a.of.found) (lies c.args.node c.args.self.now beside contents h c.args.id.now c.args.number c.args.from c.args.index c.args.bytes.now a)) in
     sym (last_is c.args.node c.args.self.now beside contents h c.args.id.now c.args.number c.args.from c.args.index c.args.bytes.now a c.copies.ensures.placed

@@ -1,6 +1,6 @@
 use Rattle.std.proofs.Common.{sym, ap, ◌∙◌}
 use Rattle.std.specs.Option.{option_and_then, option_copied}
-use Rattle.private_store.specs.Copies.{extent_of}
+use Rattle.private_store.specs.rules.Copies.{extent_of}
 use Rattle.node_table.proofs.Shared.{lent_alike}
 use Rattle.node_table.proofs.row.JobRow.lent.Goals as goal
 

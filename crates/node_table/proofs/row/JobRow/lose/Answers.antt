@@ -1,4 +1,4 @@
-use Rattle.node_table.specs.Kept.{lost}
+use Rattle.node_table.specs.CopyViews.{after_failed_restore}
 use Rattle.std.proofs.Common.{refl, sym, ap, subst, ◌∙◌}
 use Rattle.std.specs.Prelude.{option_to_list}
 use Rattle.job_region.specs.Region.{Region, without}
@@ -14,5 +14,5 @@ invariant_of-self c =
       subst (λ (w : Region). ArePlaced w.placed (place_of c.apply-after.new.self)) (sym window)
           (subst (λ t. ArePlaced (without (option_to_list (place_of c.self.inside.copies c.args.id.now)) c.self.inside.window.placed) (place_of t)) (sym c.apply-after.ensures.copies)
           (lost_placed c.self.inside.window.placed c.self.inside.copies c.self.invariant.0 c.args.id.now c.args.fault)),
-      one_changed (lost c.args.fault) c.args.id.now c.self.inside.copies c.apply-after.new.self c.apply-after.ensures.copies c.apply-after.result.standing c.apply-after.ensures.standing c.self.inside.order c.choose.new.self c.choose.ensures.standings (λ z. refl) c.self.invariant.1,
+      one_changed (after_failed_restore c.args.fault) c.args.id.now c.self.inside.copies c.apply-after.new.self c.apply-after.ensures.copies c.apply-after.result.eviction_info c.apply-after.ensures.eviction_info c.self.inside.order c.set_info.new.self c.set_info.ensures.infos (λ z. refl) c.self.invariant.1,
     )

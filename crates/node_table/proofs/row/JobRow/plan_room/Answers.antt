@@ -1,9 +1,9 @@
 use Rattle.std.proofs.Common.{◌+◌, Some, refl, sym, ap, ◌∙◌, arith}
 use Rattle.std.specs.Prelude.{nat_le}
 use Rattle.std.proofs.lemmas.Bool.Decides.{nat_tests}
-use Rattle.private_store.specs.Limits.{most_works, has_numbers}
+use Rattle.private_store.specs.rules.Limits.{most_works, has_numbers}
 use Rattle.node_table.specs.Usages.{total, device_bytes}
-use Rattle.node_table.specs.Followed.{facts_in}
+use Rattle.node_table.specs.InSync.{facts_in}
 use Rattle.store_facts.proofs.Tests.{both}
 use Rattle.job_region.specs.Region.{place_for}
 use Rattle.spill_work.specs.Line.{in_flight}

@@ -1,6 +1,6 @@
 use Rattle.std.proofs.Common.{false, sym, ap, ◌∙◌}
 use Rattle.std.specs.Option.{option_map_or}
-use Rattle.private_store.specs.Tables.{at}
+use Rattle.private_store.specs.rules.Tables.{at}
 use Rattle.node_table.specs.Serving.{was_sealed_with}
 use Rattle.node_table.proofs.Serving.{matches_is}
 use Rattle.node_table.proofs.row.JobRow.pull_matches.Goals as goal

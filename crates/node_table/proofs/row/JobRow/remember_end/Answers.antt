@@ -1,7 +1,7 @@
 use Rattle.std.proofs.Common.{sym, ap, subst, ◌∙◌}
 use Rattle.pins_holds.proofs.ForCallers.{insert_key-new}
-use Rattle.private_store.specs.Kept.{is_remembered}
-use Rattle.private_store.specs.Tables.{at}
+use Rattle.private_store.specs.laws.Invariants.{is_remembered}
+use Rattle.private_store.specs.rules.Tables.{at}
 use Rattle.node_table.specs.EndingTasks.{task_row}
 use Rattle.node_table.specs.Row.{Row, place_of, ArePlaced}
 use Rattle.node_table.proofs.EndingTasks.{ended, at-ended, ended-place, ended_placed}
@@ -12,7 +12,7 @@ pub invariant_of-self-2 : goal.invariant_of-self-2
 invariant_of-self-2 c = (
   subst (λ t. ArePlaced c.self.inside.window.placed (place_of t)) (sym c.end_hands.ensures)
       (ended_placed c.args.task c.self.inside.window.placed c.self.inside.copies c.self.invariant.0),
-  c.follow_all.ensures.standings c.self.inside.copies
+  c.sync_all.ensures.infos c.self.inside.copies
       (none_gone (ended c.args.task) c.self.inside.copies c.end_hands.new.self (λ x. ap (λ t. at t x) c.end_hands.ensures ∙ at-ended c.args.task c.self.inside.copies x))
       (all_keep (ended c.args.task) (λ x. lies_keeps (ended c.args.task x) (ended-place c.args.task x)) c.self.inside.copies c.end_hands.new.self (λ x. ap (λ t. at t x) c.end_hands.ensures ∙ at-ended c.args.task c.self.inside.copies x)) c.self.invariant.1,
 )
@@ -26,7 +26,7 @@ returns-clause-ok c =
       window = c.self.inside.window;
       device = c.self.inside.device;
       copies = c.end_hands.ensures i;
-      order = c.follow_all.ensures.ids i;
+      order = c.sync_all.ensures.ids i;
       fetches_begun = c.self.inside.fetches_begun;
       spill_failed = c.self.inside.spill_failed;
       ended_tasks = keys i;

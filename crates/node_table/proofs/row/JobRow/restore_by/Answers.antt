@@ -4,20 +4,20 @@ use Rattle.std.specs.Option.{option_map_or, option_and_then}
 use Rattle.obj_id.specs.declared.commands.Command.TheVariants as command
 use Rattle.obj_id.specs.declared.commands.CopyState.TheVariants.{Away}
 use Rattle.private_store.specs.declared.inputs.Input.TheVariants as input
-use Rattle.private_store.specs.Kept.{is_remembered}
-use Rattle.private_store.specs.Limits.{most_works, has_numbers}
-use Rattle.private_store.specs.Room.{make_room}
-use Rattle.private_store.specs.Tables.{at}
+use Rattle.private_store.specs.laws.Invariants.{is_remembered}
+use Rattle.private_store.specs.rules.Limits.{most_works, has_numbers}
+use Rattle.private_store.specs.rules.Room.{make_room}
+use Rattle.private_store.specs.rules.Tables.{at}
 use Rattle.store_facts.proofs.Tests.{some_value}
-use Rattle.spill_work.specs.Line.{in_flight, same_job, used_by}
+use Rattle.spill_work.specs.Line.{in_flight, same_work_job, used_by}
 use Rattle.node_table.specs.Checks.{visible_state, fault_at}
 use Rattle.node_table.specs.Evicting.{IsPlacement, MayGo}
-use Rattle.node_table.specs.Kept.{Kept, waits_for_place}
-use Rattle.node_table.specs.MadeRooms.{IsMade, TellsRoom, WaitsForPlace, is_told}
-use Rattle.node_table.specs.Outcomes.{given_of}
+use Rattle.node_table.specs.CopyViews.{CopyView, waits_for_place}
+use Rattle.node_table.specs.MadeRooms.{IsRoomMade, TellsRoom, WaitsForPlace, tells_refusal}
+use Rattle.node_table.specs.Outcomes.{row_given_of}
 use Rattle.node_table.specs.RoomPlans.{MakesPlace}
 use Rattle.node_table.specs.Row.{Row, beside_of, shape_of}
-use Rattle.node_table.specs.Shown.{IsShown, TakesStep}
+use Rattle.node_table.specs.Shown.{IsShown, RowStep}
 use Rattle.node_table.proofs.Getting.{each_ok, always_err, some_at}
 use Rattle.node_table.proofs.Growing.{placed_unrefused}
 use Rattle.node_table.proofs.Pulling.{waiting, quiet_get}
@@ -42,12 +42,12 @@ restore_in_place-requires-clause-idle c =
 pub restore_in_place-requires-clause-numbered : goal.restore_in_place-requires-clause-numbered
 restore_in_place-requires-clause-numbered c =
     let kept = subst (λ m. WaitsForPlace m c.args.self.now c.args.works.now c.args.len c.room_by.new.self c.room_by.new.works) c.in-Place.is c.in_ok-placement.ensures.place in
-    ap (λ w. has_numbers (used_by w c.args.job) 1) kept.1 ∙ c.requires.numbered (c.in_ok-placement.ensures.made (ap is_told c.in-Place.is))
+    ap (λ w. has_numbers (used_by w c.args.job) 1) kept.1 ∙ c.requires.numbered (c.in_ok-placement.ensures.made (ap tells_refusal c.in-Place.is))
 
 pub restore_in_place-requires-clause-fresh : goal.restore_in_place-requires-clause-fresh
 restore_in_place-requires-clause-fresh c =
     let kept = subst (λ m. WaitsForPlace m c.args.self.now c.args.works.now c.args.len c.room_by.new.self c.room_by.new.works) c.in-Place.is c.in_ok-placement.ensures.place in
-    subst (λ w. used_by w c.args.job ≡ 0 → lookup (same_job c.args.job) w.used ≡ None) (sym kept.1) c.requires.fresh
+    subst (λ w. used_by w c.args.job ≡ 0 → lookup (same_work_job c.args.job) w.used ≡ None) (sym kept.1) c.requires.fresh
 
 pub restore_in_place-requires-clause-waits : goal.restore_in_place-requires-clause-waits
 restore_in_place-requires-clause-waits c =
@@ -62,35 +62,35 @@ restore_in_place-requires-clause-may_go c =
 pub returns-in-Place-clause-ok : goal.returns-in-Place-clause-ok
 returns-in-Place-clause-ok c = each_ok c.restore_in_place.result (λ o told session hands bytes contents own mine alive h is_plan.
     let kept = subst (λ m. WaitsForPlace m c.args.self.now c.args.works.now c.args.len c.room_by.new.self c.room_by.new.works) c.in-Place.is c.in_ok-placement.ensures.place in
-    let makes = subst (λ m. IsMade m c.args.self.now (beside_of c.args.works.now hands bytes c.args.self.now.job) contents c.args.len c.room_by.new.self (beside_of c.room_by.new.works hands bytes c.args.self.now.job)) c.in-Place.is (c.in_ok-placement.ensures.ok hands bytes contents own h is_plan) in
+    let makes = subst (λ m. IsRoomMade m c.args.self.now (beside_of c.args.works.now hands bytes c.args.self.now.job) contents c.args.len c.room_by.new.self (beside_of c.room_by.new.works hands bytes c.args.self.now.job)) c.in-Place.is (c.in_ok-placement.ensures.ok hands bytes contents own h is_plan) in
     subst (λ w. c.args.job ≡ record { 0 = c.args.self.now.job } → (c.args.id.now.job.0 == c.args.self.now.job) ≡ true → is_remembered c.args.self.now.ended_tasks c.args.id.now.task ≡ false → IsShown c.args.self.now (beside_of w hands bytes c.args.self.now.job) contents
     → MakesPlace (make_room c.args.self.now.order (shape_of c.args.self.now (beside_of w hands bytes c.args.self.now.job)) c.args.len) (shape_of c.args.self.now (beside_of w hands bytes c.args.self.now.job)) c.args.len c.in-Place.placement.victims
-    → TakesStep c.args.node c.args.self.now (beside_of w hands bytes c.args.self.now.job) contents (input.Call session (command.Get c.args.id.now)) (given_of o) c.restore_in_place.new.self (beside_of c.restore_in_place.new.works hands bytes c.args.self.now.job)) kept.1
+    → RowStep c.args.node c.args.self.now (beside_of w hands bytes c.args.self.now.job) contents (input.Call session (command.Get c.args.id.now)) (row_given_of o) c.restore_in_place.new.self (beside_of c.restore_in_place.new.works hands bytes c.args.self.now.job)) kept.1
     (subst (λ r. c.args.job ≡ record { 0 = r.job } → (c.args.id.now.job.0 == r.job) ≡ true → is_remembered r.ended_tasks c.args.id.now.task ≡ false → IsShown r (beside_of c.room_by.new.works hands bytes r.job) contents
     → MakesPlace (make_room r.order (shape_of r (beside_of c.room_by.new.works hands bytes r.job)) c.args.len) (shape_of r (beside_of c.room_by.new.works hands bytes r.job)) c.args.len c.in-Place.placement.victims
-    → TakesStep c.args.node r (beside_of c.room_by.new.works hands bytes r.job) contents (input.Call session (command.Get c.args.id.now)) (given_of o) c.restore_in_place.new.self (beside_of c.restore_in_place.new.works hands bytes r.job)) kept.0 (told session hands bytes contents)) own mine alive h
+    → RowStep c.args.node r (beside_of c.room_by.new.works hands bytes r.job) contents (input.Call session (command.Get c.args.id.now)) (row_given_of o) c.restore_in_place.new.self (beside_of c.restore_in_place.new.works hands bytes r.job)) kept.0 (told session hands bytes contents)) own mine alive h
     makes) c.restore_in_place.ensures.ok
 
 pub returns-in-Told-clause-ok : goal.returns-in-Told-clause-ok
 returns-in-Told-clause-ok c =
     let v = some_at c.args.self.now.copies c.args.id.now Away c.requires.visible in
     let w = waiting c.args.self.now.copies c.args.id.now c.args.len c.requires.waits in
-    let long : c.args.len ≡ v.k.copy.length = sym w.long ∙ ap (λ (y : Kept). y.copy.length) (some_value w.k v.k (sym w.found ∙ v.found)) in
-    let sound = sym (ap (option_and_then (λ (k : Kept). k.copy.fault)) v.found) ∙ c.requires.sound in
-    each_ok c.told.result (λ o said session hands bytes contents own mine alive h is_plan.
-    let made = subst (λ m. IsMade m c.args.self.now (beside_of c.args.works.now hands bytes c.args.self.now.job) contents c.args.len c.room_by.new.self (beside_of c.room_by.new.works hands bytes c.args.self.now.job)) c.in-Told.is (c.in_ok-placement.ensures.ok hands bytes contents own h is_plan) in
+    let long : c.args.len ≡ v.k.copy.length = sym w.long ∙ ap (λ (y : CopyView). y.copy.length) (some_value w.k v.k (sym w.found ∙ v.found)) in
+    let sound = sym (ap (option_and_then (λ (k : CopyView). k.copy.fault)) v.found) ∙ c.requires.sound in
+    each_ok c.refuse.result (λ o said session hands bytes contents own mine alive h is_plan.
+    let made = subst (λ m. IsRoomMade m c.args.self.now (beside_of c.args.works.now hands bytes c.args.self.now.job) contents c.args.len c.room_by.new.self (beside_of c.room_by.new.works hands bytes c.args.self.now.job)) c.in-Told.is (c.in_ok-placement.ensures.ok hands bytes contents own h is_plan) in
     let tells = subst (λ n. TellsRoom c.args.self.now (beside_of c.args.works.now hands bytes c.args.self.now.job) contents n c.in-Told.refusal c.room_by.new.self (beside_of c.room_by.new.works hands bytes c.args.self.now.job)) long made in
-    subst (λ t. TakesStep c.args.node c.args.self.now (beside_of c.args.works.now hands bytes c.args.self.now.job) contents (input.Call session (command.Get c.args.id.now)) t c.room_by.new.self (beside_of c.room_by.new.works hands bytes c.args.self.now.job)) (sym said)
+    subst (λ t. RowStep c.args.node c.args.self.now (beside_of c.args.works.now hands bytes c.args.self.now.job) contents (input.Call session (command.Get c.args.id.now)) t c.room_by.new.self (beside_of c.room_by.new.works hands bytes c.args.self.now.job)) (sym said)
     (tells.tells c.args.node (input.Call session (command.Get c.args.id.now)) (f c.args.node c.args.self.now (beside_of c.args.works.now hands bytes c.args.self.now.job) contents session c.args.id.now mine alive h v.k v.found v.stays v.is sound)
     (quiet_get c.args.node c.args.self.now (beside_of c.args.works.now hands bytes c.args.self.now.job) contents session c.args.id.now)
     (by_no_room c.args.node c.args.self.now (beside_of c.args.works.now hands bytes c.args.self.now.job) contents session c.args.id.now mine alive h v.k v.found v.stays v.is sound
-    (few_works c.args.works.now c.args.job c.args.self.now.job own c.requires.idle)))) c.told.ensures.ok
+    (few_works c.args.works.now c.args.job c.args.self.now.job own c.requires.idle)))) c.refuse.ensures.ok
 
-pub returns-in_err-placement-clause-late : goal.returns-in_err-placement-clause-late
-returns-in_err-placement-clause-late c = always_err c.from_residual.result c.in_err-placement.ensures.late
+pub returns-in_err-placement-clause-memory_last : goal.returns-in_err-placement-clause-memory_last
+returns-in_err-placement-clause-memory_last c = always_err c.from_residual.result c.in_err-placement.ensures.memory_last
 
-pub returns-in-Place-clause-late : goal.returns-in-Place-clause-late
-returns-in-Place-clause-late c = always_err c.restore_in_place.result (placed_unrefused c.args.plan (c.in_ok-placement.ensures.made (ap is_told c.in-Place.is)))
+pub returns-in-Place-clause-memory_last : goal.returns-in-Place-clause-memory_last
+returns-in-Place-clause-memory_last c = always_err c.restore_in_place.result (placed_unrefused c.args.plan (c.in_ok-placement.ensures.made (ap tells_refusal c.in-Place.is)))
 
 pub room_by-requires-clause-asks : goal.room_by-requires-clause-asks
 room_by-requires-clause-asks c = c.requires.asks

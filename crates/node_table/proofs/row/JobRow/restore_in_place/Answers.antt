@@ -7,17 +7,17 @@ use Rattle.obj_id.specs.declared.refusals.Refusal.TheVariants.{Pending}
 use Rattle.obj_id.specs.declared.works.WorkKind.TheVariants.{Read}
 use Rattle.job_region.specs.Region.{Region, extents_of}
 use Rattle.private_store.specs.declared.inputs.Input.TheVariants as input
-use Rattle.private_store.specs.Extents.{first, is_size}
-use Rattle.private_store.specs.Limits.{longest_object, has_numbers}
-use Rattle.private_store.specs.Private.{Post}
-use Rattle.private_store.specs.Room.{make_room}
+use Rattle.private_store.specs.rules.Extents.{first, is_size}
+use Rattle.private_store.specs.rules.Limits.{longest_object, has_numbers}
+use Rattle.private_store.specs.rules.Private.{Post}
+use Rattle.private_store.specs.rules.Room.{make_room}
 use Rattle.store_facts.proofs.Tests.{some_value, true_false}
-use Rattle.spill_work.specs.Line.{Asks, used_by}
+use Rattle.spill_work.specs.Line.{AsksWork, used_by}
 use Rattle.node_table.specs.Evicting.{IsReplaced, placed_without, replaced, removals}
-use Rattle.node_table.specs.Kept.{Kept, restoring}
+use Rattle.node_table.specs.CopyViews.{CopyView, after_restore_begun}
 use Rattle.node_table.specs.RoomPlans.{MakesPlace}
-use Rattle.node_table.specs.Row.{Beside, beside_of, shape_of}
-use Rattle.node_table.specs.Shown.{Given, TakesStep}
+use Rattle.node_table.specs.Row.{SharedTables, beside_of, shape_of}
+use Rattle.node_table.specs.Shown.{RowGiven, RowStep}
 use Rattle.node_table.proofs.Evicting.{length-removals}
 use Rattle.node_table.proofs.Getting.{each_ok, some_at}
 use Rattle.node_table.proofs.Pulling.{some_bytes, waiting, unsealed_visible}
@@ -28,19 +28,19 @@ use Rattle.node_table.proofs.row.JobRow.restore_in_place.Goals as goal
 pub returns-in-Ok-clause-ok : goal.returns-in-Ok-clause-ok
 returns-in-Ok-clause-ok c session hands bytes contents own mine alive h makes =
     let v = some_at c.args.self.now.copies c.args.id.now Away c.requires.visible in
-    let sound = sym (ap (option_and_then (λ (k : Kept). k.copy.fault)) v.found) ∙ c.requires.sound in
+    let sound = sym (ap (option_and_then (λ (k : CopyView). k.copy.fault)) v.found) ∙ c.requires.sound in
     let w = waiting c.args.self.now.copies c.args.id.now c.args.len c.requires.waits in
-    let long : c.args.len ≡ v.k.copy.length = sym w.long ∙ ap (λ (y : Kept). y.copy.length) (some_value w.k v.k (sym w.found ∙ v.found)) in
-    let beside : Beside = beside_of c.args.works.now hands bytes c.args.self.now.job in
+    let long : c.args.len ≡ v.k.copy.length = sym w.long ∙ ap (λ (y : CopyView). y.copy.length) (some_value w.k v.k (sym w.found ∙ v.found)) in
+    let beside : SharedTables = beside_of c.args.works.now hands bytes c.args.self.now.job in
     let e = c.in-Ok.field-0 in
-    let r : IsReplaced c.args.self.now None c.args.id.now (λ offset. restoring offset v.k) c.args.len c.args.placement.now.victims e c.place_copy.new.self =
+    let r : IsReplaced c.args.self.now None c.args.id.now (λ offset. after_restore_begun offset v.k) c.args.len c.args.placement.now.victims e c.place_copy.new.self =
     c.in-Ok.ensures.ok v.k v.found in
-    let asks = subst (λ j. Asks c.args.works.now (record { job = j; number = c.in_ok-number.number; id = c.args.id.now; kind = Read }) c.ask_read.new.works) own c.in_ok-number.ensures.ok in
-    subst (λ g. TakesStep c.args.node c.args.self.now beside contents (input.Call session (command.Get c.args.id.now)) g c.place_copy.new.self (beside_of c.ask_read.new.works hands bytes c.args.self.now.job)) (sym c.pending.ensures)
-    (subst (λ b. TakesStep c.args.node c.args.self.now beside contents (input.Call session (command.Get c.args.id.now)) (record { reply = reply.Refused Pending; posts = c.in_ok-messages.messages; erased = [] }) c.place_copy.new.self b) (sym (asked_beside c.args.works.now c.ask_read.new.works c.args.self.now.job c.in_ok-number.number c.args.id.now hands bytes asks))
-    (subst (λ row. TakesStep c.args.node c.args.self.now beside contents (input.Call session (command.Get c.args.id.now)) (record { reply = reply.Refused Pending; posts = c.in_ok-messages.messages; erased = [] }) row
-    (record beside { works = beside.works ++ record { number = beside.used + 1; id = c.args.id.now; writes = false } ∷ []; used = beside.used + 1 })) (sym (r.row ∙ ap (λ n. replaced c.args.self.now None c.args.id.now (restoring e.offset v.k) n e.offset c.args.placement.now.victims) long))
-    (subst (λ (ps : List Post). TakesStep c.args.node c.args.self.now beside contents (input.Call session (command.Get c.args.id.now)) (record { reply = reply.Refused Pending; posts = ps; erased = [] }) (replaced c.args.self.now None c.args.id.now (restoring e.offset v.k) v.k.copy.length e.offset c.args.placement.now.victims)
+    let asks = subst (λ j. AsksWork c.args.works.now (record { job = j; number = c.in_ok-number.number; id = c.args.id.now; kind = Read }) c.ask_read.new.works) own c.in_ok-number.ensures.ok in
+    subst (λ g. RowStep c.args.node c.args.self.now beside contents (input.Call session (command.Get c.args.id.now)) g c.place_copy.new.self (beside_of c.ask_read.new.works hands bytes c.args.self.now.job)) (sym c.pending.ensures)
+    (subst (λ b. RowStep c.args.node c.args.self.now beside contents (input.Call session (command.Get c.args.id.now)) (record { reply = reply.Refused Pending; posts = c.in_ok-messages.messages; erased = [] }) c.place_copy.new.self b) (sym (asked_beside c.args.works.now c.ask_read.new.works c.args.self.now.job c.in_ok-number.number c.args.id.now hands bytes asks))
+    (subst (λ row. RowStep c.args.node c.args.self.now beside contents (input.Call session (command.Get c.args.id.now)) (record { reply = reply.Refused Pending; posts = c.in_ok-messages.messages; erased = [] }) row
+    (record beside { works = beside.works ++ record { number = beside.used + 1; id = c.args.id.now; writes = false } ∷ []; used = beside.used + 1 })) (sym (r.row ∙ ap (λ n. replaced c.args.self.now None c.args.id.now (after_restore_begun e.offset v.k) n e.offset c.args.placement.now.victims) long))
+    (subst (λ (ps : List Post). RowStep c.args.node c.args.self.now beside contents (input.Call session (command.Get c.args.id.now)) (record { reply = reply.Refused Pending; posts = ps; erased = [] }) (replaced c.args.self.now None c.args.id.now (after_restore_begun e.offset v.k) v.k.copy.length e.offset c.args.placement.now.victims)
     (record beside { works = beside.works ++ record { number = beside.used + 1; id = c.args.id.now; writes = false } ∷ []; used = beside.used + 1 })) (sym (c.in_ok-messages.ensures ∙ (λ j. removals c.args.node (c.copies.ensures.copies j) (c.as_slice-victims.ensures j))))
     (restore_done c.args.node c.args.self.now beside contents session c.args.id.now mine alive h v.k v.found v.stays v.is sound (few_works c.args.works.now c.args.job c.args.self.now.job own c.requires.idle)
     c.args.placement.now.victims (subst (λ n. MakesPlace (make_room c.args.self.now.order (shape_of c.args.self.now beside) n) (shape_of c.args.self.now beside) n c.args.placement.now.victims) long makes)
@@ -48,13 +48,13 @@ returns-in-Ok-clause-ok c session hands bytes contents own mine alive h makes =
     (stays_of c.args.self.now.copies c.args.placement.now.victims c.args.id.now c.requires.may_go (unsealed_visible c.args.self.now.copies c.args.id.now Away refl c.requires.visible)) e.offset
     (ap (λ n. first (extents_of (placed_without c.args.self.now c.args.placement.now.victims)) c.args.self.now.window.quota n) (sym long) ∙ r.least) r.fresh))))
 
-pub returns-in-Ok-clause-few : goal.returns-in-Ok-clause-few
-returns-in-Ok-clause-few c =
+pub returns-in-Ok-clause-bounded : goal.returns-in-Ok-clause-bounded
+returns-in-Ok-clause-bounded c =
     let few = c.requires.may_go.few in
     let sent = length-removals c.args.node c.copies.result.now c.as_slice-victims.result.now in
     let same = ap length c.as_slice-victims.ensures in
     let told = ap length c.in_ok-messages.ensures in
-    let all = ap (λ (g : Given). length g.posts) c.pending.ensures in
+    let all = ap (λ (g : RowGiven). length g.posts) c.pending.ensures in
     omega (arith, few, sent, same, told, all)
 
 pub returns-in-Ok-clause-line : goal.returns-in-Ok-clause-line
@@ -64,13 +64,13 @@ pub returns-then-not-may_have-clause-ok : goal.returns-then-not-may_have-clause-
 returns-then-not-may_have-clause-ok c =
     let v = some_at c.args.self.now.copies c.args.id.now Away c.requires.visible in
     let w = waiting c.args.self.now.copies c.args.id.now c.args.len c.requires.waits in
-    let long : c.args.len ≡ v.k.copy.length = sym w.long ∙ ap (λ (y : Kept). y.copy.length) (some_value w.k v.k (sym w.found ∙ v.found)) in
-    each_ok c.told.result (λ o said session hands bytes contents own mine alive h makes.
-    let beside : Beside = beside_of c.args.works.now hands bytes c.args.self.now.job in
+    let long : c.args.len ≡ v.k.copy.length = sym w.long ∙ ap (λ (y : CopyView). y.copy.length) (some_value w.k v.k (sym w.found ∙ v.found)) in
+    each_ok c.refuse.result (λ o said session hands bytes contents own mine alive h makes.
+    let beside : SharedTables = beside_of c.args.works.now hands bytes c.args.self.now.job in
     let sized = sized_away c.args.self.now beside contents h c.args.id.now v.k v.found v.is in
     let fine = size_there c.args.self.now beside contents h c.args.len c.args.placement.now.victims makes c.copies.ensures.placed (subst (λ n. 0 < n) (sym long) sized.0) (subst (λ n. n ≤ longest_object) (sym long) sized.1) in
     let may = c.may_have.ensures ∙ ap (λ (w : Region). is_size w.quota c.args.len) c.window.ensures ∙ fine in
-    true_false (sym c.if-not-may_have.true ∙ may)) c.told.ensures.ok
+    true_false (sym c.if-not-may_have.true ∙ may)) c.refuse.ensures.ok
 
 pub place_copy-requires-clause-some : goal.place_copy-requires-clause-some
 place_copy-requires-clause-some c = some_bytes c.args.self.now.window.quota c.args.len (sym (c.may_have.ensures ∙ ap (λ (w : Region). is_size w.quota c.args.len) c.window.ensures) ∙ c.if-not-may_have.false)

@@ -4,9 +4,9 @@ use Rattle.obj_id.specs.declared.messages.PeerMessage.TheVariants as peer
 use Rattle.obj_id.specs.declared.commands.Reply.TheVariants as reply
 use Rattle.private_store.specs.declared.inputs.Input.TheVariants as input
 use Rattle.node_table.specs.Asked.{HasAsked}
-use Rattle.node_table.specs.Outcomes.{given_of}
+use Rattle.node_table.specs.Outcomes.{row_given_of}
 use Rattle.node_table.specs.Row.{beside_of}
-use Rattle.node_table.specs.Shown.{TakesStep}
+use Rattle.node_table.specs.Shown.{RowStep}
 use Rattle.node_table.proofs.Serving.{own_restored, alive_restored, restored_done}
 use Rattle.node_table.proofs.row.JobRow.restore_quietly.Goals as goal
 
@@ -16,9 +16,9 @@ returns-clause-ok c from number n digest indexes hands bytes contents e h =
     let beside = beside_of c.args.works.now hands bytes old.job in
     let after = beside_of c.restore.new.works hands bytes old.job in
     let x = input.Arrive (arrival.FromPeer from (peer.Pull c.args.id.now number n digest indexes)) in
-    let told = given_of c.in_ok-outcome.outcome in
-    subst (λ g. TakesStep c.args.node old beside contents x g c.put_spill_failed.new.self after) (sym c.answered.ensures)
-    (subst (λ row. TakesStep c.args.node old beside contents x (record { reply = reply.Ok; posts = told.posts; erased = [] }) row after)
+    let told = row_given_of c.in_ok-outcome.outcome in
+    subst (λ g. RowStep c.args.node old beside contents x g c.put_spill_failed.new.self after) (sym c.answered.ensures)
+    (subst (λ row. RowStep c.args.node old beside contents x (record { reply = reply.Ok; posts = told.posts; erased = [] }) row after)
     (sym (c.put_spill_failed.ensures ∙ ap (λ b. record c.restore.new.self { spill_failed = b }) c.spill_failed-spill_failed.ensures))
     (restored_done c.args.node old beside contents h from c.args.id.now number n digest indexes e 0 told c.restore.new.self after
     (c.in_ok-outcome.ensures.ok 0 hands bytes contents c.job-job.ensures (own_restored c.args.node old beside contents h from c.args.id.now number n digest indexes e)

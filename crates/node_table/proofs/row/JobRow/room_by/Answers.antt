@@ -1,6 +1,6 @@
 use Rattle.std.proofs.Common.{◌≤◌, List, length, refl, sym, subst, ◌∙◌, arith}
 use Rattle.obj_id.specs.declared.ids.ObjectId.{ObjectId}
-use Rattle.private_store.specs.Room.{make_room}
+use Rattle.private_store.specs.rules.Room.{make_room}
 use Rattle.node_table.specs.Evicting.{MayGo}
 use Rattle.node_table.specs.Row.{beside_of, shape_of}
 use Rattle.node_table.specs.RoomPlans.{MakesPlace, AsksWrites}
@@ -61,5 +61,5 @@ returns-in-Refuse-clause-ok c hands bytes contents own h is =
 
 pub ask_writes-requires : goal.ask_writes-requires
 ask_writes-requires c =
-    may_ask_fewer c.args.works.now c.args.job c.in-Ask.count (length c.as_slice.result.now) (subst (λ (ids : List ObjectId). length ids ≤ c.in-Ask.count) (sym c.as_slice.ensures) c.in_ok-ids-in-Ask.ensures.few)
+    may_ask_fewer c.args.works.now c.args.job c.in-Ask.count (length c.as_slice.result.now) (subst (λ (ids : List ObjectId). length ids ≤ c.in-Ask.count) (sym c.as_slice.ensures) c.in_ok-ids-in-Ask.ensures.bounded)
     (c.requires.asks c.in-Ask.count c.in-Ask.is)

@@ -1,6 +1,6 @@
 use Rattle.std.proofs.Common.{◌≡◌, sym, ap, subst, ◌∙◌}
 use Rattle.job_region.specs.Region.{place_for}
-use Rattle.node_table.specs.MadeRooms.{IsMade, WaitsForPlace}
+use Rattle.node_table.specs.MadeRooms.{IsRoomMade, WaitsForPlace}
 use Rattle.node_table.specs.RoomPlans.{planned_by, refuses}
 use Rattle.node_table.specs.Row.{Row, beside_of, shape_of}
 use Rattle.node_table.specs.Shown.{IsShown}
@@ -12,7 +12,7 @@ pub returns-clause-ok : goal.returns-clause-ok
 returns-clause-ok c = each_ok c.room_by.result (λ made told hands bytes contents own h.
     subst (λ (r : Row). c.args.job ≡ record { 0 = r.job } → IsShown r (beside_of c.args.works.now hands bytes r.job) contents
     → c.plan_room-plan.result ≡ planned_by r.order (shape_of r (beside_of c.args.works.now hands bytes r.job)) c.args.len
-    → IsMade made r (beside_of c.args.works.now hands bytes r.job) contents c.args.len c.room_by.new.self (beside_of c.room_by.new.works hands bytes r.job)) c.plan_room-plan.ensures.same
+    → IsRoomMade made r (beside_of c.args.works.now hands bytes r.job) contents c.args.len c.room_by.new.self (beside_of c.room_by.new.works hands bytes r.job)) c.plan_room-plan.ensures.same
     (told hands bytes contents) own h (c.plan_room-plan.ensures.plan hands bytes contents own h)) c.room_by.ensures.ok
 
 pub returns-clause-place : goal.returns-clause-place
@@ -23,8 +23,8 @@ pub returns-clause-made : goal.returns-clause-made
 returns-clause-made c = each_ok c.room_by.result (λ made makes untold own hands bytes contents h.
     ap refuses (sym (c.plan_room-plan.ensures.plan hands bytes contents own h)) ∙ placed_unrefused c.plan_room-plan.result (makes untold)) c.room_by.ensures.made
 
-pub returns-clause-late : goal.returns-clause-late
-returns-clause-late c = each_err c.room_by.result (λ may own hands bytes contents h. ap refuses (sym (c.plan_room-plan.ensures.plan hands bytes contents own h)) ∙ may) c.room_by.ensures.late
+pub returns-clause-memory_last : goal.returns-clause-memory_last
+returns-clause-memory_last c = each_err c.room_by.result (λ may own hands bytes contents h. ap refuses (sym (c.plan_room-plan.ensures.plan hands bytes contents own h)) ∙ may) c.room_by.ensures.memory_last
 
 pub returns-clause-err : goal.returns-clause-err
 returns-clause-err c = each_err c.room_by.result (λ same. same ∙ c.plan_room-plan.ensures.same) c.room_by.ensures.err

@@ -2,13 +2,13 @@ use Rattle.std.proofs.Common.{[], refl, sym, subst, ◌∙◌}
 use Rattle.obj_id.specs.declared.commands.Command.TheVariants as command
 use Rattle.obj_id.specs.declared.commands.Reply.TheVariants as reply
 use Rattle.private_store.specs.declared.inputs.Input.TheVariants as input
-use Rattle.node_table.specs.Shown.{TakesStep}
+use Rattle.node_table.specs.Shown.{RowStep}
 use Rattle.node_table.proofs.Sealing.{seal_refused, seal_done_so, seal_digest}
 use Rattle.node_table.proofs.row.JobRow.seal.Goals as goal
 
 pub returns-in-Err-clause-ok : goal.returns-in-Err-clause-ok
 returns-in-Err-clause-ok c beside contents mine h =
-    subst (λ told. TakesStep c.args.node c.args.self.now beside contents (input.Call c.args.session (command.Seal c.args.id.now)) told c.args.self.now beside) (sym c.only.ensures)
+    subst (λ told. RowStep c.args.node c.args.self.now beside contents (input.Call c.args.session (command.Seal c.args.id.now)) told c.args.self.now beside) (sym c.only.ensures)
     (seal_refused c.args.node c.args.self.now beside contents c.args.session c.args.id.now mine h c.in-Err.refusal c.in-Err.ensures.refused)
 
 pub returns-clause-ok : goal.returns-clause-ok
@@ -16,7 +16,7 @@ returns-clause-ok c beside contents mine h =
     let passed = c.in-Ok.ensures.passed refl in
     let entry = c.in-Ok.entry in
     let digest = seal_digest c.args.node c.args.self.now beside contents c.args.session c.args.id.now mine h passed entry.digest entry.digest refl c.in-Ok.ensures.digest in
-    subst (λ r. TakesStep c.args.node c.args.self.now beside contents (input.Call c.args.session (command.Seal c.args.id.now)) (record { reply = reply.Ok; posts = c.in_ok-messages.messages; erased = [] }) r beside) (sym (c.freeze_at.ensures ∙ c.apply-after.ensures.row))
+    subst (λ r. RowStep c.args.node c.args.self.now beside contents (input.Call c.args.session (command.Seal c.args.id.now)) (record { reply = reply.Ok; posts = c.in_ok-messages.messages; erased = [] }) r beside) (sym (c.freeze_at.ensures ∙ c.apply-after.ensures.row))
     (seal_done_so c.args.node c.args.self.now beside contents c.args.session c.args.id.now mine h passed entry.digest digest c.in_ok-messages.messages entry c.in-Ok.ensures.node c.in-Ok.ensures.length refl c.in_ok-messages.ensures)
 
 pub freeze_at-requires : goal.freeze_at-requires

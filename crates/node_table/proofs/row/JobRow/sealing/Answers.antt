@@ -2,30 +2,30 @@ use Rattle.std.proofs.Common.{◌≡◌, Option, Some, None, take, sym, ap, subs
 use Rattle.std.specs.Option.{option_copied, option_and_then}
 use Rattle.obj_id.specs.declared.refusals.Refusal.{Refusal}
 use Rattle.obj_id.specs.declared.refusals.Refusal.TheVariants.{Absent}
-use Rattle.private_store.specs.Contents.{digest_of}
-use Rattle.private_store.specs.Copies.{extent_of}
-use Rattle.private_store.specs.Tables.{at}
+use Rattle.private_store.specs.rules.Contents.{digest_of}
+use Rattle.private_store.specs.rules.Copies.{extent_of}
+use Rattle.private_store.specs.rules.Tables.{at}
 use Rattle.store_facts.proofs.Tests.{some_value}
-use Rattle.job_region.specs.Region.{bytes_at as placed_bytes}
+use Rattle.job_region.specs.Region.{region_bytes_at as placed_bytes}
 use Rattle.node_table.specs.Checks.{seal_check_of}
-use Rattle.node_table.specs.Kept.{Kept}
+use Rattle.node_table.specs.CopyViews.{CopyView}
 use Rattle.node_table.proofs.row.JobRow.sealing.Goals as goal
 
-abbrev check : Option Kept → Option Refusal
+abbrev check : Option CopyView → Option Refusal
 check o = elim o [ None ↦ Some Absent | Some k ↦ seal_check_of k ]
 
 pub digest-requires : goal.digest-requires
 digest-requires c e lies =
     c.copies.ensures.placed.there c.args.id.now e
-    (ap (option_and_then (λ (k : Kept). extent_of k.copy)) (ap (λ t. at t c.args.id.now) (sym c.copies.ensures.copies) ∙ sym c.get.ensures ∙ ap option_copied c.in-Some.is) ∙ lies)
+    (ap (option_and_then (λ (k : CopyView). extent_of k.copy)) (ap (λ t. at t c.args.id.now) (sym c.copies.ensures.copies) ∙ sym c.get.ensures ∙ ap option_copied c.in-Some.is) ∙ lies)
 
 pub returns-clause-length : goal.returns-clause-length
 returns-clause-length c k here =
     let same = some_value k c.in-Some.copy.now (sym here ∙ ap (λ t. at t c.args.id.now) (sym c.copies.ensures.copies) ∙ sym c.get.ensures ∙ ap option_copied c.in-Some.is) in
-    c.length.ensures ∙ ap (λ (z : Kept). z.copy.length) (sym same)
+    c.length.ensures ∙ ap (λ (z : CopyView). z.copy.length) (sym same)
 
 pub returns-clause-digest : goal.returns-clause-digest
 returns-clause-digest c k e here lies =
     let same = some_value k c.in-Some.copy.now (sym here ∙ ap (λ t. at t c.args.id.now) (sym c.copies.ensures.copies) ∙ sym c.get.ensures ∙ ap option_copied c.in-Some.is) in
-    subst (λ (z : Kept). c.digest.result ≡ digest_of (take z.copy.length (placed_bytes e c.args.self.now.window.placed))) (sym same)
-    (c.digest.ensures e (ap (λ (z : Kept). extent_of z.copy) (sym same) ∙ lies))
+    subst (λ (z : CopyView). c.digest.result ≡ digest_of (take z.copy.length (placed_bytes e c.args.self.now.window.placed))) (sym same)
+    (c.digest.ensures e (ap (λ (z : CopyView). extent_of z.copy) (sym same) ∙ lies))

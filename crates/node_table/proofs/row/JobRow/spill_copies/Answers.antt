@@ -1,6 +1,6 @@
 use Rattle.std.proofs.Common.{[], ap}
-use Rattle.private_store.specs.Copies.{extent_of}
-use Rattle.node_table.specs.Kept.{spilling_if}
+use Rattle.private_store.specs.rules.Copies.{extent_of}
+use Rattle.node_table.specs.CopyViews.{spill_begun_if}
 use Rattle.node_table.proofs.Asking.{same_copy}
 use Rattle.node_table.proofs.Places.{each_placed}
 use Rattle.node_table.proofs.FollowsCopies.{each_but, each_keep}
@@ -8,7 +8,7 @@ use Rattle.node_table.proofs.row.JobRow.spill_copies.Goals as goal
 
 pub invariant_of-self : goal.invariant_of-self
 invariant_of-self c = (
-  each_placed c.self.inside.window.placed c.self.inside.copies c.self.invariant.0 spilling_if (λ z. ap extent_of (same_copy z)) c.args.ids.now c.begin_spills.new.self c.begin_spills.ensures,
-  c.follow_each.ensures.standings [] c.self.inside.copies (each_but spilling_if c.args.ids.now c.self.inside.copies c.begin_spills.new.self c.begin_spills.ensures)
-      (each_keep spilling_if (λ z. ap extent_of (same_copy z)) c.args.ids.now c.self.inside.copies c.begin_spills.new.self c.begin_spills.ensures) c.self.invariant.1,
+  each_placed c.self.inside.window.placed c.self.inside.copies c.self.invariant.0 spill_begun_if (λ z. ap extent_of (same_copy z)) c.args.ids.now c.begin_spills.new.self c.begin_spills.ensures,
+  c.sync_each.ensures.infos [] c.self.inside.copies (each_but spill_begun_if c.args.ids.now c.self.inside.copies c.begin_spills.new.self c.begin_spills.ensures)
+      (each_keep spill_begun_if (λ z. ap extent_of (same_copy z)) c.args.ids.now c.self.inside.copies c.begin_spills.new.self c.begin_spills.ensures) c.self.invariant.1,
 )

@@ -2,13 +2,13 @@ use Rattle.std.proofs.Common.{[], ap, sym, subst, ◌∙◌}
 use Rattle.obj_id.specs.declared.commands.Command.TheVariants as command
 use Rattle.obj_id.specs.declared.commands.Reply.TheVariants as reply
 use Rattle.private_store.specs.declared.inputs.Input.TheVariants as input
-use Rattle.private_store.specs.Hands.{is_withdrawn}
+use Rattle.private_store.specs.rules.Hands.{is_withdrawn}
 use Rattle.node_table.specs.Dropping.{settled_row, keys_settled}
-use Rattle.node_table.specs.Kept.{with_granted}
+use Rattle.node_table.specs.CopyViews.{with_granted}
 use Rattle.node_table.specs.Notes.{beside_rest}
 use Rattle.node_table.specs.Row.{beside_of, place_of, ArePlaced}
 use Rattle.node_table.specs.Scope.{with_copy}
-use Rattle.node_table.specs.Shown.{TakesStep}
+use Rattle.node_table.specs.Shown.{RowStep}
 use Rattle.node_table.proofs.Granting.{withdraw_done}
 use Rattle.node_table.proofs.row.JobRow.withdraw.Goals as goal
 
@@ -21,9 +21,9 @@ returns-clause-step c node line hands bytes contents are mine stands says h =
     let x = input.Call c.args.session (command.Withdraw id target) in
     let after = beside_rest line (is_withdrawn row.job id target.0) hands bytes row.job in
     let row_marked = with_copy (with_granted c.args.granted) row id in
-    subst (λ g. TakesStep node row before contents x g c.settle_after.new.self after)
+    subst (λ g. RowStep node row before contents x g c.settle_after.new.self after)
     (sym (c.settle_after.ensures.given ∙ (λ i. record { reply = reply.Ok; posts = c.new.ensures i; erased = keys_settled (c.apply-after.ensures.row i) id })))
-    (subst (λ r. TakesStep node row before contents x (record { reply = reply.Ok; posts = []; erased = keys_settled row_marked id }) r after)
+    (subst (λ r. RowStep node row before contents x (record { reply = reply.Ok; posts = []; erased = keys_settled row_marked id }) r after)
     (sym (c.settle_after.ensures.row ∙ ap (λ r. settled_row r id) c.apply-after.ensures.row))
     (withdraw_done node line hands bytes row contents c.args.session id target h mine stands are c.args.granted says
     (subst (λ r. ArePlaced r.window.placed (place_of r.copies)) c.apply-after.ensures.row c.settle_after.ensures.placed)))

@@ -1,6 +1,6 @@
 use Rattle.std.proofs.Common.{sym, ap, ◌∙◌}
 use Rattle.std.specs.Option.{option_copied}
-use Rattle.private_store.specs.Tables.{at}
+use Rattle.private_store.specs.rules.Tables.{at}
 use Rattle.node_table.proofs.Handing.{not_absent, work_so}
 use Rattle.node_table.proofs.row.JobRow.work.Goals as goal
 

@@ -3,7 +3,7 @@ use Rattle.obj_id.specs.declared.commands.Command.TheVariants as command
 use Rattle.obj_id.specs.declared.commands.Reply.TheVariants as reply
 use Rattle.private_store.specs.declared.inputs.Input.TheVariants as input
 use Rattle.node_table.specs.Checks.{write_check}
-use Rattle.node_table.specs.Shown.{only, TakesStep}
+use Rattle.node_table.specs.Shown.{only, RowStep}
 use Rattle.node_table.proofs.Writing.{write_refused, write_done, put_so}
 use Rattle.node_table.proofs.row.JobRow.write.Goals as goal
 
@@ -15,6 +15,6 @@ returns-in-Some c node beside contents mine h =
 pub returns : goal.returns
 returns c node beside contents mine h =
     let passed = ap (λ t. write_check t c.args.id.now c.args.offset (length c.args.bytes.now)) (sym c.copies.ensures.copies) ∙ sym c.write_check.ensures ∙ c.in_default.is in
-    subst (λ r. TakesStep node c.args.self.now beside contents (input.Call c.args.session (command.Write c.args.id.now c.args.offset c.args.bytes.now)) (only reply.Ok) r beside)
+    subst (λ r. RowStep node c.args.self.now beside contents (input.Call c.args.session (command.Write c.args.id.now c.args.offset c.args.bytes.now)) (only reply.Ok) r beside)
     (sym (put_so node c.args.self.now beside contents c.args.session c.args.id.now c.args.offset mine h c.args.bytes.now passed c.put_bytes.new.self c.put_bytes.ensures.row))
     (write_done node c.args.self.now beside contents c.args.session c.args.id.now c.args.offset mine h c.args.bytes.now passed c.copies.ensures.placed)

@@ -1,6 +1,6 @@
 use Rattle.std.proofs.Common.{rules, ap, ◌∙◌}
 use Rattle.std.proofs.lemmas.Fn.{filter_same}
-use Rattle.private_store.specs.Directory.{without_node}
+use Rattle.private_store.specs.rules.Directory.{without_node}
 use Rattle.owner_directory.proofs.entries.Entries.remove.Goals as goal
 
 pub returns : goal.returns

@@ -1,7 +1,7 @@
 use Rattle.std.proofs.Common.{rules, ◌≡◌, ◌≢◌, List, [], sym, ap, subst, ◌∙◌}
 use Rattle.std.specs.Prelude.{IsTrue, ◌↔◌}
 use Rattle.obj_id.specs.declared.messages.Location.{Location}
-use Rattle.private_store.specs.Directory.{without_node, without_entries_at}
+use Rattle.private_store.specs.rules.Directory.{without_node, without_entries_at}
 use Rattle.owner_directory.proofs.Objects.{retained}
 use Rattle.owner_directory.proofs.row.Row.end_at.Goals as goal
 

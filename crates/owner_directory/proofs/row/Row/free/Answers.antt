@@ -1,5 +1,5 @@
 use Rattle.std.proofs.Common.{ap, ◌∙◌}
-use Rattle.private_store.specs.Tables.{without_entry}
+use Rattle.private_store.specs.rules.Tables.{without_entry}
 use Rattle.store_facts.proofs.ObjectMaps.{without_entry-remove}
 use Rattle.owner_directory.proofs.row.Row.free.Goals as goal
 

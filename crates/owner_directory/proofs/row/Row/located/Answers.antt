@@ -1,6 +1,6 @@
 use Rattle.std.proofs.Common.{sym, ap, ◌∙◌}
 use Rattle.std.specs.Option.{option_copied}
-use Rattle.private_store.specs.Directory.{entries_at}
+use Rattle.private_store.specs.rules.Directory.{entries_at}
 use Rattle.owner_directory.proofs.Objects.{entries_at-found, entries_at-absent, ok_follows}
 use Rattle.owner_directory.proofs.row.Row.located.Goals as goal
 

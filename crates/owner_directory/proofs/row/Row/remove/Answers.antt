@@ -1,8 +1,8 @@
 use Rattle.std.proofs.Common.{sym, ap, ◌∙◌, ◌≡◌, []}
 use Rattle.std.specs.Option.{option_copied_mut}
 use Rattle.std.specs.Map.{set_value}
-use Rattle.private_store.specs.Tables.{without_entry}
-use Rattle.private_store.specs.Directory.{entries_at, with_entries, without_node}
+use Rattle.private_store.specs.rules.Tables.{without_entry}
+use Rattle.private_store.specs.rules.Directory.{entries_at, with_entries, without_node}
 use Rattle.owner_directory.specs.Locations.{Locations}
 use Rattle.store_facts.proofs.ObjectMaps.{is_id}
 use Rattle.owner_directory.proofs.Objects.{removed_some, removed_last, removed_absent, true_or_not}

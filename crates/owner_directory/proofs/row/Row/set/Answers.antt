@@ -2,7 +2,7 @@ use Rattle.std.proofs.Common.{sym, ap, ◌∙◌}
 use Rattle.std.specs.BTreeMap.{insert_entry}
 use Rattle.std.specs.Option.{option_copied_mut}
 use Rattle.obj_id.specs.Ids.{id_cmp}
-use Rattle.private_store.specs.Directory.{entries_at, entry_placed, with_entries}
+use Rattle.private_store.specs.rules.Directory.{entries_at, entry_placed, with_entries}
 use Rattle.owner_directory.specs.Locations.{Locations, is_longer}
 use Rattle.owner_directory.proofs.Objects.{set_absent, set_ok, set_err, entries_at-found, entries_at-absent, first_is_longer}
 use Rattle.owner_directory.proofs.row.Row.set.Goals as goal

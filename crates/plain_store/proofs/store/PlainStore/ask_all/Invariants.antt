@@ -1,5 +1,5 @@
 use Rattle.std.proofs.Common.{◌≡◌, ◌+◌, ◌<◌, ◌^◌, drop, fold, length}
-use Rattle.private_store.specs.Room.{asked}
+use Rattle.private_store.specs.rules.Room.{asked}
 use Rattle.plain_store.proofs.store.PlainStore.ask_all.Given as goal
 
 abbrev pub invariant-loop-id : goal.invariant-loop-id

@@ -1,8 +1,8 @@
 use Rattle.std.proofs.Common.{◌∙◌, sym, ap}
 use Rattle.std.specs.Option.{option_copied_mut}
-use Rattle.private_store.specs.Tables.{at}
+use Rattle.private_store.specs.rules.Tables.{at}
 use Rattle.store_facts.proofs.ObjectMaps.{at-lookup, with_entry-set}
-use Rattle.plain_store.specs.Lending.{with_copy}
+use Rattle.plain_store.specs.Lending.{store_with_copy}
 use Rattle.plain_store.specs.contracts.store.PlainStore.{the_view}
 use Rattle.plain_store.proofs.Changing.{with_copies, lent}
 use Rattle.plain_store.proofs.store.PlainStore.copy_mut.Goals as goal
@@ -11,7 +11,7 @@ pub returns : goal.returns
 returns c = (
   lent c.get_mut.result _ _ _ _
       (λ r is w. ap (with_copies (the_view c.self.inside)) ((c.get_mut.follows.holds w).0 ∙ with_entry-set c.args.id c.self.inside.copies.entries r.now w c.get_mut.ensures.ordered (sym c.get_mut.ensures.value ∙ ap option_copied_mut is))
-      ∙ ap (λ brief. with_copy brief c.args.id w) c.self.view_is)
+      ∙ ap (λ brief. store_with_copy brief c.args.id w) c.self.view_is)
       (λ none. ap (λ m. with_copies (the_view c.self.inside) m.entries) c.get_mut.follows.holds-at-none ∙ c.self.view_is),
   record {
     writes_back = tt;

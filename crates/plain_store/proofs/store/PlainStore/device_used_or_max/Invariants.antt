@@ -1,6 +1,6 @@
 use Rattle.std.proofs.Common.{◌≡◌, ◌+◌, ◌-◌, ◌^◌, ◌≤◌}
 use Rattle.std.specs.Prelude.{min}
-use Rattle.private_store.specs.Copies.{device_used}
+use Rattle.private_store.specs.rules.Copies.{device_used}
 use Rattle.plain_store.proofs.store.PlainStore.device_used_or_max.Given as goal
 
 abbrev pub invariant-loop-id : goal.invariant-loop-id

@@ -1,6 +1,6 @@
 use Rattle.std.proofs.Common.{◌≡◌, take}
 use Rattle.std.specs.List.{fold}
-use Rattle.private_store.specs.Change.{doom}
+use Rattle.private_store.specs.rules.Change.{doom}
 use Rattle.plain_store.proofs.store.PlainStore.doom_each.Given as goal
 
 abbrev pub invariant-loop-id : goal.invariant-loop-id

@@ -1,6 +1,6 @@
 use Rattle.std.proofs.Common.{◌∙◌, ap, not, rules}
 use Rattle.std.proofs.lemmas.Fn.{filter_same}
-use Rattle.private_store.specs.Events.{hangs_on}
+use Rattle.private_store.specs.rules.Events.{is_child_of}
 use Rattle.plain_store.specs.Granted.{without_hanging}
 use Rattle.plain_store.specs.contracts.store.PlainStore.{the_view}
 use Rattle.plain_store.proofs.Fields.{with_given}
@@ -8,5 +8,5 @@ use Rattle.plain_store.proofs.store.PlainStore.drop_hanging.Goals as goal
 
 pub returns : goal.returns
 returns c =
-    ap (with_given (the_view c.self.inside)) (filter_same _ (λ hand. not (hangs_on c.args.id c.args.giver.0 hand)) _ (λ x b f' k. search rules) _ _ c.retain.ensures.filtered)
-    ∙ ap (λ brief. without_hanging brief c.args.id c.args.giver.0) c.self.view_is
+    ap (with_given (the_view c.self.inside)) (filter_same _ (λ hand. not (is_child_of c.args.id c.args.grantor.0 hand)) _ (λ x b f' k. search rules) _ _ c.retain.ensures.filtered)
+    ∙ ap (λ brief. without_hanging brief c.args.id c.args.grantor.0) c.self.view_is

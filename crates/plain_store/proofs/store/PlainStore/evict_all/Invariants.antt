@@ -1,5 +1,5 @@
 use Rattle.std.proofs.Common.{◌≡◌, drop, fold}
-use Rattle.private_store.specs.Room.{evicted}
+use Rattle.private_store.specs.rules.Room.{evicted}
 use Rattle.plain_store.proofs.store.PlainStore.evict_all.Given as goal
 
 abbrev pub invariant-loop-id : goal.invariant-loop-id

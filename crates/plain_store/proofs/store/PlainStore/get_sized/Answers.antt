@@ -1,8 +1,8 @@
 use Rattle.std.proofs.Common.{◌∙◌, sym, ap, is_some, arith}
 use Rattle.std.specs.Option.{option_copied}
-use Rattle.private_store.specs.Replay.{Brief}
-use Rattle.private_store.specs.Room.{make_room}
-use Rattle.private_store.specs.Commands.{is_length}
+use Rattle.private_store.specs.rules.Replay.{Brief}
+use Rattle.private_store.specs.rules.Room.{make_room}
+use Rattle.private_store.specs.rules.Commands.{is_length}
 use Rattle.plain_store.specs.Fetches.{pulled}
 use Rattle.plain_store.proofs.Pulls.{sized-begun}
 use Rattle.plain_store.proofs.store.PlainStore.get_sized.Goals as goal

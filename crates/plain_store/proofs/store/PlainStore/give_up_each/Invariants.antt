@@ -1,6 +1,6 @@
 use Rattle.std.proofs.Common.{◌≡◌, take}
 use Rattle.std.specs.List.{fold}
-use Rattle.private_store.specs.Commands.{give_up_one}
+use Rattle.private_store.specs.rules.Commands.{give_up_one}
 use Rattle.plain_store.proofs.store.PlainStore.give_up_each.Given as goal
 
 abbrev pub invariant-loop-id : goal.invariant-loop-id

@@ -1,5 +1,5 @@
 use Rattle.std.proofs.Common.{◌≡◌, take}
-use Rattle.private_store.specs.Room.{in_order}
+use Rattle.private_store.specs.rules.Room.{in_order}
 use Rattle.plain_store.specs.Plans.{chosen_by}
 use Rattle.plain_store.proofs.store.PlainStore.in_order.Given as goal
 

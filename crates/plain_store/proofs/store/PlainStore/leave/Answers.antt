@@ -1,5 +1,5 @@
 use Rattle.std.proofs.Common.{◌∙◌, sym, ap}
-use Rattle.private_store.specs.Commands.{leave_one}
+use Rattle.private_store.specs.rules.Commands.{leave_one}
 use Rattle.plain_store.proofs.Each.{leave-reply, leave-shape, leave-used, shapes, with_shape}
 use Rattle.plain_store.proofs.store.PlainStore.leave.Goals as goal
 

@@ -1,6 +1,6 @@
 use Rattle.std.proofs.Common.{◌≡◌, take}
 use Rattle.std.specs.List.{fold}
-use Rattle.private_store.specs.Commands.{leave_one}
+use Rattle.private_store.specs.rules.Commands.{leave_one}
 use Rattle.plain_store.proofs.store.PlainStore.leave_each.Given as goal
 
 abbrev pub invariant-loop-id : goal.invariant-loop-id

@@ -1,6 +1,6 @@
 use Rattle.std.proofs.Common.{◌∙◌, ap}
-use Rattle.private_store.specs.Extents.{first}
-use Rattle.private_store.specs.Room.{offset_without}
+use Rattle.private_store.specs.rules.Extents.{first}
+use Rattle.private_store.specs.rules.Room.{offset_without}
 use Rattle.plain_store.proofs.FirstFits.{first-permuted}
 use Rattle.plain_store.proofs.store.PlainStore.offset_without.Goals as goal
 

@@ -1,8 +1,8 @@
 use Rattle.std.proofs.Common.{sym, arith}
 use Rattle.std.specs.Option.{option_map_or}
 use Rattle.std.proofs.lemmas.Bool.{lt-ltb}
-use Rattle.private_store.specs.Tables.{at}
-use Rattle.private_store.specs.Extents.{rounded}
+use Rattle.private_store.specs.rules.Tables.{at}
+use Rattle.private_store.specs.rules.Extents.{rounded}
 use Rattle.plain_store.proofs.Sums.{sum-take}
 use Rattle.plain_store.proofs.store.PlainStore.passes_quota.Goals as goal
 

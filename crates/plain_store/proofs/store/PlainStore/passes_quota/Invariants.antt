@@ -1,5 +1,5 @@
 use Rattle.std.proofs.Common.{◌≡◌, ◌+◌, take}
-use Rattle.private_store.specs.Room.{bytes_of_copies}
+use Rattle.private_store.specs.rules.Room.{bytes_of_copies}
 use Rattle.plain_store.proofs.store.PlainStore.passes_quota.Given as goal
 
 abbrev pub invariant-loop-id : goal.invariant-loop-id

@@ -1,5 +1,5 @@
 use Rattle.std.proofs.Common.{◌≡◌, ap, sym, ◌∙◌}
-use Rattle.private_store.specs.Replay.{Brief}
+use Rattle.private_store.specs.rules.Replay.{Brief}
 use Rattle.plain_store.specs.Steps.{own_command}
 use Rattle.plain_store.proofs.store.PlainStore.plain_call.Goals as goal
 

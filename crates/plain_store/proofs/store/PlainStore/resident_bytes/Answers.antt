@@ -2,7 +2,7 @@ use Rattle.std.proofs.Common.{◌∙◌, ap, arith, rules, is_some, sum, map, fi
 use Rattle.std.proofs.lemmas.Iterator.{YieldsList-from_map}
 use Rattle.std.proofs.lemmas.Iterator.Adapters.{fits_from_length, at_most_from_Filter, at_most_from_yields_List}
 use Rattle.std.proofs.lemmas.Iterator.Consumers.{YieldsList-from_filter, YieldsList-from_rest, sum_from_yields_List}
-use Rattle.private_store.specs.Extents.{rounded}
+use Rattle.private_store.specs.rules.Extents.{rounded}
 use Rattle.plain_store.proofs.store.PlainStore.resident_bytes.Goals as goal
 
 pub sum-requires-clause-fits : goal.sum-requires-clause-fits

@@ -1,6 +1,6 @@
 use Rattle.std.proofs.Common.{◌∙◌, sym, ap}
 use Rattle.std.specs.Option.{option_copied}
-use Rattle.private_store.specs.Replay.{Brief}
+use Rattle.private_store.specs.rules.Replay.{Brief}
 use Rattle.plain_store.specs.Checks.{restored}
 use Rattle.plain_store.proofs.Restores.{restore-refused, restore-begun}
 use Rattle.plain_store.proofs.store.PlainStore.restore.Goals as goal

@@ -1,5 +1,5 @@
 use Rattle.std.proofs.Common.{◌∙◌, sym, ap}
-use Rattle.private_store.specs.Tables.{at}
+use Rattle.private_store.specs.rules.Tables.{at}
 use Rattle.store_facts.proofs.ObjectMaps.{at-lookup}
 use Rattle.plain_store.proofs.store.PlainStore.seen.Goals as goal
 

@@ -1,5 +1,5 @@
 use Rattle.std.proofs.Common.{◌∙◌, sym, ap, is_some}
-use Rattle.private_store.specs.Room.{offset_without}
+use Rattle.private_store.specs.rules.Room.{offset_without}
 use Rattle.plain_store.specs.Fits.{is_room_without}
 use Rattle.plain_store.proofs.Shortest.{walked, both_more}
 use Rattle.plain_store.proofs.store.PlainStore.shortest.Goals as goal

@@ -1,5 +1,5 @@
 use Rattle.std.proofs.Common.{◌≡◌, ◌++◌, drop}
-use Rattle.private_store.specs.Room.{shortest, shortest_from}
+use Rattle.private_store.specs.rules.Room.{shortest, shortest_from}
 use Rattle.plain_store.specs.Fits.{is_room_without}
 use Rattle.plain_store.proofs.store.PlainStore.shortest.Given as goal
 

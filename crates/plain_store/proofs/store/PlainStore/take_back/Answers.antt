@@ -1,7 +1,7 @@
 use Rattle.std.proofs.Common.{◌==◌, ◌&&◌, ◌∙◌, ap, filter, not, rules}
 use Rattle.std.proofs.lemmas.Fn.{filter_same}
 use Rattle.obj_id.specs.Ids.{same_id}
-use Rattle.private_store.specs.Shape.{HandGiven}
+use Rattle.private_store.specs.rules.Shape.{HandGiven}
 use Rattle.plain_store.specs.contracts.store.PlainStore.{the_view}
 use Rattle.plain_store.proofs.Fields.{with_given}
 use Rattle.plain_store.proofs.store.PlainStore.take_back.Goals as goal

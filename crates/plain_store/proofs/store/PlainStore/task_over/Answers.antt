@@ -1,7 +1,7 @@
 use Rattle.std.proofs.Common.{◌∙◌, sym, ap}
-use Rattle.private_store.specs.Tables.{ids_of}
-use Rattle.private_store.specs.Change.{doom}
-use Rattle.private_store.specs.Commands.{give_up_one, of_task}
+use Rattle.private_store.specs.rules.Tables.{ids_of}
+use Rattle.private_store.specs.rules.Change.{doom}
+use Rattle.private_store.specs.rules.Commands.{give_up_one, of_task}
 use Rattle.plain_store.proofs.Each.{over-reply, over-shape, over-used, shapes, with_shape}
 use Rattle.plain_store.proofs.store.PlainStore.task_over.Goals as goal
 

@@ -1,6 +1,6 @@
 use Rattle.std.proofs.Common.{◌==◌, ◌∙◌, ap, filter, not, rules}
 use Rattle.std.proofs.lemmas.Fn.{filter_same}
-use Rattle.private_store.specs.Shape.{WorkInFlight}
+use Rattle.private_store.specs.rules.Shape.{WorkInFlight}
 use Rattle.plain_store.specs.contracts.store.PlainStore.{the_view}
 use Rattle.plain_store.proofs.Fields.{with_works}
 use Rattle.plain_store.proofs.store.PlainStore.without_work.Goals as goal

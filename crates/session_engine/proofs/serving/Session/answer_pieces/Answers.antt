@@ -10,15 +10,15 @@ returns-in-Err g c = hearing_stopped g.G.Gate.gives _ _ _ _ _ c.loop.invariant.p
 
 pub returns-in-Ok-NoFrame : goal.returns-in-Ok-NoFrame
 returns-in-Ok-NoFrame g c =
-    heard_no_frame g.G.Gate.gives _ _ _ _ _ c.loop.invariant.progress _ _ _ c.in-Ok.ensures.bytes.0 c.hear.new.self.frames c.in-Ok-NoFrame.field-0 c.in-Ok-NoFrame.ensures c.in-Ok-NoFrame.field-0-is
+    heard_no_frame g.G.Gate.gives _ _ _ _ _ c.loop.invariant.progress _ _ _ c.in-Ok.ensures.bytes.0 c.answer_and_flush.new.self.frames c.in-Ok-NoFrame.field-0 c.in-Ok-NoFrame.ensures c.in-Ok-NoFrame.field-0-is
 
 pub returns-then-count-eq0 : goal.returns-then-count-eq0
 returns-then-count-eq0 g c =
-    heard_last g.G.Gate.gives _ _ _ _ _ c.loop.invariant.progress _ _ _ c.in-Ok.ensures.bytes.0 c.hear.new.self.frames c.in-Ok-Items.field-0 c.in-Ok-Items.ensures c.in-Ok-Items.field-0-is
+    heard_last g.G.Gate.gives _ _ _ _ _ c.loop.invariant.progress _ _ _ c.in-Ok.ensures.bytes.0 c.answer_and_flush.new.self.frames c.in-Ok-Items.field-0 c.in-Ok-Items.ensures c.in-Ok-Items.field-0-is
     (c.in-Ok.ensures.bytes.1 c.if-count-eq0.true (omega arith)) c.end_of.result c.end_of.ensures
 
 pub loop-preserved : goal.loop-preserved
 loop-preserved g c = record {
   room = c.widen.ensures;
-  progress = heard g.G.Gate.gives _ _ _ _ _ c.loop.invariant.progress _ _ _ c.in-Ok.ensures.bytes.0 c.hear.new.self.frames c.in-Ok-Items.field-0 c.in-Ok-Items.ensures c.in-Ok-Items.field-0-is;
+  progress = heard g.G.Gate.gives _ _ _ _ _ c.loop.invariant.progress _ _ _ c.in-Ok.ensures.bytes.0 c.answer_and_flush.new.self.frames c.in-Ok-Items.field-0 c.in-Ok-Items.ensures c.in-Ok-Items.field-0-is;
 }

@@ -1,5 +1,5 @@
 use Rattle.std.proofs.Common.{◌≡◌, false}
-use Rattle.private_store.specs.Answers.{wants_memory}
+use Rattle.private_store.specs.laws.Answers.{wants_memory}
 use Rattle.session_threads.specs.Witnesses.{IsCalled, witness_of}
 use Rattle.session_threads.proofs.Answering.{answered, answered_small}
 use Rattle.session_threads.proofs.shared.SharedNode.call.Goals as goal

@@ -1,7 +1,7 @@
 use Rattle.private_store.specs.declared.schedules.Event.TheVariants.{JobEnd}
-use Rattle.session_threads.specs.Witnesses.{IsOf, witness_of}
+use Rattle.session_threads.specs.Witnesses.{IsReceiptOf, witness_of}
 use Rattle.session_threads.proofs.Answering.{answered}
 use Rattle.session_threads.proofs.shared.SharedNode.end_job.Goals as goal
 
 pub returns : goal.returns
-returns g c = answered c.step_end-stepped.result c.answer.result.0 c.answer.result.1 (λ told r. IsOf (JobEnd c.args.job) told (witness_of r)) c.answer.ensures c.step_end-stepped.ensures.stepped
+returns g c = answered c.step_end-stepped.result c.answer.result.0 c.answer.result.1 (λ told r. IsReceiptOf (JobEnd c.args.job) told (witness_of r)) c.answer.ensures c.step_end-stepped.ensures.stepped

@@ -1,6 +1,6 @@
-use Rattle.session_threads.specs.Witnesses.{IsOf, witness_of}
+use Rattle.session_threads.specs.Witnesses.{IsReceiptOf, witness_of}
 use Rattle.session_threads.proofs.Answering.{answered}
 use Rattle.session_threads.proofs.shared.SharedNode.order.Goals as goal
 
 pub returns : goal.returns
-returns g c = answered c.step_order-stepped.result c.answer.result.0 c.answer.result.1 (λ told r. IsOf c.args.event.now told (witness_of r)) c.answer.ensures c.step_order-stepped.ensures.stepped
+returns g c = answered c.step_order-stepped.result c.answer.result.0 c.answer.result.1 (λ told r. IsReceiptOf c.args.event.now told (witness_of r)) c.answer.ensures c.step_order-stepped.ensures.stepped

@@ -1,5 +1,5 @@
 use Rattle.std.proofs.Common.{rules, ◌≡◌, find, Some, IfOk, slice_set, sym, subst}
-use Rattle.store_program.specs.Workers.{Crew, Calls, is_at as is_at_lem}
+use Rattle.store_program.specs.Workers.{Crew, Calls, is_taken_at as is_at_lem}
 use Rattle.store_program.proofs.Crews.{nothing_called, device_calls}
 use Rattle.store_program.proofs.workers.Workers.call.Goals as goal
 use Rattle.store_program.proofs.workers.Workers.call.Goals.{in-None, in-Some}

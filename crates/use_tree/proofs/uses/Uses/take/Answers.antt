@@ -1,7 +1,7 @@
 use Rattle.std.proofs.Common.{subst}
 use Rattle.augmented_tree.proofs.ForCallers.{rises}
-use Rattle.use_tree.specs.Uses.{turn_of, IsAny, AreOf, IsRising, start}
+use Rattle.use_tree.specs.Uses.{turn_of, IsAnyUse, AreClassesOf, AreUsesRising, start}
 use Rattle.use_tree.proofs.uses.Uses.take.Goals as goal
 
 pub returns-clause-rising : goal.returns-clause-rising
-returns-clause-rising c = subst IsRising c.self.view_is (rises turn_of IsAny AreOf (start c.self.inside.bits) 4611686018427387904 c.self.inside.tree c.self.invariant.1)
+returns-clause-rising c = subst AreUsesRising c.self.view_is (rises turn_of IsAnyUse AreClassesOf (start c.self.inside.bits) 4611686018427387904 c.self.inside.tree c.self.invariant.1)

@@ -1,7 +1,7 @@
 use Rattle.std.proofs.Common.{◌≡◌, ◌==◌, ◌++◌, ◌≤◌, ℕ, length, true}
 use Rattle.std.specs.Prelude.{if◌then◌else◌}
 use Rattle.std.specs.Vec.Iter.{into_iter_items, into_iter_len}
-use Rattle.private_store.specs.Cluster.{posted}
+use Rattle.private_store.specs.rules.Cluster.{posted}
 use Rattle.world_core.specs.Logs.{messages_of, sent_of, has_room}
 use Rattle.world_core.proofs.messages.Messages.add.Given as goal
 

@@ -1,6 +1,6 @@
 use Rattle.std.proofs.Common.{sym, ap, ◌∙◌}
 use Rattle.std.specs.Option.{option_copied_mut}
-use Rattle.private_store.specs.Jobs.{same_job}
+use Rattle.private_store.specs.rules.Jobs.{same_job}
 use Rattle.world_core.specs.Logs.{messages_of}
 use Rattle.world_core.proofs.Logging.{messages_of-set_value}
 use Rattle.world_core.proofs.messages.Messages.grow.Goals as goal

@@ -2,8 +2,8 @@ use Rattle.std.proofs.Common.{◌≡◌, ◌==◌, ◌++◌, ◌+◌, true, List
 use Rattle.std.specs.Prelude.{if◌then◌else◌, unwrap_or, option_map}
 use Rattle.std.specs.Map.{lookup}
 use Rattle.std.specs.Option.{option_copied_mut}
-use Rattle.private_store.specs.Jobs.{same_job}
-use Rattle.private_store.specs.Cluster.{Sent}
+use Rattle.private_store.specs.rules.Jobs.{same_job}
+use Rattle.private_store.specs.rules.Cluster.{Sent}
 use Rattle.indexmap.specs.IndexMap.{spare}
 use Rattle.world_core.specs.Logs.{Log, has_places, messages_of, sent_of}
 use Rattle.world_core.proofs.Logging.{log_room, fresh_room, map_room, places_left, room_in, sent_more}

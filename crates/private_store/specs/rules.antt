@@ -1,0 +1,21 @@
+-- What the store means to one job, lowest first. To believe the guarantee is to believe those that TRUST lists.
+pub mod Limits
+pub mod Jobs
+pub mod Tables
+pub mod Extents
+pub mod Shape
+pub mod Copies
+pub mod Room
+pub mod Change
+pub mod Commands
+pub mod Events
+pub mod Step
+pub mod Contents
+pub mod Private
+pub mod Directory
+pub mod Cluster
+pub mod Hands
+pub mod Trace
+pub mod Shared
+pub mod Replay
+pub mod Frames
