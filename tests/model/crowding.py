@@ -29,7 +29,7 @@ def to_most_borrowers(say: Say, one: ObjectId) -> None:
         say("borrow", one, f"t{number}")
 
 
-def to_most_hands(say: Say, one: ObjectId) -> None:
+def to_most_grants(say: Say, one: ObjectId) -> None:
     put(say, one)
     for job in range(FIRST, FIRST + MOST_GIVEN + MORE):
         say("grant", one, job)
@@ -73,7 +73,7 @@ class Crowd(NamedTuple):
 CROWDS: List[Crowd] = [
     Crowd("get", 3, to_most_holds),
     Crowd("borrow", 3, to_most_borrowers),
-    Crowd("grant", 3, to_most_hands),
+    Crowd("grant", 3, to_most_grants),
     Crowd("create", 9, to_most_works),
     Crowd("get", 1, to_most_copies),
     Crowd("endtask", 1, to_most_ended_tasks),

@@ -1,4 +1,4 @@
-"""What always holds of a private store and of a node's hands, by the rules. The drawing looks at it now and then."""
+"""What always holds of a private store and of a node's grants, by the rules. The drawing looks at it now and then."""
 
 from __future__ import annotations
 
@@ -6,7 +6,7 @@ from typing import Dict, List
 
 from .ids import ObjectId
 from .node import Node
-from .store import Hand, PrivateStore
+from .store import ReceivedGrant, PrivateStore
 from .words import MOST_COPIES, MOST_WORKS, UNIT, Copy, Phase, State
 from .world import World
 
@@ -17,7 +17,7 @@ def check_world(world: World) -> None:
     for node in world.nodes:
         for store in node.stores.values():
             check_store(store)
-        check_hands(node)
+        check_grants(node)
 
 
 def check_store(store: PrivateStore) -> None:
@@ -53,7 +53,7 @@ def check_work(store: PrivateStore, copy: Copy) -> None:
 
 
 def check_keepers(store: PrivateStore, one: ObjectId, copy: Copy) -> None:
-    """Pins, borrowers, holds and hands keep only what they may."""
+    """Pins, borrowers, holds and grants keep only what they may."""
     is_granted = store.is_granted(one)
     assert copy.state is State.SEALED or not (copy.is_held or is_granted), "held or granted, and not sealed"
     assert copy.is_primary or not (is_granted or copy.in_scope), "a secondary that is granted, pinned or borrowed"
@@ -72,15 +72,15 @@ def check_content(copy: Copy) -> None:
     assert copy.state is not State.SEALED or copy.matches(copy.content), "sealed bytes of another digest"
 
 
-def check_hands(node: Node) -> None:
-    """Each store knows of the hands from and to its job what the node does, and sees the owner's bytes."""
+def check_grants(node: Node) -> None:
+    """Each store knows of the grants from and to its job what the node does, and sees the owner's bytes."""
     for job, store in node.stores.items():
-        given = sorted((hand.one, hand.grantee, hand.depth, hand.parent) for hand in node.hands if hand.grantor == job)
-        assert given == sorted((one, grantee, depth, grantor or 0) for one, grantee, depth, grantor in store.given), "hands given"
-        received: Dict[ObjectId, List[Hand]] = {}
-        for hand in node.hands:
-            if hand.grantee == job:
-                received.setdefault(hand.one, []).append(Hand(hand.grantor, hand.depth))
-        assert received == {one: seen.hands for one, seen in store.received.items()}, "hands received"
+        given = sorted((grant.one, grant.grantee, grant.depth, grant.parent) for grant in node.grants if grant.grantor == job)
+        assert given == sorted((one, grantee, depth, grantor or 0) for one, grantee, depth, grantor in store.given), "grants given"
+        received: Dict[ObjectId, List[ReceivedGrant]] = {}
+        for grant in node.grants:
+            if grant.grantee == job:
+                received.setdefault(grant.one, []).append(ReceivedGrant(grant.grantor, grant.depth))
+        assert received == {one: seen.grants for one, seen in store.received.items()}, "grants received"
         for one, seen in store.received.items():
             assert seen.content == node.stores[one.job].copies[one].content, "other bytes than the owner's"

@@ -27,7 +27,7 @@ JUDGED = {"answer": ("ok", "damage", "fail"), "chunk": ("ignored", "part", "whol
 CHARACTERS = " \t\r\x00\xff0123456789:#=/-tsnjAz"
 # a line's place, its number, its input and its answer
 ENTRY = re.compile(r"(n\d+ j\d+)( \d+ )(.+)( = .*)")
-HANDS = ("received", "withdrawn")
+GRANTS = ("received", "withdrawn")
 
 
 def forge(seed: int) -> str:
@@ -140,8 +140,8 @@ class Forgery:
     def end(self) -> None:
         self.insert("end", "ok")
 
-    def hand(self) -> None:
-        """A hand that nobody gave, or its end."""
+    def grant(self) -> None:
+        """A grant that nobody gave, or its end."""
         grantor, depth = self.lot.randrange(5), self.lot.randrange(5)
         length = f" {self.lot.choice(LENGTHS)}" if self.lot.random() < 0.6 else ""
         word = "received" if length else "withdrawn"
@@ -241,7 +241,7 @@ def as_first_version(line: str) -> str:
     """A line of version 3 as version 1 has it, whatever that then says."""
     said, equals, answer = line.partition(" = ")
     fields = said.split(" ")
-    if len(fields) > 4 and fields[3] in HANDS:
+    if len(fields) > 4 and fields[3] in GRANTS:
         said = " ".join(fields[:-2])
     return said + equals + re.sub(r"(:granted:\d+):\d+", r"\1", answer)
 
@@ -257,8 +257,8 @@ WAYS: List[Callable[[Forgery], None]] = [
     Forgery.odd_quota,
     Forgery.odd_quota,
     Forgery.end,
-    Forgery.hand,
-    Forgery.hand,
+    Forgery.grant,
+    Forgery.grant,
     Forgery.odd_number,
     Forgery.other_place,
     Forgery.lost_line,

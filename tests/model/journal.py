@@ -9,7 +9,7 @@ from .ids import ObjectId, task_text
 from .messages import Chunk, Located, Message, Place, Pull
 
 if TYPE_CHECKING:
-    from .store import Hand, PrivateStore
+    from .store import ReceivedGrant, PrivateStore
 
 HEAD = "journal 3"
 
@@ -23,7 +23,7 @@ class Journal:
         self.counts: Dict[Tuple[int, int], int] = {}
 
     def write_step(self, node: int, inputs: List[Tuple[int, str]], answer: str) -> None:
-        """Writes what a step was to the jobs. The answer is that to the first; the others are told of hands."""
+        """Writes what a step was to the jobs. The answer is that to the first; the others are told of grants."""
         for job, said in inputs:
             self.write(node, job, said, without_contents(answer))
             answer = "ok"
@@ -70,9 +70,9 @@ def message_text(store: PrivateStore, sender: Place, message: Message) -> str:
     return f"nothere {of_fetch} {sender}"
 
 
-def received_text(grantee: int, one: ObjectId, length: int, hand: Hand) -> str:
-    return f"received {one.text(grantee)} {length} {hand.grantor} {hand.depth}"
+def received_text(grantee: int, one: ObjectId, length: int, grant: ReceivedGrant) -> str:
+    return f"received {one.text(grantee)} {length} {grant.grantor} {grant.depth}"
 
 
-def withdrawn_text(grantee: int, one: ObjectId, hand: Hand) -> str:
-    return f"withdrawn {one.text(grantee)} {hand.grantor} {hand.depth}"
+def withdrawn_text(grantee: int, one: ObjectId, grant: ReceivedGrant) -> str:
+    return f"withdrawn {one.text(grantee)} {grant.grantor} {grant.depth}"

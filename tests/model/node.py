@@ -1,4 +1,4 @@
-"""A node: its jobs' private stores, their windows in its memory, the line of device works, the hands, and its device."""
+"""A node: its jobs' private stores, their windows in its memory, the line of device works, the grants, and its device."""
 
 from __future__ import annotations
 
@@ -7,12 +7,12 @@ from typing import Dict, List, NamedTuple, Optional, Tuple
 from .ids import ObjectId
 from .journal import command_text, message_text, received_text, withdrawn_text
 from .messages import Message, Place
-from .store import Hand, PrivateStore
+from .store import ReceivedGrant, PrivateStore
 from .words import MOST_JOBS, Refusal, is_quota, refuse_if
 
 
-class StandingHand(NamedTuple):
-    """A grant that stands. The order is that in which hands that end together are told to their grantees."""
+class StandingGrant(NamedTuple):
+    """A grant that stands. The order is that in which grants that end together are told to their grantees."""
 
     depth: int
     one: ObjectId
@@ -52,7 +52,7 @@ class Node:
         # what workers were given and haven't finished, also of jobs that have ended
         self.kept: Dict[Tuple[int, int], TakenWork] = {}
         self.device: Dict[Tuple[int, int], bytes] = {}
-        self.hands: List[StandingHand] = []
+        self.grants: List[StandingGrant] = []
         # what the last step was to the jobs, as a journal has it, its own job first; whoever steps the node takes it from here
         self.inputs: List[Tuple[int, str]] = []
 
@@ -113,7 +113,7 @@ class Node:
         self.taken = [work for work in self.taken if work[0] != job]
         self.store(job).end()
         self.inputs.append((job, "end"))
-        self.end_hands([hand for hand in self.hands if hand.grantor == job])
+        self.end_grants([grant for grant in self.grants if grant.grantor == job])
         return "ok"
 
     # workers
@@ -170,35 +170,35 @@ class Node:
         store = self.store(job)
         reply = store.command(session, word, values)
         if reply == "ok":
-            self.follow_hands(job, word, values)
+            self.follow_grants(job, word, values)
         return reply
 
-    def follow_hands(self, job: int, word: str, values: Tuple) -> None:
+    def follow_grants(self, job: int, word: str, values: Tuple) -> None:
         """Tells the grantees of what an accepted command gave them, or took from them."""
         if word == "grant":
-            self.add_hand(job, *values)
+            self.add_grant(job, *values)
         elif word == "withdraw":
-            self.end_hands([hand for hand in self.hands if (hand.one, hand.grantor, hand.grantee) == (values[0], job, values[1])])
+            self.end_grants([grant for grant in self.grants if (grant.one, grant.grantor, grant.grantee) == (values[0], job, values[1])])
         elif word == "endtask":
-            self.end_hands([hand for hand in self.hands if (hand.grantor, hand.one.job, hand.one.task) == (job, job, values[0])])
+            self.end_grants([grant for grant in self.grants if (grant.grantor, grant.one.job, grant.one.task) == (job, job, values[0])])
 
-    def add_hand(self, grantor: int, one: ObjectId, grantee: int) -> None:
+    def add_grant(self, grantor: int, one: ObjectId, grantee: int) -> None:
         given = self.store(grantor).given[-1]
-        self.hands.append(StandingHand(given.depth, one, grantor, grantee, given.parent or 0))
+        self.grants.append(StandingGrant(given.depth, one, grantor, grantee, given.parent or 0))
         content = bytes(self.store(one.job).copies[one].content)
-        hand = Hand(grantor, given.depth)
-        self.inputs.append((grantee, received_text(grantee, one, len(content), hand)))
-        self.store(grantee).receive(one, content, hand)
+        grant = ReceivedGrant(grantor, given.depth)
+        self.inputs.append((grantee, received_text(grantee, one, len(content), grant)))
+        self.store(grantee).receive(one, content, grant)
 
-    def end_hands(self, ended: List[StandingHand]) -> None:
-        """Ends these hands, and with each all that hang on it."""
+    def end_grants(self, ended: List[StandingGrant]) -> None:
+        """Ends these grants, and with each all that hang on it."""
         reached = ended
         while reached:
-            ends = {(hand.one, hand.grantor, hand.grantee) for hand in reached}
-            reached = [hand for hand in self.hands if hand not in ended and (hand.one, hand.parent, hand.grantor) in ends]
+            ends = {(grant.one, grant.grantor, grant.grantee) for grant in reached}
+            reached = [grant for grant in self.grants if grant not in ended and (grant.one, grant.parent, grant.grantor) in ends]
             ended = ended + reached
-        self.hands = [hand for hand in self.hands if hand not in ended]
-        for hand in sorted(ended):
-            told = Hand(hand.grantor, hand.depth)
-            self.inputs.append((hand.grantee, withdrawn_text(hand.grantee, hand.one, told)))
-            self.store(hand.grantee).withdrawn(hand.one, told)
+        self.grants = [grant for grant in self.grants if grant not in ended]
+        for grant in sorted(ended):
+            told = ReceivedGrant(grant.grantor, grant.depth)
+            self.inputs.append((grant.grantee, withdrawn_text(grant.grantee, grant.one, told)))
+            self.store(grant.grantee).withdrawn(grant.one, told)

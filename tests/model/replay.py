@@ -14,7 +14,7 @@ from .ids import NotAStep, ObjectId, read_id, read_long, read_number
 from .journal import without_contents
 from .messages import Chunk, Entry as Location, Located, NotHere, Pull
 from .schedule import COMMANDS
-from .store import Hand, PrivateStore
+from .store import ReceivedGrant, PrivateStore
 from .words import CHUNK, LONGEST_CALL, LONGEST_OBJECT, Refusal, Refused, digest_of, is_quota, refuse_if
 
 MOST_NODES = 8
@@ -92,7 +92,7 @@ def read_input(version: int, job: int, word: str, fields: List[str]) -> Tuple[st
         return word, (*read_fields(job, (read_id, read_long), fields[:2]), tuple(map(read_location, fields[2:])))
     if word not in INPUTS or (word == "quota" and version < 3):
         raise NotAStep
-    if word in HANDS and version == 1:
+    if word in GRANTS and version == 1:
         one, *numbers = read_fields(job, INPUTS[word][:-2], fields)
         return word, (one, *numbers, one.job, 1)
     return word, read_fields(job, INPUTS[word], fields)
@@ -183,8 +183,8 @@ class Replay:
             refuse_if(self.has_begun, Refusal.Stale)
             begin(self.store, *values)
             self.has_begun = True
-        elif word in HANDS:
-            HANDS[word](self.store, *values)
+        elif word in GRANTS:
+            GRANTS[word](self.store, *values)
         else:
             refuse_if(not self.store.is_live, Refusal.Stale)
             LIVE[word](self.store, *values)
@@ -251,13 +251,13 @@ def pull(store: PrivateStore, one: ObjectId, number: int, word: str) -> None:
 
 
 def withdrawn(store: PrivateStore, one: ObjectId, grantor: int, depth: int) -> None:
-    if one in store.received and Hand(grantor, depth) in store.received[one].hands:
-        store.withdrawn(one, Hand(grantor, depth))
+    if one in store.received and ReceivedGrant(grantor, depth) in store.received[one].grants:
+        store.withdrawn(one, ReceivedGrant(grantor, depth))
 
 
-# what is told of hands, to stores that aren't live too
-HANDS: Dict[str, Callable] = {
-    "received": lambda store, one, length, grantor, depth: store.receive(one, bytes(length), Hand(grantor, depth)),
+# what is told of grants, to stores that aren't live too
+GRANTS: Dict[str, Callable] = {
+    "received": lambda store, one, length, grantor, depth: store.receive(one, bytes(length), ReceivedGrant(grantor, depth)),
     "withdrawn": withdrawn,
 }
 

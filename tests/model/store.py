@@ -21,7 +21,7 @@ class Work(NamedTuple):
 
 
 class Given(NamedTuple):
-    """A hand that the store's job gave."""
+    """A grant that the store's job gave."""
 
     one: ObjectId
     grantee: int
@@ -30,18 +30,18 @@ class Given(NamedTuple):
     parent: Optional[int]
 
 
-class Hand(NamedTuple):
-    """A hand to the store's job."""
+class ReceivedGrant(NamedTuple):
+    """A grant to the store's job."""
 
     grantor: int
     depth: int
 
 
 class Seen(NamedTuple):
-    """An object of another job that the store's job sees, and by which hands, the oldest first."""
+    """An object of another job that the store's job sees, and by which grants, the oldest first."""
 
     content: bytes
-    hands: List[Hand]
+    grants: List[ReceivedGrant]
 
 
 class PrivateStore:
@@ -54,7 +54,7 @@ class PrivateStore:
     def __init__(self, job: int, node: int) -> None:
         self.job = job
         self.node = node
-        # what hands to the job show, before it begins and after it has ended too
+        # what grants to the job show, before it begins and after it has ended too
         self.received: Dict[ObjectId, Seen] = {}
         self.is_live = False
         self.sent: List[Tuple[Place, Message]] = []
@@ -145,7 +145,7 @@ class PrivateStore:
             raise Refused(Refusal.Absent)
         return copy
 
-    # the operator, devices, messages and hands
+    # the operator, devices, messages and grants
 
     def begin(self, window: int, device_quota: int) -> None:
         self.is_live = True
@@ -197,18 +197,18 @@ class PrivateStore:
     def arrive(self, sender: Place, message: Message) -> None:
         fetching.arrive(self, sender, message)
 
-    def receive(self, one: ObjectId, content: bytes, hand: Hand) -> None:
-        older = self.received[one].hands if one in self.received else []
-        self.received[one] = Seen(content, [*older, hand])
+    def receive(self, one: ObjectId, content: bytes, grant: ReceivedGrant) -> None:
+        older = self.received[one].grants if one in self.received else []
+        self.received[one] = Seen(content, [*older, grant])
 
-    def withdrawn(self, one: ObjectId, hand: Hand) -> None:
-        """A hand to the job has ended; what the job gave by it ends too. A hand stands twice in a forged journal alone, and ends then
+    def withdrawn(self, one: ObjectId, grant: ReceivedGrant) -> None:
+        """A grant to the job has ended; what the job gave by it ends too. A grant stands twice in a forged journal alone, and ends then
         both times at once."""
         seen = self.received[one]
-        seen.hands[:] = [other for other in seen.hands if other != hand]
-        if not seen.hands:
+        seen.grants[:] = [other for other in seen.grants if other != grant]
+        if not seen.grants:
             del self.received[one]
-        self.given = [given for given in self.given if (given.one, given.parent) != (one, hand.grantor)]
+        self.given = [given for given in self.given if (given.one, given.parent) != (one, grant.grantor)]
 
     # sessions
 
@@ -368,11 +368,11 @@ class PrivateStore:
         return "ok"
 
     def grant_on(self, one: ObjectId, grantee: int) -> str:
-        """A grant of another job's object, which hangs on the oldest hand by which this job sees it."""
+        """A grant of another job's object, which hangs on the oldest grant by which this job sees it."""
         refuse_if(grantee in (0, self.job, one.job), Refusal.BadId)
         refuse_if(one not in self.received, Refusal.NotGranted)
         refuse_if(self.gave(one, grantee), Refusal.Exists)
-        oldest = self.received[one].hands[0]
+        oldest = self.received[one].grants[0]
         refuse_if(oldest.depth >= DEEPEST or len(self.given) >= MOST_GIVEN, Refusal.TooMany)
         self.given.append(Given(one, grantee, oldest.depth + 1, oldest.grantor))
         return "ok"
@@ -398,7 +398,7 @@ class PrivateStore:
             for one, copy in sorted(self.copies.items(), key=lambda item: item[0])
         ]
         seen = [
-            f"{one.text(self.job)}:granted:{len(seen.content)}:{seen.hands[0].depth}"
+            f"{one.text(self.job)}:granted:{len(seen.content)}:{seen.grants[0].depth}"
             for one, seen in sorted(self.received.items(), key=lambda item: item[0])
         ]
         return " ".join(["list", *own, *seen])

@@ -23,9 +23,9 @@ module _ {A S : Type 0} (key : A → ℕ) (fits : A → Type 0) (tells : S → L
       × tells summary (here ∷ items left ++ items right)
       × IsOrdered (low + 1) (middle low high) left × IsOrdered (middle low high) high right
 
-  pub told : (low high : ℕ) (t : Tree A S) → IsOrdered low high t → HasSummaries fits tells t
-  told low high Leaf h = tt
-  told low high (Fork' p here s l r) h = (h.2, h.5, told (low + 1) (middle low high) l h.6, told (middle low high) high r h.7)
+  pub summarized : (low high : ℕ) (t : Tree A S) → IsOrdered low high t → HasSummaries fits tells t
+  summarized low high Leaf h = tt
+  summarized low high (Fork' p here s l r) h = (h.2, h.5, summarized (low + 1) (middle low high) l h.6, summarized (middle low high) high r h.7)
 
   -- what holds of each item
   pub all_fit : (t : Tree A S) → HasSummaries fits tells t → AllOf fits (items t)
@@ -72,7 +72,7 @@ module _ {A S : Type 0} (key : A → ℕ) (fits : A → Type 0) (tells : S → L
   -- the first item of a tree, and the rest of it over a wider range, after whose middle all of them lie
   module _ (low high : ℕ) (t rest : Tree A S) (here : A) (tree : IsOrdered (middle low high) high t) (is : items t ≡ here ∷ items rest) where
     pub fits_first : fits here
-    fits_first = (subst (AllOf fits) is (all_fit t (told (middle low high) high t tree))).0
+    fits_first = (subst (AllOf fits) is (all_fit t (summarized (middle low high) high t tree))).0
 
     pub widened : (s : S) → low < high → IsOrdered (middle low high) high rest → tells s (here ∷ items rest) → NodeAt low high here s Leaf rest
     widened s lt kept of =

@@ -1,5 +1,5 @@
 //! Items by rising key in a tree, each node of which has the summary of its item and of all below it. What is asked of many items
-//! is told by a few summaries, and a descent passes over all that a summary rules out. The keys below a node part at a fixed
+//! is answered from a few summaries, and a descent passes over all that a summary rules out. The keys below a node part at a fixed
 //! middle: the tree is never deeper than a key has bits, and nothing has to be turned over.
 #![tactic(auto)]
 
@@ -125,7 +125,7 @@ pub fn summary<T: Keyed<S>, S: Copy>(tree: &Tree<T, S>) -> S
 /// The summary of a node's own item and those on its sides. Many nodes have nothing on a side, and then it counts for nothing.
 fn summary_with<T: Keyed<S>, S: Copy>(here: T, left: &Tree<T, S>, right: &Tree<T, S>) -> S
     requires fits { T.fits here }
-    requires told { HasSummaries T.fits T.tells left.now × HasSummaries T.fits T.tells right.now }
+    requires summarized { HasSummaries T.fits T.tells left.now × HasSummaries T.fits T.tells right.now }
     ensures { T.tells result (here ∷ items left.now ++ items right.now) }
 {
     let own = here.alone();
@@ -224,7 +224,7 @@ pub fn put<T: Keyed<S>, S: Copy>(
 /// Takes out the first item, and gives the node that it leaves.
 fn pop<T: Keyed<S>, S: Copy>(tree: &mut Tree<T, S>) -> Option<Box<Node<T, S>>>
     requires { HasSummaries T.fits T.tells tree.old }
-    ensures told { HasSummaries T.fits T.tells tree.new }
+    ensures summarized { HasSummaries T.fits T.tells tree.new }
     ensures tree { (low high : ℕ) → IsTree T.key T.fits T.tells low high tree.old → IsTree T.key T.fits T.tells low high tree.new }
     ensures some { IfSome result (λ b. items tree.old ≡ b.value.here ∷ items tree.new) }
     ensures none { IfNone result ((items tree.old ≡ []) × (items tree.new ≡ [])) }

@@ -91,12 +91,12 @@ fn call_all<L: Ledger, R: Wait + Abort>(
     id: ObjectId,
 ) -> Result<Option<Receipt<L>>, AllocError> {
     let mut last = None;
-    let mut told = String::new(alloc);
+    let mut response = String::new(alloc);
     for turn in 0..6u64 {
         let (reply, receipt) = called(rt, alloc, node, id, turn)?;
-        let text = answer_text(alloc, JOB, &StepAnswer::Told(reply))?;
-        told.push_str(text.as_str())?;
-        told.push_str("\n")?;
+        let text = answer_text(alloc, JOB, &StepAnswer::Response(reply))?;
+        response.push_str(text.as_str())?;
+        response.push_str("\n")?;
         let named = receipt.as_ref().map(|receipt| (
             receipt.node(),
             receipt.job(),
@@ -105,7 +105,7 @@ fn call_all<L: Ledger, R: Wait + Abort>(
         same!(rt; named, Some((0, JOB, turn + 2)));
         last = receipt;
     }
-    same!(rt; told.as_str(), TOLD);
+    same!(rt; response.as_str(), TOLD);
     Ok(last)
 }
 

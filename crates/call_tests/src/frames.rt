@@ -66,7 +66,7 @@ fn told_at<L: Ledger, R: Wait + Clock>(
 }
 
 /// Serves the stream at a node of one job, which has a window of 64 bytes.
-fn told_by<L: Ledger, R: Wait + Clock + Abort>(
+fn response_by<L: Ledger, R: Wait + Clock + Abort>(
     rt: &R,
     alloc: Global,
     blank: Blank,
@@ -83,13 +83,13 @@ fn told_by<L: Ledger, R: Wait + Clock + Abort>(
     told_at(rt, alloc, node, input)
 }
 
-fn told<R: Wait + Clock + Abort>(
+fn response<R: Wait + Clock + Abort>(
     rt: &R,
     alloc: Global,
     input: &[u8],
 ) -> Result<Served, AllocError> {
     let blank = Blank::new(1);
-    told_by::<Brand, R>(rt, alloc, blank, input)
+    response_by::<Brand, R>(rt, alloc, blank, input)
 }
 
 /// Whether the stream of these digits is answered so, and ends so.
@@ -102,8 +102,8 @@ fn is_told(
 ) -> Result<bool, FromHexError> {
     let input = hex::decode(alloc, input)?;
     let answers = hex::decode(alloc, answers)?;
-    let told = told(rt, alloc, &input)?;
-    Ok(told.outcome == Ok(ended) && told.written == answers)
+    let response = response(rt, alloc, &input)?;
+    Ok(response.outcome == Ok(ended) && response.written == answers)
 }
 
 /// The same, tried once more if memory ran out.

@@ -1,5 +1,5 @@
 //! Tests of what no contract of a lock can tell: which entries the receipts of calls name, what a worker does with a device that
-//! fails, what the directory is told, and what a session's stream is answered at a node.
+//! fails, what the directory is sent, and what a session's stream is answered at a node.
 #![tactic(auto)]
 
 #[cfg(test)]

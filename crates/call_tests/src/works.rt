@@ -1,4 +1,4 @@
-//! What a worker does with a device that fails, and what the directory is told.
+//! What a worker does with a device that fails, and what the directory is sent.
 use crate::calls::{JOB, admit_with, object};
 use assertions::{holds, same};
 use bytes::Bytes;
@@ -39,7 +39,7 @@ fn command(asked: &Asked) -> Command<Bytes> {
 }
 
 /// The answer, asked for once more if memory ran out.
-fn told<L: Ledger, R: Wait>(rt: &R, node: &SharedNode<L>, asked: &Asked) -> Reply<Bytes> {
+fn response<L: Ledger, R: Wait>(rt: &R, node: &SharedNode<L>, asked: &Asked) -> Reply<Bytes> {
     let (reply, _) = node.call(rt, JOB, 1, command(asked));
     if matches!(&reply, Reply::Refused(Refusal::NoMemory)) {
         return node.call(rt, JOB, 1, command(asked)).0;
@@ -66,14 +66,14 @@ fn spill_the_first<L: Ledger, R: Wait + Abort, D: SpillDevice>(
     device: &mut D,
 ) {
     let (first, second) = (object(rt, 1), object(rt, 2));
-    holds!(rt; matches!(told(rt, node, &Asked::Create(first, 32)), Reply::Placed(0, 32)));
-    holds!(rt; matches!(told(rt, node, &Asked::Seal(first)), Reply::Ok));
-    holds!(rt; matches!(told(rt, node, &Asked::Create(second, 16)), Reply::Refused(Refusal::Pending)));
+    holds!(rt; matches!(response(rt, node, &Asked::Create(first, 32)), Reply::Placed(0, 32)));
+    holds!(rt; matches!(response(rt, node, &Asked::Seal(first)), Reply::Ok));
+    holds!(rt; matches!(response(rt, node, &Asked::Create(second, 16)), Reply::Refused(Refusal::Pending)));
     same!(rt; worked(rt, node, device), WorkDone::Done);
-    holds!(rt; matches!(told(rt, node, &Asked::Create(second, 16)), Reply::Refused(Refusal::DeviceFailed)));
-    holds!(rt; matches!(told(rt, node, &Asked::Create(second, 16)), Reply::Refused(Refusal::Pending)));
+    holds!(rt; matches!(response(rt, node, &Asked::Create(second, 16)), Reply::Refused(Refusal::DeviceFailed)));
+    holds!(rt; matches!(response(rt, node, &Asked::Create(second, 16)), Reply::Refused(Refusal::Pending)));
     same!(rt; worked(rt, node, device), WorkDone::Done);
-    holds!(rt; matches!(told(rt, node, &Asked::Create(second, 16)), Reply::Placed(0, 16)));
+    holds!(rt; matches!(response(rt, node, &Asked::Create(second, 16)), Reply::Placed(0, 16)));
 }
 
 /// The second object makes way, and the first comes back from the device.
@@ -83,10 +83,10 @@ fn restore_the_first<L: Ledger, R: Wait + Abort, D: SpillDevice>(
     device: &mut D,
 ) {
     let (first, second) = (object(rt, 1), object(rt, 2));
-    holds!(rt; matches!(told(rt, node, &Asked::Delete(second)), Reply::Ok));
-    holds!(rt; matches!(told(rt, node, &Asked::Get(first)), Reply::Refused(Refusal::Pending)));
+    holds!(rt; matches!(response(rt, node, &Asked::Delete(second)), Reply::Ok));
+    holds!(rt; matches!(response(rt, node, &Asked::Get(first)), Reply::Refused(Refusal::Pending)));
     same!(rt; worked(rt, node, device), WorkDone::Done);
-    holds!(rt; matches!(told(rt, node, &Asked::Get(first)), Reply::Got(32)));
+    holds!(rt; matches!(response(rt, node, &Asked::Get(first)), Reply::Got(32)));
     same!(rt; worked(rt, node, device), WorkDone::Nothing);
 }
 
@@ -112,11 +112,11 @@ pub(crate) fn ask_for_deleted<L: Ledger, R: Wait + Abort>(
     let first = object(rt, 1);
     let node = cluster.node(0).expect(rt, "a node");
     admit_with(rt, node, ONE);
-    holds!(rt; matches!(told(rt, node, &Asked::Create(first, 32)), Reply::Placed(0, 32)));
-    holds!(rt; matches!(told(rt, node, &Asked::Seal(first)), Reply::Ok));
-    holds!(rt; matches!(told(rt, node, &Asked::Delete(first)), Reply::Ok));
+    holds!(rt; matches!(response(rt, node, &Asked::Create(first, 32)), Reply::Placed(0, 32)));
+    holds!(rt; matches!(response(rt, node, &Asked::Seal(first)), Reply::Ok));
+    holds!(rt; matches!(response(rt, node, &Asked::Delete(first)), Reply::Ok));
     let node = cluster.node(1).expect(rt, "a node");
     admit_with(rt, node, ONE);
-    holds!(rt; matches!(told(rt, node, &Asked::Get(first)), Reply::Refused(Refusal::Pending)));
-    told(rt, node, &Asked::Get(first))
+    holds!(rt; matches!(response(rt, node, &Asked::Get(first)), Reply::Refused(Refusal::Pending)));
+    response(rt, node, &Asked::Get(first))
 }

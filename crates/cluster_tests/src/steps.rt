@@ -24,7 +24,10 @@ const TWO_NODES: ClusterSize = ClusterSize {
 };
 
 fn wants_memory(answer: &StepAnswer) -> bool {
-    matches!(answer, StepAnswer::Told(Reply::Refused(Refusal::NoMemory)))
+    matches!(
+        answer,
+        StepAnswer::Response(Reply::Refused(Refusal::NoMemory))
+    )
 }
 
 fn printed(alloc: Global, step: &Step, answer: &StepAnswer) -> Result<String, AllocError> {
@@ -49,7 +52,7 @@ fn usage(world: &mut World, node: u32, job: u32) -> Option<Usage>
         },
     );
     match world.step(&step) {
-        StepAnswer::Told(Reply::Usage(usage)) => Some(usage),
+        StepAnswer::Response(Reply::Usage(usage)) => Some(usage),
         _ => None,
     }
 }
@@ -85,8 +88,8 @@ fn check_row(rt: &impl Abort, alloc: Global, world: &mut World, row: &str) -> Re
     let (line, due) = row.split_once(" = ").ok_or("no row")?;
     let step = step_of(rt, alloc, line)?;
     let answer = answered(rt, world, &step);
-    let told = printed(alloc, &step, &answer)?;
-    assert_eq!(rt; told.as_str().strip_suffix("\n"), Some(due), "{row}");
+    let response = printed(alloc, &step, &answer)?;
+    assert_eq!(rt; response.as_str().strip_suffix("\n"), Some(due), "{row}");
     Ok(())
 }
 
@@ -188,7 +191,7 @@ fn asked_writes_that_wanted_memory_can_be_asked_for_again(rt: HostRuntime) -> Re
     check(&rt, rt.alloc(), WRITES)
 }
 
-const HANDS: &str = "\
+const GRANTS: &str = "\
 admit 0 1 64 0 = n0 op ok
 admit 0 2 64 0 = n0 op ok
 cmd 0 1 1 create t1.1 4 = n0 j1 s1 placed 0 16
@@ -205,8 +208,8 @@ cmd 0 1 1 endtask t1 = n0 j1 s1 ok
 cmd 0 2 1 peek 1/t1.1 0 4 = n0 j2 s1 refused 13 NotGranted";
 
 #[test]
-fn a_command_of_hands_that_wanted_memory_can_be_taken_again(rt: HostRuntime) -> Result<(), Fail> {
-    check(&rt, rt.alloc(), HANDS)
+fn a_command_of_grants_that_wanted_memory_can_be_taken_again(rt: HostRuntime) -> Result<(), Fail> {
+    check(&rt, rt.alloc(), GRANTS)
 }
 
 const EVERY_STEP: &str = "\
@@ -335,10 +338,10 @@ fn both_told(
     first: &Trace,
     second: &Trace,
 ) -> Result<Option<(String, String)>, Fail> {
-    let Some(told) = told_to(alloc, JobNo(1), first)? else {
+    let Some(response) = told_to(alloc, JobNo(1), first)? else {
         return Ok(None);
     };
-    Ok(told_to(alloc, JobNo(1), second)?.map(|other| (told, other)))
+    Ok(told_to(alloc, JobNo(1), second)?.map(|other| (response, other)))
 }
 
 const BESIDE: &str = "\
@@ -374,7 +377,7 @@ fn check_told_alike(
     memory: u64,
     beside: &str,
     alone: &str,
-    told: &str,
+    response: &str,
 ) -> Result<(), Fail>
     requires { memory ≤ largest_memory }
 {
@@ -383,8 +386,8 @@ fn check_told_alike(
         both => both,
     };
     let (beside, alone) = both.ok_or("out of memory twice")?;
-    same!(rt; beside.as_str(), told);
-    same!(rt; alone.as_str(), told);
+    same!(rt; beside.as_str(), response);
+    same!(rt; alone.as_str(), response);
     Ok(())
 }
 
@@ -393,7 +396,7 @@ fn a_job_is_told_the_same_without_its_neighbour(rt: HostRuntime) -> Result<(), F
     check_told_alike(&rt, rt.alloc(), MEMORY, BESIDE, ALONE, TOLD)
 }
 
-const HANDS_BESIDE: &str = "\
+const GRANTS_BESIDE: &str = "\
 admit 0 1 64 0
 admit 0 2 64 0
 admit 0 3 64 0
@@ -415,7 +418,7 @@ cmd 0 3 1 peek 1/t1.1 0 4
 cmd 0 4 1 peek 1/t1.1 0 4
 cmd 0 2 1 withdraw 1/t1.1 3";
 
-const HANDS_ALONE: &str = "\
+const GRANTS_ALONE: &str = "\
 admit 0 1 64 0
 admit 0 2 64 0
 cmd 0 1 1 create t1.1 4
@@ -424,7 +427,7 @@ cmd 0 1 1 seal t1.1
 cmd 0 1 1 grant t1.1 2
 cmd 0 1 1 withdraw t1.1 2";
 
-const HANDS_TOLD: &str = "\
+const GRANTS_TOLD: &str = "\
 n0 j1 s1 placed 0 16
 n0 j1 s1 ok
 n0 j1 s1 ok
@@ -433,14 +436,14 @@ n0 j1 s1 ok
 ";
 
 #[test]
-fn a_grantor_is_told_the_same_without_those_who_hand_on(rt: HostRuntime) -> Result<(), Fail> {
+fn a_grantor_is_told_the_same_without_those_who_grant_on(rt: HostRuntime) -> Result<(), Fail> {
     check_told_alike(
         &rt,
         rt.alloc(),
         MEMORY,
-        HANDS_BESIDE,
-        HANDS_ALONE,
-        HANDS_TOLD,
+        GRANTS_BESIDE,
+        GRANTS_ALONE,
+        GRANTS_TOLD,
     )
 }
 

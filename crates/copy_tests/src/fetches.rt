@@ -88,8 +88,8 @@ fn is_chunk(message: &PeerMessage, index: u32, bytes: &[u8]) -> Result<bool, Ref
 /// Whether the fetch asks for both chunks, takes them, the last first, and finds them whole.
 fn takes_both(fetch: &mut FetchIn, bytes: &[u8]) -> bool {
     fetch.missing() == [0, 1].as_slice()
-        && fetch.take_chunk(NUMBER, SOURCE, 1, 10)
-        && fetch.take_chunk(NUMBER, SOURCE, 0, CHUNK)
+        && fetch.take_chunk(NUMBER, 1, SOURCE, 10)
+        && fetch.take_chunk(NUMBER, 0, SOURCE, CHUNK)
         && fetch.missing().is_empty()
         && fetch.complete(bytes)
 }
@@ -104,9 +104,9 @@ fn both_chunks_are_asked_for_and_taken(rt: HostRuntime) -> Result<(), Fail> {
 
 /// Whether a chunk that was lost stays missing, and the fetch is whole once it is sent again.
 fn takes_what_was_lost(fetch: &mut FetchIn, bytes: &[u8]) -> bool {
-    fetch.take_chunk(NUMBER, SOURCE, 1, 10)
+    fetch.take_chunk(NUMBER, 1, SOURCE, 10)
         && fetch.missing() == [0].as_slice()
-        && fetch.take_chunk(NUMBER, SOURCE, 0, CHUNK)
+        && fetch.take_chunk(NUMBER, 0, SOURCE, CHUNK)
         && fetch.missing().is_empty()
         && fetch.complete(bytes)
 }
@@ -121,12 +121,12 @@ fn a_lost_chunk_is_asked_for_again(rt: HostRuntime) -> Result<(), Fail> {
 
 /// Whether each chunk is taken once, and fills no gap when it comes again.
 fn takes_each_once(fetch: &mut FetchIn, bytes: &[u8]) -> bool {
-    fetch.take_chunk(NUMBER, SOURCE, 0, CHUNK)
-        && !fetch.take_chunk(NUMBER, SOURCE, 0, CHUNK)
+    fetch.take_chunk(NUMBER, 0, SOURCE, CHUNK)
+        && !fetch.take_chunk(NUMBER, 0, SOURCE, CHUNK)
         && fetch.missing() == [1].as_slice()
-        && fetch.take_chunk(NUMBER, SOURCE, 1, 10)
-        && !fetch.take_chunk(NUMBER, SOURCE, 1, 10)
-        && !fetch.take_chunk(NUMBER, SOURCE, 0, CHUNK)
+        && fetch.take_chunk(NUMBER, 1, SOURCE, 10)
+        && !fetch.take_chunk(NUMBER, 1, SOURCE, 10)
+        && !fetch.take_chunk(NUMBER, 0, SOURCE, CHUNK)
         && fetch.complete(bytes)
 }
 
@@ -140,11 +140,11 @@ fn a_repeated_chunk_fills_nothing(rt: HostRuntime) -> Result<(), Fail> {
 
 /// Whether the fetch takes both chunks, fails as damaged on these bytes, and then takes nothing more.
 fn fails_on(fetch: &mut FetchIn, damaged: &[u8]) -> bool {
-    fetch.take_chunk(NUMBER, SOURCE, 0, CHUNK)
-        && fetch.take_chunk(NUMBER, SOURCE, 1, 10)
+    fetch.take_chunk(NUMBER, 0, SOURCE, CHUNK)
+        && fetch.take_chunk(NUMBER, 1, SOURCE, 10)
         && !fetch.complete(damaged)
         && fetch.stage() == Stage::Failed(FetchFault::Damaged)
-        && !fetch.take_chunk(NUMBER, SOURCE, 0, CHUNK)
+        && !fetch.take_chunk(NUMBER, 0, SOURCE, CHUNK)
 }
 
 #[test]

@@ -13,7 +13,7 @@ fn hold(rt: &impl Abort, pins: &mut Pins, session: u32) -> Result<(), Refusal> {
             same!(rt; pins.holds_of(session), before);
             pins.hold(session)
         }
-        told => told,
+        response => response,
     }
 }
 
@@ -24,7 +24,7 @@ fn borrow(rt: &impl Abort, pins: &mut Pins, task: TaskNo) -> Result<(), Refusal>
             holds!(rt; !pins.borrows(task));
             pins.borrow(task)
         }
-        told => told,
+        response => response,
     }
 }
 

@@ -82,7 +82,7 @@ fn write<D: SpillDevice>(
             same!(rt; device.failures(), failures);
             device.write(key, bytes)
         }
-        told => told,
+        response => response,
     }
 }
 
@@ -98,7 +98,7 @@ fn read<D: SpillDevice>(
             same!(rt; device.failures(), failures);
             device.read(key, len)
         }
-        told => told,
+        response => response,
     }
 }
 
@@ -113,7 +113,7 @@ fn erase<D: SpillDevice>(
             same!(rt; device.failures(), failures);
             device.erase(key)
         }
-        told => told,
+        response => response,
     }
 }
 
@@ -323,9 +323,9 @@ fn a_folder_that_cant_be_made_is_told(rt: HostRuntime) -> Result<(), Fail> {
     let file = own_folder(&rt, process::id(rt.process()), "none")?;
     fs::write(&rt, file.as_str(), "a file")?;
     let below = joined(rt.alloc(), file.as_str(), "below")?;
-    let told = refusal_of(&rt, below.as_str())?;
-    holds!(rt; told.as_str().starts_with("the folder `"));
-    holds!(rt; told.as_str().contains(below.as_str()));
+    let response = refusal_of(&rt, below.as_str())?;
+    holds!(rt; response.as_str().starts_with("the folder `"));
+    holds!(rt; response.as_str().contains(below.as_str()));
     fs::remove_file(&rt, file.as_str())?;
     Ok(())
 }

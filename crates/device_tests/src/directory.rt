@@ -93,12 +93,12 @@ fn tells(
     else {
         return Ok(false);
     };
-    let told = entries.as_slice();
-    let same = told
+    let response = entries.as_slice();
+    let same = response
         .iter()
         .zip(want)
         .all(|(entry, pair)| (entry.node, entry.length) == *pair);
-    Ok(same && told.len() == want.len() && to == 3 && id == asked && number == 77)
+    Ok(same && response.len() == want.len() && to == 3 && id == asked && number == 77)
 }
 
 /// Whether two entries of each of 12 objects are told by rising node.

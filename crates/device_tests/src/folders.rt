@@ -82,9 +82,9 @@ fn what_a_write_left_is_replaced_and_a_link_in_its_place_is_not_followed(
 fn a_folder_is_one_servers_at_a_time(rt: HostRuntime) -> Result<(), Fail> {
     let folder = own_folder(&rt, process::id(rt.process()), "one")?;
     let first = taken(rt, folder.as_str())?;
-    let told = refusal_of(rt, folder.as_str())?;
-    holds!(rt; told.as_str().ends_with("is used by another server"));
-    holds!(rt; told.as_str().contains(folder.as_str()));
+    let response = refusal_of(rt, folder.as_str())?;
+    holds!(rt; response.as_str().ends_with("is used by another server"));
+    holds!(rt; response.as_str().contains(folder.as_str()));
     drop(first);
     same!(rt; refusal_of(rt, folder.as_str())?.as_str(), "");
     fs::remove_dir_all(&rt, folder.as_str())?;
@@ -96,8 +96,8 @@ fn a_folder_that_others_may_use_is_refused(rt: HostRuntime) -> Result<(), Fail> 
     let folder = own_folder(&rt, process::id(rt.process()), "shared")?;
     drop(taken(rt, folder.as_str())?);
     fs::set_permissions(&rt, folder.as_str(), fs::Permissions::from_mode(0o750))?;
-    let told = refusal_of(rt, folder.as_str())?;
-    holds!(rt; told.as_str().ends_with("is not its owner's alone (chmod 700)"));
+    let response = refusal_of(rt, folder.as_str())?;
+    holds!(rt; response.as_str().ends_with("is not its owner's alone (chmod 700)"));
     fs::remove_dir_all(&rt, folder.as_str())?;
     Ok(())
 }

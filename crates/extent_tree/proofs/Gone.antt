@@ -9,7 +9,7 @@ use Rattle.obj_id.specs.declared.works.Extent.{Extent}
 use Rattle.use_tree.specs.declared.classes.VictimClass.{VictimClass}
 use Rattle.use_tree.specs.declared.classes.VictimClasses.{VictimClasses}
 use Rattle.extent_tree.specs.declared.residents.Resident.{Resident}
-use Rattle.extent_tree.specs.Residents.{resident_offset, resident_in_classes, AreResidentsRising, goes, staying, remaining, resident_with_classes, classes_at}
+use Rattle.extent_tree.specs.Residents.{resident_offset, resident_in_classes, AreResidentsRising, goes, extents_staying, remaining, resident_with_classes, classes_at}
 
 -- none goes besides
 pub remaining_all : (xs : List Resident) → remaining [] xs ≡ xs
@@ -29,21 +29,21 @@ module _ (k : VictimClass) (e : Extent) (m : VictimClasses) (marked : goes k m �
   gone_at o = list_any (λ (g : Extent). nat_eq g.offset o) gone
 
   -- one that is marked as going goes, as if its extent went
-  pub staying_marked : (xs : List Resident) → AreResidentsRising xs → staying k (remaining gone (resident_with_classes e.offset m xs)) ≡ staying k (remaining (e ∷ gone) xs)
+  pub staying_marked : (xs : List Resident) → AreResidentsRising xs → extents_staying k (remaining gone (resident_with_classes e.offset m xs)) ≡ extents_staying k (remaining (e ∷ gone) xs)
   staying_marked [] rising = refl
   staying_marked (x ∷ xs) rising = by (staying_marked xs rising.1) (nat_eq e.offset x.extent.offset) refl
     where
       -- the marked one itself
-      leaves : (b : Bool) → staying k (if b then resident_in_classes m x ∷ remaining gone xs else remaining gone xs) ≡ staying k (remaining gone xs)
+      leaves : (b : Bool) → extents_staying k (if b then resident_in_classes m x ∷ remaining gone xs else remaining gone xs) ≡ extents_staying k (remaining gone xs)
       leaves true = rw marked refl
       leaves false = refl
 
-      by : staying k (remaining gone (resident_with_classes e.offset m xs)) ≡ staying k (remaining (e ∷ gone) xs) → (b : Bool) → nat_eq e.offset x.extent.offset ≡ b
-          → staying k (remaining gone (resident_with_classes e.offset m (x ∷ xs))) ≡ staying k (remaining (e ∷ gone) (x ∷ xs))
+      by : extents_staying k (remaining gone (resident_with_classes e.offset m xs)) ≡ extents_staying k (remaining (e ∷ gone) xs) → (b : Bool) → nat_eq e.offset x.extent.offset ≡ b
+          → extents_staying k (remaining gone (resident_with_classes e.offset m (x ∷ xs))) ≡ extents_staying k (remaining (e ∷ gone) (x ∷ xs))
       by rest true t =
           let same : e.offset ≡ x.extent.offset = grind (arith, nat_tests, t) in
           let others = remaining_after e gone xs (later same) in
-          rw t (leaves (not (gone_at x.extent.offset)) ∙ sym (ap (staying k) others))
+          rw t (leaves (not (gone_at x.extent.offset)) ∙ sym (ap (extents_staying k) others))
         where
           later : e.offset ≡ x.extent.offset → AllOf (λ y. e.offset < y.extent.offset) xs
           later same = subst (λ o. AllOf (λ y. o < y.extent.offset) xs) (sym same) rising.0

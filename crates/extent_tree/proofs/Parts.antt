@@ -8,7 +8,7 @@ use Rattle.use_tree.specs.declared.classes.VictimClass.{VictimClass}
 use Rattle.extent_tree.specs.declared.spans.Span.{Span}
 use Rattle.extent_tree.specs.declared.spans.Spans.{Spans}
 use Rattle.extent_tree.specs.declared.residents.Resident.{Resident}
-use Rattle.extent_tree.specs.Residents.{AreSpansOf, goes, staying, joined, span_at, span_of}
+use Rattle.extent_tree.specs.Residents.{AreSpansOf, goes, extents_staying, joined, span_at, span_of}
 
 joined_thrice : (a b c : Option Span) → joined a (joined b c) ≡ joined (joined a b) c
 joined_thrice None b c = refl
@@ -23,14 +23,14 @@ span_both [] ys = refl
 span_both (x ∷ xs) ys =
     ap (joined (span_of (x ∷ []))) (span_both xs ys) ∙ joined_thrice (span_of (x ∷ [])) (span_of xs) (span_of ys)
 
-staying_both : (k : VictimClass) (xs ys : List Resident) → staying k (xs ++ ys) ≡ staying k xs ++ staying k ys
+staying_both : (k : VictimClass) (xs ys : List Resident) → extents_staying k (xs ++ ys) ≡ extents_staying k xs ++ extents_staying k ys
 staying_both k xs ys =
     ap (map (λ (x : Resident). x.extent)) (filter-append (λ (x : Resident). not (goes k x.classes)) xs ys)
     ∙ map-append (λ (x : Resident). x.extent) (filter (λ (x : Resident). not (goes k x.classes)) xs) (filter (λ (x : Resident). not (goes k x.classes)) ys)
 
 -- one part after another
-pub stay_both : (k : VictimClass) (xs ys : List Resident) → span_of (staying k (xs ++ ys)) ≡ joined (span_of (staying k xs)) (span_of (staying k ys))
-stay_both k xs ys = ap span_of (staying_both k xs ys) ∙ span_both (staying k xs) (staying k ys)
+pub stay_both : (k : VictimClass) (xs ys : List Resident) → span_of (extents_staying k (xs ++ ys)) ≡ joined (span_of (extents_staying k xs)) (span_of (extents_staying k ys))
+stay_both k xs ys = ap span_of (staying_both k xs ys) ∙ span_both (extents_staying k xs) (extents_staying k ys)
 
 -- the spans of parts that follow each other
 pub are_of_both : (s a b : Spans) (xs ys : List Resident) → ((k : VictimClass) → span_at k s ≡ joined (span_at k a) (span_at k b)) → AreSpansOf a xs → AreSpansOf b ys → AreSpansOf s (xs ++ ys)

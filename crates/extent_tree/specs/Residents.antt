@@ -52,8 +52,8 @@ goes Draining m = m.evictable || m.draining
 goes Spillable m = m.evictable || (m.draining || m.spillable)
 
 -- the extents that stay then
-abbrev pub staying : VictimClass → List Resident → List Extent
-staying k xs = map (λ x. x.extent) (filter (λ x. not (goes k x.classes)) xs)
+abbrev pub extents_staying : VictimClass → List Resident → List Extent
+extents_staying k xs = map (λ x. x.extent) (filter (λ x. not (goes k x.classes)) xs)
 
 -- those at none of these offsets
 abbrev pub remaining : List Extent → List Resident → List Resident
@@ -83,4 +83,4 @@ span_at Spillable s = s.spillable
 
 -- these are the spans of the extents that stay
 abbrev pub AreSpansOf : Spans → List Resident → Type 0
-AreSpansOf s xs = (k : VictimClass) → span_at k s ≡ span_of (staying k xs)
+AreSpansOf s xs = (k : VictimClass) → span_at k s ≡ span_of (extents_staying k xs)

@@ -1,7 +1,7 @@
 //! Resident extents in a tree by offset, each node of which knows the spans of its own extent and all below.
 ghost use Rattle.std.specs.Prelude.{◌≡◌, ◌^◌, ◌<◌, [], ◌&&◌, not, true, false, nat_lt, is_some};
 ghost use Rattle.augmented_tree.specs.Lists.{AllOf};
-ghost use Rattle.extent_tree.specs.Residents.{resident_offset, resident_in_classes, ResidentFits, AreSpansOf, AreResidentsRising, put_resident, take_resident, has_resident, resident_with_classes, classes_at, staying, span_of};
+ghost use Rattle.extent_tree.specs.Residents.{resident_offset, resident_in_classes, ResidentFits, AreSpansOf, AreResidentsRising, put_resident, take_resident, has_resident, resident_with_classes, classes_at, extents_staying, span_of};
 
 use crate::spans::{Span, Spans};
 use augmented_tree::{Keyed, Marked, Tree, summary};
@@ -177,7 +177,7 @@ impl Residents {
     pub fn span(&self, class: VictimClass) -> Option<Span>
         ensures rising { AreResidentsRising self.now }
         ensures small { AllOf (λ x. (x.extent.offset < 2 ^ 29) × (x.extent.length < 2 ^ 32)) self.now }
-        ensures span { result ≡ span_of (staying class self.now) }
+        ensures span { result ≡ span_of (extents_staying class self.now) }
     {
         summary(&self.tree).at(class)
     }

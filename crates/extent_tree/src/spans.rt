@@ -1,7 +1,7 @@
 //! Spans of extents, and the gaps between them.
 ghost use Rattle.std.specs.Prelude.{◌≡◌, ◌<◌, [], ◌∷◌, Option, Some, None};
 ghost use Rattle.use_tree.specs.declared.classes.VictimClass.{VictimClass};
-ghost use Rattle.extent_tree.specs.Residents.{ResidentFits, AreSpansOf, goes as goes_lem, joined as joined_lem, has_gap as has_gap_lem, span_at, staying, span_of};
+ghost use Rattle.extent_tree.specs.Residents.{ResidentFits, AreSpansOf, goes as goes_lem, joined as joined_lem, has_gap as has_gap_lem, span_at, extents_staying, span_of};
 
 use crate::residents::Resident;
 use use_tree::{VictimClass, VictimClasses};
@@ -44,7 +44,7 @@ fn goes(class: VictimClass, classes: VictimClasses) -> bool
 /// The span of one extent, if its copy stays.
 pub(crate) fn span_of_one(class: VictimClass, resident: Resident) -> Option<Span>
     requires { ResidentFits resident }
-    ensures { result ≡ span_of (staying class (resident ∷ [])) }
+    ensures { result ≡ span_of (extents_staying class (resident ∷ [])) }
 {
     if goes(class, resident.classes) {
         return None;

@@ -58,7 +58,7 @@ module _ (store : Shape) (id : ObjectId) (copy : Copy) (fetch : Fetch) (there : 
   in_phase room c p d e =
       record { copy = c; fetch = record fetch { phase = p }; there = at-put_here room.copies id c; in_fetch = e; number = refl; phase = refl; length = refl }
 
-  -- ---- a source is told
+  -- ---- a source becomes known
 
   module _ (node : ℕ) (entries : List Location) where
     abbrev located_in : Phase → Change

@@ -169,11 +169,11 @@ impl FetchIn {
 
     /// A chunk of `length` bytes came: whether it fills a gap, which is then closed, so that its bytes are
     /// to be written. It must be of this fetch, from its source, missing, and as long as that chunk is.
-    pub fn take_chunk(&mut self, number: u64, from: u32, index: u32, length: usize) -> bool
-        ensures told { result ≡ fills_one number from index length self.old }
+    pub fn take_chunk(&mut self, number: u64, index: u32, from: u32, length: usize) -> bool
+        ensures response { result ≡ fills_one number from index length self.old }
         ensures kept { self.new ≡ fetch_chunk_taken number from index length self.old }
     {
-        let fills = self.fills_one(number, from, index, length);
+        let fills = self.fills_one(number, index, from, length);
         if fills {
             close_gap(&mut self.missing, index);
         }
@@ -182,7 +182,7 @@ impl FetchIn {
 
     /// Whether a chunk of `length` bytes would fill a gap: it is of this fetch, from its source, missing, and as long as that
     /// chunk is.
-    pub fn fills_one(&self, number: u64, from: u32, index: u32, length: usize) -> bool
+    pub fn fills_one(&self, number: u64, index: u32, from: u32, length: usize) -> bool
         ensures { result ≡ fills_one number from index length self.now }
     {
         match self.stage {
@@ -199,7 +199,7 @@ impl FetchIn {
     /// Whether these are the object's bytes, by length and digest: asked once none is missing. If they
     /// aren't, the fetch has failed. Hashes the bytes once.
     pub fn complete(&mut self, bytes: &[u8]) -> bool
-        ensures told { result ≡ is_whole self.old bytes.now }
+        ensures response { result ≡ is_whole self.old bytes.now }
         ensures kept { self.new ≡ (if is_whole self.old bytes.now then self.old else failed_with self.old Damaged) }
     {
         let whole = bytes.len() == self.length as usize && self.digest == Some(digest_of(bytes));
@@ -212,7 +212,7 @@ impl FetchIn {
     /// A node says that it has no such copy: whether that is the source that was asked. The fetch has then
     /// failed.
     pub fn not_here(&mut self, number: u64, from: u32) -> bool
-        ensures told { result ≡ is_pulled_from number from self.old }
+        ensures response { result ≡ is_pulled_from number from self.old }
         ensures kept { self.new ≡ (if is_pulled_from number from self.old then failed_with self.old Absent else self.old) }
     {
         let refused = number == self.number && self.stage == Stage::Pulling(from);

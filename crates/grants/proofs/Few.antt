@@ -9,53 +9,53 @@ use Rattle.obj_id.specs.declared.ids.ObjectId.{ObjectId}
 use Rattle.obj_id.specs.Ids.{id_cmp}
 use Rattle.store_facts.proofs.Ids.{id_cmp-IsTotalOrder}
 use Rattle.private_store.specs.laws.Answers.{AreGrantedWithin}
-use Rattle.private_store.specs.rules.Hands.{Hand, same_hand, is_child_of, is_given_by}
-use Rattle.private_store.specs.rules.Limits.{most_hands, most_live_jobs, greatest_depth}
-use Rattle.private_store.specs.rules.Shape.{HandTaken, Seen}
+use Rattle.private_store.specs.rules.Grants.{StandingGrant, same_grant, is_child_of, is_given_by}
+use Rattle.private_store.specs.rules.Limits.{most_grants, most_live_jobs, greatest_depth}
+use Rattle.private_store.specs.rules.Shape.{GrantTaken, Seen}
 use Rattle.private_store.specs.rules.Tables.{ById, at}
 use Rattle.store_facts.proofs.Tests.{both, both_left, both_right, some_value}
-use Rattle.grants.specs.Table.{AreHands, all_stand, hand_may_stand, hangs_right, is_hung, is_no_grantee, shows, given_by, given_to}
+use Rattle.grants.specs.Table.{AreGrants, all_stand, grant_may_stand, hangs_right, is_hung, is_no_grantee, shows, given_by, given_to}
 use Rattle.grants.specs.Private.{as_taken, seen_by, with_taken, taken_by}
-use Rattle.grants.proofs.Private.{seen_hands}
+use Rattle.grants.proofs.Private.{seen_grants}
 use Rattle.grants.proofs.Taken.{taken_shown}
 
--- ---- one table's hands
+-- ---- one table's grants
 
 abbrev pub is_among : List ℕ → ℕ → Bool
 is_among numbers n = list_any (λ m. m == n) numbers
 
--- a hand has a grantor that isn't its grantee, and is no deeper than a grant makes it
-abbrev IsFit : Hand → Bool
-IsFit hand = not (hand.grantee == hand.grantor) && nat_le hand.depth greatest_depth
+-- a grant has a grantor that isn't its grantee, and is no deeper than a Grant makes it
+abbrev IsFit : StandingGrant → Bool
+IsFit grant = not (grant.grantee == grant.grantor) && nat_le grant.depth greatest_depth
 
-hung_fit : (before : List Hand) (hand : Hand) (o : Option ℕ) → hangs_right before hand o ≡ true → nat_le hand.depth greatest_depth ≡ true
-hung_fit before hand None h = let first = both_right (hand.grantor == hand.id.job.0) (hand.depth == 1) h in grind (arith, nat_tests, first)
-hung_fit before hand (Some g) h =
-    both_right (not (hand.grantor == hand.id.job.0)) (nat_le hand.depth greatest_depth)
-    (both_left (not (hand.grantor == hand.id.job.0) && nat_le hand.depth greatest_depth) (list_any (λ below. is_child_of hand below && hand.depth == below.depth + 1) before) h)
+hung_fit : (before : List StandingGrant) (grant : StandingGrant) (o : Option ℕ) → hangs_right before grant o ≡ true → nat_le grant.depth greatest_depth ≡ true
+hung_fit before grant None h = let first = both_right (grant.grantor == grant.id.job.0) (grant.depth == 1) h in grind (arith, nat_tests, first)
+hung_fit before grant (Some g) h =
+    both_right (not (grant.grantor == grant.id.job.0)) (nat_le grant.depth greatest_depth)
+    (both_left (not (grant.grantor == grant.id.job.0) && nat_le grant.depth greatest_depth) (list_any (λ below. is_child_of grant below && grant.depth == below.depth + 1) before) h)
 
 grantee_fit : (a b c : Bool) → not ((a || b) || c) ≡ true → not b ≡ true
 grantee_fit false false c h = refl
 grantee_fit false true c h = h
 grantee_fit true b c h = absurd cc
 
-stands_fit : (before : List Hand) (hand : Hand) → hand_may_stand before hand ≡ true → IsFit hand ≡ true
-stands_fit before hand h =
-    let grantee : Bool = not (is_no_grantee hand.id hand.grantor hand.grantee) in
-    let apart : Bool = not (list_any (same_hand hand) before) in
-    both (not (hand.grantee == hand.grantor)) (nat_le hand.depth greatest_depth)
-    (grantee_fit (hand.grantee == 0) (hand.grantee == hand.grantor) (hand.grantee == hand.id.job.0) (both_left grantee apart (both_left (grantee && apart) (is_hung before hand) h)))
-    (hung_fit before hand hand.parent (both_right (grantee && apart) (is_hung before hand) h))
+stands_fit : (before : List StandingGrant) (grant : StandingGrant) → grant_may_stand before grant ≡ true → IsFit grant ≡ true
+stands_fit before grant h =
+    let grantee : Bool = not (is_no_grantee grant.id grant.grantor grant.grantee) in
+    let apart : Bool = not (list_any (same_grant grant) before) in
+    both (not (grant.grantee == grant.grantor)) (nat_le grant.depth greatest_depth)
+    (grantee_fit (grant.grantee == 0) (grant.grantee == grant.grantor) (grant.grantee == grant.id.job.0) (both_left grantee apart (both_left (grantee && apart) (is_hung before grant) h)))
+    (hung_fit before grant grant.parent (both_right (grantee && apart) (is_hung before grant) h))
 
-all_fit : (before hands : List Hand) → all_stand before hands ≡ true → list_all IsFit hands ≡ true
+all_fit : (before grants : List StandingGrant) → all_stand before grants ≡ true → list_all IsFit grants ≡ true
 all_fit before [] h = refl
-all_fit before (hand ∷ hands) h =
-    both (IsFit hand) (list_all IsFit hands) (stands_fit before hand (both_left (hand_may_stand before hand) _ h))
-    (all_fit (before ++ hand ∷ []) hands (both_right (hand_may_stand before hand) _ h))
+all_fit before (grant ∷ grants) h =
+    both (IsFit grant) (list_all IsFit grants) (stands_fit before grant (both_left (grant_may_stand before grant) _ h))
+    (all_fit (before ++ grant ∷ []) grants (both_right (grant_may_stand before grant) _ h))
 
 -- ---- counting by grantors
 
-split : (p : Hand → Bool) (hs : List Hand) → length hs ≡ length (filter p hs) + length (filter (λ h. not (p h)) hs)
+split : (p : StandingGrant → Bool) (hs : List StandingGrant) → length hs ≡ length (filter p hs) + length (filter (λ h. not (p h)) hs)
 split p [] = refl
 split p (h ∷ hs) = by (p h) (split p hs)
   where
@@ -64,7 +64,7 @@ split p (h ∷ hs) = by (p h) (split p hs)
     by true e = omega (arith, e)
     by false e = omega (arith, e)
 
-filter_less : (p r : Hand → Bool) (hs : List Hand) → length (filter p (filter r hs)) ≤ length (filter p hs)
+filter_less : (p r : StandingGrant → Bool) (hs : List StandingGrant) → length (filter p (filter r hs)) ≤ length (filter p hs)
 filter_less p r [] = omega arith
 filter_less p r (h ∷ hs) = by (r h) (filter_less p r hs)
   where
@@ -81,19 +81,19 @@ filter_less p r (h ∷ hs) = by (r h) (filter_less p r hs)
         over false l = l
 
 -- without the first of the numbers
-among_rest : (g : ℕ) (gs : List ℕ) (hs : List Hand) → list_all (λ h. is_among (g ∷ gs) h.grantor) hs ≡ true → list_all (λ h. is_among gs h.grantor) (filter (λ h. not (is_given_by g h)) hs) ≡ true
+among_rest : (g : ℕ) (gs : List ℕ) (hs : List StandingGrant) → list_all (λ h. is_among (g ∷ gs) h.grantor) hs ≡ true → list_all (λ h. is_among gs h.grantor) (filter (λ h. not (is_given_by g h)) hs) ≡ true
 among_rest g gs [] all = refl
 among_rest g gs (h ∷ hs) all = by (h.grantor == g) (g == h.grantor) (grind (arith, nat_tests)) (both_left ((g == h.grantor) || is_among gs h.grantor) _ all) (among_rest g gs hs (both_right ((g == h.grantor) || is_among gs h.grantor) _ all))
   where
-    rest : List Hand
+    rest : List StandingGrant
     rest = filter (λ h. not (is_given_by g h)) hs
 
-    by : (a b : Bool) → a ≡ b → b || is_among gs h.grantor ≡ true → list_all (λ (h : Hand). is_among gs h.grantor) rest ≡ true → list_all (λ (h : Hand). is_among gs h.grantor) (cond (not a) (h ∷ rest) rest) ≡ true
+    by : (a b : Bool) → a ≡ b → b || is_among gs h.grantor ≡ true → list_all (λ (h : StandingGrant). is_among gs h.grantor) rest ≡ true → list_all (λ (h : StandingGrant). is_among gs h.grantor) (cond (not a) (h ∷ rest) rest) ≡ true
     by true b e here l = l
-    by false false e here l = both (is_among gs h.grantor) (list_all (λ (h : Hand). is_among gs h.grantor) rest) here l
+    by false false e here l = both (is_among gs h.grantor) (list_all (λ (h : StandingGrant). is_among gs h.grantor) rest) here l
     by false true e here l = absurd cc
 
-few_by : (gs : List ℕ) (hs : List Hand) → list_all (λ h. is_among gs h.grantor) hs ≡ true → ((g : ℕ) → length (given_by g hs) ≤ most_hands) → length hs ≤ 64 * length gs
+few_by : (gs : List ℕ) (hs : List StandingGrant) → list_all (λ h. is_among gs h.grantor) hs ≡ true → ((g : ℕ) → length (given_by g hs) ≤ most_grants) → length hs ≤ 64 * length gs
 few_by [] [] all few = omega arith
 few_by [] (h ∷ hs) all few = absurd cc
 few_by (g ∷ gs) hs all few =
@@ -103,7 +103,7 @@ few_by (g ∷ gs) hs all few =
     let whole = split (is_given_by g) hs in
     omega (arith, here, there, whole)
   where
-    less : (k : ℕ) {m n : ℕ} → m ≤ n → n ≤ most_hands → m ≤ most_hands
+    less : (k : ℕ) {m n : ℕ} → m ≤ n → n ≤ most_grants → m ≤ most_grants
     less k l f = omega (arith, l, f)
 
 -- ---- of one job
@@ -142,12 +142,12 @@ among_others job n (g ∷ gs) differ h = by (g == job) (g == n) refl refl h (amo
         either false h rest = rest h
 
 -- the grantors of what the job was given are others
-given_by_others : (job : ℕ) (lives : List ℕ) (hs : List Hand) → list_all IsFit hs ≡ true → list_all (λ h. is_among lives h.grantor) hs ≡ true → list_all (λ h. is_among (others job lives) h.grantor) (given_to job hs) ≡ true
+given_by_others : (job : ℕ) (lives : List ℕ) (hs : List StandingGrant) → list_all IsFit hs ≡ true → list_all (λ h. is_among lives h.grantor) hs ≡ true → list_all (λ h. is_among (others job lives) h.grantor) (given_to job hs) ≡ true
 given_by_others job lives [] fit all = refl
 given_by_others job lives (h ∷ hs) fit all =
     by (h.grantee == job) refl (given_by_others job lives hs (both_right (IsFit h) _ fit) (both_right (is_among lives h.grantor) _ all))
   where
-    by : (b : Bool) → (h.grantee == job) ≡ b → list_all (λ (h : Hand). is_among (others job lives) h.grantor) (given_to job hs) ≡ true → list_all (λ (h : Hand). is_among (others job lives) h.grantor) (cond b (h ∷ given_to job hs) (given_to job hs)) ≡ true
+    by : (b : Bool) → (h.grantee == job) ≡ b → list_all (λ (h : StandingGrant). is_among (others job lives) h.grantor) (given_to job hs) ≡ true → list_all (λ (h : StandingGrant). is_among (others job lives) h.grantor) (cond b (h ∷ given_to job hs) (given_to job hs)) ≡ true
     by true e rest =
         let apart = both_left (not (h.grantee == h.grantor)) _ (both_left (IsFit h) _ fit) in
         both (is_among (others job lives) h.grantor) _ (among_others job h.grantor lives (grind (arith, nat_tests, e, apart)) (both_left (is_among lives h.grantor) _ all)) rest
@@ -156,10 +156,10 @@ given_by_others job lives (h ∷ hs) fit all =
 -- ---- by objects
 
 module _ (lengths : ObjectId → ℕ) where
-  by_objects : (hs : List Hand) (table : ById Seen) → T (is_sorted id_cmp table) → length (fold (with_taken lengths) table hs) ≤ length table + length hs
+  by_objects : (hs : List StandingGrant) (table : ById Seen) → T (is_sorted id_cmp table) → length (fold (with_taken lengths) table hs) ≤ length table + length hs
   by_objects [] table sorted = omega arith
   by_objects (h ∷ hs) table sorted =
-      let seen : Seen = record { length = lengths h.id; hands = seen_hands (at table h.id) ++ as_taken h ∷ [] } in
+      let seen : Seen = record { length = lengths h.id; grants = seen_grants (at table h.id) ++ as_taken h ∷ [] } in
       let rest = by_objects hs (with_taken lengths table h) (is_sorted-put id_cmp id_cmp-IsTotalOrder h.id seen table sorted) in
       let one = length-put id_cmp id_cmp-IsTotalOrder h.id seen table sorted in
       sum (is_some (at table h.id)) one rest
@@ -168,33 +168,33 @@ module _ (lengths : ObjectId → ℕ) where
       sum true e l = omega (arith, e, l)
       sum false e l = omega (arith, e, l)
 
--- ---- what each hand of an object is
+-- ---- what each grant of an object is
 
-shown_fit : (id : ObjectId) (job : ℕ) (hs : List Hand) → list_all IsFit hs ≡ true → list_all (λ (h : HandTaken). nat_le h.depth greatest_depth) (map as_taken (filter (shows id job) hs)) ≡ true
+shown_fit : (id : ObjectId) (job : ℕ) (hs : List StandingGrant) → list_all IsFit hs ≡ true → list_all (λ (h : GrantTaken). nat_le h.depth greatest_depth) (map as_taken (filter (shows id job) hs)) ≡ true
 shown_fit id job [] fit = refl
 shown_fit id job (h ∷ hs) fit = by (shows id job h) (shown_fit id job hs (both_right (IsFit h) _ fit))
   where
-    by : (b : Bool) → list_all (λ (h : HandTaken). nat_le h.depth greatest_depth) (map as_taken (filter (shows id job) hs)) ≡ true → list_all (λ (h : HandTaken). nat_le h.depth greatest_depth) (map as_taken (cond b (h ∷ filter (shows id job) hs) (filter (shows id job) hs))) ≡ true
+    by : (b : Bool) → list_all (λ (h : GrantTaken). nat_le h.depth greatest_depth) (map as_taken (filter (shows id job) hs)) ≡ true → list_all (λ (h : GrantTaken). nat_le h.depth greatest_depth) (map as_taken (cond b (h ∷ filter (shows id job) hs) (filter (shows id job) hs))) ≡ true
     by true rest = both (nat_le h.depth greatest_depth) _ (both_right (not (h.grantee == h.grantor)) _ (both_left (IsFit h) _ fit)) rest
     by false rest = rest
 
-seen_shallow : (n : ℕ) (hs : List HandTaken) (seen : Seen) → list_all (λ h. nat_le h.depth greatest_depth) hs ≡ true → seen_by n hs ≡ Some seen → list_all (λ h. nat_le h.depth greatest_depth) seen.hands ≡ true
+seen_shallow : (n : ℕ) (hs : List GrantTaken) (seen : Seen) → list_all (λ h. nat_le h.depth greatest_depth) hs ≡ true → seen_by n hs ≡ Some seen → list_all (λ h. nat_le h.depth greatest_depth) seen.grants ≡ true
 seen_shallow n [] seen fit is = absurd cc
-seen_shallow n (h ∷ hs) seen fit is = ap (λ (s : Seen). list_all (λ (h : HandTaken). nat_le h.depth greatest_depth) s.hands) (sym (some_value (record { length = n; hands = h ∷ hs }) seen is)) ∙ fit
+seen_shallow n (h ∷ hs) seen fit is = ap (λ (s : Seen). list_all (λ (h : GrantTaken). nat_le h.depth greatest_depth) s.grants) (sym (some_value (record { length = n; grants = h ∷ hs }) seen is)) ∙ fit
 
-pub few_granted : (lengths : ObjectId → ℕ) (hands : List Hand) (lives : List ℕ) (job : ℕ) → AreHands hands → list_all (λ hand. is_among lives hand.grantor) hands ≡ true → length lives ≤ most_live_jobs → is_among lives job ≡ true
-    → AreGrantedWithin (taken_by lengths job hands)
-few_granted lengths hands lives job are all few there = record {
+pub few_granted : (lengths : ObjectId → ℕ) (grants : List StandingGrant) (lives : List ℕ) (job : ℕ) → AreGrants grants → list_all (λ grant. is_among lives grant.grantor) grants ≡ true → length lives ≤ most_live_jobs → is_among lives job ≡ true
+    → AreGrantedWithin (taken_by lengths job grants)
+few_granted lengths grants lives job are all few there = record {
   few =
       let fewer = others_few job lives there in
-      let given = few_by (others job lives) (given_to job hands) (given_by_others job lives hands fit all) (λ g. less g (filter_less (is_given_by g) (λ (h : Hand). h.grantee == job) hands) (are.few g)) in
-      let seen = by_objects lengths (given_to job hands) [] tt in
+      let given = few_by (others job lives) (given_to job grants) (given_by_others job lives grants fit all) (λ g. less g (filter_less (is_given_by g) (λ (h : StandingGrant). h.grantee == job) grants) (are.few g)) in
+      let seen = by_objects lengths (given_to job grants) [] tt in
       omega (arith, few, fewer, given, seen);
-  shallow = λ id seen is. seen_shallow (lengths id) (map as_taken (filter (shows id job) hands)) seen (shown_fit id job hands fit) (sym (taken_shown lengths job hands id) ∙ is);
+  shallow = λ id seen is. seen_shallow (lengths id) (map as_taken (filter (shows id job) grants)) seen (shown_fit id job grants fit) (sym (taken_shown lengths job grants id) ∙ is);
 }
   where
-    fit : list_all IsFit hands ≡ true
-    fit = all_fit [] hands are.stand
+    fit : list_all IsFit grants ≡ true
+    fit = all_fit [] grants are.stand
 
-    less : (g : ℕ) {m n : ℕ} → m ≤ n → n ≤ most_hands → m ≤ most_hands
+    less : (g : ℕ) {m n : ℕ} → m ≤ n → n ≤ most_grants → m ≤ most_grants
     less g l f = omega (arith, l, f)

@@ -9,5 +9,5 @@ mod Ends
 mod Taken
 mod Few
 mod Seen
-mod Told
+mod FewEnd
 pub mod ForCallers

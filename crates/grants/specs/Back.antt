@@ -1,4 +1,4 @@
--- A hand's grantor and grantee by their numbers.
+-- A grant's grantor and grantee by their numbers.
 use Rattle.std.specs.Prelude.{◌≡◌, ℕ, Option, Some, None, refl}
 use Rattle.std.specs.Option.{option_map}
 use Rattle.obj_id.specs.declared.ids.JobNo.{JobNo}

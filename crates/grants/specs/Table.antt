@@ -1,4 +1,4 @@
--- A node's standing hands: what a grant is refused for, which hands end, and what is so of every table.
+-- A node's standing grants: what a Grant is refused for, which grants end, and what is so of every table.
 use Rattle.std.specs.Prelude.{◌≡◌, ℕ, ◌+◌, ◌≤◌, ◌==◌, nat_le, Bool, true, not, ◌&&◌, ◌||◌, if◌then◌else◌, List, [], ◌∷◌, ◌++◌, length, filter, Option, Some, None}
 use Rattle.std.specs.List.{list_any}
 use Rattle.obj_id.specs.declared.ids.ObjectId.{ObjectId}
@@ -6,43 +6,43 @@ use Rattle.obj_id.specs.declared.refusals.Refusal.{Refusal}
 use Rattle.obj_id.specs.declared.refusals.Refusal.TheVariants.{BadId, NotGranted, Exists, TooMany}
 use Rattle.std.specs.Ordering.{is_lt}
 use Rattle.obj_id.specs.Ids.{id_cmp, same_id}
-use Rattle.private_store.specs.rules.Limits.{most_hands, greatest_depth}
-use Rattle.private_store.specs.rules.Hands.{Hand, same_hand, ground, is_child_of, ended_from, is_withdrawn, is_of_task, is_given_by}
+use Rattle.private_store.specs.rules.Limits.{most_grants, greatest_depth}
+use Rattle.private_store.specs.rules.Grants.{StandingGrant, same_grant, ground, is_child_of, ended_from, is_withdrawn, is_of_task, is_given_by}
 use Rattle.grants.specs.declared.endings.Ending.{Ending}
 use Rattle.grants.specs.declared.endings.Ending.TheVariants.{Withdrawn, OfObject, OfTask, GivenBy}
 
 -- ---- what is seen
 
--- a hand of the object to the job
-abbrev pub shows : ObjectId → ℕ → Hand → Bool
-shows id job hand = same_id id hand.id && hand.grantee == job
+-- a grant of the object to the job
+abbrev pub shows : ObjectId → ℕ → StandingGrant → Bool
+shows id job grant = same_id id grant.id && grant.grantee == job
 
--- a hand of the object from its own job
-abbrev pub is_first : ObjectId → Hand → Bool
-is_first id hand = same_id id hand.id && hand.grantor == id.job.0
+-- a grant of the object from its own job
+abbrev pub is_first : ObjectId → StandingGrant → Bool
+is_first id grant = same_id id grant.id && grant.grantor == id.job.0
 
--- the hands that the job gave, oldest first
-abbrev pub given_by : ℕ → List Hand → List Hand
-given_by job hands = filter (is_given_by job) hands
+-- the grants that the job gave, oldest first
+abbrev pub given_by : ℕ → List StandingGrant → List StandingGrant
+given_by job grants = filter (is_given_by job) grants
 
--- the hands to the job, oldest first
-abbrev pub given_to : ℕ → List Hand → List Hand
-given_to job hands = filter (λ hand. hand.grantee == job) hands
+-- the grants to the job, oldest first
+abbrev pub given_to : ℕ → List StandingGrant → List StandingGrant
+given_to job grants = filter (λ grant. grant.grantee == job) grants
 
--- the first hand of each object, by rising id: the hand has its place unless an older one of the object is there
-abbrev pub with_seen : Hand → List Hand → List Hand
-with_seen hand [] = hand ∷ []
-with_seen hand (older ∷ hands) =
-    if same_id older.id hand.id then older ∷ hands else
-    (if is_lt (id_cmp older.id hand.id) then older ∷ with_seen hand hands else hand ∷ older ∷ hands)
+-- the first grant of each object, by rising id: the grant has its place unless an older one of the object is there
+abbrev pub with_seen : StandingGrant → List StandingGrant → List StandingGrant
+with_seen grant [] = grant ∷ []
+with_seen grant (older ∷ grants) =
+    if same_id older.id grant.id then older ∷ grants else
+    (if is_lt (id_cmp older.id grant.id) then older ∷ with_seen grant grants else grant ∷ older ∷ grants)
 
-abbrev pub seen_from : List Hand → List Hand → List Hand
+abbrev pub seen_from : List StandingGrant → List StandingGrant → List StandingGrant
 seen_from seen [] = seen
-seen_from seen (hand ∷ hands) = seen_from (with_seen hand seen) hands
+seen_from seen (grant ∷ grants) = seen_from (with_seen grant seen) grants
 
--- of each object that the job sees the oldest hand, by rising id
-abbrev pub seen_list : ℕ → List Hand → List Hand
-seen_list job hands = seen_from [] (given_to job hands)
+-- of each object that the job sees the oldest grant, by rising id
+abbrev pub seen_list : ℕ → List StandingGrant → List StandingGrant
+seen_list job grants = seen_from [] (given_to job grants)
 
 -- ---- granting
 
@@ -50,65 +50,65 @@ seen_list job hands = seen_from [] (given_to job hands)
 abbrev pub is_no_grantee : ObjectId → ℕ → ℕ → Bool
 is_no_grantee id grantor grantee = grantee == 0 || grantee == grantor || grantee == id.job.0
 
--- why no hand can hang at this depth: it stands, or a limit is reached
-abbrev pub limits_check : List Hand → ℕ → ObjectId → ℕ → ℕ → Option Refusal
-limits_check hands grantor id grantee depth =
-    if list_any (is_withdrawn grantor id grantee) hands then Some Exists else
-    (if nat_le greatest_depth depth || nat_le most_hands (length (given_by grantor hands)) then Some TooMany else None)
+-- why no grant can hang at this depth: it stands, or a limit is reached
+abbrev pub limits_check : List StandingGrant → ℕ → ObjectId → ℕ → ℕ → Option Refusal
+limits_check grants grantor id grantee depth =
+    if list_any (is_withdrawn grantor id grantee) grants then Some Exists else
+    (if nat_le greatest_depth depth || nat_le most_grants (length (given_by grantor grants)) then Some TooMany else None)
 
 -- another job's object has to be seen
-abbrev pub hung_check : List Hand → ℕ → ObjectId → ℕ → Option Hand → Option Refusal
-hung_check hands grantor id grantee None = Some NotGranted
-hung_check hands grantor id grantee (Some hand) = limits_check hands grantor id grantee hand.depth
+abbrev pub hung_check : List StandingGrant → ℕ → ObjectId → ℕ → Option StandingGrant → Option Refusal
+hung_check grants grantor id grantee None = Some NotGranted
+hung_check grants grantor id grantee (Some grant) = limits_check grants grantor id grantee grant.depth
 
--- why a grant is refused
-abbrev pub grant_check : List Hand → ℕ → ObjectId → ℕ → Option Refusal
-grant_check hands grantor id grantee =
+-- why a Grant is refused
+abbrev pub grant_check : List StandingGrant → ℕ → ObjectId → ℕ → Option Refusal
+grant_check grants grantor id grantee =
     if is_no_grantee id grantor grantee then Some BadId else
-    (if id.job.0 == grantor then limits_check hands grantor id grantee 0 else hung_check hands grantor id grantee (ground hands id grantor))
+    (if id.job.0 == grantor then limits_check grants grantor id grantee 0 else hung_check grants grantor id grantee (ground grants id grantor))
 
 -- ---- ending
 
--- the hands that end of their grantor's own accord
-abbrev pub ends : Ending → Hand → Bool
-ends (Withdrawn grantor id grantee) = is_withdrawn grantor.0 id grantee.0
-ends (OfObject id) = λ hand. same_id id hand.id
-ends (OfTask job task) = is_of_task job.0 task
-ends (GivenBy job) = is_given_by job.0
+-- the grants that end of their grantor's own accord
+abbrev pub is_ended_by : Ending → StandingGrant → Bool
+is_ended_by (Withdrawn grantor id grantee) = is_withdrawn grantor.0 id grantee.0
+is_ended_by (OfObject id) = λ grant. same_id id grant.id
+is_ended_by (OfTask job task) = is_of_task job.0 task
+is_ended_by (GivenBy job) = is_given_by job.0
 
--- the hands that end where those that pass the test end, oldest first
-abbrev pub ends_found : (Hand → Bool) → List Hand → List Hand
-ends_found test hands = ended_from test [] hands
+-- the grants that end where those that pass the test end, oldest first
+abbrev pub ends_found : (StandingGrant → Bool) → List StandingGrant → List StandingGrant
+ends_found test grants = ended_from test [] grants
 
--- they are those that were found in these hands
-pub record AreFoundIn (hands ends : List Hand) : Type 0 where
-  pub test : Hand → Bool
-  pub found : ends ≡ ends_found test hands
+-- they are those that were found in these grants
+pub record AreFoundIn (grants ends : List StandingGrant) : Type 0 where
+  pub test : StandingGrant → Bool
+  pub found : ends ≡ ends_found test grants
 
--- why a withdrawal is refused: there is no such hand
-abbrev pub withdraw_check : List Hand → ℕ → ObjectId → ℕ → Option Refusal
-withdraw_check hands grantor id grantee = if list_any (is_withdrawn grantor id grantee) hands then None else Some NotGranted
+-- why a withdrawal is refused: there is no such grant
+abbrev pub withdraw_check : List StandingGrant → ℕ → ObjectId → ℕ → Option Refusal
+withdraw_check grants grantor id grantee = if list_any (is_withdrawn grantor id grantee) grants then None else Some NotGranted
 
 -- ---- what is so of every table
 
--- a hand of depth 1 is from the object's own job and hangs on nothing; any other hangs on an older one, one deeper
-abbrev pub hangs_right : List Hand → Hand → Option ℕ → Bool
-hangs_right before hand None = hand.grantor == hand.id.job.0 && hand.depth == 1
-hangs_right before hand (Some _) =
-    not (hand.grantor == hand.id.job.0) && nat_le hand.depth greatest_depth && list_any (λ below. is_child_of hand below && hand.depth == below.depth + 1) before
+-- a grant of depth 1 is from the object's own job and hangs on nothing; any other hangs on an older one, one deeper
+abbrev pub hangs_right : List StandingGrant → StandingGrant → Option ℕ → Bool
+hangs_right before grant None = grant.grantor == grant.id.job.0 && grant.depth == 1
+hangs_right before grant (Some _) =
+    not (grant.grantor == grant.id.job.0) && nat_le grant.depth greatest_depth && list_any (λ below. is_child_of grant below && grant.depth == below.depth + 1) before
 
-abbrev pub is_hung : List Hand → Hand → Bool
-is_hung before hand = hangs_right before hand hand.parent
+abbrev pub is_hung : List StandingGrant → StandingGrant → Bool
+is_hung before grant = hangs_right before grant grant.parent
 
--- whether a hand may stand after the older ones
-abbrev pub hand_may_stand : List Hand → Hand → Bool
-hand_may_stand before hand =
-    not (is_no_grantee hand.id hand.grantor hand.grantee) && not (list_any (same_hand hand) before) && is_hung before hand
+-- whether a grant may stand after the older ones
+abbrev pub grant_may_stand : List StandingGrant → StandingGrant → Bool
+grant_may_stand before grant =
+    not (is_no_grantee grant.id grant.grantor grant.grantee) && not (list_any (same_grant grant) before) && is_hung before grant
 
-abbrev pub all_stand : List Hand → List Hand → Bool
+abbrev pub all_stand : List StandingGrant → List StandingGrant → Bool
 all_stand before [] = true
-all_stand before (hand ∷ hands) = hand_may_stand before hand && all_stand (before ++ hand ∷ []) hands
+all_stand before (grant ∷ grants) = grant_may_stand before grant && all_stand (before ++ grant ∷ []) grants
 
-pub record AreHands (hands : List Hand) : Type 0 where
-  pub stand : all_stand [] hands ≡ true
-  pub few : (grantor : ℕ) → length (given_by grantor hands) ≤ most_hands
+pub record AreGrants (grants : List StandingGrant) : Type 0 where
+  pub stand : all_stand [] grants ≡ true
+  pub few : (grantor : ℕ) → length (given_by grantor grants) ≤ most_grants

@@ -1,27 +1,27 @@
-//! Which hands end, and in what order that is told.
+//! Which grants end, and in what order that is announced.
 ghost use Rattle.std.specs.Prelude.{◌≡◌, ◌++◌, ◌∷◌, [], true, not, filter, IfOk, OnOk};
 ghost use Rattle.std.specs.List.{list_any};
-ghost use Rattle.private_store.specs.rules.Hands.{is_child_of, same_hand, ended_from, hands_sorted};
-ghost use Rattle.grants.specs.Table.{ends as ends_lem};
+ghost use Rattle.private_store.specs.rules.Grants.{is_child_of, same_grant, ended_from, grants_sorted};
+ghost use Rattle.grants.specs.Table.{is_ended_by as is_ended_by_lem};
 ghost use Rattle.grants.specs.Links.{links_are_apart};
 
-use crate::hands::{Hand, Link, same_id, same_task};
+use crate::standing::{Link, StandingGrant, same_id, same_task};
 use indexmap::IndexSet;
-use obj_id::{Items, JobNo, ObjectId, TaskNo};
+use obj_id::{ItemList, JobNo, ObjectId, TaskNo};
 use std::alloc::{AllocError, Global};
 use std::collections::BTreeMap;
 use std::marker::Model;
 
-/// Which hands end of their grantor's own accord.
+/// Which grants end of their grantor's own accord.
 #[derive(Clone, Copy)]
 pub(crate) enum Ending {
-    /// The grantor's hand of this object to this grantee.
+    /// The grantor's grant of this object to this grantee.
     Withdrawn {
         grantor: JobNo,
         id: ObjectId,
         grantee: JobNo,
     },
-    /// All hands of the object.
+    /// All grants of the object.
     OfObject(ObjectId),
     /// What the job gave of its own objects that the task made.
     OfTask(JobNo, TaskNo),
@@ -30,51 +30,51 @@ pub(crate) enum Ending {
 }
 
 impl Ending {
-    /// Whether the hand ends by itself, and not because of one that it hangs on.
-    fn ends(&self, hand: &Hand) -> bool
-        ensures { result ≡ ends_lem self.now hand.now }
+    /// Whether the grant ends by itself, and not because of one that it hangs on.
+    fn ends(&self, grant: &StandingGrant) -> bool
+        ensures { result ≡ is_ended_by_lem self.now grant.now }
     {
         match *self {
             Ending::Withdrawn {
                 grantor,
                 id,
                 grantee,
-            } => hand.is_given(grantor, &id, grantee),
-            Ending::OfObject(id) => same_id(&id, &hand.id()),
+            } => grant.is_given(grantor, &id, grantee),
+            Ending::OfObject(id) => same_id(&id, &grant.id()),
             Ending::OfTask(job, task) => {
-                hand.grantor().0 == job.0
-                    && hand.id().job().0 == job.0
-                    && same_task(task, hand.id().task())
+                grant.grantor().0 == job.0
+                    && grant.id().job().0 == job.0
+                    && same_task(task, grant.id().task())
             }
-            Ending::GivenBy(job) => hand.is_from(job),
+            Ending::GivenBy(job) => grant.is_from(job),
         }
     }
 }
 
-/// Whether any hand ends by itself.
-pub(crate) fn any_ends(hands: &Vec<Hand>, ending: &Ending) -> bool
-    ensures { result ≡ list_any (ends_lem ending.now) hands.now.items }
+/// Whether any grant ends by itself.
+pub(crate) fn any_ends(grants: &Vec<StandingGrant>, ending: &Ending) -> bool
+    ensures { result ≡ list_any (is_ended_by_lem ending.now) grants.now.items }
 {
-    hands.iter().any(|hand| ending.ends(hand))
+    grants.iter().any(|grant| ending.ends(grant))
 }
 
-/// Hands that end, found by what others hang on: object, grantor and grantee.
+/// Grants that end, found by what others hang on: object, grantor and grantee.
 #[derive(Drop)]
 pub(crate) struct Gone {
-    hands: Vec<Hand>,
+    grants: Vec<StandingGrant>,
     links: IndexSet<Link>,
 }
 
 impl Model for Gone {
     ghost use Rattle.std.specs.Prelude.{List};
-    ghost use Rattle.private_store.specs.rules.Hands.{Hand as StandingHand};
+    ghost use Rattle.private_store.specs.rules.Grants.{StandingGrant as GrantView};
     ghost use Rattle.grants.specs.Links.{AreLinked};
 
-    ghost Value = { List StandingHand };
+    ghost Value = { List GrantView };
 
-    ghost view = { λ g. g.hands.items };
+    ghost view = { λ g. g.grants.items };
 
-    ghost invariant = { λ g. AreLinked g.hands.items g.links.keys };
+    ghost invariant = { λ g. AreLinked g.grants.items g.links.keys };
 }
 
 impl Gone {
@@ -83,101 +83,101 @@ impl Gone {
         ensures { result ≡ [] }
     {
         Gone {
-            hands: Vec::new(alloc),
+            grants: Vec::new(alloc),
             links: IndexSet::new(alloc),
         }
     }
 
     /// One more.
-    fn push(&mut self, hand: Hand) -> Result<(), AllocError>
-        ensures { OnOk result (self.new ≡ self.old ++ hand ∷ []) }
+    fn push(&mut self, grant: StandingGrant) -> Result<(), AllocError>
+        ensures { OnOk result (self.new ≡ self.old ++ grant ∷ []) }
     {
-        self.hands.reserve(1)?;
-        self.links.insert(hand.link())?;
-        self.hands.push(hand).unwrap();
+        self.grants.reserve(1)?;
+        self.links.insert(grant.link())?;
+        self.grants.push(grant).unwrap();
         Ok(())
     }
 
-    /// Whether the hand hangs on one of these.
-    fn carries(&self, hand: &Hand) -> bool
-        ensures { result ≡ list_any (is_child_of hand.now) self.now }
+    /// Whether the grant hangs on one of these.
+    fn carries(&self, grant: &StandingGrant) -> bool
+        ensures { result ≡ list_any (is_child_of grant.now) self.now }
     {
-        match hand.below() {
+        match grant.below() {
             Some(link) => self.links.contains(&link),
             None => false,
         }
     }
 
-    /// Whether the hand is one of these.
-    fn has(&self, hand: &Hand) -> bool
-        ensures { result ≡ list_any (same_hand hand.now) self.now }
+    /// Whether the grant is one of these.
+    fn has(&self, grant: &StandingGrant) -> bool
+        ensures { result ≡ list_any (same_grant grant.now) self.now }
     {
-        self.links.contains(&hand.link())
+        self.links.contains(&grant.link())
     }
 
-    /// The hands.
-    fn hands(&self) -> &Vec<Hand>
+    /// The grants.
+    fn grants(&self) -> &Vec<StandingGrant>
         ensures { result.now.items ≡ self.now }
     {
-        &self.hands
+        &self.grants
     }
 }
 
-/// Hands that end by themselves and all that hang on them, found before anything changes. A contract sees them oldest
+/// Grants that end by themselves and all that hang on them, found before anything changes. A contract sees them oldest
 /// first.
 #[derive(Drop)]
-pub struct EndingHands {
+pub struct EndingGrants {
     gone: Gone,
-    // the same, in the order in which they are told
-    told: Items<Hand>,
+    // the same, in the order in which they are announced
+    in_order: ItemList<StandingGrant>,
 }
 
-impl Model for EndingHands {
+impl Model for EndingGrants {
     ghost use Rattle.std.specs.Prelude.{◌≡◌, List};
-    ghost use Rattle.private_store.specs.rules.Hands.{Hand as StandingHand, hands_sorted};
+    ghost use Rattle.private_store.specs.rules.Grants.{StandingGrant as GrantView, grants_sorted};
 
-    ghost Value = { List StandingHand };
+    ghost Value = { List GrantView };
 
     ghost view = { λ e. e.gone };
 
-    ghost invariant = { λ e. e.told ≡ hands_sorted e.gone };
+    ghost invariant = { λ e. e.in_order ≡ grants_sorted e.gone };
 }
 
-impl EndingHands {
+impl EndingGrants {
     /// None.
-    pub(crate) fn none(alloc: Global) -> EndingHands
+    pub(crate) fn none(alloc: Global) -> EndingGrants
         ensures { result ≡ [] }
     {
-        EndingHands {
+        EndingGrants {
             gone: Gone::new(alloc),
-            told: Items::new(alloc),
+            in_order: ItemList::new(alloc),
         }
     }
 
     /// These, no two of which are the same.
-    pub(crate) fn of(alloc: Global, gone: Gone) -> Result<EndingHands, AllocError>
+    pub(crate) fn of(alloc: Global, gone: Gone) -> Result<EndingGrants, AllocError>
         requires { links_are_apart gone ≡ true }
         ensures { IfOk result (λ ends. ends ≡ gone) }
     {
-        let told = sorted(alloc, gone.hands())?;
-        Ok(EndingHands {
+        let in_order = sorted(alloc, gone.grants())?;
+        Ok(EndingGrants {
             gone,
-            told: Items::from_vec(told),
+            in_order: ItemList::from_vec(in_order),
         })
     }
 
-    /// The hands, in the order in which their ends are told: by depth, object, grantor and grantee.
-    pub fn hands(&self) -> &[Hand]
-        ensures { result.now ≡ hands_sorted self.now }
+    /// The grants, in the order in which their ends are announced: by depth, object, grantor and grantee.
+    pub fn grants(&self) -> &[StandingGrant]
+        ensures { result.now ≡ grants_sorted self.now }
     {
-        self.told.as_slice()
+        self.in_order.as_slice()
     }
 
     /// The same, owned.
-    pub(crate) fn into_hands(self) -> Items<Hand>
-        ensures { result ≡ hands_sorted self }
+    pub(crate) fn into_grants(self) -> ItemList<StandingGrant>
+        ensures { result ≡ grants_sorted self }
     {
-        self.told
+        self.in_order
     }
 
     /// To look them up by.
@@ -188,39 +188,43 @@ impl EndingHands {
     }
 }
 
-/// The hands that end, with all that hang on them, oldest first. A hand is younger than the one that it
+/// The grants that end, with all that hang on them, oldest first. A grant is younger than the one that it
 /// hangs on, so one walk finds them.
-pub(crate) fn ended(alloc: Global, hands: &Vec<Hand>, ending: &Ending) -> Result<Gone, AllocError>
-    ensures { IfOk result (λ gone. gone ≡ ended_from (ends_lem ending.now) [] hands.now.items) }
+pub(crate) fn ended(
+    alloc: Global,
+    grants: &Vec<StandingGrant>,
+    ending: &Ending,
+) -> Result<Gone, AllocError>
+    ensures { IfOk result (λ gone. gone ≡ ended_from (is_ended_by_lem ending.now) [] grants.now.items) }
 {
     let mut gone = Gone::new(alloc);
-    for hand in hands {
-        if ending.ends(hand) || gone.carries(hand) {
-            gone.push(*hand)?;
+    for grant in grants {
+        if ending.ends(grant) || gone.carries(grant) {
+            gone.push(*grant)?;
         }
     }
     Ok(gone)
 }
 
-/// The hands, no two of which are the same, in the order in which their ends are told.
-fn sorted(alloc: Global, hands: &Vec<Hand>) -> Result<Vec<Hand>, AllocError>
-    requires { links_are_apart hands.now.items ≡ true }
-    ensures { IfOk result (λ told. told.items ≡ hands_sorted hands.now.items) }
+/// The grants, no two of which are the same, in the order in which their ends are announced.
+fn sorted(alloc: Global, grants: &Vec<StandingGrant>) -> Result<Vec<StandingGrant>, AllocError>
+    requires { links_are_apart grants.now.items ≡ true }
+    ensures { IfOk result (λ in_order. in_order.items ≡ grants_sorted grants.now.items) }
 {
     let mut ranked = BTreeMap::new(alloc);
-    let mut left = hands.len();
+    let mut left = grants.len();
     while left > 0 {
         left -= 1;
-        let hand = hands[left];
-        ranked.insert(hand.rank(), hand)?;
+        let grant = grants[left];
+        ranked.insert(grant.rank(), grant)?;
     }
-    let told = ranked.into_values().collect(alloc)?;
-    Ok(told)
+    let in_order = ranked.into_values().collect(alloc)?;
+    Ok(in_order)
 }
 
 /// Takes out those that are among the ones that have gone; the others keep their order.
-pub(crate) fn take_out(hands: &mut Vec<Hand>, gone: &Gone)
-    ensures { hands.new.items ≡ filter (λ hand. not (list_any (same_hand hand) gone.now)) hands.old.items }
+pub(crate) fn take_out(grants: &mut Vec<StandingGrant>, gone: &Gone)
+    ensures { grants.new.items ≡ filter (λ grant. not (list_any (same_grant grant) gone.now)) grants.old.items }
 {
-    hands.retain(|hand| !gone.has(hand));
+    grants.retain(|grant| !gone.has(grant));
 }

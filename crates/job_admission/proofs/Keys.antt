@@ -24,9 +24,9 @@ same_key a b e = λ i. record { 0 = e i }
 
 -- what the comparison of its key's bytes says of a live job
 pub key_told : (o : Option Live) (x : Live) (key : JobKey) (equal : Bool) → o ≡ Some x → (IsTrue equal ↔ (x.key.0 ≡ key.0)) → IsTrue equal ↔ IsSomeAnd o (λ live. live.key ≡ key)
-key_told o x key equal found told =
+key_told o x key equal found response =
     let P : Option Live → Type 0 = λ s. IsTrue equal ↔ IsSomeAnd s (λ live. live.key ≡ key) in
-    subst P (sym found) (λ t. same_key x.key key (told.0 t), λ e. told.1 (ap (λ k. k.0) e))
+    subst P (sym found) (λ t. same_key x.key key (response.0 t), λ e. response.1 (ap (λ k. k.0) e))
 
 pub key_of_none : (o : Option Live) (key : JobKey) → o ≡ None → IsTrue false ↔ IsSomeAnd o (λ live. live.key ≡ key)
 key_of_none o key none =

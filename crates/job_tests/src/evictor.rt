@@ -5,7 +5,7 @@ use extent_tree::{Resident, SpareNode};
 use indexmap::IndexMap;
 use job_region::Window;
 use lru_evictor::{CopyFacts, CopyLookup, DeviceRoom, Plan, UseOrder};
-use obj_id::{Items, JobNo, ObjectId, Refusal, TaskNo};
+use obj_id::{ItemList, JobNo, ObjectId, Refusal, TaskNo};
 use std::alloc::Global;
 use std::test::Fail;
 
@@ -107,7 +107,7 @@ impl Store {
         let ids = match plan {
             Plan::Evict => self.order.victims(alloc, len, &self.window, &self.copies)?,
             Plan::Spill(count) => self.order.spillable(alloc, count)?,
-            _ => Items::new(alloc),
+            _ => ItemList::new(alloc),
         };
         Ok(Planned { plan, ids })
     }
@@ -117,7 +117,7 @@ impl Store {
 #[derive(Drop)]
 struct Planned {
     plan: Plan,
-    ids: Items<ObjectId>,
+    ids: ItemList<ObjectId>,
 }
 
 fn object(index: u32) -> Result<ObjectId, Refusal> {

@@ -17,11 +17,11 @@ use Rattle.private_store.specs.declared.inputs.Judged.TheVariants as judged
 use Rattle.private_store.specs.declared.schedules.NodeEvent.TheVariants.{Arrive}
 use Rattle.private_store.specs.declared.schedules.Step.TheVariants.{Deliver}
 use Rattle.private_store.specs.declared.schedules.StepAnswer.TheVariants.{HandedOver}
-use Rattle.private_store.specs.laws.Answers.{brief_reply, wants_memory}
+use Rattle.private_store.specs.laws.Answers.{reply_without_payload, wants_memory}
 use Rattle.private_store.specs.rules.Contents.{View, judge, source_in}
 use Rattle.private_store.specs.laws.NodeInputs.{Before, inputs_to, only_of}
 use Rattle.private_store.specs.rules.Private.{view_from}
-use Rattle.private_store.specs.rules.Replay.{brief_of, brief_step}
+use Rattle.private_store.specs.rules.Replay.{replay_state_of, replay_step}
 use Rattle.store_facts.proofs.AnswersAre.{answers_whole}
 use Rattle.store_facts.proofs.Tests.{true_false}
 use Rattle.schedule_text.specs.declared.lines.JobAt.{JobAt}
@@ -40,16 +40,16 @@ use Rattle.node_core.specs.Hosted.{Hosted, ShowsAll}
 use Rattle.node_core.specs.Judged.{IsArrivalJudged, arrived}
 use Rattle.node_core.specs.Steps.{NodeGiven, NodeStep, NodeStepFrom, answer_of_check, before_of, stale_unless}
 use Rattle.world_core.specs.WorldSteps.{handed, message_of}
-use Rattle.store_program.specs.SavedRuns.{SavedStep, entries_told, entry_mark, input_said, with_step}
+use Rattle.store_program.specs.SavedRuns.{SavedStep, located_entries, entry_mark, input_said, with_step}
 use Rattle.journal_laws.proofs.StoreAnswers.{early_stale, is_of_live}
-use Rattle.journal_laws.proofs.Entered.{AllTold, IsTold, due_here, entered, if_own, place_at, unbegun_here}
+use Rattle.journal_laws.proofs.Entered.{AllJournalsOf, IsJournalOf, due_here, entered, if_own, place_at, unbegun_here}
 use Rattle.journal_laws.proofs.EventTold.{is_refused, mark_elsewhere, one_or, own_inputs}
 
 -- its entry says the input and is a proper one
 record IsArrivalSaid (a : Arrival) : Type 0 where
-  pub said : (address : Address) (number : ℕ) (view : View) → address.node ≡ number → judged_of Three address (input_said (entries_told (HandedOver (message_of a))) (judge number view (input.Arrive a))) ≡ judge number view (input.Arrive a)
-  pub proper : (number : ℕ) (view : View) → IsProperInput (input_said (entries_told (HandedOver (message_of a))) (judge number view (input.Arrive a)))
-  pub fitting : (number : ℕ) (view : View) → is_fitting (input_said (entries_told (HandedOver (message_of a))) (judge number view (input.Arrive a))) reply.Ok ≡ true
+  pub said : (address : Address) (number : ℕ) (view : View) → address.node ≡ number → judged_of Three address (input_said (located_entries (HandedOver (message_of a))) (judge number view (input.Arrive a))) ≡ judge number view (input.Arrive a)
+  pub proper : (number : ℕ) (view : View) → IsProperInput (input_said (located_entries (HandedOver (message_of a))) (judge number view (input.Arrive a)))
+  pub fitting : (number : ℕ) (view : View) → is_fitting (input_said (located_entries (HandedOver (message_of a))) (judge number view (input.Arrive a))) reply.Ok ≡ true
   pub of_live : (number : ℕ) (view : View) → is_of_live (judge number view (input.Arrive a)) ≡ true
 
 arrival_said : (a : Arrival) → IsArrivalSaid a
@@ -61,11 +61,11 @@ arrival_said (arrival.FromPeer from (peer.NotHere id fetch)) = record { said = �
 
 -- what is so of the node and its journal afterwards
 abbrev pub Tells : ℕ → Hosted → List JournalItem → Type 0
-Tells place node marks = (v : ℕ → View) × (ShowsAll node v × (AllTold place v (entries_saved marks) × AreSound (entries_saved marks)))
+Tells place node marks = (v : ℕ → View) × (ShowsAll node v × (AllJournalsOf place v (entries_saved marks) × AreSound (entries_saved marks)))
 
 module _ (place : ℕ) (job : JobNo) (from : Endpoint) (m : ℕ) (damage : Bool) (a : Arrival) (before after : Hosted) (given : NodeGiven) (steps : NodeStep before (Arrive job a) given after) (was : Option Judged)
     (is_judged : IsArrivalJudged before job a given.reply was) (stale : given.reply ≡ reply.Refused Stale → after ≡ before) (v : ℕ → View) (shows : ShowsAll before v) (marks : List JournalItem)
-    (told : AllTold place v (entries_saved marks)) (sound : AreSound (entries_saved marks)) (within : place < 8) (numbered : before.number ≡ place) where
+    (response : AllJournalsOf place v (entries_saved marks)) (sound : AreSound (entries_saved marks)) (within : place < 8) (numbered : before.number ≡ place) where
   abbrev number : ℕ
   number = before.number
 
@@ -96,7 +96,7 @@ module _ (place : ℕ) (job : JobNo) (from : Endpoint) (m : ℕ) (damage : Bool)
     y = judge number (v job.0) x
 
     abbrev line : Answered
-    line = record { input = input_said (entries_told (HandedOver (message_of a))) y; reply = reply.Ok }
+    line = record { input = input_said (located_entries (HandedOver (message_of a))) y; reply = reply.Ok }
 
     abbrev k : ℕ
     k = suc (lines_counted at marks)
@@ -107,8 +107,8 @@ module _ (place : ℕ) (job : JobNo) (from : Endpoint) (m : ℕ) (damage : Bool)
     said_is : judged_of Three entry.address line.input ≡ y
     said_is = (arrival_said a).said entry.address number (v job.0) (sym numbered)
 
-    brief_is : reply.Ok ≡ (brief_step (brief_of (v job.0)) y).reply
-    brief_is = ap brief_reply (sym ok ∙ came_from.told.reply) ∙ answers_whole number (v job.0) x (told job.0).kept
+    replay_is : reply.Ok ≡ (replay_step (replay_state_of (v job.0)) y).reply
+    replay_is = ap reply_without_payload (sym ok ∙ came_from.response.reply) ∙ answers_whole number (v job.0) x (response job.0).kept
 
     own_inputs_are : (j : ℕ) → inputs_to b (Arrive job a) given.reply j ≡ if_own (job.0 == j) (Some x)
     own_inputs_are j =
@@ -117,7 +117,7 @@ module _ (place : ℕ) (job : JobNo) (from : Endpoint) (m : ℕ) (damage : Bool)
 
     is_one : 1 ≤ job.0
     is_one =
-        one_or job.0 (λ none. true_false (ap is_refused (brief_is ∙ ap (λ b. (brief_step b y).reply) (ap (λ n. brief_of (v n)) none ∙ unbegun_here place (v 0) (entries_saved marks) sound (told 0)) ∙ early_stale 0 y ((arrival_said a).of_live number (v job.0)))))
+        one_or job.0 (λ none. true_false (ap is_refused (replay_is ∙ ap (λ b. (replay_step b y).reply) (ap (λ n. replay_state_of (v n)) none ∙ unbegun_here place (v 0) (entries_saved marks) sound (response 0)) ∙ early_stale 0 y ((arrival_said a).of_live number (v job.0)))))
 
     taken : Tells place after (marks_with reply.Ok (Some y))
     taken = (
@@ -125,10 +125,10 @@ module _ (place : ℕ) (job : JobNo) (from : Endpoint) (m : ℕ) (damage : Bool)
       (
         came_from.views,
         (
-          λ j. subst (λ xs. IsTold (place_at place j) (view_from number (v j) xs) (entry ∷ entries_saved marks)) (sym (own_inputs_are j)) (entered place job k line (entries_saved marks) number v x told said_is j),
+          λ j. subst (λ xs. IsJournalOf (place_at place j) (view_from number (v j) xs) (entry ∷ entries_saved marks)) (sym (own_inputs_are j)) (entered place job k line (entries_saved marks) number v x response said_is j),
           (
-            record { node = within; job = is_one; told = (arrival_said a).proper number (v job.0); answered = tt; fitting = (arrival_said a).fitting number (v job.0) },
-            due_here entry (entries_saved marks) number (v job.0) x said_is (told job.0) brief_is,
+            record { node = within; job = is_one; asked = (arrival_said a).proper number (v job.0); answered = tt; fitting = (arrival_said a).fitting number (v job.0) },
+            due_here entry (entries_saved marks) number (v job.0) x said_is (response job.0) replay_is,
             sound,
           ),
         ),
@@ -143,15 +143,15 @@ module _ (place : ℕ) (job : JobNo) (from : Endpoint) (m : ℕ) (damage : Bool)
       by false late =
           subst (λ t. Tells place after (marks_with t was)) (sym late)
           (subst (λ w. Tells place after (marks_with (reply.Refused Stale) w)) (sym (was_is (reply.Refused Stale) late))
-          (subst (λ node. Tells place node (marks_with (reply.Refused Stale) None)) (sym (stale late)) (v, (shows, (told, sound)))))
+          (subst (λ node. Tells place node (marks_with (reply.Refused Stale) None)) (sym (stale late)) (v, (shows, (response, sound)))))
 
-  pub arrival_elsewhere : (p : ℕ) (u : ℕ → View) → (place == p) ≡ false → AllTold p u (entries_saved marks) → AllTold p u (entries_saved (marks_with given.reply was))
+  pub arrival_elsewhere : (p : ℕ) (u : ℕ → View) → (place == p) ≡ false → AllJournalsOf p u (entries_saved marks) → AllJournalsOf p u (entries_saved (marks_with given.reply was))
   arrival_elsewhere p u apart h = by (is_some (live_at before.admissions job)) came_from.operator
     where
-      by : (live : Bool) → given.reply ≡ answer_of_check (stale_unless live) → AllTold p u (entries_saved (marks_with given.reply was))
+      by : (live : Bool) → given.reply ≡ answer_of_check (stale_unless live) → AllJournalsOf p u (entries_saved (marks_with given.reply was))
       by true ok =
-          subst (λ t. AllTold p u (entries_saved (marks_with t was))) (sym ok)
+          subst (λ t. AllJournalsOf p u (entries_saved (marks_with t was))) (sym ok)
           (mark_elsewhere at (suc (lines_counted at marks)) (entry_mark at (HandedOver (message_of a)) was).line (entries_saved marks) p u apart h)
       by false late =
-          subst (λ t. AllTold p u (entries_saved (marks_with t was))) (sym late)
-          (subst (λ w. AllTold p u (entries_saved (marks_with (reply.Refused Stale) w))) (sym (was_is (reply.Refused Stale) late)) h)
+          subst (λ t. AllJournalsOf p u (entries_saved (marks_with t was))) (sym late)
+          (subst (λ w. AllJournalsOf p u (entries_saved (marks_with (reply.Refused Stale) w))) (sym (was_is (reply.Refused Stale) late)) h)

@@ -6,7 +6,7 @@ use Rattle.private_store.specs.declared.inputs.Input.{Input}
 use Rattle.private_store.specs.rules.Contents.{View, judge}
 use Rattle.private_store.specs.laws.Invariants.{IsViewKept}
 use Rattle.private_store.specs.rules.Private.{view_step, view_from}
-use Rattle.private_store.specs.rules.Replay.{Brief, Line, brief_after, brief_of, brief_step, replayed, unbegun_brief}
+use Rattle.private_store.specs.rules.Replay.{ReplayState, Line, replay_after, replay_state_of, replay_step, replayed, unbegun_replay}
 use Rattle.store_facts.proofs.StepsKept.{view_keeps}
 use Rattle.schedule_text.specs.declared.lines.JobAt.{JobAt}
 use Rattle.journal_text.specs.declared.entry.Entry.{Entry}
@@ -22,47 +22,47 @@ abbrev pub place_at : ℕ → ℕ → JobAt
 place_at place job = record { node = place; job = record { 0 = job } }
 
 -- the entries of the job at its node lead to its view, without its contents
-pub record IsTold (place : JobAt) (view : View) (entries : List Entry) : Type 0 where
+pub record IsJournalOf (place : JobAt) (view : View) (entries : List Entry) : Type 0 where
   pub kept : IsViewKept view
-  pub replays : replayed_store_of Three place entries ≡ brief_of view
+  pub replays : replayed_store_of Three place entries ≡ replay_state_of view
 
 -- of all jobs at a place
-abbrev pub AllTold : ℕ → (ℕ → View) → List Entry → Type 0
-AllTold place v entries = (job : ℕ) → IsTold (place_at place job) (v job) entries
+abbrev pub AllJournalsOf : ℕ → (ℕ → View) → List Entry → Type 0
+AllJournalsOf place v entries = (job : ℕ) → IsJournalOf (place_at place job) (v job) entries
 
 -- ---- one entry more
 
-replayed_last : (b : Brief) (lines : List Line) (l : Line) → replayed b (lines ++ l ∷ []) ≡ brief_after (replayed b lines) l.input
+replayed_last : (b : ReplayState) (lines : List Line) (l : Line) → replayed b (lines ++ l ∷ []) ≡ replay_after (replayed b lines) l.input
 replayed_last b [] l = refl
-replayed_last b (x ∷ xs) l = replayed_last (brief_after b x.input) xs l
+replayed_last b (x ∷ xs) l = replayed_last (replay_after b x.input) xs l
 
 module _ (x : Entry) (entries : List Entry) where
   abbrev here : JobAt
   here = journal_place_of x.address
 
-  abbrev store_with : Bool → JobAt → Brief
-  store_with b place = replayed (unbegun_brief place.job.0) (cond b (replayed_lines_of Three place entries ++ read_line_of Three x ∷ []) (replayed_lines_of Three place entries))
+  abbrev store_with : Bool → JobAt → ReplayState
+  store_with b place = replayed (unbegun_replay place.job.0) (cond b (replayed_lines_of Three place entries ++ read_line_of Three x ∷ []) (replayed_lines_of Three place entries))
 
-  store_more : replayed_store_of Three here (x ∷ entries) ≡ brief_after (replayed_store_of Three here entries) (judged_of Three x.address x.input)
-  store_more = ap (λ b. store_with b here) (same_place-itself here) ∙ replayed_last (unbegun_brief here.job.0) (replayed_lines_of Three here entries) (read_line_of Three x)
+  store_more : replayed_store_of Three here (x ∷ entries) ≡ replay_after (replayed_store_of Three here entries) (judged_of Three x.address x.input)
+  store_more = ap (λ b. store_with b here) (same_place-itself here) ∙ replayed_last (unbegun_replay here.job.0) (replayed_lines_of Three here entries) (read_line_of Three x)
 
   store_other : (place : JobAt) → same_job_place here place ≡ false → replayed_store_of Three place (x ∷ entries) ≡ replayed_store_of Three place entries
   store_other place e = ap (λ b. store_with b place) e
 
-  told_other : (place : JobAt) (view : View) → same_job_place here place ≡ false → IsTold place view entries → IsTold place view (x ∷ entries)
+  told_other : (place : JobAt) (view : View) → same_job_place here place ≡ false → IsJournalOf place view entries → IsJournalOf place view (x ∷ entries)
   told_other place view e h = record { kept = h.kept; replays = store_other place e ∙ h.replays }
 
-  module _ (number : ℕ) (view : View) (input : Input) (is : judged_of Three x.address x.input ≡ judge number view input) (h : IsTold here view entries) where
-    told_more : IsTold here (view_step number view input).view (x ∷ entries)
+  module _ (number : ℕ) (view : View) (input : Input) (is : judged_of Three x.address x.input ≡ judge number view input) (h : IsJournalOf here view entries) where
+    told_more : IsJournalOf here (view_step number view input).view (x ∷ entries)
     told_more =
         record {
           kept = view_keeps number view input h.kept;
-          replays = store_more ∙ ap (brief_after (replayed_store_of Three here entries)) is ∙ ap (λ b. brief_after b (judge number view input)) h.replays;
+          replays = store_more ∙ ap (replay_after (replayed_store_of Three here entries)) is ∙ ap (λ b. replay_after b (judge number view input)) h.replays;
         }
 
     -- the answer that the view gives is due
-    pub due_here : x.reply ≡ (brief_step (brief_of view) (judge number view input)).reply → x.reply ≡ due_after Three entries x
-    due_here e = e ∙ sym (ap (λ b. (brief_step b (judge number view input)).reply) h.replays) ∙ sym (ap (λ y. (brief_step (replayed_store_of Three here entries) y).reply) is)
+    pub due_here : x.reply ≡ (replay_step (replay_state_of view) (judge number view input)).reply → x.reply ≡ due_after Three entries x
+    due_here e = e ∙ sym (ap (λ b. (replay_step b (judge number view input)).reply) h.replays) ∙ sym (ap (λ y. (replay_step (replayed_store_of Three here entries) y).reply) is)
 
 -- the input, if the job is this one
 abbrev pub if_own : Bool → Option Input → List Input
@@ -91,19 +91,19 @@ module _ (place : ℕ) (job : JobNo) (k : ℕ) (line : Answered) (entries : List
   x = entry_at (record { node = place; job = job }) k line
 
   -- all jobs at the place of an entry more
-  pub entered : (number : ℕ) (v : ℕ → View) (input : Input) → AllTold place v entries → judged_of Three x.address line.input ≡ judge number (v job.0) input
-      → AllTold place (λ j. view_from number (v j) (if_own (job.0 == j) (Some input))) (x ∷ entries)
-  entered number v input told is j = by (job.0 == j) refl
+  pub entered : (number : ℕ) (v : ℕ → View) (input : Input) → AllJournalsOf place v entries → judged_of Three x.address line.input ≡ judge number (v job.0) input
+      → AllJournalsOf place (λ j. view_from number (v j) (if_own (job.0 == j) (Some input))) (x ∷ entries)
+  entered number v input response is j = by (job.0 == j) refl
     where
-      by : (b : Bool) → (job.0 == j) ≡ b → IsTold (place_at place j) (view_from number (v j) (if_own b (Some input))) (x ∷ entries)
+      by : (b : Bool) → (job.0 == j) ≡ b → IsJournalOf (place_at place j) (view_from number (v j) (if_own b (Some input))) (x ∷ entries)
       by true e =
-          subst (λ n. IsTold (place_at place n) (view_step number (v n) input).view (x ∷ entries)) (same_number job.0 j e)
-          (told_more x entries number (v job.0) input is (told job.0))
-      by false e = told_other x entries (place_at place j) (v j) (other_job place job.0 j e) (told j)
+          subst (λ n. IsJournalOf (place_at place n) (view_step number (v n) input).view (x ∷ entries)) (same_number job.0 j e)
+          (told_more x entries number (v job.0) input is (response job.0))
+      by false e = told_other x entries (place_at place j) (v j) (other_job place job.0 j e) (response j)
 
   -- and those elsewhere
-  pub entered_elsewhere : (p : ℕ) (w : ℕ → View) → (place == p) ≡ false → AllTold p w entries → AllTold p w (x ∷ entries)
-  entered_elsewhere p w e told j = told_other x entries (place_at p j) (w j) (other_place place p (job.0 == j) e) (told j)
+  pub entered_elsewhere : (p : ℕ) (w : ℕ → View) → (place == p) ≡ false → AllJournalsOf p w entries → AllJournalsOf p w (x ∷ entries)
+  entered_elsewhere p w e response j = told_other x entries (place_at p j) (w j) (other_place place p (job.0 == j) e) (response j)
 
 -- ---- no job
 
@@ -121,5 +121,5 @@ no_lines (x ∷ entries) sound node =
     by true b e = e
     by false b e = refl
 
-pub unbegun_here : (node : ℕ) (view : View) (entries : List Entry) → AreSound entries → IsTold (place_at node 0) view entries → brief_of view ≡ unbegun_brief 0
-unbegun_here node view entries sound h = sym h.replays ∙ ap (replayed (unbegun_brief 0)) (no_lines entries sound node)
+pub unbegun_here : (node : ℕ) (view : View) (entries : List Entry) → AreSound entries → IsJournalOf (place_at node 0) view entries → replay_state_of view ≡ unbegun_replay 0
+unbegun_here node view entries sound h = sym h.replays ∙ ap (replayed (unbegun_replay 0)) (no_lines entries sound node)

@@ -1,4 +1,4 @@
-mod GoodHands
+mod GoodGrants
 mod StoreAnswers
 mod Entered
 mod NotesTold

@@ -1,4 +1,4 @@
--- The notes of a step: the grantees of hands are told of them, in order.
+-- The notes of a step: the grantees are notified of their grants, in order.
 use Rattle.std.proofs.Common.{◌≡◌, ℕ, ◌<◌, ◌≤◌, Bool, true, false, cond, ◌==◌, ◌||◌, List, [], ◌∷◌, map, filter, Option, Some, None, ◌&&◌, suc, refl, sym, ap, subst, ◌∙◌, arith}
 use Rattle.std.specs.Prelude.{nat_le, ⊤}
 use Rattle.std.specs.List.{list_all}
@@ -14,10 +14,10 @@ use Rattle.private_store.specs.declared.schedules.Event.{Event}
 use Rattle.private_store.specs.declared.schedules.Event.TheVariants as event
 use Rattle.private_store.specs.declared.schedules.NodeEvent.TheVariants.{Own}
 use Rattle.private_store.specs.rules.Contents.{View, judge}
-use Rattle.private_store.specs.rules.Hands.{Hand, hands_ended, new_hand}
-use Rattle.private_store.specs.laws.NodeInputs.{Before, JobInput, hands_after, notes_here, only_of, withdrawn_here}
+use Rattle.private_store.specs.rules.Grants.{StandingGrant, grants_ended, new_grant}
+use Rattle.private_store.specs.laws.NodeInputs.{Before, JobInput, grants_after, notes_here, only_of, withdrawn_here}
 use Rattle.private_store.specs.rules.Private.{view_from}
-use Rattle.private_store.specs.rules.Replay.{brief_of, brief_step}
+use Rattle.private_store.specs.rules.Replay.{replay_state_of, replay_step}
 use Rattle.private_store.specs.rules.Trace.{ends}
 use Rattle.store_facts.proofs.Tests.{both_left, both_right, true_false}
 use Rattle.schedule_text.specs.declared.lines.JobAt.{JobAt}
@@ -35,12 +35,12 @@ use Rattle.node_core.specs.declared.outcome.Note.{Note}
 use Rattle.node_core.specs.Outcomes.{inputs_noted, input_noted}
 use Rattle.node_core.specs.Steps.{JobJudged, judged_notes}
 use Rattle.store_program.specs.SavedRuns.{input_said, note_mark, with_notes}
-use Rattle.journal_laws.proofs.GoodHands.{AreGood, ends_good, gives_well, is_good, last_good}
-use Rattle.journal_laws.proofs.Entered.{AllTold, IsTold, due_here, entered, entered_elsewhere, if_own, place_at}
+use Rattle.journal_laws.proofs.GoodGrants.{AreGood, ends_good, gives_well, is_good, last_good}
+use Rattle.journal_laws.proofs.Entered.{AllJournalsOf, IsJournalOf, due_here, entered, entered_elsewhere, if_own, place_at}
 
 -- ---- what a note says
 
--- a hand whose depth is at least 1; and whose grantor is, if the object's job is
+-- a grant whose depth is at least 1; and whose grantor is, if the object's job is
 abbrev pub IsGoodNote : Input → Type 0
 IsGoodNote (input.Received id bytes grantor depth) = (1 ≤ id.job.0 → 1 ≤ grantor.0) × (1 ≤ depth)
 IsGoodNote (input.Withdrawn id grantor depth) = (1 ≤ id.job.0 → 1 ≤ grantor.0) × (1 ≤ depth)
@@ -60,34 +60,34 @@ given_by_job job grantor e h = by (job == 0) refl e
     by true none e = let is : job ≡ 0 = eqb-true job 0 none in absurd (omega (arith, is, h))
     by false some e = at_least grantor e
 
-module _ (hand : Hand) (good : is_good hand ≡ true) where
-  grantee_is : 1 ≤ hand.grantee
-  grantee_is = at_least hand.grantee (both_left (nat_le 1 hand.grantee) (nat_le 1 hand.depth && gives_well hand.id.job.0 hand.grantor) good)
+module _ (grant : StandingGrant) (good : is_good grant ≡ true) where
+  grantee_is : 1 ≤ grant.grantee
+  grantee_is = at_least grant.grantee (both_left (nat_le 1 grant.grantee) (nat_le 1 grant.depth && gives_well grant.id.job.0 grant.grantor) good)
 
-  hand_is : (1 ≤ hand.id.job.0 → 1 ≤ hand.grantor) × (1 ≤ hand.depth)
-  hand_is =
-      let rest = both_right (nat_le 1 hand.grantee) (nat_le 1 hand.depth && gives_well hand.id.job.0 hand.grantor) good in
-      (given_by_job hand.id.job.0 hand.grantor (both_right (nat_le 1 hand.depth) (gives_well hand.id.job.0 hand.grantor) rest), at_least hand.depth (both_left (nat_le 1 hand.depth) (gives_well hand.id.job.0 hand.grantor) rest))
+  grant_is : (1 ≤ grant.id.job.0 → 1 ≤ grant.grantor) × (1 ≤ grant.depth)
+  grant_is =
+      let rest = both_right (nat_le 1 grant.grantee) (nat_le 1 grant.depth && gives_well grant.id.job.0 grant.grantor) good in
+      (given_by_job grant.id.job.0 grant.grantor (both_right (nat_le 1 grant.depth) (gives_well grant.id.job.0 grant.grantor) rest), at_least grant.depth (both_left (nat_le 1 grant.depth) (gives_well grant.id.job.0 grant.grantor) rest))
 
-withdrawn_good : (hands : List Hand) → AreGood hands → AreGoodNotes (map withdrawn_here hands)
+withdrawn_good : (grants : List StandingGrant) → AreGood grants → AreGoodNotes (map withdrawn_here grants)
 withdrawn_good [] good = tt
-withdrawn_good (hand ∷ hands) good =
-    let is = both_left (is_good hand) (list_all is_good hands) good in
-    (grantee_is hand is, hand_is hand is, withdrawn_good hands (both_right (is_good hand) (list_all is_good hands) good))
+withdrawn_good (grant ∷ grants) good =
+    let is = both_left (is_good grant) (list_all is_good grants) good in
+    (grantee_is grant is, grant_is grant is, withdrawn_good grants (both_right (is_good grant) (list_all is_good grants) good))
 
-ended_good : (hands : List Hand) (o : Option (Hand → Bool)) → AreGood hands → AreGoodNotes (option_map_or (λ test. map withdrawn_here (hands_ended test hands)) o [])
-ended_good hands None good = tt
-ended_good hands (Some test) good = withdrawn_good (hands_ended test hands) (ends_good test hands good)
+ended_good : (grants : List StandingGrant) (o : Option (StandingGrant → Bool)) → AreGood grants → AreGoodNotes (option_map_or (λ test. map withdrawn_here (grants_ended test grants)) o [])
+ended_good grants None good = tt
+ended_good grants (Some test) good = withdrawn_good (grants_ended test grants) (ends_good test grants good)
 
-accepted_good : (b : Before) (e : Event) → AreGood b.hands → AreGood (hands_after b.hands (Own e) reply.Ok) → AreGoodNotes (notes_here b (Own e) reply.Ok)
+accepted_good : (b : Before) (e : Event) → AreGood b.grants → AreGood (grants_after b.grants (Own e) reply.Ok) → AreGoodNotes (notes_here b (Own e) reply.Ok)
 accepted_good b (event.Call job session (command.Grant id target)) good after =
-    let hand = new_hand b.hands id job.0 target.0 in
-    let is = last_good b.hands hand after in
-    (grantee_is hand is, hand_is hand is, tt)
-accepted_good b e good after = ended_good b.hands (ends e) good
+    let grant = new_grant b.grants id job.0 target.0 in
+    let is = last_good b.grants grant after in
+    (grantee_is grant is, grant_is grant is, tt)
+accepted_good b e good after = ended_good b.grants (ends e) good
 
--- the notes of an event are good ones, if the hands were and are
-pub notes_good : (b : Before) (e : Event) (told : Reply (List ℕ)) → AreGood b.hands → AreGood (hands_after b.hands (Own e) told) → AreGoodNotes (notes_here b (Own e) told)
+-- the notes of an event are good ones, if the grants were and are
+pub notes_good : (b : Before) (e : Event) (response : Reply (List ℕ)) → AreGood b.grants → AreGood (grants_after b.grants (Own e) response) → AreGoodNotes (notes_here b (Own e) response)
 notes_good b e reply.Ok good after = accepted_good b e good after
 notes_good b e _ good after = tt
 
@@ -114,7 +114,7 @@ proper number (input.Answer n a) good v = absurd good
 proper number (input.Arrive a) good v = absurd good
 proper number input.End good v = absurd good
 
-due : (number : ℕ) (x : Input) → IsGoodNote x → (v : View) → reply.Ok ≡ (brief_step (brief_of v) (judge number v x)).reply
+due : (number : ℕ) (x : Input) → IsGoodNote x → (v : View) → reply.Ok ≡ (replay_step (replay_state_of v) (judge number v x)).reply
 due number (input.Received id bytes grantor depth) good v = refl
 due number (input.Withdrawn id grantor depth) good v = refl
 due number (input.Begin quota) good v = absurd good
@@ -148,7 +148,7 @@ only_more number j u x xs = by (x.job == j)
 module _ (place number : ℕ) (within : place < 8) (v : ℕ → View) where
   -- one note more
   module _ (note : Note) (x : JobInput) (is : input_noted note ≡ record { job = x.job; input = judge number (v x.job) x.input }) (some : 1 ≤ x.job) (good : IsGoodNote x.input)
-      (marks : List JournalItem) (w : ℕ → View) (told : AllTold place w (entries_saved marks)) (sound : AreSound (entries_saved marks)) where
+      (marks : List JournalItem) (w : ℕ → View) (response : AllJournalsOf place w (entries_saved marks)) (sound : AreSound (entries_saved marks)) where
     abbrev line : Answered
     line = record { input = input_said [] note.input; reply = reply.Ok }
 
@@ -167,35 +167,35 @@ module _ (place number : ℕ) (within : place < 8) (v : ℕ → View) where
     said_is : judged_of Three entry.address line.input ≡ judge number (w note.job.0) x.input
     said_is = ap (λ y. judged_of Three entry.address (input_said [] y)) input_is ∙ said number entry.address x.input good (v x.job) (w note.job.0)
 
-    one_told : AllTold place (λ j. view_from number (w j) (if_own (x.job == j) (Some x.input))) (entry ∷ entries)
+    one_told : AllJournalsOf place (λ j. view_from number (w j) (if_own (x.job == j) (Some x.input))) (entry ∷ entries)
     one_told =
-        subst (λ n. AllTold place (λ j. view_from number (w j) (if_own (n == j) (Some x.input))) (entry ∷ entries)) job_is
-        (entered place note.job (suc (lines_counted (record { node = place; job = note.job }) marks)) line entries number w x.input told said_is)
+        subst (λ n. AllJournalsOf place (λ j. view_from number (w j) (if_own (n == j) (Some x.input))) (entry ∷ entries)) job_is
+        (entered place note.job (suc (lines_counted (record { node = place; job = note.job }) marks)) line entries number w x.input response said_is)
 
     one_sound : AreSound (entry ∷ entries)
     one_sound =
         let fits : IsProperInput line.input × (is_fitting line.input reply.Ok ≡ true) =
         subst (λ y. IsProperInput (input_said [] y) × (is_fitting (input_said [] y) reply.Ok ≡ true)) (sym input_is) (proper number x.input good (v x.job)) in (
-          record { node = within; job = subst (λ n. 1 ≤ n) (sym job_is) some; told = fits.0; answered = tt; fitting = fits.1 },
-          due_here entry entries number (w note.job.0) x.input said_is (told note.job.0) (due number x.input good (w note.job.0)),
+          record { node = within; job = subst (λ n. 1 ≤ n) (sym job_is) some; asked = fits.0; answered = tt; fitting = fits.1 },
+          due_here entry entries number (w note.job.0) x.input said_is (response note.job.0) (due number x.input good (w note.job.0)),
           sound,
         )
 
-  pub notes_told : (notes : List Note) (xs : List JobInput) → inputs_noted notes ≡ judged_notes number v xs → AreGoodNotes xs → (marks : List JournalItem) (w : ℕ → View) → AllTold place w (entries_saved marks)
-      → AreSound (entries_saved marks) → AllTold place (λ j. view_from number (w j) (only_of j xs)) (entries_saved (with_notes place notes marks)) × AreSound (entries_saved (with_notes place notes marks))
-  notes_told [] [] e good marks w told sound = (told, sound)
-  notes_told [] (x ∷ xs) e good marks w told sound = true_false (sym (ap is_empty e))
-  notes_told (note ∷ notes) [] e good marks w told sound = true_false (ap is_empty e)
-  notes_told (note ∷ notes) (x ∷ xs) e good marks w told sound =
+  pub notes_told : (notes : List Note) (xs : List JobInput) → inputs_noted notes ≡ judged_notes number v xs → AreGoodNotes xs → (marks : List JournalItem) (w : ℕ → View) → AllJournalsOf place w (entries_saved marks)
+      → AreSound (entries_saved marks) → AllJournalsOf place (λ j. view_from number (w j) (only_of j xs)) (entries_saved (with_notes place notes marks)) × AreSound (entries_saved (with_notes place notes marks))
+  notes_told [] [] e good marks w response sound = (response, sound)
+  notes_told [] (x ∷ xs) e good marks w response sound = true_false (sym (ap is_empty e))
+  notes_told (note ∷ notes) [] e good marks w response sound = true_false (ap is_empty e)
+  notes_told (note ∷ notes) (x ∷ xs) e good marks w response sound =
       let is : input_noted note ≡ record { job = x.job; input = judge number (v x.job) x.input } = ap (first_of (input_noted note)) e in
       let rest = notes_told notes xs (ap rest_of e) good.2 (note_mark place note ∷ marks) (λ j. view_from number (w j) (if_own (x.job == j) (Some x.input)))
-      (one_told note x is good.0 good.1 marks w told sound) (one_sound note x is good.0 good.1 marks w told sound) in
-      (λ j. subst (λ u. IsTold (place_at place j) u (entries_saved (with_notes place notes (note_mark place note ∷ marks)))) (only_more number j (w j) x xs) (rest.0 j), rest.1)
+      (one_told note x is good.0 good.1 marks w response sound) (one_sound note x is good.0 good.1 marks w response sound) in
+      (λ j. subst (λ u. IsJournalOf (place_at place j) u (entries_saved (with_notes place notes (note_mark place note ∷ marks)))) (only_more number j (w j) x xs) (rest.0 j), rest.1)
 
 -- other places hear nothing of them
-pub notes_elsewhere : (place : ℕ) (notes : List Note) (marks : List JournalItem) (p : ℕ) (u : ℕ → View) → (place == p) ≡ false → AllTold p u (entries_saved marks) → AllTold p u (entries_saved (with_notes place notes marks))
-notes_elsewhere place [] marks p u apart told = told
-notes_elsewhere place (note ∷ notes) marks p u apart told =
+pub notes_elsewhere : (place : ℕ) (notes : List Note) (marks : List JournalItem) (p : ℕ) (u : ℕ → View) → (place == p) ≡ false → AllJournalsOf p u (entries_saved marks) → AllJournalsOf p u (entries_saved (with_notes place notes marks))
+notes_elsewhere place [] marks p u apart response = response
+notes_elsewhere place (note ∷ notes) marks p u apart response =
     let at : JobAt = record { node = place; job = note.job } in
     notes_elsewhere place notes (note_mark place note ∷ marks) p u apart
-    (entered_elsewhere place note.job (suc (lines_counted at marks)) (record { input = input_said [] note.input; reply = reply.Ok }) (entries_saved marks) p u apart told)
+    (entered_elsewhere place note.job (suc (lines_counted at marks)) (record { input = input_said [] note.input; reply = reply.Ok }) (entries_saved marks) p u apart response)

@@ -8,26 +8,26 @@ use Rattle.private_store.specs.declared.inputs.Judged.{Judged}
 use Rattle.private_store.specs.declared.inputs.Judged.TheVariants as judged
 use Rattle.private_store.specs.rules.Commands.{granted_items}
 use Rattle.private_store.specs.rules.Events.{work_of}
-use Rattle.private_store.specs.laws.Made.{Told, told_ok, told_placed, told_got, told_bytes, told_list, told_usage, told_refused}
-use Rattle.private_store.specs.rules.Replay.{brief_step, unbegun_brief}
+use Rattle.private_store.specs.laws.Made.{Response, response_ok, response_placed, response_got, response_bytes, response_list, response_usage, response_refused}
+use Rattle.private_store.specs.rules.Replay.{replay_step, unbegun_replay}
 use Rattle.private_store.specs.rules.Shape.{Change, Shape, unbegun}
 use Rattle.private_store.specs.rules.Step.{step}
 use Rattle.store_facts.proofs.Checks.{checked-true, needing-none}
 use Rattle.store_facts.proofs.EachStep.{step_made}
 use Rattle.journal_text.specs.Typed.{IsProperReply}
-use Rattle.journal_laws.proofs.GoodHands.{IsDeep}
+use Rattle.journal_laws.proofs.GoodGrants.{IsDeep}
 
-told_proper : (x : Judged) (store : Shape) (r : Reply ℕ) → All IsDeep (granted_items store) → Told x store r → IsProperReply r
-told_proper x store r deep told_ok = tt
-told_proper x store r deep (told_placed offset n) = tt
-told_proper x store r deep (told_got id copy e) = tt
-told_proper x store r deep (told_bytes n b) = tt
-told_proper x store r deep told_list = deep
-told_proper x store r deep told_usage = tt
-told_proper x store r deep (told_refused refusal w) = tt
+told_proper : (x : Judged) (store : Shape) (r : Reply ℕ) → All IsDeep (granted_items store) → Response x store r → IsProperReply r
+told_proper x store r deep response_ok = tt
+told_proper x store r deep (response_placed offset n) = tt
+told_proper x store r deep (response_got id copy e) = tt
+told_proper x store r deep (response_bytes n b) = tt
+told_proper x store r deep response_list = deep
+told_proper x store r deep response_usage = tt
+told_proper x store r deep (response_refused refusal w) = tt
 
 pub answer_proper : (order : List ObjectId) (store : Shape) (x : Judged) → All IsDeep (granted_items store) → IsProperReply (step order store x).reply
-answer_proper order store x deep = told_proper x store (step order store x).reply deep (step_made order store x).told
+answer_proper order store x deep = told_proper x store (step order store x).reply deep (step_made order store x).response
 
 -- ---- a store that has not begun
 
@@ -39,7 +39,7 @@ is_of_live (judged.Received id n grantor depth) = false
 is_of_live (judged.Withdrawn id grantor depth) = false
 is_of_live _ = true
 
-pub early_stale : (job : ℕ) (y : Judged) → is_of_live y ≡ true → (brief_step (unbegun_brief job) y).reply ≡ reply.Refused Stale
+pub early_stale : (job : ℕ) (y : Judged) → is_of_live y ≡ true → (replay_step (unbegun_replay job) y).reply ≡ reply.Refused Stale
 early_stale job (judged.Requota quota) e = ap (λ (c : Change). c.reply) (checked-true (unbegun job) true Stale [] _ refl)
 early_stale job (judged.Answer number verdict) e = ap (λ (c : Change). c.reply) (needing-none (unbegun job) (work_of (unbegun job) number) Stale _ refl)
 early_stale job (judged.Located id number source) e = ap (λ (c : Change). c.reply) (checked-true (unbegun job) true Stale [] _ refl)

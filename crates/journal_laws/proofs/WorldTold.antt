@@ -24,7 +24,7 @@ use Rattle.schedule_text.specs.declared.lines.JobAt.{JobAt}
 use Rattle.journal_text.specs.declared.entry.Entry.{Entry}
 use Rattle.journal_text.specs.declared.saved.JournalItem.{JournalItem}
 use Rattle.journal_replay.specs.Saved.{AreSound, entries_saved}
-use Rattle.hand_laws.specs.Standing.{is_told_of}
+use Rattle.grant_laws.specs.Standing.{is_response_to}
 use Rattle.std.specs.List.{list_all}
 use Rattle.node_core.specs.declared.outcome.Note.{Note}
 use Rattle.node_core.specs.Hosted.{Hosted, ShowsAll}
@@ -36,10 +36,10 @@ use Rattle.world_core.proofs.ForCallers.{slice_get-slice_set, slice_get-slice_se
 use Rattle.store_program.specs.SavedRuns.{entry_place, with_entry_item, with_step}
 use Rattle.store_program.specs.Lines.{AreHeard, LineRead, IsAnswered, history_of, items_of_lines, with_answered, with_heard}
 use Rattle.store_program.specs.Runs.{KeepsHeard, LeadTo}
-use Rattle.journal_laws.proofs.Entered.{AllTold}
+use Rattle.journal_laws.proofs.Entered.{AllJournalsOf}
 use Rattle.journal_laws.proofs.EventTold.{IsSpoken, event_elsewhere, event_told, shown_after, views_after}
 use Rattle.journal_laws.proofs.ArrivalTold.{Tells, arrival_elsewhere, arrival_told}
-use Rattle.journal_laws.proofs.Histories.{AreTold, IsSpokenStep, hands_good, noted_told, spoken}
+use Rattle.journal_laws.proofs.Histories.{AreTold, IsSpokenStep, grants_good, noted_told, spoken}
 
 -- what is there is within
 below_length : {X : Type 0} (xs : List X) (i : ℕ) (x : X) → slice_get xs i ≡ Some x → i < length xs
@@ -51,7 +51,7 @@ below_length (y ∷ xs) (suc i) x f = let rest = below_length xs i x f in omega 
 pub record Tell (world : Hosting) (entries : List Entry) : Type 0 where
   pub views : ℕ → ℕ → View
   pub shown : (place : ℕ) (node : Hosted) → slice_get world.nodes place ≡ Some node → ShowsAll node (views place)
-  pub told : (place : ℕ) → AllTold place (views place) entries
+  pub response : (place : ℕ) → AllJournalsOf place (views place) entries
   pub sound : AreSound entries
 
 -- ---- a node that stepped
@@ -63,8 +63,8 @@ other_number : (a b : ℕ) → (a == b) ≡ false → b ≢ a
 other_number a b e h = grind (arith, nat_tests, e, h)
 
 module _ (old new : Hosting) (place : ℕ) (before after : Hosted) (found : slice_get old.nodes place ≡ Some before) (nodes : new.nodes ≡ slice_set old.nodes place after)
-    (v : ℕ → View) (shown : ShowsAll after v) (old_entries entries : List Entry) (told : AllTold place v entries) (sound : AreSound entries)
-    (elsewhere : (p : ℕ) (u : ℕ → View) → (place == p) ≡ false → AllTold p u old_entries → AllTold p u entries) (before_it : Tell old old_entries) where
+    (v : ℕ → View) (shown : ShowsAll after v) (old_entries entries : List Entry) (response : AllJournalsOf place v entries) (sound : AreSound entries)
+    (elsewhere : (p : ℕ) (u : ℕ → View) → (place == p) ≡ false → AllJournalsOf p u old_entries → AllJournalsOf p u entries) (before_it : Tell old old_entries) where
   abbrev views : ℕ → ℕ → View
   views p = cond (place == p) v (before_it.views p)
 
@@ -80,15 +80,15 @@ module _ (old new : Hosting) (place : ℕ) (before after : Hosted) (found : slic
           subst (λ n. ShowsAll n v) same shown
       by false e = before_it.shown p node (sym (slice_get-slice_set_other old.nodes place p after (other_number place p e)) ∙ sym (ap (λ ns. slice_get ns p) nodes) ∙ f)
 
-  tells : (p : ℕ) → AllTold p (views p) entries
+  tells : (p : ℕ) → AllJournalsOf p (views p) entries
   tells p = by (place == p) refl
     where
-      by : (b : Bool) → (place == p) ≡ b → AllTold p (cond b v (before_it.views p)) entries
-      by true e = subst (λ n. AllTold n v entries) (same_number place p e) told
-      by false e = elsewhere p (before_it.views p) e (before_it.told p)
+      by : (b : Bool) → (place == p) ≡ b → AllJournalsOf p (cond b v (before_it.views p)) entries
+      by true e = subst (λ n. AllJournalsOf n v entries) (same_number place p e) response
+      by false e = elsewhere p (before_it.views p) e (before_it.response p)
 
   stepped : Tell new entries
-  stepped = record { views = views; shown = shows; told = tells; sound = sound }
+  stepped = record { views = views; shown = shows; response = tells; sound = sound }
 
 -- ---- a step that is nothing to anybody
 
@@ -101,7 +101,7 @@ module _ (old new : Hosting) (marks : List JournalItem) (tell : Tell old (entrie
   idle step answer n =
       let same : entries_saved (with_step step answer (record { judged = was; notes = notes }) marks) ≡ entries_saved marks =
       (λ i. entries_saved (with_step step answer (record { judged = n.none i; notes = n.nobody i }) marks)) ∙ no_entry (entry_place step answer) answer marks in
-      subst (Tell new) (sym same) (record { views = tell.views; shown = λ p node f. tell.shown p node (sym (ap (λ ns. slice_get ns p) n.nodes) ∙ f); told = tell.told; sound = tell.sound })
+      subst (Tell new) (sym same) (record { views = tell.views; shown = λ p node f. tell.shown p node (sym (ap (λ ns. slice_get ns p) n.nodes) ∙ f); response = tell.response; sound = tell.sound })
 
   -- ---- each step
 
@@ -113,20 +113,20 @@ module _ (old new : Hosting) (marks : List JournalItem) (tell : Tell old (entrie
     set_here place before after found set = ap (λ ns. slice_get ns place) set ∙ slice_get-slice_set old.nodes place before after found
 
     event_step : (place : ℕ) (e : Event) (r : Reply (List ℕ)) → IsSpoken e → IsEventNoted old new place e r was notes
-        → Tell new (entries_saved (with_step (At place e) (answers.Told r) (record { judged = was; notes = notes }) marks))
+        → Tell new (entries_saved (with_step (At place e) (answers.Response r) (record { judged = was; notes = notes }) marks))
     event_step place e r voiced n =
         let judged : IsJudged n.before e n.given.reply was = subst (λ t. IsJudged n.before e t was) (sym n.reply) n.judged in
         let v = tell.views place in
         let shows = tell.shown place n.before n.found in
-        let good = hands_good nodes memory old history after_old told_old place n.before n.found in
-        let good_after = hands_good nodes memory new now after_new told_new place n.after (set_here place n.before n.after n.found n.nodes) in
-        let its = event_told place e n.before n.after n.given n.steps was judged notes n.notes v shows marks (tell.told place) tell.sound (within place n.before n.found) good good_after voiced in
-        subst (λ t. Tell new (entries_saved (with_step (At place e) (answers.Told t) (record { judged = was; notes = notes }) marks))) n.reply
+        let good = grants_good nodes memory old history after_old told_old place n.before n.found in
+        let good_after = grants_good nodes memory new now after_new told_new place n.after (set_here place n.before n.after n.found n.nodes) in
+        let its = event_told place e n.before n.after n.given n.steps was judged notes n.notes v shows marks (tell.response place) tell.sound (within place n.before n.found) good good_after voiced in
+        subst (λ t. Tell new (entries_saved (with_step (At place e) (answers.Response t) (record { judged = was; notes = notes }) marks))) n.reply
         (stepped old new place n.before n.after n.found n.nodes
-        (views_after place e n.before n.after n.given n.steps was judged notes n.notes v shows marks (tell.told place) tell.sound (within place n.before n.found) good good_after voiced)
-        (shown_after place e n.before n.after n.given n.steps was judged notes n.notes v shows marks (tell.told place) tell.sound (within place n.before n.found) good good_after voiced)
-        (entries_saved marks) (entries_saved (with_step (At place e) (answers.Told n.given.reply) (record { judged = was; notes = notes }) marks)) its.0 its.1
-        (event_elsewhere place e n.before n.after n.given n.steps was judged notes n.notes v shows marks (tell.told place) tell.sound (within place n.before n.found) good good_after voiced) tell)
+        (views_after place e n.before n.after n.given n.steps was judged notes n.notes v shows marks (tell.response place) tell.sound (within place n.before n.found) good good_after voiced)
+        (shown_after place e n.before n.after n.given n.steps was judged notes n.notes v shows marks (tell.response place) tell.sound (within place n.before n.found) good good_after voiced)
+        (entries_saved marks) (entries_saved (with_step (At place e) (answers.Response n.given.reply) (record { judged = was; notes = notes }) marks)) its.0 its.1
+        (event_elsewhere place e n.before n.after n.given n.steps was judged notes n.notes v shows marks (tell.response place) tell.sound (within place n.before n.found) good good_after voiced) tell)
 
     arrival_step : (job : JobNo) (from : Endpoint) (place m : ℕ) (damage : Bool) (a : Arrival) (r : Reply (List ℕ)) → IsArrivalNoted old new place job a r was notes
         → Tell new (entries_saved (with_step (Deliver job from (Node place) m damage) (handed (message_of a) r) (record { judged = was; notes = notes }) marks))
@@ -137,18 +137,18 @@ module _ (old new : Hosting) (marks : List JournalItem) (tell : Tell old (entrie
         let shows = tell.shown place n.before n.found in
         let numbered = (after_old.each_node place n.before n.found).number in
         let its : Tells place n.after (with_step (Deliver job from (Node place) m damage) (handed (message_of a) n.given.reply) (record { judged = was; notes = [] }) marks) =
-        arrival_told place job from m damage a n.before n.after n.given n.steps was judged stale v shows marks (tell.told place) tell.sound (within place n.before n.found) numbered in
+        arrival_told place job from m damage a n.before n.after n.given n.steps was judged stale v shows marks (tell.response place) tell.sound (within place n.before n.found) numbered in
         subst (λ ns. Tell new (entries_saved (with_step (Deliver job from (Node place) m damage) (handed (message_of a) r) (record { judged = was; notes = ns }) marks))) (sym n.notes)
         (subst (λ t. Tell new (entries_saved (with_step (Deliver job from (Node place) m damage) (handed (message_of a) t) (record { judged = was; notes = [] }) marks))) n.reply
         (stepped old new place n.before n.after n.found n.nodes its.0 its.1.0 (entries_saved marks)
         (entries_saved (with_step (Deliver job from (Node place) m damage) (handed (message_of a) n.given.reply) (record { judged = was; notes = [] }) marks)) its.1.1.0 its.1.1.1
-        (arrival_elsewhere place job from m damage a n.before n.after n.given n.steps was judged stale v shows marks (tell.told place) tell.sound (within place n.before n.found) numbered) tell))
+        (arrival_elsewhere place job from m damage a n.before n.after n.given n.steps was judged stale v shows marks (tell.response place) tell.sound (within place n.before n.found) numbered) tell))
 
     each_step : (step : Step) (answer : StepAnswer) → IsSpokenStep step → IsNoted old new was notes step answer → Tell new (entries_saved (with_step step answer (record { judged = was; notes = notes }) marks))
-    each_step step answer voiced (keeps_event place e told n) = event_step place e told voiced n
-    each_step step answer voiced (keeps_arrival job from place m damage a told is n) = arrival_step job from place m damage a told n
-    each_step step answer voiced (passes_node job from place m damage msg told is n) = idle step answer n
-    each_step step answer voiced (tells_directory job from m damage told n) = idle step answer n
+    each_step step answer voiced (keeps_event place e response n) = event_step place e response voiced n
+    each_step step answer voiced (keeps_arrival job from place m damage a response is n) = arrival_step job from place m damage a response n
+    each_step step answer voiced (passes_node job from place m damage msg response is n) = idle step answer n
+    each_step step answer voiced (tells_directory job from m damage response n) = idle step answer n
     each_step step answer voiced (finds_nothing job from to m damage n) = idle step answer n
     each_step step answer voiced (wants_memory _ n) = idle step answer n
 
@@ -165,7 +165,7 @@ module _ (nodes memory : ℕ) where
       record {
         views = λ p j. view_of (no_store j);
         shown = λ place node f j. (after.each_node place node f).shows j (no_store j) (store_there j nodes place (subst (λ n. place < n) after.count (below_length world.nodes place node f)));
-        told = λ place j. record { kept = no_store_kept j; replays = refl };
+        response = λ place j. record { kept = no_store_kept j; replays = refl };
         sound = tt;
       }
 
@@ -191,10 +191,10 @@ module _ (nodes memory : ℕ) where
 
         by : (o : Option Traced) → IsAnswered nodes history line.text o → IsAfter nodes memory world (with_answered o history) → (old : Hosting) → IsAfter nodes memory old history → KeepsHeard old world o line.kept
             → Tell old (entries_saved marks) → AreTold history → Tell world (entries_saved (with_heard o line.kept marks)) × AreTold (with_answered o history)
-        by None skipped after old after_old same tell told = (subst (λ w. Tell w (entries_saved marks)) (sym same) tell, told)
-        by (Some entry) spells after old after_old noted tell told =
+        by None skipped after old after_old same tell response = (subst (λ w. Tell w (entries_saved marks)) (sym same) tell, response)
+        by (Some entry) spells after old after_old noted tell response =
             let now : AreTold (entry ∷ history) =
-            both (is_told_of entry.step entry.answer) (list_all (λ (e : Traced). is_told_of e.step e.answer) history) (noted_told old world line.kept.judged line.kept.notes entry.step entry.answer noted) told in (
-              each_step old world marks tell line.kept.judged line.kept.notes nodes memory few history (entry ∷ history) after_old after told now entry.step entry.answer (spoken nodes history line.text entry.step spells) noted,
+            both (is_response_to entry.step entry.answer) (list_all (λ (e : Traced). is_response_to e.step e.answer) history) (noted_told old world line.kept.judged line.kept.notes entry.step entry.answer noted) response in (
+              each_step old world marks tell line.kept.judged line.kept.notes nodes memory few history (entry ∷ history) after_old after response now entry.step entry.answer (spoken nodes history line.text entry.step spells) noted,
               now,
             )

@@ -17,7 +17,8 @@ use Rattle.journal_replay.specs.declared.fault.ReplayFault.{ReplayFault}
 use Rattle.journal_replay.specs.declared.fault.ReplayFault.TheVariants.{NotAnEntry, Input, Output, NoMemory}
 use Rattle.journal_replay.specs.declared.replay.ReplayResult.{ReplayResult}
 use Rattle.journal_replay.specs.declared.replay.Replay.{Replay}
-use Rattle.journal_replay.specs.Journals.{AreRead, IsNextLine, IsNoEntry, IsNoHead, JournalEnds, bytes_of, journal_bytes, with_feed}
+use Rattle.journal_replay.specs.Journals.{AreRead, IsNoEntry, IsNoHead, JournalEnds, bytes_of, journal_bytes}
+use Rattle.schedule_text.specs.Lines.{with_line_feed, IsNextLine}
 use Rattle.journal_replay.specs.Progress.{Adds, AddsLine, EndsLines, IsReplay, LinesEnd, ReplayProgress, StopsLines, TakesLine}
 use Rattle.journal_replay.specs.Replays.{IsFound, JournalRead, entries_of, next_number}
 
@@ -31,7 +32,7 @@ one_alone entry x same = ap (or_else entry) (sym same)
     or_else d (Some e) = e
 
 -- what was read is the only entry that the line spells
-pub takes_line : (added : Bool) (old new : Replay) (bytes text : List ℕ) (entry : Entry) → bytes ≡ with_feed text → Reads (Some entry) (IsEntryLine old.version text) → Adds added old new (record { text = text; entry = entry }) → TakesLine added old new bytes
+pub takes_line : (added : Bool) (old new : Replay) (bytes text : List ℕ) (entry : Entry) → bytes ≡ with_line_feed text → Reads (Some entry) (IsEntryLine old.version text) → Adds added old new (record { text = text; entry = entry }) → TakesLine added old new bytes
 takes_line true old new bytes text entry is reads adds =
     record { line = record { text = text; entry = entry }; is_text = is; spelled = reads.sound; alone = λ x spelled. one_alone entry x (reads.whole x spelled); added = adds }
 takes_line false old new bytes text entry is reads adds = λ before so_far.
@@ -49,15 +50,15 @@ head-IsUtf8 One = (head_text One, (refl, refl))
 head-IsUtf8 Two = (head_text Two, (refl, refl))
 head-IsUtf8 Three = (head_text Three, (refl, refl))
 
-pub no_text_no_head : (bytes text : List ℕ) → bytes ≡ with_feed text → (IsUtf8 text → ⊥) → IsNoHead bytes
+pub no_text_no_head : (bytes text : List ℕ) → bytes ≡ with_line_feed text → (IsUtf8 text → ⊥) → IsNoHead bytes
 no_text_no_head bytes text is never =
     record { none = λ version same. never (subst IsUtf8 (append_cancel_right (head_text version) text (10 ∷ []) (sym same ∙ is)) (head-IsUtf8 version)) }
 
 -- a line without its line feed has none
-whole_text : (bytes text : List ℕ) → bytes ≡ with_feed text → StopsAt bytes 10 → All (λ byte. byte ≢ 10) text
+whole_text : (bytes text : List ℕ) → bytes ≡ with_line_feed text → StopsAt bytes 10 → All (λ byte. byte ≢ 10) text
 whole_text bytes text is stops =
     let at : length bytes - 1 ≡ length text = ap (λ b. length b - 1) is ∙ ap (λ n. n - 1) (length-append text (10 ∷ [])) ∙ (omega arith) in
-    subst (All (λ byte. byte ≢ 10)) (ap (λ b. take (length bytes - 1) b) is ∙ ap (λ n. take n (with_feed text)) at ∙ take-append_seam text (10 ∷ [])) stops
+    subst (All (λ byte. byte ≢ 10)) (ap (λ b. take (length bytes - 1) b) is ∙ ap (λ n. take n (with_line_feed text)) at ∙ take-append_seam text (10 ∷ [])) stops
 
 -- the line that is read next is the next one of the input
 next_line : (a r : Option (List ℕ)) (before bytes : List ℕ) → Consumes a r before → IfSome r (λ left. bytes ≡ take_through 10 left) → IsNextLine a before bytes
@@ -123,7 +124,7 @@ module _ (version : Version) (number : ℕ) (replay : Replay) (a r : Option (Lis
           );
           form = adds.added.version ∙ so_far.form;
           after = adds.added.after so_far.lines so_far.after;
-          consumed = Consumes-then a r r1 (bytes_of so_far.lines) (with_feed adds.line.text) so_far.consumed (subst (Consumes r r1) adds.is_text read);
+          consumed = Consumes-then a r r1 (bytes_of so_far.lines) (with_line_feed adds.line.text) so_far.consumed (subst (Consumes r r1) adds.is_text read);
         }
 
 -- ---- the first line and the others
@@ -133,12 +134,12 @@ Consumes-whole None b bs cs p q = tt
 Consumes-whole (Some x) None bs cs p q = absurd p
 Consumes-whole (Some x) (Some y) bs cs p q = p ∙ ap (λ l. bs ++ l) q
 
-pub whole_journal : (version : Version) (a b c : Option (List ℕ)) (bytes : List ℕ) → bytes ≡ with_feed (head_text version) → Consumes a b bytes → (result : Result ReplayResult ReplayFault) → LinesEnd version b c result → JournalEnds a c result
+pub whole_journal : (version : Version) (a b c : Option (List ℕ)) (bytes : List ℕ) → bytes ≡ with_line_feed (head_text version) → Consumes a b bytes → (result : Result ReplayResult ReplayFault) → LinesEnd version b c result → JournalEnds a c result
 whole_journal version a b c bytes is head (Ok outcome) ends =
     record {
       lines = ends.lines;
       read = subst (λ v. AreRead v ends.lines) (sym ends.form) ends.read;
-      whole = subst (λ v. IfSome a (λ all. all ≡ journal_bytes v ends.lines)) (sym ends.form) (Consumes-whole a b (with_feed (head_text version)) (bytes_of ends.lines) (subst (Consumes a b) is head) ends.whole);
+      whole = subst (λ v. IfSome a (λ all. all ≡ journal_bytes v ends.lines)) (sym ends.form) (Consumes-whole a b (with_line_feed (head_text version)) (bytes_of ends.lines) (subst (Consumes a b) is head) ends.whole);
       counted = ends.counted;
       found = subst (λ v. IsFound v ends.lines outcome.difference) (sym ends.form) ends.found;
     }
@@ -148,8 +149,8 @@ whole_journal version a b c bytes is head (Err (NotAnEntry number)) ends =
       lines = ends.lines;
       rest = ends.rest;
       read = ends.read;
-      consumed = subst (Consumes a c) (sym (append_assoc (with_feed (head_text version)) (bytes_of ends.lines) ends.rest)) (Consumes-then a b c (with_feed (head_text version)) (bytes_of ends.lines ++ ends.rest) (subst (Consumes a b) is head) ends.consumed);
-      whole = next_after a b (with_feed (head_text version)) (bytes_of ends.lines) ends.rest (subst (Consumes a b) is head) ends.whole;
+      consumed = subst (Consumes a c) (sym (append_assoc (with_line_feed (head_text version)) (bytes_of ends.lines) ends.rest)) (Consumes-then a b c (with_line_feed (head_text version)) (bytes_of ends.lines ++ ends.rest) (subst (Consumes a b) is head) ends.consumed);
+      whole = next_after a b (with_line_feed (head_text version)) (bytes_of ends.lines) ends.rest (subst (Consumes a b) is head) ends.whole;
       more = ends.more;
       none = ends.none;
       numbered = ends.numbered;

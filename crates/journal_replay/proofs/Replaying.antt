@@ -4,7 +4,7 @@ use Rattle.std.specs.Prelude.{if◌then◌else◌, MatchOption}
 use Rattle.std.proofs.lemmas.List.{length-append}
 use Rattle.obj_id.specs.declared.commands.Reply.{Reply}
 use Rattle.private_store.specs.declared.inputs.Judged.{Judged}
-use Rattle.private_store.specs.rules.Replay.{Brief, Line, IsReplayed, answers_due, brief_after, brief_step, replayed, unbegun_brief}
+use Rattle.private_store.specs.rules.Replay.{ReplayState, Line, IsReplayed, answers_due, replay_after, replay_step, replayed, unbegun_replay}
 use Rattle.journal_text.specs.declared.entry.Entry.{Entry}
 use Rattle.journal_text.specs.declared.entry.Version.{Version}
 use Rattle.schedule_text.specs.declared.lines.JobAt.{JobAt}
@@ -22,18 +22,18 @@ map-snoc : {A B : Type 0} (f : A → B) (xs : List A) (y : A) → map f (xs ++ y
 map-snoc f [] y = refl
 map-snoc f (x ∷ xs) y = ap (λ r. f x ∷ r) (map-snoc f xs y)
 
-replayed-snoc : (b : Brief) (lines : List Line) (l : Line) → replayed b (lines ++ l ∷ []) ≡ brief_after (replayed b lines) l.input
+replayed-snoc : (b : ReplayState) (lines : List Line) (l : Line) → replayed b (lines ++ l ∷ []) ≡ replay_after (replayed b lines) l.input
 replayed-snoc b [] l = refl
-replayed-snoc b (x ∷ xs) l = replayed-snoc (brief_after b x.input) xs l
+replayed-snoc b (x ∷ xs) l = replayed-snoc (replay_after b x.input) xs l
 
 abbrev inputs : List Line → List Judged
 inputs lines = map (λ (line : Line). line.input) lines
 
-answers_due-snoc : (b : Brief) (lines : List Line) (l : Line) → answers_due b (inputs (lines ++ l ∷ [])) ≡ answers_due b (inputs lines) ++ (brief_step (replayed b lines) l.input).reply ∷ []
+answers_due-snoc : (b : ReplayState) (lines : List Line) (l : Line) → answers_due b (inputs (lines ++ l ∷ [])) ≡ answers_due b (inputs lines) ++ (replay_step (replayed b lines) l.input).reply ∷ []
 answers_due-snoc b [] l = refl
-answers_due-snoc b (x ∷ xs) l = ap (λ r. (brief_step b x.input).reply ∷ r) (answers_due-snoc (brief_after b x.input) xs l)
+answers_due-snoc b (x ∷ xs) l = ap (λ r. (replay_step b x.input).reply ∷ r) (answers_due-snoc (replay_after b x.input) xs l)
 
-IsReplayed-snoc : (b : Brief) (lines : List Line) (l : Line) → IsReplayed b lines → l.reply ≡ (brief_step (replayed b lines) l.input).reply → IsReplayed b (lines ++ l ∷ [])
+IsReplayed-snoc : (b : ReplayState) (lines : List Line) (l : Line) → IsReplayed b lines → l.reply ≡ (replay_step (replayed b lines) l.input).reply → IsReplayed b (lines ++ l ∷ [])
 IsReplayed-snoc b lines l h e =
     map-snoc (λ (line : Line). line.reply) lines l
     ∙ ap (λ r. r ++ l.reply ∷ []) h
@@ -62,34 +62,34 @@ module _ (version : Version) (before : List Entry) (x : Entry) where
 
   module _ (jobs : List (JobAt × JobState)) (states : AreAfter version before jobs) where
     -- what is answered is due
-    pub answer-due : (due : Reply ℕ) → due ≡ (brief_step (state_of jobs here).store (judged_of version x.address x.input)).reply → due ≡ due_after version before x
-    answer-due due is = is ∙ ap (λ (s : JobState). (brief_step s.store (judged_of version x.address x.input)).reply) (states here)
+    pub answer-due : (due : Reply ℕ) → due ≡ (replay_step (state_of jobs here).store (judged_of version x.address x.input)).reply → due ≡ due_after version before x
+    answer-due due is = is ∙ ap (λ (s : JobState). (replay_step s.store (judged_of version x.address x.input)).reply) (states here)
 
     -- the number after the last one is the next
     pub last-next : suc (state_of jobs here).last ≡ next_number version before x.address
     last-next = ap (λ (s : JobState). suc s.last) (states here)
 
     pub AreAfter-line : (new : List (JobAt × JobState)) → x.address.number ≡ next_number version before x.address
-        → ((other : JobAt) → state_of new other ≡ (if same_job_place here other then record { last = x.address.number; store = brief_after (state_of jobs here).store (judged_of version x.address x.input) } else state_of jobs other))
+        → ((other : JobAt) → state_of new other ≡ (if same_job_place here other then record { last = x.address.number; store = replay_after (state_of jobs here).store (judged_of version x.address x.input) } else state_of jobs other))
         → AreAfter version (x ∷ before) new
-    AreAfter-line new numbered moved = at_each (λ place ls. state_of new place ≡ record { last = length ls; store = replayed (unbegun_brief place.job.0) ls }) there (λ place t. elsewhere place t)
+    AreAfter-line new numbered moved = at_each (λ place ls. state_of new place ≡ record { last = length ls; store = replayed (unbegun_replay place.job.0) ls }) there (λ place t. elsewhere place t)
       where
         stepped : JobState
-        stepped = record { last = x.address.number; store = brief_after (state_of jobs here).store (judged_of version x.address x.input) }
+        stepped = record { last = x.address.number; store = replay_after (state_of jobs here).store (judged_of version x.address x.input) }
 
-        there : state_of new here ≡ record { last = length (lines ++ read_line_of version x ∷ []); store = replayed (unbegun_brief here.job.0) (lines ++ read_line_of version x ∷ []) }
+        there : state_of new here ≡ record { last = length (lines ++ read_line_of version x ∷ []); store = replayed (unbegun_replay here.job.0) (lines ++ read_line_of version x ∷ []) }
         there =
             let longer : length (lines ++ read_line_of version x ∷ []) ≡ suc (length lines) = length-append lines (read_line_of version x ∷ []) ∙ omega arith in
             let last = numbered ∙ sym longer in
-            let store = ap (λ (s : JobState). brief_after s.store (judged_of version x.address x.input)) (states here) ∙ sym (replayed-snoc (unbegun_brief here.job.0) lines (read_line_of version x)) in
+            let store = ap (λ (s : JobState). replay_after s.store (judged_of version x.address x.input)) (states here) ∙ sym (replayed-snoc (unbegun_replay here.job.0) lines (read_line_of version x)) in
             moved here ∙ ap (λ b. cond b stepped (state_of jobs here)) (same_place-itself here) ∙ (λ i. record { last = last i; store = store i })
 
-        elsewhere : (place : JobAt) → same_job_place here place ≡ false → state_of new place ≡ record { last = length (replayed_lines_of version place before); store = replayed (unbegun_brief place.job.0) (replayed_lines_of version place before) }
+        elsewhere : (place : JobAt) → same_job_place here place ≡ false → state_of new place ≡ record { last = length (replayed_lines_of version place before); store = replayed (unbegun_replay place.job.0) (replayed_lines_of version place before) }
         elsewhere place t = moved place ∙ ap (λ b. cond b stepped (state_of jobs place)) t ∙ states place
 
   pub AreReplayed-line : AreReplayed version before → x.reply ≡ due_after version before x → AreReplayed version (x ∷ before)
   AreReplayed-line agree due =
-      at_each (λ place ls. IsReplayed (unbegun_brief place.job.0) ls) (IsReplayed-snoc (unbegun_brief here.job.0) lines (read_line_of version x) (agree here) due) (λ place t. agree place)
+      at_each (λ place ls. IsReplayed (unbegun_replay place.job.0) ls) (IsReplayed-snoc (unbegun_replay here.job.0) lines (read_line_of version x) (agree here) due) (λ place t. agree place)
 
 -- ---- what is found with a line more
 
@@ -142,8 +142,8 @@ module _ (version : Version) (jobs new : List (JobAt × JobState)) (line : Journ
   abbrev Steps : JobAt → Judged → Type 0
   Steps place input =
       x.address.number ≡ suc (state_of jobs place).last
-      → ((other : JobAt) → state_of new other ≡ (if same_job_place place other then record { last = x.address.number; store = brief_after (state_of jobs place).store input } else state_of jobs other))
-      → due ≡ (brief_step (state_of jobs place).store input).reply
+      → ((other : JobAt) → state_of new other ≡ (if same_job_place place other then record { last = x.address.number; store = replay_after (state_of jobs place).store input } else state_of jobs other))
+      → due ≡ (replay_step (state_of jobs place).store input).reply
       → AddsEntry (record { version = version; jobs = jobs; difference = o }) (record { version = version; jobs = new; difference = o1 }) line
 
   steps_here : ((before : List JournalRead) → due ≡ due_after version (entries_of before) x → IsFound version before o → IsFound version (line ∷ before) o1) → Steps (journal_place_of x.address) (judged_of version x.address x.input)
@@ -160,7 +160,7 @@ module _ (version : Version) (jobs new : List (JobAt × JobState)) (line : Journ
   pub adds : (place : JobAt) (input : Judged) → place ≡ journal_place_of x.address → input ≡ judged_of version x.address x.input
       → ((before : List JournalRead) → due ≡ due_after version (entries_of before) x → IsFound version before o → IsFound version (line ∷ before) o1)
       → x.address.number ≡ suc (state_of jobs place).last
-      → ((other : JobAt) → state_of new other ≡ (if same_job_place place other then record { last = x.address.number; store = brief_after (state_of jobs place).store input } else state_of jobs other))
-      → due ≡ (brief_step (state_of jobs place).store input).reply
+      → ((other : JobAt) → state_of new other ≡ (if same_job_place place other then record { last = x.address.number; store = replay_after (state_of jobs place).store input } else state_of jobs other))
+      → due ≡ (replay_step (state_of jobs place).store input).reply
       → AddsEntry (record { version = version; jobs = jobs; difference = o }) (record { version = version; jobs = new; difference = o1 }) line
-  adds place input at told found = subst (λ p. Steps p input) (sym at) (subst (λ i. Steps (journal_place_of x.address) i) (sym told) (steps_here found))
+  adds place input at response found = subst (λ p. Steps p input) (sym at) (subst (λ i. Steps (journal_place_of x.address) i) (sym response) (steps_here found))

@@ -23,7 +23,8 @@ use Rattle.journal_replay.specs.declared.program.Verdict.{Verdict}
 use Rattle.journal_replay.specs.declared.replay.Difference.{Difference}
 use Rattle.journal_replay.specs.declared.replay.ReplayResult.{ReplayResult}
 use Rattle.journal_replay.specs.Inputs.{read_line_of}
-use Rattle.journal_replay.specs.Journals.{AreRead, IsJournal, IsNextLine, IsNoHead, StopsAtHead, StopsAtLine, bytes_of, journal_bytes, with_feed}
+use Rattle.journal_replay.specs.Journals.{AreRead, IsJournal, IsNoHead, StopsAtHead, StopsAtLine, bytes_of, journal_bytes}
+use Rattle.schedule_text.specs.Lines.{with_line_feed, IsNextLine}
 use Rattle.journal_replay.specs.Replays.{IsFirstDifference, IsFound, JournalRead, due_after, entries_of, replayed_lines_of, next_number}
 use Rattle.journal_replay.specs.Saved.{AreSound, SavedReplays, entries_saved, feeds_in, lines_after_first, with_line}
 use Rattle.journal_replay.specs.Texts.{Replays, TellsReplay, found_text, replay_verdict_of}
@@ -54,18 +55,18 @@ apart (c ∷ a) (d ∷ b) x y ha hb e =
     ((λ i. ap first_of e i ∷ rest.0 i), rest.1)
 
 -- a line is what is read through its line feed
-through : (a x : List ℕ) → Whole a → take_through 10 (a ++ 10 ∷ x) ≡ with_feed a
+through : (a x : List ℕ) → Whole a → take_through 10 (a ++ 10 ∷ x) ≡ with_line_feed a
 through [] x h = refl
 through (c ∷ a) x h =
     ap (λ b. cond b (c ∷ []) (c ∷ take_through 10 (a ++ 10 ∷ x))) (ne_eqb c 10 (h 0 0 (omega arith))) ∙ ap (λ l. c ∷ l) (through a x (others c a h))
 
-feed_first : (a x : List ℕ) → with_feed a ++ x ≡ a ++ 10 ∷ x
+feed_first : (a x : List ℕ) → with_line_feed a ++ x ≡ a ++ 10 ∷ x
 feed_first a x = append_assoc a (10 ∷ []) x
 
-not_empty : (a x : List ℕ) → with_feed a ++ x ≡ [] → ⊥
+not_empty : (a x : List ℕ) → with_line_feed a ++ x ≡ [] → ⊥
 not_empty a x e =
     let all = ap length e in
-    let longer = length-append (with_feed a) x in
+    let longer = length-append (with_line_feed a) x in
     let line = length-append a (10 ∷ []) in
     omega (arith, all, longer, line)
 
@@ -73,7 +74,7 @@ not_empty a x e =
 
 bytes_of-append : (xs ys : List JournalRead) → bytes_of (xs ++ ys) ≡ bytes_of ys ++ bytes_of xs
 bytes_of-append [] ys = sym (append-nil (bytes_of ys))
-bytes_of-append (line ∷ xs) ys = ap (λ b. b ++ with_feed line.text) (bytes_of-append xs ys) ∙ append_assoc (bytes_of ys) (bytes_of xs) (with_feed line.text)
+bytes_of-append (line ∷ xs) ys = ap (λ b. b ++ with_line_feed line.text) (bytes_of-append xs ys) ∙ append_assoc (bytes_of ys) (bytes_of xs) (with_line_feed line.text)
 
 -- a line of a saved journal after these
 record IsOwn (before : List JournalRead) (line : JournalRead) : Type 0 where
@@ -109,10 +110,10 @@ Leaves ours lines rest = (later : List JournalRead) × ((ours ≡ later ++ lines
 lines_matched : (ours lines : List JournalRead) (rest : List ℕ) → AreOwn ours → AreRead Three lines → bytes_of ours ≡ bytes_of lines ++ rest → Leaves ours lines rest
 lines_matched ours [] rest own read e = (ours, (sym (append-nil ours), sym e))
 lines_matched ours (l ∷ lines) rest own read e =
-    let before = lines_matched ours lines (with_feed l.text ++ rest) own read.1 (e ∙ append_assoc (bytes_of lines) (with_feed l.text) rest) in
+    let before = lines_matched ours lines (with_line_feed l.text ++ rest) own read.1 (e ∙ append_assoc (bytes_of lines) (with_line_feed l.text) rest) in
     by before.0 before.1.0 before.1.1
   where
-    by : (later : List JournalRead) → ours ≡ later ++ lines → with_feed l.text ++ rest ≡ bytes_of later → Leaves ours (l ∷ lines) rest
+    by : (later : List JournalRead) → ours ≡ later ++ lines → with_line_feed l.text ++ rest ≡ bytes_of later → Leaves ours (l ∷ lines) rest
     by [] same bytes = absurd (not_empty l.text rest bytes)
     by (m ∷ more) same bytes = one (oldest m more)
       where
@@ -142,7 +143,7 @@ matched : (version : Version) (ours lines : List JournalRead) (rest : List ℕ) 
 matched version ours lines rest own read e =
     let parts : (head_text Three ≡ head_text version) × (bytes_of ours ≡ bytes_of lines ++ rest) =
     apart (head_text Three) (head_text version) (bytes_of ours) (bytes_of lines ++ rest) (head-Whole Three) (head-Whole version)
-    (sym (feed_first (head_text Three) (bytes_of ours)) ∙ e ∙ append_assoc (with_feed (head_text version)) (bytes_of lines) rest ∙ feed_first (head_text version) (bytes_of lines ++ rest)) in
+    (sym (feed_first (head_text Three) (bytes_of ours)) ∙ e ∙ append_assoc (with_line_feed (head_text version)) (bytes_of lines) rest ∙ feed_first (head_text version) (bytes_of lines ++ rest)) in
     let is : version ≡ Three = head_same version parts.0 in
     (is, lines_matched ours lines rest own (subst (λ v. AreRead v lines) is read) parts.1)
 
@@ -156,7 +157,7 @@ entries_of-reads [] = refl
 entries_of-reads (x ∷ xs) = ap (λ ys. x ∷ ys) (entries_of-reads xs)
 
 saved_bytes : (marks : List JournalItem) → saved_text marks ≡ journal_bytes Three (reads (entries_saved marks))
-saved_bytes [] = sym (append-nil (with_feed (head_text Three)))
+saved_bytes [] = sym (append-nil (with_line_feed (head_text Three)))
 saved_bytes (mark ∷ before) = by mark.line (saved_bytes before)
   where
     number : ℕ
@@ -167,7 +168,7 @@ saved_bytes (mark ∷ before) = by mark.line (saved_bytes before)
     by None h = append-nil (saved_text before) ∙ h
     by (Some line) h =
         ap (λ text. text ++ saved_line_text mark.place number (Some line)) h
-        ∙ append_assoc (with_feed (head_text Three)) (bytes_of (reads (entries_saved before))) (saved_line_text mark.place number (Some line))
+        ∙ append_assoc (with_line_feed (head_text Three)) (bytes_of (reads (entries_saved before))) (saved_line_text mark.place number (Some line))
 
 -- the number of a line is the next one
 counted : (place : JobAt) (marks : List JournalItem) → lines_counted place marks ≡ length (replayed_lines_of Three place (entries_saved marks))
@@ -222,21 +223,21 @@ feeds-append (x ∷ xs) ys =
     let rest = feeds-append xs ys in
     elim (x == 10) as (λ b. cond b (suc (feeds_in (xs ++ ys))) (feeds_in (xs ++ ys)) ≡ cond b (suc (feeds_in xs)) (feeds_in xs) + feeds_in ys) [ true ↦ omega (arith, rest) | false ↦ rest ]
 
-feeds_line : (a : List ℕ) → Whole a → feeds_in (with_feed a) ≡ 1
+feeds_line : (a : List ℕ) → Whole a → feeds_in (with_line_feed a) ≡ 1
 feeds_line [] h = refl
-feeds_line (c ∷ a) h = ap (λ b. cond b (suc (feeds_in (with_feed a))) (feeds_in (with_feed a))) (ne_eqb c 10 (h 0 0 (omega arith))) ∙ feeds_line a (others c a h)
+feeds_line (c ∷ a) h = ap (λ b. cond b (suc (feeds_in (with_line_feed a))) (feeds_in (with_line_feed a))) (ne_eqb c 10 (h 0 0 (omega arith))) ∙ feeds_line a (others c a h)
 
 feeds_bytes : (lines : List JournalRead) → AreOwn lines → feeds_in (bytes_of lines) ≡ length lines
 feeds_bytes [] own = refl
 feeds_bytes (line ∷ before) own =
-    let all = feeds-append (bytes_of before) (with_feed line.text) in
+    let all = feeds-append (bytes_of before) (with_line_feed line.text) in
     let last = feeds_line line.text own.0.whole in
     let rest = feeds_bytes before own.1 in
     omega (arith, all, last, rest)
 
 feeds_text : (lines : List JournalRead) → AreOwn lines → feeds_in (journal_bytes Three lines) - 1 ≡ length lines
 feeds_text lines own =
-    let all = feeds-append (with_feed (head_text Three)) (bytes_of lines) in
+    let all = feeds-append (with_line_feed (head_text Three)) (bytes_of lines) in
     let first = feeds_line (head_text Three) (head-Whole Three) in
     let rest = feeds_bytes lines own in
     omega (arith, all, first, rest)
@@ -310,7 +311,7 @@ module _ (marks : List JournalItem) (typed : AreTyped marks) (sound : AreSound (
           let it = oldest l later in
           let first : JournalRead = it.1.0 in
           let mine : IsOwn h.lines first = own_at it.0 first h.lines (subst AreOwn (same ∙ ap (λ ls. ls ++ h.lines) it.1.1 ∙ oldest_at it.0 first h.lines) all_own) in
-          let line : h.rest ≡ with_feed first.text = next ∙ ap (take_through 10) (bytes ∙ ap bytes_of it.1.1 ∙ bytes-oldest it.0 first) ∙ through first.text (bytes_of it.0) mine.whole in
+          let line : h.rest ≡ with_line_feed first.text = next ∙ ap (take_through 10) (bytes ∙ ap bytes_of it.1.1 ∙ bytes-oldest it.0 first) ∙ through first.text (bytes_of it.0) mine.whole in
           h.none.none first.text line mine.utf first.entry (subst (λ v. IsEntryLine v first.text first.entry) (sym found.0) mine.spelled)
           (mine.numbered ∙ ap (λ v. next_number v (entries_of h.lines) first.entry.address) (sym found.0))
 

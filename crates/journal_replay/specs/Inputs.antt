@@ -13,7 +13,7 @@ use Rattle.journal_text.specs.declared.entry.LineInput.TheVariants as input
 use Rattle.journal_text.specs.declared.entry.Version.{Version}
 use Rattle.journal_text.specs.declared.entry.Version.TheVariants.{One, Two, Three}
 
--- version 1 knows no hands of what others granted: such a Grant is refused like any other command on a foreign object
+-- version 1 knows no grants of what others granted: such a Grant is refused like any other command on a foreign object
 abbrev pub first_form : ℕ → Command ℕ → Command ℕ
 first_form job (command.Grant id target) = if id.job.0 == job then command.Grant id target else command.Release id
 first_form job c = c

@@ -1,8 +1,8 @@
 -- A journal's text: its first line, and a line for each entry. Lines stand newest first.
-use Rattle.std.specs.Prelude.{◌≡◌, ◌≢◌, ℕ, suc, List, [], ◌∷◌, ◌++◌, All, length, drop, Option, IfSome, Result, Ok, Err, ◌⊎◌, ⊤}
-use Rattle.std.specs.Io.BufRead.{take_through}
+use Rattle.std.specs.Prelude.{◌≡◌, ◌≢◌, ℕ, suc, List, [], ◌∷◌, ◌++◌, All, length, Option, IfSome, Result, Ok, Err, ◌⊎◌, ⊤}
 use Rattle.std.specs.Io.KnownBytes.{Consumes}
 use Rattle.std.specs.Str.{IsUtf8}
+use Rattle.schedule_text.specs.Lines.{IsNextLine, with_line_feed}
 use Rattle.journal_text.specs.declared.entry.Entry.{Entry}
 use Rattle.journal_text.specs.declared.entry.Version.{Version}
 use Rattle.journal_text.specs.Reading.{IsEntryLine, head_text}
@@ -24,26 +24,23 @@ abbrev pub AreRead : Version → List JournalRead → Type 0
 AreRead version [] = ⊤
 AreRead version (line ∷ before) = IsRead version (entries_of before) line × AreRead version before
 
-abbrev pub with_feed : List ℕ → List ℕ
-with_feed text = text ++ 10 ∷ []
-
 -- the bytes of the lines
 abbrev pub bytes_of : List JournalRead → List ℕ
 bytes_of [] = []
-bytes_of (line ∷ before) = bytes_of before ++ with_feed line.text
+bytes_of (line ∷ before) = bytes_of before ++ with_line_feed line.text
 
 -- the bytes of a journal
 abbrev pub journal_bytes : Version → List JournalRead → List ℕ
-journal_bytes version lines = with_feed (head_text version) ++ bytes_of lines
+journal_bytes version lines = with_line_feed (head_text version) ++ bytes_of lines
 
 -- bytes that are no journal's first line: its line feed is missing, or its text is another
 pub record IsNoHead (bytes : List ℕ) : Type 0 where
-  pub none : (version : Version) → bytes ≢ with_feed (head_text version)
+  pub none : (version : Version) → bytes ≢ with_line_feed (head_text version)
 
 -- bytes that aren't the line of an entry that comes after these: its line feed is missing, its text spells no entry, or the
 -- number isn't the next one
 pub record IsNoEntry (version : Version) (before : List Entry) (bytes : List ℕ) : Type 0 where
-  pub none : (text : List ℕ) → bytes ≡ with_feed text → IsUtf8 text → (x : Entry) → IsEntryLine version text x → x.address.number ≢ next_number version before x.address
+  pub none : (text : List ℕ) → bytes ≡ with_line_feed text → IsUtf8 text → (x : Entry) → IsEntryLine version text x → x.address.number ≢ next_number version before x.address
 
 -- ---- a whole journal
 
@@ -54,10 +51,6 @@ pub record IsJournal (read_old : Option (List ℕ)) (outcome : ReplayResult) : T
   pub whole : IfSome read_old (λ all. all ≡ journal_bytes outcome.version lines)
   pub counted : outcome.lines ≡ length lines
   pub found : IsFound outcome.version lines outcome.difference
-
--- of an input, what comes after these bytes: the next line with its line feed, or all that is left
-abbrev pub IsNextLine : Option (List ℕ) → List ℕ → List ℕ → Type 0
-IsNextLine read_old before bytes = IfSome read_old (λ all. bytes ≡ take_through 10 (drop (length before) all))
 
 -- the first line is no journal's
 pub record StopsAtHead (read_old read_new : Option (List ℕ)) (number : ℕ) : Type 0 where

@@ -10,7 +10,8 @@ use Rattle.journal_replay.specs.declared.replay.ReplayResult.{ReplayResult}
 use Rattle.journal_replay.specs.declared.replay.Replay.{Replay}
 use Rattle.journal_replay.specs.Replays.{IsFound, JournalRead, entries_of, next_number}
 use Rattle.journal_replay.specs.States.{IsStateAfter}
-use Rattle.journal_replay.specs.Journals.{AreRead, IsNextLine, IsNoEntry, bytes_of, with_feed}
+use Rattle.journal_replay.specs.Journals.{AreRead, IsNoEntry, bytes_of}
+use Rattle.schedule_text.specs.Lines.{with_line_feed, IsNextLine}
 
 -- ---- a line more
 
@@ -32,7 +33,7 @@ Adds false old new line = (before : List JournalRead) → IsReplay before old �
 -- the bytes are the next line
 pub record AddsLine (old new : Replay) (bytes : List ℕ) : Type 0 where
   pub line : JournalRead
-  pub is_text : bytes ≡ with_feed line.text
+  pub is_text : bytes ≡ with_line_feed line.text
   pub spelled : IsEntryLine old.version line.text line.entry
   pub alone : (x : Entry) → IsEntryLine old.version line.text x → x ≡ line.entry
   pub added : AddsEntry old new line

@@ -3,7 +3,7 @@
 use Rattle.std.specs.Prelude.{◌≡◌, ◌≢◌, ℕ, suc, if◌then◌else◌, List, [], ◌∷◌, ◌++◌, length, map, Option, None, Some}
 use Rattle.std.specs.String.{string_bytes}
 use Rattle.obj_id.specs.declared.commands.Reply.{Reply}
-use Rattle.private_store.specs.rules.Replay.{Brief, Line, IsReplayed, brief_step, replayed, unbegun_brief}
+use Rattle.private_store.specs.rules.Replay.{ReplayState, Line, IsReplayed, replay_step, replayed, unbegun_replay}
 use Rattle.journal_text.specs.declared.entry.Address.{Address}
 use Rattle.journal_text.specs.declared.entry.Entry.{Entry}
 use Rattle.journal_text.specs.declared.entry.Version.{Version}
@@ -28,12 +28,12 @@ replayed_lines_of version place (x ∷ before) =
     if same_job_place (journal_place_of x.address) place then replayed_lines_of version place before ++ read_line_of version x ∷ [] else replayed_lines_of version place before
 
 -- and the store after them
-abbrev pub replayed_store_of : Version → JobAt → List Entry → Brief
-replayed_store_of version place entries = replayed (unbegun_brief place.job.0) (replayed_lines_of version place entries)
+abbrev pub replayed_store_of : Version → JobAt → List Entry → ReplayState
+replayed_store_of version place entries = replayed (unbegun_replay place.job.0) (replayed_lines_of version place entries)
 
 -- the answer that is due after these lines
 abbrev pub due_after : Version → List Entry → Entry → Reply ℕ
-due_after version before x = (brief_step (replayed_store_of version (journal_place_of x.address) before) (judged_of version x.address x.input)).reply
+due_after version before x = (replay_step (replayed_store_of version (journal_place_of x.address) before) (judged_of version x.address x.input)).reply
 
 -- the number that a line has after these
 abbrev pub next_number : Version → List Entry → Address → ℕ
@@ -41,7 +41,7 @@ next_number version before address = suc (length (replayed_lines_of version (jou
 
 -- every line has the answer that the replay of its job at its node gives there
 abbrev pub AreReplayed : Version → List Entry → Type 0
-AreReplayed version entries = (place : JobAt) → IsReplayed (unbegun_brief place.job.0) (replayed_lines_of version place entries)
+AreReplayed version entries = (place : JobAt) → IsReplayed (unbegun_replay place.job.0) (replayed_lines_of version place entries)
 
 -- the line's answer isn't the one that is due
 pub record IsUnlike (text : List ℕ) (address : Address) (reply due : Reply ℕ) (difference : Difference) : Type 0 where

@@ -1,7 +1,7 @@
 -- The stores of all jobs at all nodes, as lines lead to them. Entries stand newest first.
 use Rattle.std.specs.Prelude.{◌≡◌, ℕ, List, length, Option, unwrap_or}
 use Rattle.std.specs.Map.{lookup}
-use Rattle.private_store.specs.rules.Replay.{Brief, unbegun_brief}
+use Rattle.private_store.specs.rules.Replay.{ReplayState, unbegun_replay}
 use Rattle.journal_text.specs.declared.entry.Entry.{Entry}
 use Rattle.journal_text.specs.declared.entry.Version.{Version}
 use Rattle.schedule_text.specs.declared.lines.JobAt.{JobAt}
@@ -12,10 +12,10 @@ use Rattle.journal_replay.specs.Replays.{IsFound, JournalRead, entries_of, repla
 -- what is kept of a job at a node: the number of its last line, or 0, and its store without contents
 pub record JobState : Type 0 where
   pub last : ℕ
-  pub store : Brief
+  pub store : ReplayState
 
 abbrev pub state_of : List (JobAt × JobState) → JobAt → JobState
-state_of jobs place = unwrap_or (lookup (same_job_place place) jobs) (record { last = 0; store = unbegun_brief place.job.0 })
+state_of jobs place = unwrap_or (lookup (same_job_place place) jobs) (record { last = 0; store = unbegun_replay place.job.0 })
 
 -- they are what these lines lead to
 abbrev pub AreAfter : Version → List Entry → List (JobAt × JobState) → Type 0

@@ -80,7 +80,7 @@ fn command_meant(version: Version, job: JobNo, command: Command<u64>) -> Command
     }
 }
 
-/// The command, as version 1 means it, which knows no hands of what others granted: such a Grant is refused like any
+/// The command, as version 1 means it, which knows no grants of what others granted: such a Grant is refused like any
 /// other command on a foreign object.
 fn first_form(job: JobNo, command: Command<u64>) -> Command<u64>
     ensures { result ≡ first_form_lem job.0 command }

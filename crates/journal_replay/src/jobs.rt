@@ -1,7 +1,7 @@
 //! The stores of a replay, by job and node.
 ghost use Rattle.std.specs.Prelude.{◌≡◌, [], None, if◌then◌else◌, IfOk, OnOk};
 ghost use Rattle.std.specs.Map.{lookup};
-ghost use Rattle.private_store.specs.rules.Replay.{brief_after, brief_step, unbegun_brief};
+ghost use Rattle.private_store.specs.rules.Replay.{replay_after, replay_step, unbegun_replay};
 ghost use Rattle.journal_text.specs.Saved.{same_job_place};
 ghost use Rattle.journal_replay.specs.States.{state_of};
 
@@ -21,20 +21,20 @@ struct JobReplay {
 }
 
 impl Model for JobReplay {
-    ghost use Rattle.private_store.specs.laws.Listed.{IsBriefKept};
+    ghost use Rattle.private_store.specs.laws.Listed.{IsReplayStateKept};
     ghost use Rattle.journal_replay.specs.States.{JobState};
 
     ghost Value = { JobState };
 
     ghost view = { λ r. record { last = r.last; store = r.store } };
 
-    ghost invariant = { λ r. IsBriefKept r.store };
+    ghost invariant = { λ r. IsReplayStateKept r.store };
 }
 
 impl JobReplay {
     /// Of a job that was never admitted.
     fn new(alloc: Global, job: JobNo) -> JobReplay
-        ensures { result ≡ record { last = 0; store = unbegun_brief job.0 } }
+        ensures { result ≡ record { last = 0; store = unbegun_replay job.0 } }
     {
         JobReplay {
             last: 0,
@@ -49,8 +49,8 @@ impl JobReplay {
         number: u32,
         input: &Judged,
     ) -> Result<(JobReplay, Reply<u64>), AllocError>
-        ensures state { IfOk result (λ r. r.0 ≡ record { last = number; store = brief_after self.store input.now }) }
-        ensures due { IfOk result (λ r. r.1 ≡ (brief_step self.store input.now).reply) }
+        ensures state { IfOk result (λ r. r.0 ≡ record { last = number; store = replay_after self.store input.now }) }
+        ensures due { IfOk result (λ r. r.1 ≡ (replay_step self.store input.now).reply) }
     {
         let (store, due) = self.store.step(alloc, input)?;
         Ok((
@@ -108,8 +108,8 @@ impl Jobs {
         number: u32,
         input: &Judged,
     ) -> Result<Reply<u64>, AllocError>
-        ensures states { OnOk result ((other : JobAt) → state_of self.new other ≡ (if same_job_place place other then record { last = number; store = brief_after (state_of self.old place).store input.now } else state_of self.old other)) }
-        ensures due { IfOk result (λ due. due ≡ (brief_step (state_of self.old place).store input.now).reply) }
+        ensures states { OnOk result ((other : JobAt) → state_of self.new other ≡ (if same_job_place place other then record { last = number; store = replay_after (state_of self.old place).store input.now } else state_of self.old other)) }
+        ensures due { IfOk result (λ due. due ≡ (replay_step (state_of self.old place).store input.now).reply) }
     {
         let replay = self.take_out(place);
         let (replay, due) = replay.step(self.alloc, number, input)?;

@@ -4,7 +4,8 @@ ghost use Rattle.std.specs.Io.{StopsAt};
 ghost use Rattle.std.specs.Io.BufRead.{take_through};
 ghost use Rattle.std.specs.Io.KnownBytes.{Consumes, IsAtEnd};
 ghost use Rattle.journal_text.specs.Reading.{head_text};
-ghost use Rattle.journal_replay.specs.Journals.{IsNoHead, JournalEnds, with_feed};
+ghost use Rattle.journal_replay.specs.Journals.{IsNoHead, JournalEnds};
+ghost use Rattle.schedule_text.specs.Lines.{with_line_feed};
 ghost use Rattle.journal_replay.specs.Progress.{IsJournalFault, LinesEnd, TakesLine};
 
 use crate::fault::ReplayFault;
@@ -77,7 +78,7 @@ fn next_line<R: BufRead>(reader: &mut R, line: &mut Vec<u8>) -> Result<bool, Rep
 
 /// The form that the first line, with its line feed, names.
 fn head(bytes: &[u8]) -> Option<Version>
-    ensures { MatchOption result (IsNoHead bytes.now) (λ version. bytes.now ≡ with_feed (head_text version)) }
+    ensures { MatchOption result (IsNoHead bytes.now) (λ version. bytes.now ≡ with_line_feed (head_text version)) }
 {
     let Some((b'\n', text)) = bytes.split_last() else {
         return None

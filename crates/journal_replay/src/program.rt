@@ -23,7 +23,7 @@ pub enum Verdict {
 /// Replays the journal that the reader gives, and writes one line: how many lines were replayed, or the first one whose
 /// answer isn't the one that is due.
 ///
-/// The whole text is read first, so a line that isn't an entry is told before any difference. After a fault nothing is
+/// The whole text is read first, so a line that isn't an entry is printed before any difference. After a fault nothing is
 /// written, unless the output itself failed.
 pub fn replay_text<R: BufRead, W: Write>(
     alloc: Global,

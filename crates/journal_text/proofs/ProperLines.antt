@@ -29,18 +29,18 @@ granted_items (x ∷ xs) h deep =
     let first = h 0 x (omega arith) in
     (first.0, first.1, (deep 0 x (omega arith), first.2), granted_items xs (others FitsGranted x xs h) (others (λ x. 1 ≤ x.depth) x xs deep))
 
-told : (x : LineInput) → IsTypedInput x → IsProperInput x → FitsInput x
-told (input.Begin quota) h p = h
-told (input.Requota quota) h p = h
-told input.End h p = h
-told (input.Call session c) h p = h
-told (input.Answer number verdict) h p = h
-told (input.Located id number entries) h p = (h.0, h.1, locations entries h.2)
-told (input.Chunk id number index from verdict) h p = h
-told (input.Pull id number matched) h p = h
-told (input.NotHere id number from) h p = h
-told (input.Received id n grantor depth) h p = (h.0, h.1, (p.0 h.0.job_positive, h.2), (p.1, h.3))
-told (input.Withdrawn id grantor depth) h p = (h.0, (p.0 h.0.job_positive, h.1), (p.1, h.2))
+asked : (x : LineInput) → IsTypedInput x → IsProperInput x → FitsInput x
+asked (input.Begin quota) h p = h
+asked (input.Requota quota) h p = h
+asked input.End h p = h
+asked (input.Call session c) h p = h
+asked (input.Answer number verdict) h p = h
+asked (input.Located id number entries) h p = (h.0, h.1, locations entries h.2)
+asked (input.Chunk id number index from verdict) h p = h
+asked (input.Pull id number matched) h p = h
+asked (input.NotHere id number from) h p = h
+asked (input.Received id n grantor depth) h p = (h.0, h.1, (p.0 h.0.job_positive, h.2), (p.1, h.3))
+asked (input.Withdrawn id grantor depth) h p = (h.0, (p.0 h.0.job_positive, h.1), (p.1, h.2))
 
 answered : (r : Reply ℕ) → IsTypedReply r → IsProperReply r → FitsReply r
 answered reply.Ok h p = h
@@ -54,4 +54,4 @@ answered reply.NoWork h p = p
 answered (reply.Refused refusal) h p = h
 
 pub writable : (x : Entry) → IsTyped x → IsProper x → IsWritable x
-writable x h p = record { address = (p.node, (p.job, h.job), h.number); told = told x.input h.told p.told; answered = answered x.reply h.answered p.answered; fitting = p.fitting }
+writable x h p = record { address = (p.node, (p.job, h.job), h.number); asked = asked x.input h.asked p.asked; answered = answered x.reply h.answered p.answered; fitting = p.fitting }

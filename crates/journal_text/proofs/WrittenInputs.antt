@@ -15,7 +15,7 @@ use Rattle.journal_text.specs.declared.entry.LineInput.{LineInput}
 use Rattle.journal_text.specs.declared.entry.LineInput.TheVariants as input
 use Rattle.journal_text.specs.declared.entry.Version.TheVariants.{Three}
 use Rattle.journal_text.specs.declared.words.InputWord.TheVariants as input_word
-use Rattle.journal_text.specs.Calls.{IsBriefCommand}
+use Rattle.journal_text.specs.Calls.{IsCommandWithoutPayload}
 use Rattle.journal_text.specs.Each.{IsEach}
 use Rattle.journal_text.specs.Inputs.{IsInput}
 use Rattle.journal_text.specs.Locations.{IsLocation, IsLocationParts, parts_of}
@@ -28,25 +28,25 @@ use Rattle.journal_text.proofs.PlainFields.{AllFields, AllFields-plain, AllPlain
 -- ---- commands
 
 module _ (job : ℕ) where
-  pub IsBriefCommand-written : (c : Command ℕ) → FitsCommand c → IsBriefCommand job (command_fields job c) c
-  IsBriefCommand-written (command.Create id Primary n) h = record { word = word.Create; named = refl; spelled = record { part = (id, n); spelled = (object job id h.0, number n h.1); made = refl } }
-  IsBriefCommand-written (command.Create id Secondary n) h = record { word = word.Copy; named = refl; spelled = record { part = (id, n); spelled = (object job id h.0, number n h.1); made = refl } }
-  IsBriefCommand-written (command.Write id offset count) h = record { word = word.Write; named = refl; spelled = record { part = ((id, offset), count); spelled = ((object job id h.0, number offset h.1), record { fits = h.2; spelled = refl }); made = refl } }
-  IsBriefCommand-written (command.Seal id) h = record { word = word.Seal; named = refl; spelled = record { part = id; spelled = object job id h; made = refl } }
-  IsBriefCommand-written (command.Get id) h = record { word = word.Get; named = refl; spelled = record { part = id; spelled = object job id h; made = refl } }
-  IsBriefCommand-written (command.Read id offset count) h = record { word = word.Read; named = refl; spelled = record { part = ((id, offset), count); spelled = ((object job id h.0, number offset h.1), number count h.2); made = refl } }
-  IsBriefCommand-written (command.Release id) h = record { word = word.Release; named = refl; spelled = record { part = id; spelled = object job id h; made = refl } }
-  IsBriefCommand-written (command.Unpin id task) h = record { word = word.Unpin; named = refl; spelled = record { part = (id, task); spelled = (object job id h.0, task_field task h.1); made = refl } }
-  IsBriefCommand-written (command.Borrow id task) h = record { word = word.Borrow; named = refl; spelled = record { part = (id, task); spelled = (object job id h.0, task_field task h.1); made = refl } }
-  IsBriefCommand-written (command.GiveUp id task) h = record { word = word.GiveUp; named = refl; spelled = record { part = (id, task); spelled = (object job id h.0, task_field task h.1); made = refl } }
-  IsBriefCommand-written (command.Delete id) h = record { word = word.Delete; named = refl; spelled = record { part = id; spelled = object job id h; made = refl } }
-  IsBriefCommand-written (command.EndTask task) h = record { word = word.EndTask; named = refl; spelled = record { part = task; spelled = task_field task h; made = refl } }
-  IsBriefCommand-written (command.Grant id target) h = record { word = word.Grant; named = refl; spelled = record { part = (id, target); spelled = (object job id h.0, number target.0 h.1); made = refl } }
-  IsBriefCommand-written (command.Withdraw id target) h = record { word = word.Withdraw; named = refl; spelled = record { part = (id, target); spelled = (object job id h.0, number target.0 h.1); made = refl } }
-  IsBriefCommand-written (command.Peek id offset count) h = record { word = word.Peek; named = refl; spelled = record { part = ((id, offset), count); spelled = ((object job id h.0, number offset h.1), number count h.2); made = refl } }
-  IsBriefCommand-written command.List h = record { word = word.List; named = refl; spelled = record { none = refl; made = refl } }
-  IsBriefCommand-written command.Usage h = record { word = word.Usage; named = refl; spelled = record { none = refl; made = refl } }
-  IsBriefCommand-written command.Leave h = record { word = word.Leave; named = refl; spelled = record { none = refl; made = refl } }
+  pub IsCommandWithoutPayload-written : (c : Command ℕ) → FitsCommand c → IsCommandWithoutPayload job (command_fields job c) c
+  IsCommandWithoutPayload-written (command.Create id Primary n) h = record { word = word.Create; named = refl; spelled = record { part = (id, n); spelled = (object job id h.0, number n h.1); made = refl } }
+  IsCommandWithoutPayload-written (command.Create id Secondary n) h = record { word = word.Copy; named = refl; spelled = record { part = (id, n); spelled = (object job id h.0, number n h.1); made = refl } }
+  IsCommandWithoutPayload-written (command.Write id offset count) h = record { word = word.Write; named = refl; spelled = record { part = ((id, offset), count); spelled = ((object job id h.0, number offset h.1), record { fits = h.2; spelled = refl }); made = refl } }
+  IsCommandWithoutPayload-written (command.Seal id) h = record { word = word.Seal; named = refl; spelled = record { part = id; spelled = object job id h; made = refl } }
+  IsCommandWithoutPayload-written (command.Get id) h = record { word = word.Get; named = refl; spelled = record { part = id; spelled = object job id h; made = refl } }
+  IsCommandWithoutPayload-written (command.Read id offset count) h = record { word = word.Read; named = refl; spelled = record { part = ((id, offset), count); spelled = ((object job id h.0, number offset h.1), number count h.2); made = refl } }
+  IsCommandWithoutPayload-written (command.Release id) h = record { word = word.Release; named = refl; spelled = record { part = id; spelled = object job id h; made = refl } }
+  IsCommandWithoutPayload-written (command.Unpin id task) h = record { word = word.Unpin; named = refl; spelled = record { part = (id, task); spelled = (object job id h.0, task_field task h.1); made = refl } }
+  IsCommandWithoutPayload-written (command.Borrow id task) h = record { word = word.Borrow; named = refl; spelled = record { part = (id, task); spelled = (object job id h.0, task_field task h.1); made = refl } }
+  IsCommandWithoutPayload-written (command.GiveUp id task) h = record { word = word.GiveUp; named = refl; spelled = record { part = (id, task); spelled = (object job id h.0, task_field task h.1); made = refl } }
+  IsCommandWithoutPayload-written (command.Delete id) h = record { word = word.Delete; named = refl; spelled = record { part = id; spelled = object job id h; made = refl } }
+  IsCommandWithoutPayload-written (command.EndTask task) h = record { word = word.EndTask; named = refl; spelled = record { part = task; spelled = task_field task h; made = refl } }
+  IsCommandWithoutPayload-written (command.Grant id target) h = record { word = word.Grant; named = refl; spelled = record { part = (id, target); spelled = (object job id h.0, number target.0 h.1); made = refl } }
+  IsCommandWithoutPayload-written (command.Withdraw id target) h = record { word = word.Withdraw; named = refl; spelled = record { part = (id, target); spelled = (object job id h.0, number target.0 h.1); made = refl } }
+  IsCommandWithoutPayload-written (command.Peek id offset count) h = record { word = word.Peek; named = refl; spelled = record { part = ((id, offset), count); spelled = ((object job id h.0, number offset h.1), number count h.2); made = refl } }
+  IsCommandWithoutPayload-written command.List h = record { word = word.List; named = refl; spelled = record { none = refl; made = refl } }
+  IsCommandWithoutPayload-written command.Usage h = record { word = word.Usage; named = refl; spelled = record { none = refl; made = refl } }
+  IsCommandWithoutPayload-written command.Leave h = record { word = word.Leave; named = refl; spelled = record { none = refl; made = refl } }
 
   AllPlain-command : (c : Command ℕ) → FitsCommand c → AllPlain (command_fields job c)
   AllPlain-command (command.Create id Primary n) h = (refl, (Plain-id_text job id h.0, (plain32 n h.1, tt)))
@@ -126,7 +126,7 @@ module _ (job : ℕ) where
   IsInput-written (input.Begin quota) h = record { word = input_word.Begin; named = refl; spelled = record { part = quota; spelled = (long quota.window h.0, long quota.device h.1); made = refl } }
   IsInput-written (input.Requota quota) h = record { word = input_word.Quota; named = refl; spelled = record { part = quota; spelled = (long quota.window h.0, long quota.device h.1); made = refl } }
   IsInput-written input.End h = record { word = input_word.End; named = refl; spelled = record { none = refl; made = refl } }
-  IsInput-written (input.Call session c) h = record { part = (session, c); spelled = (record { fits = h.0; spelled = refl }, IsBriefCommand-written job c h.1); made = refl }
+  IsInput-written (input.Call session c) h = record { part = (session, c); spelled = (record { fits = h.0; spelled = refl }, IsCommandWithoutPayload-written job c h.1); made = refl }
   IsInput-written (input.Answer n verdict) h = record { word = input_word.Answer; named = refl; spelled = record { part = (n, verdict); spelled = (long n h, refl); made = refl } }
   IsInput-written (input.Located id n entries) h = record { word = input_word.Located; named = refl; spelled = record { part = ((id, n), entries); spelled = ((object job id h.0, long n h.1), IsEach-locations entries h.2); made = refl } }
   IsInput-written (input.Chunk id n index from verdict) h = record { word = input_word.Chunk; named = refl; spelled = record { part = ((id, n), ((index, from), verdict)); spelled = ((object job id h.0, long n h.1), record { indexed = number index h.2; sent = number from h.3; judged = refl }); made = refl } }

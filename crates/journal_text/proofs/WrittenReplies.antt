@@ -24,7 +24,7 @@ use Rattle.journal_text.specs.declared.words.ReplyWord.TheVariants as word
 use Rattle.journal_text.specs.Each.{IsEach}
 use Rattle.journal_text.specs.Items.{IsItem, IsItemParts, IsItemUnless, IsSorted, all_granted, granted_of, items_in_order, own_of}
 use Rattle.journal_text.specs.Locations.{parts_of}
-use Rattle.journal_text.specs.Printing.{brief_reply_text, count_field, spaced_text}
+use Rattle.journal_text.specs.Printing.{reply_text_without_payload, count_field, spaced_text}
 use Rattle.journal_text.specs.Replies.{IsReply}
 use Rattle.journal_text.specs.Writable.{FitGranted, FitOwn, FitsPositive, FitsReply}
 use Rattle.journal_text.proofs.WrittenFields.{long, number, object, plain32, plain_count}
@@ -234,15 +234,15 @@ module _ (job : ℕ) where
       append_assoc text (codes " ") f ∙ ap (λ t. t ++ (32 ∷ f)) e ∙ append_assoc word (spaced_text fs) (32 ∷ f) ∙ ap (λ t. word ++ t) (sym (spaced_text-more fs f))
 
   -- its text is these fields, with a space between them
-  pub brief_reply_text-fields : (r : Reply ℕ) → brief_reply_text job r ≡ (reply_fields r).0 ++ spaced_text (reply_fields r).1
+  pub reply_text_without_payload-fields : (r : Reply ℕ) → reply_text_without_payload job r ≡ (reply_fields r).0 ++ spaced_text (reply_fields r).1
   unfolding reply_fields
-  brief_reply_text-fields reply.Ok = refl
-  brief_reply_text-fields (reply.Placed offset extent) =
+  reply_text_without_payload-fields reply.Ok = refl
+  reply_text_without_payload-fields (reply.Placed offset extent) =
       more (codes "placed") (decimal extent) (decimal offset ∷ []) (codes "placed " ++ decimal offset) (ap (λ rest. codes "placed" ++ rest) (one (decimal offset)))
-  brief_reply_text-fields (reply.Got n) = ap (λ rest. codes "got" ++ rest) (one (decimal n))
-  brief_reply_text-fields (reply.Bytes count) = ap (λ rest. codes "bytes" ++ rest) (one (count_field count))
-  brief_reply_text-fields (reply.List own granted) = ap (λ rest. codes "list" ++ rest) (items_spaced own granted)
-  brief_reply_text-fields (reply.Usage u) =
+  reply_text_without_payload-fields (reply.Got n) = ap (λ rest. codes "got" ++ rest) (one (decimal n))
+  reply_text_without_payload-fields (reply.Bytes count) = ap (λ rest. codes "bytes" ++ rest) (one (count_field count))
+  reply_text_without_payload-fields (reply.List own granted) = ap (λ rest. codes "list" ++ rest) (items_spaced own granted)
+  reply_text_without_payload-fields (reply.Usage u) =
       let word = codes "usage" in
       let a = decimal u.window in
       let b = decimal u.window_used in
@@ -261,9 +261,9 @@ module _ (job : ℕ) where
       let e4 = more word d (a ∷ b ∷ c ∷ []) t3 e3 in
       let e5 = more word e (a ∷ b ∷ c ∷ d ∷ []) t4 e4 in
       more word f (a ∷ b ∷ c ∷ d ∷ e ∷ []) t5 e5
-  brief_reply_text-fields (reply.Work work) = refl
-  brief_reply_text-fields reply.NoWork = refl
-  brief_reply_text-fields (reply.Refused r) =
+  reply_text_without_payload-fields (reply.Work work) = refl
+  reply_text_without_payload-fields reply.NoWork = refl
+  reply_text_without_payload-fields (reply.Refused r) =
       more (codes "refused") (name_of r) (decimal (number_of r) ∷ []) (codes "refused " ++ decimal (number_of r)) (ap (λ rest. codes "refused" ++ rest) (one (decimal (number_of r))))
 
   pub AllFields-reply : (r : Reply ℕ) → FitsReply r → Field (reply_fields r).0 × AllFields (reply_fields r).1

@@ -16,20 +16,20 @@ IsIdCount job (id ∷ offset ∷ count ∷ []) x = IsTarget job id offset x.0 ×
 IsIdCount job _ x = ⊥
 
 -- the command that a word and the fields after it spell, for the job that speaks
-abbrev pub IsBriefCommandOf : ℕ → Word → List (List ℕ) → Command ℕ → Type 0
-IsBriefCommandOf job word.Write fields c = IsFieldMade (IsIdCount job fields) (λ x. command.Write x.0.0 x.0.1 x.1) c
-IsBriefCommandOf job word fields c = IsPlainCommand job word fields c
+abbrev pub IsCommandWithoutPayloadOf : ℕ → Word → List (List ℕ) → Command ℕ → Type 0
+IsCommandWithoutPayloadOf job word.Write fields c = IsFieldMade (IsIdCount job fields) (λ x. command.Write x.0.0 x.0.1 x.1) c
+IsCommandWithoutPayloadOf job word fields c = IsPlainCommand job word fields c
 
 -- the same, with the word's field
-pub record IsBriefCommandText (job : ℕ) (field : List ℕ) (fields : List (List ℕ)) (c : Command ℕ) : Type 0 where
+pub record IsCommandWithoutPayloadText (job : ℕ) (field : List ℕ) (fields : List (List ℕ)) (c : Command ℕ) : Type 0 where
   pub word : Word
   pub named : word_text word ≡ field
-  pub spelled : IsBriefCommandOf job word fields c
+  pub spelled : IsCommandWithoutPayloadOf job word fields c
 
-abbrev pub IsBriefCommand : ℕ → List (List ℕ) → Command ℕ → Type 0
-IsBriefCommand job [] c = ⊥
-IsBriefCommand job (field ∷ fields) c = IsBriefCommandText job field fields c
+abbrev pub IsCommandWithoutPayload : ℕ → List (List ℕ) → Command ℕ → Type 0
+IsCommandWithoutPayload job [] c = ⊥
+IsCommandWithoutPayload job (field ∷ fields) c = IsCommandWithoutPayloadText job field fields c
 
 -- `sSESSION` and a command
 abbrev pub IsCallText : ℕ → List ℕ → List (List ℕ) → ℕ × Command ℕ → Type 0
-IsCallText job field fields x = HasMark (codes "s") field x.0 × IsBriefCommand job fields x.1
+IsCallText job field fields x = HasMark (codes "s") field x.0 × IsCommandWithoutPayload job fields x.1

@@ -37,8 +37,8 @@ pub record IsPositive (field : List ℕ) (number : ℕ) : Type 0 where
   pub spelled : IsNumber field number
 
 -- `GRANTOR DEPTH`, each in its field
-abbrev pub IsHand : List ℕ → List ℕ → JobNo × ℕ → Type 0
-IsHand grantor depth x = IsPositive grantor x.0.0 × IsPositive depth x.1
+abbrev pub IsGrant : List ℕ → List ℕ → JobNo × ℕ → Type 0
+IsGrant grantor depth x = IsPositive grantor x.0.0 × IsPositive depth x.1
 
 -- `ID NUMBER`, an object and the number of its fetch, each in its field
 abbrev pub IsFetch : ℕ → List ℕ → List ℕ → ObjectId × ℕ → Type 0

@@ -14,7 +14,7 @@ use Rattle.journal_text.specs.declared.entry.Version.TheVariants.{One, Two, Thre
 use Rattle.journal_text.specs.declared.words.InputWord.{InputWord}
 use Rattle.journal_text.specs.declared.words.InputWord.TheVariants as word
 use Rattle.journal_text.specs.Calls.{IsCallText}
-use Rattle.journal_text.specs.Fields.{IsFetch, IsHand}
+use Rattle.journal_text.specs.Fields.{IsFetch, IsGrant}
 use Rattle.journal_text.specs.Locations.{IsLocated}
 use Rattle.journal_text.specs.Words.{chunk_verdict_text, input_word_text, match_text, work_verdict_text}
 
@@ -60,27 +60,27 @@ abbrev pub IsNotHere : ℕ → List (List ℕ) → (ObjectId × ℕ) × ℕ → 
 IsNotHere job (id ∷ number ∷ from ∷ []) x = IsFetch job id number x.0 × IsNumber from x.1
 IsNotHere job _ x = ⊥
 
--- ---- hands
+-- ---- grants
 
 -- `ID LEN GRANTOR DEPTH`, each in its field
-abbrev pub IsHandToOf : ℕ → List ℕ → List ℕ → List ℕ → List ℕ → (ObjectId × ℕ) × (JobNo × ℕ) → Type 0
-IsHandToOf job id length grantor depth x = IsTarget job id length x.0 × IsHand grantor depth x.1
+abbrev pub IsGrantToOf : ℕ → List ℕ → List ℕ → List ℕ → List ℕ → (ObjectId × ℕ) × (JobNo × ℕ) → Type 0
+IsGrantToOf job id length grantor depth x = IsTarget job id length x.0 × IsGrant grantor depth x.1
 
 -- and together
-abbrev pub IsHandTo : ℕ → List (List ℕ) → (ObjectId × ℕ) × (JobNo × ℕ) → Type 0
-IsHandTo job (id ∷ length ∷ grantor ∷ depth ∷ []) x = IsHandToOf job id length grantor depth x
-IsHandTo job _ x = ⊥
+abbrev pub IsGrantTo : ℕ → List (List ℕ) → (ObjectId × ℕ) × (JobNo × ℕ) → Type 0
+IsGrantTo job (id ∷ length ∷ grantor ∷ depth ∷ []) x = IsGrantToOf job id length grantor depth x
+IsGrantTo job _ x = ⊥
 
 -- `ID GRANTOR DEPTH`
-abbrev pub IsHandEnd : ℕ → List (List ℕ) → ObjectId × (JobNo × ℕ) → Type 0
-IsHandEnd job (id ∷ grantor ∷ depth ∷ []) x = IsObject job id x.0 × IsHand grantor depth x.1
-IsHandEnd job _ x = ⊥
+abbrev pub IsGrantEnd : ℕ → List (List ℕ) → ObjectId × (JobNo × ℕ) → Type 0
+IsGrantEnd job (id ∷ grantor ∷ depth ∷ []) x = IsObject job id x.0 × IsGrant grantor depth x.1
+IsGrantEnd job _ x = ⊥
 
 abbrev pub IsHandedTo : ℕ → List (List ℕ) → LineInput → Type 0
-IsHandedTo job fields x = IsFieldMade (IsHandTo job fields) (λ y. input.Received y.0.0 y.0.1 y.1.0 y.1.1) x
+IsHandedTo job fields x = IsFieldMade (IsGrantTo job fields) (λ y. input.Received y.0.0 y.0.1 y.1.0 y.1.1) x
 
-abbrev pub IsHandEnded : ℕ → List (List ℕ) → LineInput → Type 0
-IsHandEnded job fields x = IsFieldMade (IsHandEnd job fields) (λ y. input.Withdrawn y.0 y.1.0 y.1.1) x
+abbrev pub IsGrantEnded : ℕ → List (List ℕ) → LineInput → Type 0
+IsGrantEnded job fields x = IsFieldMade (IsGrantEnd job fields) (λ y. input.Withdrawn y.0 y.1.0 y.1.1) x
 
 -- version 1 doesn't tell grantor and depth: the object's job granted it itself
 abbrev pub IsReceived : Version → ℕ → List (List ℕ) → LineInput → Type 0
@@ -90,8 +90,8 @@ IsReceived Three job fields x = IsHandedTo job fields x
 
 abbrev pub IsWithdrawn : Version → ℕ → List (List ℕ) → LineInput → Type 0
 IsWithdrawn One job fields x = IsFieldMade (IsId1 job fields) (λ y. input.Withdrawn y y.job 1) x
-IsWithdrawn Two job fields x = IsHandEnded job fields x
-IsWithdrawn Three job fields x = IsHandEnded job fields x
+IsWithdrawn Two job fields x = IsGrantEnded job fields x
+IsWithdrawn Three job fields x = IsGrantEnded job fields x
 
 -- ---- inputs
 

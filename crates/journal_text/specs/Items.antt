@@ -27,8 +27,8 @@ abbrev pub IsOwn : ℕ → List ℕ → List ℕ → List (List ℕ) → OwnItem
 IsOwn job id state (kind ∷ length ∷ []) x = IsOwnItem job id state kind length x
 IsOwn job id state _ x = ⊥
 
--- ID and LEN, each in its part, of a hand that the object's job gave itself
-pub record IsFirstHandItem (job : ℕ) (id length : List ℕ) (x : GrantedItem) : Type 0 where
+-- ID and LEN, each in its part, of a grant that the object's job gave itself
+pub record IsFirstGrantItem (job : ℕ) (id length : List ℕ) (x : GrantedItem) : Type 0 where
   pub named : IsObject job id x.id
   pub long : IsNumber length x.length
   pub first : 1 ≡ x.depth
@@ -40,20 +40,20 @@ pub record IsGrantedItem (job : ℕ) (id length depth : List ℕ) (x : GrantedIt
   pub deep : IsPositive depth x.depth
 
 -- `LEN` after ID and `granted`
-abbrev pub IsFirstHand : ℕ → List ℕ → List (List ℕ) → GrantedItem → Type 0
-IsFirstHand job id (length ∷ []) x = IsFirstHandItem job id length x
-IsFirstHand job id _ x = ⊥
+abbrev pub IsFirstGrant : ℕ → List ℕ → List (List ℕ) → GrantedItem → Type 0
+IsFirstGrant job id (length ∷ []) x = IsFirstGrantItem job id length x
+IsFirstGrant job id _ x = ⊥
 
 -- `LEN:DEPTH` after ID and `granted`
-abbrev pub IsHandItem : ℕ → List ℕ → List (List ℕ) → GrantedItem → Type 0
-IsHandItem job id (length ∷ depth ∷ []) x = IsGrantedItem job id length depth x
-IsHandItem job id _ x = ⊥
+abbrev pub IsGrantItem : ℕ → List ℕ → List (List ℕ) → GrantedItem → Type 0
+IsGrantItem job id (length ∷ depth ∷ []) x = IsGrantedItem job id length depth x
+IsGrantItem job id _ x = ⊥
 
 -- version 1 doesn't tell the depth
 abbrev pub IsGranted : Version → ℕ → List ℕ → List (List ℕ) → GrantedItem → Type 0
-IsGranted One job id parts x = IsFirstHand job id parts x
-IsGranted Two job id parts x = IsHandItem job id parts x
-IsGranted Three job id parts x = IsHandItem job id parts x
+IsGranted One job id parts x = IsFirstGrant job id parts x
+IsGranted Two job id parts x = IsGrantItem job id parts x
+IsGranted Three job id parts x = IsGrantItem job id parts x
 
 abbrev pub IsItemUnless : Bool → Version → ℕ → List ℕ → List ℕ → List (List ℕ) → Item → Type 0
 IsItemUnless true version job id word parts x = IsFieldMade (IsGranted version job id parts) (λ y. Granted y) x

@@ -72,36 +72,36 @@ input_fields job (input.Received id length grantor depth) = codes "received" ∷
 input_fields job (input.Withdrawn id grantor depth) = codes "withdrawn" ∷ id_text job id ∷ decimal grantor.0 ∷ decimal depth ∷ []
 
 -- an answer as in a schedule, but bytes as their number; of the answers to a Take, which has no line, the word alone
-abbrev pub brief_reply_text : ℕ → Reply ℕ → List ℕ
-brief_reply_text job reply.Ok = codes "ok"
-brief_reply_text job (reply.Placed offset extent) = codes "placed " ++ decimal offset ++ codes " " ++ decimal extent
-brief_reply_text job (reply.Got length) = codes "got " ++ decimal length
-brief_reply_text job (reply.Bytes count) = codes "bytes " ++ count_field count
-brief_reply_text job (reply.List own granted) = codes "list" ++ own_items_text job own ++ granted_items_text job granted
-brief_reply_text job (reply.Usage usage) = usage_text usage
-brief_reply_text job (reply.Work work) = codes "work"
-brief_reply_text job reply.NoWork = codes "none"
-brief_reply_text job (reply.Refused refusal) = refusal_text refusal
+abbrev pub reply_text_without_payload : ℕ → Reply ℕ → List ℕ
+reply_text_without_payload job reply.Ok = codes "ok"
+reply_text_without_payload job (reply.Placed offset extent) = codes "placed " ++ decimal offset ++ codes " " ++ decimal extent
+reply_text_without_payload job (reply.Got length) = codes "got " ++ decimal length
+reply_text_without_payload job (reply.Bytes count) = codes "bytes " ++ count_field count
+reply_text_without_payload job (reply.List own granted) = codes "list" ++ own_items_text job own ++ granted_items_text job granted
+reply_text_without_payload job (reply.Usage usage) = usage_text usage
+reply_text_without_payload job (reply.Work work) = codes "work"
+reply_text_without_payload job reply.NoWork = codes "none"
+reply_text_without_payload job (reply.Refused refusal) = refusal_text refusal
 
 -- `ID:granted:LEN`
-abbrev pub first_hand_text : ℕ → GrantedItem → List ℕ
-first_hand_text job item = id_text job item.id ++ codes ":granted:" ++ decimal item.length
+abbrev pub first_grant_text : ℕ → GrantedItem → List ℕ
+first_grant_text job item = id_text job item.id ++ codes ":granted:" ++ decimal item.length
 
 -- each after a space
-abbrev pub first_hands_text : ℕ → List GrantedItem → List ℕ
-first_hands_text job [] = []
-first_hands_text job (item ∷ items) = codes " " ++ first_hand_text job item ++ first_hands_text job items
+abbrev pub first_grants_text : ℕ → List GrantedItem → List ℕ
+first_grants_text job [] = []
+first_grants_text job (item ∷ items) = codes " " ++ first_grant_text job item ++ first_grants_text job items
 
 -- an answer in version 1, which doesn't tell the depths of granted items
 abbrev pub first_answer_text : ℕ → Reply ℕ → List ℕ
-first_answer_text job (reply.List own granted) = codes "list" ++ own_items_text job own ++ first_hands_text job granted
-first_answer_text job r = brief_reply_text job r
+first_answer_text job (reply.List own granted) = codes "list" ++ own_items_text job own ++ first_grants_text job granted
+first_answer_text job r = reply_text_without_payload job r
 
 -- an answer in a journal of this form
 abbrev pub journal_answer_text : Version → ℕ → Reply ℕ → List ℕ
 journal_answer_text One job r = first_answer_text job r
-journal_answer_text Two job r = brief_reply_text job r
-journal_answer_text Three job r = brief_reply_text job r
+journal_answer_text Two job r = reply_text_without_payload job r
+journal_answer_text Three job r = reply_text_without_payload job r
 
 -- `nNODE jJOB K`
 abbrev pub address_text : Address → List ℕ
@@ -109,4 +109,4 @@ address_text x = codes "n" ++ decimal x.node ++ codes " j" ++ decimal x.job.0 ++
 
 -- the line, without its line feed
 abbrev pub entry_text : Entry → List ℕ
-entry_text x = address_text x.address ++ spaced_text (input_fields x.address.job.0 x.input) ++ codes " = " ++ brief_reply_text x.address.job.0 x.reply
+entry_text x = address_text x.address ++ spaced_text (input_fields x.address.job.0 x.input) ++ codes " = " ++ reply_text_without_payload x.address.job.0 x.reply

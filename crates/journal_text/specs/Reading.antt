@@ -33,7 +33,7 @@ is_fitting _ reply = is_outcome reply
 
 -- what the job's input was and what it was answered
 pub record IsInputRead (version : Version) (job : ℕ) (fields answer : List (List ℕ)) (x : LineInput × Reply ℕ) : Type 0 where
-  pub told : IsInput version job fields x.0
+  pub asked : IsInput version job fields x.0
   pub answered : IsReply version job answer x.1
   pub fitting : is_fitting x.0 x.1 ≡ true
 
@@ -54,11 +54,11 @@ IsEntry version _ answer x = ⊥
 
 -- one space stands on either side of the equals sign
 pub record IsSpaced (version : Version) (front back : List ℕ) (x : Entry) : Type 0 where
-  pub told : List ℕ
+  pub asked : List ℕ
   pub answer : List ℕ
-  pub before : front ≡ told ++ codes " "
+  pub before : front ≡ asked ++ codes " "
   pub after : back ≡ codes " " ++ answer
-  pub spelled : IsEntry version (fields_of told) (fields_of answer) x
+  pub spelled : IsEntry version (fields_of asked) (fields_of answer) x
 
 abbrev pub IsHalves : Version → List (List ℕ) → Entry → Type 0
 IsHalves version (front ∷ back ∷ []) x = IsSpaced version front back x

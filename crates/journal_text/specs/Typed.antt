@@ -35,7 +35,7 @@ IsTypedReply x = FitsReply x
 pub record IsTyped (x : Entry) : Type 0 where
   pub job : Fits32 x.address.job.0
   pub number : Fits32 x.address.number
-  pub told : IsTypedInput x.input
+  pub asked : IsTypedInput x.input
   pub answered : IsTypedReply x.reply
 
 -- ---- what types don't say
@@ -56,6 +56,6 @@ IsProperReply _ = ⊤
 pub record IsProper (x : Entry) : Type 0 where
   pub node : x.address.node < 8
   pub job : 1 ≤ x.address.job.0
-  pub told : IsProperInput x.input
+  pub asked : IsProperInput x.input
   pub answered : IsProperReply x.reply
   pub fitting : is_fitting x.input x.reply ≡ true

@@ -98,6 +98,6 @@ FitsReply (reply.Refused refusal) = ⊤
 
 pub record IsWritable (x : Entry) : Type 0 where
   pub address : FitsAddress x.address
-  pub told : FitsInput x.input
+  pub asked : FitsInput x.input
   pub answered : FitsReply x.reply
   pub fitting : is_fitting x.input x.reply ≡ true

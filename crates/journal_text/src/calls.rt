@@ -1,7 +1,7 @@
 //! The commands of sessions, with the number of written bytes in place of the bytes.
 ghost use Rattle.std.specs.Prelude.{map};
 ghost use Rattle.schedule_text.specs.Fields.{Reads};
-ghost use Rattle.journal_text.specs.Calls.{IsBriefCommand, IsBriefCommandOf, IsCallText, IsIdCount};
+ghost use Rattle.journal_text.specs.Calls.{IsCommandWithoutPayload, IsCommandWithoutPayloadOf, IsCallText, IsIdCount};
 
 use crate::fields::{count, session};
 use obj_id::{Command, JobNo, ObjectId};
@@ -14,13 +14,13 @@ pub(crate) fn call(first: &str, fields: &[&str], job: JobNo) -> Option<(u32, Com
     ensures { Reads result (IsCallText job.0 first.now (map (λ field. field.now) fields.now)) }
 {
     let session = session(first)?;
-    let command = brief_command(fields, job)?;
+    let command = command_of_fields(fields, job)?;
     Some((session, command))
 }
 
 /// The command that fields spell, if the job speaks.
-fn brief_command(fields: &[&str], job: JobNo) -> Option<Command<u64>>
-    ensures { Reads result (IsBriefCommand job.0 (map (λ field. field.now) fields.now)) }
+fn command_of_fields(fields: &[&str], job: JobNo) -> Option<Command<u64>>
+    ensures { Reads result (IsCommandWithoutPayload job.0 (map (λ field. field.now) fields.now)) }
 {
     let [first, fields @ ..] = fields else {
         return None
@@ -31,7 +31,7 @@ fn brief_command(fields: &[&str], job: JobNo) -> Option<Command<u64>>
 
 /// The command that a word and the fields after it spell.
 fn command_of(word: Word, fields: &[&str], job: JobNo) -> Option<Command<u64>>
-    ensures { Reads result (IsBriefCommandOf job.0 word (map (λ field. field.now) fields.now)) }
+    ensures { Reads result (IsCommandWithoutPayloadOf job.0 word (map (λ field. field.now) fields.now)) }
 {
     match word {
         Word::Write => {

@@ -2,14 +2,14 @@
 ghost use Rattle.std.specs.Prelude.{◌≡◌};
 ghost use Rattle.journal_text.specs.Saved.{journal_place_of};
 
-use obj_id::{Command, Items, JobNo, Location, ObjectId, Quota, Reply};
+use obj_id::{Command, ItemList, JobNo, Location, ObjectId, Quota, Reply};
 use private_store::{ChunkVerdict, WorkVerdict};
 use schedule_text::JobAt;
 
 /// The form of a saved journal: the number in its first line.
 #[derive(Clone, Copy, Debug, PartialEq, Eq)]
 pub enum Version {
-    /// Without changes of quotas; hands without grantor and depth, which are the object's job and 1.
+    /// Without changes of quotas; grants without grantor and depth, which are the object's job and 1.
     One,
     /// Without changes of quotas.
     Two,
@@ -54,7 +54,7 @@ pub enum LineInput {
     Located {
         id: ObjectId,
         number: u64,
-        entries: Items<Location>,
+        entries: ItemList<Location>,
     },
     /// The number of the fetch, the chunk's index, the node that sent it, and what the chunk was to the fetch.
     Chunk {
@@ -76,14 +76,14 @@ pub enum LineInput {
         number: u64,
         from: u32,
     },
-    /// Another job granted an object: its length, the grantor, and the depth of the hand.
+    /// Another job granted an object: its length, the grantor, and the depth of the grant.
     Received {
         id: ObjectId,
         length: u32,
         grantor: JobNo,
         depth: u32,
     },
-    /// A hand to this job ended.
+    /// A grant to this job ended.
     Withdrawn {
         id: ObjectId,
         grantor: JobNo,

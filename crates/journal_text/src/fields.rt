@@ -1,7 +1,7 @@
 //! Fields of a saved journal: marked numbers, where a line stands, and what several inputs share.
 ghost use Rattle.std.specs.Prelude.{[], ◌∷◌, ◌<◌, codes};
 ghost use Rattle.schedule_text.specs.Fields.{Reads};
-ghost use Rattle.journal_text.specs.Fields.{IsAddress, IsCount, IsFetch, IsHand, IsJobField, HasMark, IsNodeField, IsPositive};
+ghost use Rattle.journal_text.specs.Fields.{IsAddress, IsCount, IsFetch, IsGrant, IsJobField, HasMark, IsNodeField, IsPositive};
 
 use crate::entry::Address;
 use obj_id::{JobNo, ObjectId};
@@ -67,8 +67,8 @@ pub(crate) fn positive(field: &str) -> Option<u32>
 }
 
 /// `GRANTOR DEPTH`, each in its field.
-pub(crate) fn hand(grantor: &str, depth: &str) -> Option<(JobNo, u32)>
-    ensures { Reads result (IsHand grantor.now depth.now) }
+pub(crate) fn grant(grantor: &str, depth: &str) -> Option<(JobNo, u32)>
+    ensures { Reads result (IsGrant grantor.now depth.now) }
 {
     let grantor = positive(grantor)?;
     let depth = positive(depth)?;

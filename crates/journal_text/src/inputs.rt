@@ -1,11 +1,11 @@
 //! What the fields of an input say.
 ghost use Rattle.std.specs.Prelude.{◌≡◌, IfOk, map};
 ghost use Rattle.schedule_text.specs.Fields.{Reads};
-ghost use Rattle.journal_text.specs.Inputs.{IsAnswerInput, IsChunk, IsHandEnd, IsHandTo, IsHandToOf, IsInput, IsInputFrom, IsInputOf, IsInputText, IsNotHere, IsPiece, IsPieceFields, IsPull, IsQuotaAlone, IsReceived, IsRequota, IsWithdrawn, is_call_line as is_call_lem};
+ghost use Rattle.journal_text.specs.Inputs.{IsAnswerInput, IsChunk, IsGrantEnd, IsGrantTo, IsGrantToOf, IsInput, IsInputFrom, IsInputOf, IsInputText, IsNotHere, IsPiece, IsPieceFields, IsPull, IsQuotaAlone, IsReceived, IsRequota, IsWithdrawn, is_call_line as is_call_lem};
 
 use crate::calls::call;
 use crate::entry::{LineInput, Version};
-use crate::fields::{fetch, hand};
+use crate::fields::{fetch, grant};
 use crate::locations::located;
 use crate::words::{InputWord, chunk_verdict, matched, work_verdict};
 use obj_id::{JobNo, ObjectId, Quota};
@@ -198,7 +198,7 @@ fn not_here(fields: &[&str], job: JobNo) -> Option<((ObjectId, u64), u32)>
     Some((fetch(id, fetched, job)?, number(from)?))
 }
 
-/// A hand to this job. In version 1 it is the object's job's own.
+/// A grant to this job. In version 1 it is the object's job's own.
 fn received(fields: &[&str], job: JobNo, version: Version) -> Option<LineInput>
     ensures { Reads result (IsReceived version job.0 (map (λ field. field.now) fields.now)) }
 {
@@ -209,41 +209,41 @@ fn received(fields: &[&str], job: JobNo, version: Version) -> Option<LineInput>
             grantor: id.job(),
             depth: 1,
         }),
-        Version::Two | Version::Three => hand_to(fields, job).map(|((id, length), hand)| {
+        Version::Two | Version::Three => grant_to(fields, job).map(|((id, length), grant)| {
             LineInput::Received {
                 id,
                 length,
-                grantor: hand.0,
-                depth: hand.1,
+                grantor: grant.0,
+                depth: grant.1,
             }
         }),
     }
 }
 
 /// `ID LEN GRANTOR DEPTH`.
-fn hand_to(fields: &[&str], job: JobNo) -> Option<((ObjectId, u32), (JobNo, u32))>
-    ensures { Reads result (IsHandTo job.0 (map (λ field. field.now) fields.now)) }
+fn grant_to(fields: &[&str], job: JobNo) -> Option<((ObjectId, u32), (JobNo, u32))>
+    ensures { Reads result (IsGrantTo job.0 (map (λ field. field.now) fields.now)) }
 {
     let [id, length, grantor, depth] = fields else {
         return None
     };
-    hand_to_of(id, length, grantor, depth, job)
+    grant_to_of(id, length, grantor, depth, job)
 }
 
 /// `ID LEN GRANTOR DEPTH`, each in its field.
-fn hand_to_of(
+fn grant_to_of(
     id: &str,
     length: &str,
     grantor: &str,
     depth: &str,
     job: JobNo,
 ) -> Option<((ObjectId, u32), (JobNo, u32))>
-    ensures { Reads result (IsHandToOf job.0 id.now length.now grantor.now depth.now) }
+    ensures { Reads result (IsGrantToOf job.0 id.now length.now grantor.now depth.now) }
 {
-    Some((target(id, length, job)?, hand(grantor, depth)?))
+    Some((target(id, length, job)?, grant(grantor, depth)?))
 }
 
-/// The end of a hand to this job. In version 1 it is the object's job's own.
+/// The end of a grant to this job. In version 1 it is the object's job's own.
 fn withdrawn(fields: &[&str], job: JobNo, version: Version) -> Option<LineInput>
     ensures { Reads result (IsWithdrawn version job.0 (map (λ field. field.now) fields.now)) }
 {
@@ -254,21 +254,21 @@ fn withdrawn(fields: &[&str], job: JobNo, version: Version) -> Option<LineInput>
             depth: 1,
         }),
         Version::Two | Version::Three => {
-            hand_end(fields, job).map(|(id, hand)| LineInput::Withdrawn {
+            grant_end(fields, job).map(|(id, grant)| LineInput::Withdrawn {
                 id,
-                grantor: hand.0,
-                depth: hand.1,
+                grantor: grant.0,
+                depth: grant.1,
             })
         }
     }
 }
 
 /// `ID GRANTOR DEPTH`.
-fn hand_end(fields: &[&str], job: JobNo) -> Option<(ObjectId, (JobNo, u32))>
-    ensures { Reads result (IsHandEnd job.0 (map (λ field. field.now) fields.now)) }
+fn grant_end(fields: &[&str], job: JobNo) -> Option<(ObjectId, (JobNo, u32))>
+    ensures { Reads result (IsGrantEnd job.0 (map (λ field. field.now) fields.now)) }
 {
     let [id, grantor, depth] = fields else {
         return None
     };
-    Some((object(id, job)?, hand(grantor, depth)?))
+    Some((object(id, job)?, grant(grantor, depth)?))
 }

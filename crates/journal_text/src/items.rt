@@ -3,12 +3,12 @@ ghost use Rattle.std.specs.Prelude.{◌≡◌, IfOk, map};
 ghost use Rattle.schedule_text.specs.Fields.{Reads};
 ghost use Rattle.schedule_text.specs.Printing.{kind_word, state_word};
 ghost use Rattle.journal_text.specs.Each.{IsEach};
-ghost use Rattle.journal_text.specs.Items.{IsFirstHand, IsFirstHandItem, IsGranted, IsGrantedItem, IsHandItem, IsItem, IsItemOf, IsItemParts, IsListed, IsOwn, IsOwnItem, IsSorted};
+ghost use Rattle.journal_text.specs.Items.{IsFirstGrant, IsFirstGrantItem, IsGranted, IsGrantedItem, IsGrantItem, IsItem, IsItemOf, IsItemParts, IsListed, IsOwn, IsOwnItem, IsSorted};
 
 use crate::entry::Version;
 use crate::fields::positive;
 use crate::locations::parts_of;
-use obj_id::{CopyState, GrantedItem, Items, JobNo, Kind, OwnItem};
+use obj_id::{CopyState, GrantedItem, ItemList, JobNo, Kind, OwnItem};
 use schedule_text::fields::{number, object};
 use std::alloc::{AllocError, Global};
 
@@ -25,7 +25,7 @@ pub(crate) fn listed(
     fields: &[&str],
     job: JobNo,
     version: Version,
-) -> Result<Option<(Items<OwnItem>, Items<GrantedItem>)>, AllocError>
+) -> Result<Option<(ItemList<OwnItem>, ItemList<GrantedItem>)>, AllocError>
     ensures { IfOk result (λ read. Reads read
         (IsListed version job.0 (map (λ field. field.now) fields.now))) }
 {
@@ -41,11 +41,11 @@ fn items(
     fields: &[&str],
     job: JobNo,
     version: Version,
-) -> Result<Option<Items<Item>>, AllocError>
+) -> Result<Option<ItemList<Item>>, AllocError>
     ensures { IfOk result (λ items. Reads items
         (IsEach (IsItem version job.0) (map (λ field. field.now) fields.now))) }
 {
-    let mut items = Items::new(alloc);
+    let mut items = ItemList::new(alloc);
     for field in fields {
         let Some(item) = one_item(alloc, field, job, version)? else {
             return Ok(None);
@@ -59,11 +59,11 @@ fn items(
 fn sorted(
     alloc: Global,
     items: &[Item],
-) -> Result<Option<(Items<OwnItem>, Items<GrantedItem>)>, AllocError>
+) -> Result<Option<(ItemList<OwnItem>, ItemList<GrantedItem>)>, AllocError>
     ensures { IfOk result (λ read. Reads read (IsSorted items.now)) }
 {
-    let mut own = Items::new(alloc);
-    let mut granted = Items::new(alloc);
+    let mut own = ItemList::new(alloc);
+    let mut granted = ItemList::new(alloc);
     for item in items {
         match *item {
             Item::Own(item) => {
@@ -141,30 +141,30 @@ fn granted(id: &str, parts: &[&str], job: JobNo, version: Version) -> Option<Gra
     ensures { Reads result (IsGranted version job.0 id.now (map (λ part. part.now) parts.now)) }
 {
     match version {
-        Version::One => first_hand(id, parts, job),
-        Version::Two | Version::Three => hand(id, parts, job),
+        Version::One => first_grant(id, parts, job),
+        Version::Two | Version::Three => grant(id, parts, job),
     }
 }
 
 /// `LEN` after ID and `granted`.
-fn first_hand(name: &str, parts: &[&str], job: JobNo) -> Option<GrantedItem>
-    ensures { Reads result (IsFirstHand job.0 name.now (map (λ part. part.now) parts.now)) }
+fn first_grant(name: &str, parts: &[&str], job: JobNo) -> Option<GrantedItem>
+    ensures { Reads result (IsFirstGrant job.0 name.now (map (λ part. part.now) parts.now)) }
 {
     let [bytes] = parts else { return None };
-    first_hand_item(name, bytes, job)
+    first_grant_item(name, bytes, job)
 }
 
 /// `LEN:DEPTH` after ID and `granted`.
-fn hand(name: &str, parts: &[&str], job: JobNo) -> Option<GrantedItem>
-    ensures { Reads result (IsHandItem job.0 name.now (map (λ part. part.now) parts.now)) }
+fn grant(name: &str, parts: &[&str], job: JobNo) -> Option<GrantedItem>
+    ensures { Reads result (IsGrantItem job.0 name.now (map (λ part. part.now) parts.now)) }
 {
     let [bytes, depth] = parts else { return None };
     granted_item(name, bytes, depth, job)
 }
 
 /// A granted item of depth 1, by its parts.
-fn first_hand_item(name: &str, bytes: &str, job: JobNo) -> Option<GrantedItem>
-    ensures { Reads result (IsFirstHandItem job.0 name.now bytes.now) }
+fn first_grant_item(name: &str, bytes: &str, job: JobNo) -> Option<GrantedItem>
+    ensures { Reads result (IsFirstGrantItem job.0 name.now bytes.now) }
 {
     let id = object(name, job)?;
     let length = number(bytes)?;

@@ -8,7 +8,7 @@ ghost use Rattle.obj_id.specs.declared.messages.Digest.{Digest};
 
 use crate::fields::fetch;
 use hex::FromHex;
-use obj_id::{Digest, Items, JobNo, Location, ObjectId};
+use obj_id::{Digest, ItemList, JobNo, Location, ObjectId};
 use schedule_text::fields::number;
 use std::alloc::{AllocError, Global};
 
@@ -17,7 +17,7 @@ pub(crate) fn located(
     alloc: Global,
     fields: &[&str],
     job: JobNo,
-) -> Result<Option<((ObjectId, u64), Items<Location>)>, AllocError>
+) -> Result<Option<((ObjectId, u64), ItemList<Location>)>, AllocError>
     ensures { IfOk result (λ read. Reads read
         (IsLocated job.0 (map (λ field. field.now) fields.now))) }
 {
@@ -34,11 +34,11 @@ pub(crate) fn located(
 }
 
 /// An entry of each field.
-fn locations(alloc: Global, fields: &[&str]) -> Result<Option<Items<Location>>, AllocError>
+fn locations(alloc: Global, fields: &[&str]) -> Result<Option<ItemList<Location>>, AllocError>
     ensures { IfOk result (λ entries. Reads entries
         (IsEach IsLocation (map (λ field. field.now) fields.now))) }
 {
-    let mut entries = Items::new(alloc);
+    let mut entries = ItemList::new(alloc);
     for field in fields {
         let Some(entry) = location(alloc, field)? else {
             return Ok(None);

@@ -2,7 +2,7 @@
 ghost use Rattle.std.specs.Prelude.{◌≡◌, ◌++◌, codes, decimal, IfOk};
 ghost use Rattle.std.specs.String.{string_bytes};
 ghost use Rattle.schedule_text.specs.Printing.{own_items_text};
-ghost use Rattle.journal_text.specs.Printing.{address_text as address_text_lem, journal_answer_text, brief_reply_text, entry_text, first_answer_text, first_hand_text, first_hands_text};
+ghost use Rattle.journal_text.specs.Printing.{address_text as address_text_lem, journal_answer_text, reply_text_without_payload, entry_text, first_answer_text, first_grant_text, first_grants_text};
 
 use crate::entry::{Address, Entry, Version};
 use crate::put_inputs::put_input;
@@ -34,7 +34,7 @@ fn address_text(alloc: Global, address: Address) -> Result<String, AllocError>
 
 /// The text of an answer, with ids as the job names them.
 fn reply_text(alloc: Global, job: JobNo, reply: &Reply<u64>) -> Result<String, AllocError>
-    ensures { IfOk result (λ text. string_bytes text ≡ brief_reply_text job.0 reply.now) }
+    ensures { IfOk result (λ text. string_bytes text ≡ reply_text_without_payload job.0 reply.now) }
 {
     match reply {
         Reply::Ok => String::from_str(alloc, "ok"),
@@ -83,20 +83,20 @@ fn first_list(
     granted: &[GrantedItem],
 ) -> Result<String, AllocError>
     ensures { IfOk result (λ text. string_bytes text
-        ≡ codes "list" ++ own_items_text job.0 own.now ++ first_hands_text job.0 granted.now) }
+        ≡ codes "list" ++ own_items_text job.0 own.now ++ first_grants_text job.0 granted.now) }
 {
     let own = list_text(alloc, job, own, &[])?;
-    let granted = first_hands(alloc, job, granted)?;
+    let granted = first_grants(alloc, job, granted)?;
     format!(in alloc; "{own}{granted}")
 }
 
 /// The granted items without their depths, each after a space.
-fn first_hands(alloc: Global, job: JobNo, items: &[GrantedItem]) -> Result<String, AllocError>
-    ensures { IfOk result (λ text. string_bytes text ≡ first_hands_text job.0 items.now) }
+fn first_grants(alloc: Global, job: JobNo, items: &[GrantedItem]) -> Result<String, AllocError>
+    ensures { IfOk result (λ text. string_bytes text ≡ first_grants_text job.0 items.now) }
 {
     let mut text = String::new(alloc);
     for item in items {
-        let item = first_hand(alloc, job, item)?;
+        let item = first_grant(alloc, job, item)?;
         text.push(' ')?;
         text.push_str(&item)?;
     }
@@ -104,8 +104,8 @@ fn first_hands(alloc: Global, job: JobNo, items: &[GrantedItem]) -> Result<Strin
 }
 
 /// `ID:granted:LEN`.
-fn first_hand(alloc: Global, job: JobNo, item: &GrantedItem) -> Result<String, AllocError>
-    ensures { IfOk result (λ text. string_bytes text ≡ first_hand_text job.0 item.now) }
+fn first_grant(alloc: Global, job: JobNo, item: &GrantedItem) -> Result<String, AllocError>
+    ensures { IfOk result (λ text. string_bytes text ≡ first_grant_text job.0 item.now) }
 {
     let id = item.id.write(alloc, job)?;
     let length = item.length;

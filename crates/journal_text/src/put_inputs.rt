@@ -64,11 +64,11 @@ pub(crate) fn put_input(
             depth,
         } => {
             put_object_number(alloc, line, "received", id, job, u64::from(*length))?;
-            put_hand(line, *grantor, *depth)
+            put_grant(line, *grantor, *depth)
         }
         LineInput::Withdrawn { id, grantor, depth } => {
             put_object(alloc, line, "withdrawn", id, job)?;
-            put_hand(line, *grantor, *depth)
+            put_grant(line, *grantor, *depth)
         }
     }
 }
@@ -92,7 +92,7 @@ fn put_sent(line: &mut String, from: u32, verdict: ChunkVerdict) -> Result<(), A
 }
 
 /// `GRANTOR DEPTH`.
-fn put_hand(line: &mut String, grantor: JobNo, depth: u32) -> Result<(), AllocError>
+fn put_grant(line: &mut String, grantor: JobNo, depth: u32) -> Result<(), AllocError>
     ensures { OnOk result (string_bytes line.new ≡ string_bytes line.old
         ++ spaced_text (decimal grantor.0 ∷ decimal depth ∷ [])) }
 {

@@ -24,7 +24,7 @@ use Rattle.use_tree.specs.declared.classes.VictimClass.{VictimClass}
 use Rattle.use_tree.specs.declared.classes.VictimClass.TheVariants.{Evictable, Draining, Spillable}
 use Rattle.use_tree.specs.Classes.{has}
 use Rattle.extent_tree.specs.declared.residents.Resident.{Resident}
-use Rattle.extent_tree.specs.Residents.{AreResidentsRising, put_resident, has_resident, goes as goes_if, staying, remaining, span_of, has_gap}
+use Rattle.extent_tree.specs.Residents.{AreResidentsRising, put_resident, has_resident, goes as goes_if, extents_staying, remaining, span_of, has_gap}
 use Rattle.lru_evictor.specs.declared.facts.CopyFacts.{CopyFacts}
 use Rattle.lru_evictor.specs.declared.facts.DeviceRoom.{DeviceRoom}
 use Rattle.lru_evictor.specs.declared.facts.EvictionInfo.{EvictionInfo}
@@ -128,11 +128,11 @@ all_spread test (e ∷ es) a = by (all_spread test es a.1) e.1.eviction_info.ext
 
 -- of those that stay
 all_staying : (test : Extent → Bool) (k : VictimClass) (gone : List Extent) (xs : List Resident)
-    → list_all test (staying k (remaining gone xs)) ≡ list_all (λ r. goes_if k r.classes || (goes gone r.extent.offset || test r.extent)) xs
+    → list_all test (extents_staying k (remaining gone xs)) ≡ list_all (λ r. goes_if k r.classes || (goes gone r.extent.offset || test r.extent)) xs
 all_staying test k gone [] = refl
 all_staying test k gone (x ∷ xs) =
     let rest = all_staying test k gone xs in
-    elim (goes gone x.extent.offset) as (λ b. list_all test (staying k (cond (not b) (x ∷ remaining gone xs) (remaining gone xs))) ≡ (goes_if k x.classes || (b || test x.extent)) && list_all (λ r. goes_if k r.classes || (goes gone r.extent.offset || test r.extent)) xs) [
+    elim (goes gone x.extent.offset) as (λ b. list_all test (extents_staying k (cond (not b) (x ∷ remaining gone xs) (remaining gone xs))) ≡ (goes_if k x.classes || (b || test x.extent)) && list_all (λ r. goes_if k r.classes || (goes gone r.extent.offset || test r.extent)) xs) [
       | true ↦ rest ∙ any (goes_if k x.classes)
       | false ↦ elim (goes_if k x.classes) as (λ b. list_all test (map (λ r. r.extent) (cond (not b) (x ∷ filter (λ r. not (goes_if k r.classes)) (remaining gone xs)) (filter (λ r. not (goes_if k r.classes)) (remaining gone xs)))) ≡ (b || test x.extent) && list_all (λ r. goes_if k r.classes || (goes gone r.extent.offset || test r.extent)) xs) [
         | true ↦ rest
@@ -288,7 +288,7 @@ all_extents test [] = refl
 all_extents test (x ∷ xs) = ap (λ b. test x.extent && b) (all_extents test xs)
 
 -- what all extents pass, those pass that stay
-all_left : (test : Extent → Bool) (k : VictimClass) (gone : List Extent) (xs : List Resident) → list_all test (map (λ (r : Resident). r.extent) xs) ≡ true → list_all test (staying k (remaining gone xs)) ≡ true
+all_left : (test : Extent → Bool) (k : VictimClass) (gone : List Extent) (xs : List Resident) → list_all test (map (λ (r : Resident). r.extent) xs) ≡ true → list_all test (extents_staying k (remaining gone xs)) ≡ true
 all_left test k gone xs h =
     all_extents test (filter (λ r. not (goes_if k r.classes)) (remaining gone xs))
     ∙ all-filter (λ (r : Resident). test r.extent) (λ r. not (goes_if k r.classes)) (remaining gone xs)
@@ -299,7 +299,7 @@ from_zero [] = tt
 from_zero (x ∷ xs) = (omega arith, from_zero xs)
 
 module _ (store : Shape) (window : Region) (device : DeviceRoom) (facts : Looked) (described : IsDescribed store window device facts) (es : List (ObjectId × OrderSlot)) (apart : AreSlotsApart es)
-    (told : AllPass (λ id s. same_info s (info_at facts id)) (shown_order es)) (listed : (id : ObjectId) → is_some (facts id) ≡ true → is_among (order_ids (shown_order es)) id ≡ true) where
+    (agreed : AllPass (λ id s. same_info s (info_at facts id)) (shown_order es)) (listed : (id : ObjectId) → is_some (facts id) ≡ true → is_among (order_ids (shown_order es)) id ≡ true) where
   abbrev order : List ObjectId
   order = order_ids (shown_order es)
 
@@ -424,12 +424,12 @@ module _ (store : Shape) (window : Region) (device : DeviceRoom) (facts : Looked
         (λ i. here i && entries_well es2 t.1 i)
 
     -- the extents that stay in the window pass a test if those do that stay in the index
-    pub stays-agree : list_all test (extents_of (without (gone_of facts (base k ++ ids)) window.placed)) ≡ list_all test (staying k (remaining (gone_of facts ids) (spread es)))
+    pub stays-agree : list_all test (extents_of (without (gone_of facts (base k ++ ids)) window.placed)) ≡ list_all test (extents_staying k (remaining (gone_of facts ids) (spread es)))
     stays-agree =
         same_tests store window device facts described 0 (base k ++ ids) test
         ∙ all_kept test (base k ++ ids) store.copies
         ∙ copies-well test (base k ++ ids)
-        ∙ sym (entries_well es told)
+        ∙ sym (entries_well es agreed)
         ∙ sym (all_spread resident_well es apart)
         ∙ sym (all_staying test k (gone_of facts ids) (spread es))
 
@@ -439,7 +439,7 @@ module _ (store : Shape) (window : Region) (device : DeviceRoom) (facts : Looked
       all_same test (extents_of window.placed) (extents_in store) described.extents
       ∙ all_of test store.copies
       ∙ copies-well test []
-      ∙ sym (plain_well es told)
+      ∙ sym (plain_well es agreed)
       ∙ sym (all_spread (λ r. test r.extent) es apart)
       ∙ sym (all_extents test (spread es))
     where
@@ -471,10 +471,10 @@ module _ (store : Shape) (window : Region) (device : DeviceRoom) (facts : Looked
         ∙ (λ i. list_all (λ x. sym (all_agree_here (is_clear_of x)) i) (extents_of window.placed))
         ∙ laid_clear window.quota 0 (extents_of window.placed) laid
 
-    laid_staying : (k : VictimClass) (gone : List Extent) → LaidFrom window.quota 0 (staying k (remaining gone (spread es)))
+    laid_staying : (k : VictimClass) (gone : List Extent) → LaidFrom window.quota 0 (extents_staying k (remaining gone (spread es)))
     unfolding extents_here
     laid_staying k gone =
-        let left = staying k (remaining gone (spread es)) in
+        let left = extents_staying k (remaining gone (spread es)) in
         laid_from window.quota 0 left
         (extents_rising (filter (λ r. not (goes_if k r.classes)) (remaining gone (spread es))) (filter_rising (λ r. not (goes_if k r.classes)) (remaining gone (spread es)) (filter_rising (λ r. not (list_any (λ g. nat_eq g.offset r.extent.offset) gone)) (spread es) (spread-rising es))))
         (all_left (is_unit window.quota) k gone (spread es) units_here)
@@ -483,9 +483,9 @@ module _ (store : Shape) (window : Region) (device : DeviceRoom) (facts : Looked
         (from_zero left) (omega arith)
 
     -- n bytes fit without these copies and all of the classes if the index says so
-    pub fits-agree : (n : ℕ) → 0 < n → (k : VictimClass) (ids : List ObjectId) → fits_without window facts n (base k ++ ids) ≡ has_gap window.quota (rounded n) (span_of (staying k (remaining (gone_of facts ids) (spread es))))
+    pub fits-agree : (n : ℕ) → 0 < n → (k : VictimClass) (ids : List ObjectId) → fits_without window facts n (base k ++ ids) ≡ has_gap window.quota (rounded n) (span_of (extents_staying k (remaining (gone_of facts ids) (spread es))))
     fits-agree n some k ids =
-        let left = staying k (remaining (gone_of facts ids) (spread es)) in
+        let left = extents_staying k (remaining (gone_of facts ids) (spread es)) in
         ap is_some (first-same (extents_of (without (gone_of facts (base k ++ ids)) window.placed)) left window.quota n
         (λ o. ap (λ b. nat_le (o + rounded n) window.quota && b) (stays-agree (is_apart (record { offset = o; length = rounded n })) k ids)))
         ∙ first-gap window.quota n left some (laid_staying k (gone_of facts ids))

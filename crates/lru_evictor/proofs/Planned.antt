@@ -17,7 +17,7 @@ use Rattle.job_region.specs.Layout.{LaidFrom}
 use Rattle.use_tree.specs.declared.classes.VictimClass.{VictimClass}
 use Rattle.use_tree.specs.declared.classes.VictimClass.TheVariants.{Evictable, Draining, Spillable}
 use Rattle.use_tree.specs.Classes.{has}
-use Rattle.extent_tree.specs.Residents.{staying, remaining, span_of, has_gap}
+use Rattle.extent_tree.specs.Residents.{extents_staying, remaining, span_of, has_gap}
 use Rattle.extent_tree.proofs.ForCallers.{remaining_all}
 use Rattle.lru_evictor.specs.declared.facts.DeviceRoom.{DeviceRoom}
 use Rattle.lru_evictor.specs.declared.facts.EvictionInfo.{EvictionInfo}
@@ -158,8 +158,8 @@ module _ (store : Shape) (window : Region) (device : DeviceRoom) (facts : Looked
   same_ids : order_ids (shown_order of.entries) ≡ order_ids order
   same_ids = ap order_ids of.is
 
-  told : AllPass (λ id s. same_info s (info_at facts id)) (shown_order of.entries)
-  told = subst (AllPass (λ id s. same_info s (info_at facts id))) (sym of.is) known.infos
+  agreed : AllPass (λ id s. same_info s (info_at facts id)) (shown_order of.entries)
+  agreed = subst (AllPass (λ id s. same_info s (info_at facts id))) (sym of.is) known.infos
 
   module _ (candidates : List ObjectId) (k : VictimClass) (is : candidates ≡ chosen_ids k 4611686018427387904 index.0) where
     -- what an index has of a copy's choices is so of the copy
@@ -169,14 +169,14 @@ module _ (store : Shape) (window : Region) (device : DeviceRoom) (facts : Looked
     same_chosen : AllOf (λ u. u.turn < 4611686018427387904) index.0 → chosen facts k candidates ≡ chosen facts k (order_ids order)
     same_chosen below =
         ap (chosen facts k) (is ∙ ap (chosen_ids k 4611686018427387904) of.index_of.uses)
-        ∙ candidates-kept k (λ id s. same_info s (info_at facts id)) (passes_at facts k) (λ id s same passes. stands_so id s same ∙ passes) 4611686018427387904 of.entries told (subst (AllOf (λ u. u.turn < 4611686018427387904)) of.index_of.uses below)
+        ∙ candidates-kept k (λ id s. same_info s (info_at facts id)) (passes_at facts k) (λ id s same passes. stands_so id s same ∙ passes) 4611686018427387904 of.entries agreed (subst (AllOf (λ u. u.turn < 4611686018427387904)) of.index_of.uses below)
         ∙ ap (chosen facts k) same_ids
 
     all_chosen : chosen facts k candidates ≡ candidates
     all_chosen =
         let here = is ∙ ap (chosen_ids k 4611686018427387904) of.index_of.uses in
         ap (chosen facts k) here
-        ∙ candidates-pass k (λ id s. same_info s (info_at facts id)) (passes_at facts k) (λ id s same picked. sym (stands_so id s same) ∙ picked) 4611686018427387904 of.entries told
+        ∙ candidates-pass k (λ id s. same_info s (info_at facts id)) (passes_at facts k) (λ id s same picked. sym (stands_so id s same) ∙ picked) 4611686018427387904 of.entries agreed
         ∙ sym here
 
     -- the candidates are those that the walk chooses, in order
@@ -197,11 +197,11 @@ module _ (store : Shape) (window : Region) (device : DeviceRoom) (facts : Looked
   module _ (laid : LaidFrom window.quota 0 (extents_of window.placed)) (n : ℕ) (some : 0 < n) where
     -- whether there is room without all of the class and of those before it
     abbrev pub level_room : VictimClass → Bool
-    level_room k = has_gap window.quota (rounded n) (span_of (staying k index.2))
+    level_room k = has_gap window.quota (rounded n) (span_of (extents_staying k index.2))
 
     -- the same without these copies
     abbrev pub gap_without : VictimClass → List ObjectId → Bool
-    gap_without k out = has_gap window.quota (rounded n) (span_of (staying k (remaining (gone_of facts out) index.2)))
+    gap_without k out = has_gap window.quota (rounded n) (span_of (extents_staying k (remaining (gone_of facts out) index.2)))
 
     -- all of a class and of those before it among these ids
     abbrev base_among : List ObjectId → VictimClass → List ObjectId
@@ -210,16 +210,16 @@ module _ (store : Shape) (window : Region) (device : DeviceRoom) (facts : Looked
     base_among ids Spillable = (chosen facts Evictable ids ++ chosen facts Draining ids) ++ chosen facts Spillable ids
 
     none_gone : (k : VictimClass) → gap_without k [] ≡ level_room k
-    none_gone k = ap (λ xs. has_gap window.quota (rounded n) (span_of (staying k xs))) (remaining_all index.2)
+    none_gone k = ap (λ xs. has_gap window.quota (rounded n) (span_of (extents_staying k xs))) (remaining_all index.2)
 
     -- in the window as in the index, over the ids of the index's entries
     agrees : (k : VictimClass) (out : List ObjectId) → fits_without window facts n (base_among (order_ids (shown_order of.entries)) k ++ out) ≡ gap_without k out
     agrees k out =
         sides k
-        ∙ fits-agree store window device facts described of.entries of.index_of.apart told (λ id h. ap (λ o. is_among (order_ids o) id) of.is ∙ known.listed id h) laid n some k out
-        ∙ ap (λ xs. has_gap window.quota (rounded n) (span_of (staying k (remaining (gone_of facts out) xs)))) (sym of.index_of.residents)
+        ∙ fits-agree store window device facts described of.entries of.index_of.apart agreed (λ id h. ap (λ o. is_among (order_ids o) id) of.is ∙ known.listed id h) laid n some k out
+        ∙ ap (λ xs. has_gap window.quota (rounded n) (span_of (extents_staying k (remaining (gone_of facts out) xs)))) (sym of.index_of.residents)
       where
-        sides : (k : VictimClass) → fits_without window facts n (base_among (order_ids (shown_order of.entries)) k ++ out) ≡ fits_without window facts n (base store window device facts described of.entries of.index_of.apart told (λ id h. ap (λ o. is_among (order_ids o) id) of.is ∙ known.listed id h) k ++ out)
+        sides : (k : VictimClass) → fits_without window facts n (base_among (order_ids (shown_order of.entries)) k ++ out) ≡ fits_without window facts n (base store window device facts described of.entries of.index_of.apart agreed (λ id h. ap (λ o. is_among (order_ids o) id) of.is ∙ known.listed id h) k ++ out)
         sides Evictable = refl
         sides Draining = refl
         sides Spillable = refl
@@ -271,7 +271,7 @@ module _ (store : Shape) (window : Region) (device : DeviceRoom) (facts : Looked
         → (r : Option (List ObjectId)) → r ≡ shortest (leaves_gap gap facts index.2) candidates → spills_here device facts r ≡ plan (order_ids order) store n
     plan-counted says is bad candidates are below gap wide needed r counted =
         let same : (out : List ObjectId) → leaves_gap gap facts index.2 out ≡ fits_beside out =
-        λ out. (λ i. has_gap (wide i) (needed i) (span_of (staying Draining (remaining (gone_of facts out) index.2)))) ∙ sym (agree Draining out) in
+        λ out. (λ i. has_gap (wide i) (needed i) (span_of (extents_staying Draining (remaining (gone_of facts out) index.2)))) ∙ sym (agree Draining out) in
         by r (counted ∙ (λ i. shortest (λ out. same out i) (candidates-are candidates Spillable are below i)) ∙ spilled-searched store window device facts described n (order_ids order))
       where
         by : (r : Option (List ObjectId)) → r ≡ spilled (order_ids order) store n → spills_here device facts r ≡ plan (order_ids order) store n

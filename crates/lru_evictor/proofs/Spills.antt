@@ -9,7 +9,7 @@ use Rattle.private_store.specs.rules.Room.{shortest_from, shortest}
 use Rattle.use_tree.specs.declared.classes.VictimClass.TheVariants.{Draining}
 use Rattle.use_tree.specs.declared.classes.VictimClasses.{VictimClasses}
 use Rattle.extent_tree.specs.declared.residents.Resident.{Resident}
-use Rattle.extent_tree.specs.Residents.{AreResidentsRising, classes_at, staying, remaining, span_of, has_gap}
+use Rattle.extent_tree.specs.Residents.{AreResidentsRising, classes_at, extents_staying, remaining, span_of, has_gap}
 use Rattle.extent_tree.proofs.ForCallers.{remaining_all, staying_marked, choices_back, choose_none}
 use Rattle.lru_evictor.specs.declared.spilling.Gap.{Gap}
 use Rattle.lru_evictor.specs.Facts.{Looked, extent_at, gone_of}
@@ -22,14 +22,14 @@ pub goes-marked : (gap : Gap) (facts : Looked) (residents : List Resident) → A
     → leaves_gap gap facts (marked_draining (extent_at facts id) residents) out ≡ leaves_gap gap facts residents (id ∷ out)
 goes-marked gap facts residents rising id out = by (extent_at facts id)
   where
-    by : (o : Option Extent) → has_gap gap.quota gap.need (span_of (staying Draining (remaining (gone_of facts out) (marked_draining o residents))))
-        ≡ has_gap gap.quota gap.need (span_of (staying Draining (remaining (cons_option o (gone_of facts out)) residents)))
+    by : (o : Option Extent) → has_gap gap.quota gap.need (span_of (extents_staying Draining (remaining (gone_of facts out) (marked_draining o residents))))
+        ≡ has_gap gap.quota gap.need (span_of (extents_staying Draining (remaining (cons_option o (gone_of facts out)) residents)))
     by None = refl
     by (Some e) = ap (λ es. has_gap gap.quota gap.need (span_of es)) (staying_marked Draining e passes_now refl (gone_of facts out) residents rising)
 
 -- with none marked it is as the tree tells
-pub none-marked : (gap : Gap) (facts : Looked) (residents : List Resident) → has_gap gap.quota gap.need (span_of (staying Draining residents)) ≡ leaves_gap gap facts residents []
-none-marked gap facts residents = ap (λ xs. has_gap gap.quota gap.need (span_of (staying Draining xs))) (sym (remaining_all residents))
+pub none-marked : (gap : Gap) (facts : Looked) (residents : List Resident) → has_gap gap.quota gap.need (span_of (extents_staying Draining residents)) ≡ leaves_gap gap facts residents []
+none-marked gap facts residents = ap (λ xs. has_gap gap.quota gap.need (span_of (extents_staying Draining xs))) (sym (remaining_all residents))
 
 -- a mark that is taken back leaves all as it was
 pub marked-back : (extent : Option Extent) (before : Option VictimClasses) (residents : List Resident) → before ≡ option_and_then (λ e. classes_at e.offset residents) extent

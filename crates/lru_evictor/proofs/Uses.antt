@@ -218,13 +218,13 @@ module _ (id : ObjectId) where
       eviction_info-found : p.eviction_info ≡ info_in id now
       eviction_info-found = sym (found-eviction_info es found) ∙ ap (info_in id) view
 
-      pub stood-at : (test : ObjectId → EvictionInfo → Bool) (after told : EvictionInfo) → told ≡ stood p.eviction_info after
-          → (is_among (order_ids now) id ≡ true → test id (stood (info_in id now) after) ≡ true) → test id told ≡ true
-      stood-at test after told is here = ap (test id) (is ∙ ap (λ s. stood s after) eviction_info-found) ∙ here among-found
+      pub stood-at : (test : ObjectId → EvictionInfo → Bool) (after agreed : EvictionInfo) → agreed ≡ stood p.eviction_info after
+          → (is_among (order_ids now) id ≡ true → test id (stood (info_in id now) after) ≡ true) → test id agreed ≡ true
+      stood-at test after agreed is here = ap (test id) (is ∙ ap (λ s. stood s after) eviction_info-found) ∙ here among-found
 
-      pub settled-at : (test : ObjectId → EvictionInfo → Bool) (resident : Resident) (told : EvictionInfo) → told ≡ info_with_resident p.eviction_info resident now
-          → (is_among (order_ids now) id ≡ true → test id (info_with_resident (info_in id now) resident now) ≡ true) → test id told ≡ true
-      settled-at test resident told is here = ap (test id) (is ∙ ap (λ s. info_with_resident s resident now) eviction_info-found) ∙ here among-found
+      pub settled-at : (test : ObjectId → EvictionInfo → Bool) (resident : Resident) (agreed : EvictionInfo) → agreed ≡ info_with_resident p.eviction_info resident now
+          → (is_among (order_ids now) id ≡ true → test id (info_with_resident (info_in id now) resident now) ≡ true) → test id agreed ≡ true
+      settled-at test resident agreed is here = ap (test id) (is ∙ ap (λ s. info_with_resident s resident now) eviction_info-found) ∙ here among-found
 
 -- what begins in an index begins in the order
 pub begins-spread : (o : ℕ) (es : List (ObjectId × OrderSlot)) → has_resident o (spread es) ≡ begins_in o (shown_order es)

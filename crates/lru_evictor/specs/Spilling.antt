@@ -5,13 +5,13 @@ use Rattle.obj_id.specs.declared.works.Extent.{Extent}
 use Rattle.use_tree.specs.declared.classes.VictimClass.TheVariants.{Draining}
 use Rattle.use_tree.specs.declared.classes.VictimClasses.{VictimClasses}
 use Rattle.extent_tree.specs.declared.residents.Resident.{Resident}
-use Rattle.extent_tree.specs.Residents.{resident_with_classes, staying, remaining, span_of, has_gap}
+use Rattle.extent_tree.specs.Residents.{resident_with_classes, extents_staying, remaining, span_of, has_gap}
 use Rattle.lru_evictor.specs.declared.spilling.Gap.{Gap}
 use Rattle.lru_evictor.specs.Facts.{Looked, gone_of}
 
 -- whether there is such a gap if these copies go, and all that may be evicted at once or once their works have ended
 abbrev pub leaves_gap : Gap → Looked → List Resident → List ObjectId → Bool
-leaves_gap gap facts residents out = has_gap gap.quota gap.need (span_of (staying Draining (remaining (gone_of facts out) residents)))
+leaves_gap gap facts residents out = has_gap gap.quota gap.need (span_of (extents_staying Draining (remaining (gone_of facts out) residents)))
 
 -- a mark of a copy that passes
 abbrev pub passes_now : VictimClasses

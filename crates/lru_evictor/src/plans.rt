@@ -12,7 +12,7 @@ ghost use Rattle.private_store.specs.rules.Shape.{Shape};
 ghost use Rattle.private_store.specs.rules.Room.{plan as room_plan};
 ghost use Rattle.job_region.specs.Region.{Region, extents_of};
 ghost use Rattle.job_region.specs.Layout.{LaidFrom};
-ghost use Rattle.extent_tree.specs.Residents.{staying, span_of, has_gap as has_gap_lem};
+ghost use Rattle.extent_tree.specs.Residents.{extents_staying, span_of, has_gap as has_gap_lem};
 ghost use Rattle.lru_evictor.specs.declared.facts.EvictionInfo.{EvictionInfo};
 ghost use Rattle.lru_evictor.specs.declared.facts.Plan.TheVariants as found;
 ghost use Rattle.lru_evictor.specs.Facts.{Looked, device_bytes_at, spilled_bytes, passes_at, fits_without as is_room_without};
@@ -29,7 +29,7 @@ use crate::use_order::UseOrder;
 use extent_tree::has_gap;
 use job_region::Window;
 use obj_id::limits::MOST_WORKS;
-use obj_id::{Items, ObjectId};
+use obj_id::{ItemList, ObjectId};
 use private_store::rounded;
 use std::alloc::{AllocError, Global};
 use use_tree::VictimClass;
@@ -74,7 +74,7 @@ impl UseOrder {
         len: u32,
         window: &Window,
         copies: &C,
-    ) -> Result<Items<ObjectId>, AllocError>
+    ) -> Result<ItemList<ObjectId>, AllocError>
         ensures plan { IfOk result (λ ids. (store : Shape) (device : DeviceRoom) → IsOfCopies self.now (C.facts copies.now) → IsDescribed store window.now device (C.facts copies.now)
             → plan_kind_of (room_plan (order_ids self.now) store len) ≡ found.Evict → ids ≡ listed (room_plan (order_ids self.now) store len)) }
         ensures room { IfOk result (λ ids. 0 < length ids → is_room_without window.now (C.facts copies.now) len ids ≡ true) }
@@ -82,20 +82,20 @@ impl UseOrder {
         ensures once { IfOk result (λ ids. IsOrderOfUse ids) }
     {
         let Some(order) = &self.order else {
-            return Ok(Items::new(alloc));
+            return Ok(ItemList::new(alloc));
         };
         victims(order.index(), alloc, len, window, copies)
     }
 
     /// The first so many copies that may be spilled, the least recently used first. The error is out of memory. Takes a descent of
     /// a tree for each.
-    pub fn spillable(&self, alloc: Global, count: usize) -> Result<Items<ObjectId>, AllocError>
+    pub fn spillable(&self, alloc: Global, count: usize) -> Result<ItemList<ObjectId>, AllocError>
         ensures listed { IfOk result (λ ids. (store : Shape) (window : Region) (device : DeviceRoom) (facts : Looked) (n : ℕ) → IsOfCopies self.now facts → IsDescribed store window device facts
             → plan_kind_of (room_plan (order_ids self.now) store n) ≡ found.Spill count → ids ≡ listed (room_plan (order_ids self.now) store n)) }
         ensures few { IfOk result (λ ids. length ids ≤ count) }
     {
         let Some(order) = &self.order else {
-            return Ok(Items::new(alloc));
+            return Ok(ItemList::new(alloc));
         };
         spillable(order.index(), alloc, count)
     }
@@ -166,7 +166,7 @@ fn spilling<C: CopyLookup>(
 
 /// Whether the object would fit if all copies went that the walk chooses, and those before it. One look at the tree.
 fn leaves_room(index: &Index, class: VictimClass, window: &Window, len: u32) -> bool
-    ensures gap { result ≡ has_gap_lem window.now.quota (rounded_lem len) (span_of (staying class index.now.2)) }
+    ensures gap { result ≡ has_gap_lem window.now.quota (rounded_lem len) (span_of (extents_staying class index.now.2)) }
     ensures laid { LaidFrom window.now.quota 0 (extents_of window.now.placed) }
 {
     let span = index.residents().span(class);
@@ -218,7 +218,7 @@ fn victims<C: CopyLookup>(
     len: u32,
     window: &Window,
     copies: &C,
-) -> Result<Items<ObjectId>, AllocError>
+) -> Result<ItemList<ObjectId>, AllocError>
     ensures plan { IfOk result (λ ids. (store : Shape) (order : List (ObjectId × EvictionInfo)) (device : DeviceRoom) → HasIndex index.now order → IsOfCopies order (C.facts copies.now) → IsDescribed store window.now device (C.facts copies.now)
         → plan_kind_of (room_plan (order_ids order) store len) ≡ found.Evict → ids ≡ listed (room_plan (order_ids order) store len)) }
     ensures room { IfOk result (λ ids. 0 < length ids → is_room_without window.now (C.facts copies.now) len ids ≡ true) }
@@ -227,13 +227,13 @@ fn victims<C: CopyLookup>(
 {
     let candidates = index.candidates(VictimClass::Evictable);
     match shortest(alloc, candidates, window, copies, len)? {
-        Some(ids) => Ok(Items::from_vec(ids)),
-        None => Ok(Items::new(alloc)),
+        Some(ids) => Ok(ItemList::from_vec(ids)),
+        None => Ok(ItemList::new(alloc)),
     }
 }
 
 /// The first so many copies that may be spilled.
-fn spillable(index: &Index, alloc: Global, count: usize) -> Result<Items<ObjectId>, AllocError>
+fn spillable(index: &Index, alloc: Global, count: usize) -> Result<ItemList<ObjectId>, AllocError>
     ensures all { AllOf (λ u. u.turn < 4611686018427387904) index.now.0 }
     ensures first { IfOk result (λ ids. ids ≡ take count (chosen_ids Spillable 4611686018427387904 index.now.0)) }
     ensures few { IfOk result (λ ids. length ids ≤ count) }
@@ -241,9 +241,9 @@ fn spillable(index: &Index, alloc: Global, count: usize) -> Result<Items<ObjectI
     let mut ids = Vec::new(alloc);
     for id in index.candidates(VictimClass::Spillable) {
         if ids.len() == count {
-            return Ok(Items::from_vec(ids));
+            return Ok(ItemList::from_vec(ids));
         }
         ids.push(id)?;
     }
-    Ok(Items::from_vec(ids))
+    Ok(ItemList::from_vec(ids))
 }

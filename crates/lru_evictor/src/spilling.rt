@@ -2,7 +2,7 @@
 ghost use Rattle.std.specs.Prelude.{◌≡◌, ◌<◌, ◌≤◌, take, length, IfSome};
 ghost use Rattle.std.specs.Option.{option_map, option_and_then};
 ghost use Rattle.private_store.specs.rules.Room.{shortest as shortest_beginning};
-ghost use Rattle.extent_tree.specs.Residents.{classes_at, has_gap as has_gap_lem, span_of, staying};
+ghost use Rattle.extent_tree.specs.Residents.{classes_at, has_gap as has_gap_lem, span_of, extents_staying};
 ghost use Rattle.use_tree.specs.declared.classes.VictimClass.TheVariants.{Draining};
 ghost use Rattle.lru_evictor.specs.Spilling.{leaves_gap, marked_draining, unmarked};
 

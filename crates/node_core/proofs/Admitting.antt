@@ -19,11 +19,11 @@ use Rattle.private_store.specs.declared.inputs.Judged.TheVariants as judged
 use Rattle.private_store.specs.declared.schedules.Event.TheVariants as event
 use Rattle.private_store.specs.rules.Jobs.{same_job}
 use Rattle.private_store.specs.rules.Limits.{is_quota, most_live_jobs}
-use Rattle.private_store.specs.rules.Shape.{WorkInFlight, HandGiven, live, not_begun}
+use Rattle.private_store.specs.rules.Shape.{WorkInFlight, GrantGiven, live, not_begun}
 use Rattle.private_store.specs.rules.Change.{done}
 use Rattle.private_store.specs.rules.Step.{step}
 use Rattle.private_store.specs.rules.Contents.{Contents, View, judge}
-use Rattle.private_store.specs.rules.Hands.{Hand}
+use Rattle.private_store.specs.rules.Grants.{StandingGrant}
 use Rattle.private_store.specs.rules.Private.{view_step, outcome, no_contents}
 use Rattle.private_store.specs.rules.Shared.{admitted as window_admitted}
 use Rattle.private_store.specs.laws.Invariants.{IsViewKept}
@@ -85,8 +85,8 @@ absent_bytes : (rows : List (JobNo × Row)) (id : ObjectId) → lookup (same_job
 absent_bytes rows id none = ap (λ o. option_map_or (λ row. row_bytes row id) o []) none
 
 -- a store that isn't live keeps the invariants of every store
-bare_kept : (line : WorkLine) (hands : List Hand) (bytes : ObjectId → List ℕ) (job : ℕ) → IsViewKept (empty_view job not_begun (beside_of line hands bytes job))
-bare_kept line hands bytes job =
+bare_kept : (line : WorkLine) (grants : List StandingGrant) (bytes : ObjectId → List ℕ) (job : ℕ) → IsViewKept (empty_view job not_begun (beside_of line grants bytes job))
+bare_kept line grants bytes job =
     let k = (no_store_kept job).kept in
     record {
       order = (no_store_kept job).order;
@@ -101,22 +101,22 @@ bare_kept line hands bytes job =
           numbers_used = k.shape.numbers_used;
           one_number = k.shape.one_number;
           numbers_end = k.shape.numbers_end;
-          hands_of_copies = k.shape.hands_of_copies;
-          own_hands = k.shape.own_hands;
+          grants_of_copies = k.shape.grants_of_copies;
+          own_grants = k.shape.own_grants;
           most_copies = k.shape.most_copies;
           most_works = k.shape.most_works;
-          most_hands = k.shape.most_hands;
+          most_grants = k.shape.most_grants;
           most_ended = k.shape.most_ended;
         };
         extents = record { placed = k.extents.placed; apart = k.extents.apart };
         device = k.device;
-        filled = record { each = λ id copy found. none_some copy found; resident = k.filled.resident; received = granted_length bytes hands job };
+        filled = record { each = λ id copy found. none_some copy found; resident = k.filled.resident; received = granted_length bytes grants job };
       };
     }
 
-module _ (number : ℕ) (line : WorkLine) (hands : List Hand) (bytes : ObjectId → List ℕ) (job : JobNo) (quota : Quota) (good : is_quota quota ≡ true) where
+module _ (number : ℕ) (line : WorkLine) (grants : List StandingGrant) (bytes : ObjectId → List ℕ) (job : JobNo) (quota : Quota) (good : is_quota quota ≡ true) where
   abbrev beside : SharedTables
-  beside = beside_of line hands bytes job.0
+  beside = beside_of line grants bytes job.0
 
   abbrev fresh_view : View
   fresh_view = empty_view job.0 not_begun beside
@@ -128,7 +128,7 @@ module _ (number : ℕ) (line : WorkLine) (hands : List Hand) (bytes : ObjectId 
   filled = record no_contents { received = received_bytes beside }
 
   -- a store that has begun, with these works and gifts
-  abbrev begun : List WorkInFlight → ℕ → List HandGiven → View
+  abbrev begun : List WorkInFlight → ℕ → List GrantGiven → View
   begun works used given = record { shape = record fresh_view.shape { life = live; quota = quota; works = works; works_asked = used; given = given }; order = []; contents = filled }
 
   begins : step [] fresh_view.shape (judged.Begin quota) ≡ done (record fresh_view.shape { life = live; quota = quota })
@@ -155,7 +155,7 @@ module _ (number : ℕ) (line : WorkLine) (hands : List Hand) (bytes : ObjectId 
 
     new_shown : IsShown (new_row job.0 quota) beside filled
     new_shown = record {
-      kept = subst IsViewKept (begin_view ∙ row_shows) (view_keeps number fresh_view x (bare_kept line hands bytes job.0));
+      kept = subst IsViewKept (begin_view ∙ row_shows) (view_keeps number fresh_view x (bare_kept line grants bytes job.0));
       there = refl;
       listed = λ id k found. cc;
       bytes = λ id k e found lies. cc;
@@ -188,7 +188,7 @@ raised_view low high beside q view None lt h = record {
   given = h.given;
 }
 
-module _ (number : ℕ) (a b : Admissions) (line : WorkLine) (hands : List Hand) (job : JobNo) (quota : Quota) (key : JobKey)
+module _ (number : ℕ) (a b : Admissions) (line : WorkLine) (grants : List StandingGrant) (job : JobNo) (quota : Quota) (key : JobKey)
     (old new : List (JobNo × Row)) (kept : AreHosted a old) (passed : admit_check a job quota ≡ None) (is : b ≡ with_admitted a job quota key) where
   above : a.greatest < job.0
   above = (admit_passed a job quota passed).2
@@ -217,10 +217,10 @@ module _ (number : ℕ) (a b : Admissions) (line : WorkLine) (hands : List Hand)
   module _ (updated : (q : JobNo) → lookup (same_job q) new ≡ cond (same_job job q) (Some (new_row job.0 quota)) (lookup (same_job q) old))
       (lives : lives_of b.live ≡ window_admitted a.memory job.0 quota.window (lives_of a.live)) where
     abbrev before : Hosted
-    before = node_of number a line hands old
+    before = node_of number a line grants old
 
     abbrev after : Hosted
-    after = node_of number b line hands new
+    after = node_of number b line grants new
 
     good : is_quota quota ≡ true
     good = (admit_passed a job quota passed).1
@@ -237,7 +237,7 @@ module _ (number : ℕ) (a b : Admissions) (line : WorkLine) (hands : List Hand)
             ∙ sym (ap (λ o. option_map_or (λ row. row_bytes row id) o []) (updated id.job ∙ ap (λ t. cond t (Some (new_row job.0 quota)) (lookup (same_job id.job) old)) e))
 
     same : (q : ℕ) → IsAlike (beside_at before q) (beside_at after q)
-    same q = alike_bytes (bytes_here old) (bytes_here new) line line hands q (record { works = refl; used = refl }) (λ id there. same_bytes id)
+    same q = alike_bytes (bytes_here old) (bytes_here new) line line grants q (record { works = refl; used = refl }) (λ id there. same_bytes id)
 
     no_row : (view : View) → Shows before job.0 view → IsBare a.greatest (beside_at before job.0) job.0 view
     no_row view h = subst (IsViewBy a.greatest (beside_at before job.0) job.0 view) absent h.by_row
@@ -257,7 +257,7 @@ module _ (number : ℕ) (a b : Admissions) (line : WorkLine) (hands : List Hand)
         subst (λ v. Shows after job.0 (view_step number v (input.Begin quota)).view) (sym (fresh_is view n))
         (shows_at job.0 _ (subst (IsViewBy job.0 (beside_at before job.0) job.0 _)
         (sym (updated job ∙ ap (λ t. cond t (Some (new_row job.0 quota)) (lookup (same_job job) old)) (itself job)))
-        (new_row_view number line hands (bytes_here old) job quota good n.works n.used n.given)))
+        (new_row_view number line grants (bytes_here old) job quota good n.works n.used n.given)))
 
     other_shows : (q : ℕ) (view : View) → (q == job.0) ≡ false → Shows before q view → Shows after q view
     other_shows q view differ h =
@@ -278,11 +278,11 @@ module _ (number : ℕ) (a b : Admissions) (line : WorkLine) (hands : List Hand)
     admit_steps = record {
       number = refl;
       views = λ v shows q. views q (v q) (shows q);
-      told = λ view h. subst (λ v. IsStepOf number v (input.Begin quota) (only reply.Ok)) (sym (fresh_is view (no_row view h))) (begin_told number line hands (bytes_here old) job quota good);
+      response = λ view h. subst (λ v. IsStepOf number v (input.Begin quota) (only reply.Ok)) (sym (fresh_is view (no_row view h))) (begin_told number line grants (bytes_here old) job quota good);
       operator = sym (ap answer_of_check passed);
       by_views = λ v h. refl;
       admissions = is;
       lives = lives;
       line = λ v shows. refl;
-      hands = refl;
+      grants = refl;
     }

@@ -1,4 +1,4 @@
--- What an event is to its own job, told of one job at a time, is the step of all of them, if it moves no hand.
+-- What an event is to its own job, told of one job at a time, is the step of all of them, if it moves no grant.
 use Rattle.std.proofs.Common.{◌≡◌, ℕ, Bool, true, false, not, cond, ◌==◌, ◌≤◌, ◌&&◌, List, [], ◌∷◌, ◌++◌, map, filter, Option, Some, None, option_to_list, refl, sym, ap, subst, ◌∙◌, arith}
 use Rattle.std.specs.Prelude.{option_map, nat_lt, nat_le, count_by}
 use Rattle.std.specs.List.{list_all}
@@ -15,9 +15,9 @@ use Rattle.private_store.specs.declared.inputs.Input.TheVariants as input
 use Rattle.private_store.specs.declared.schedules.Event.{Event}
 use Rattle.private_store.specs.declared.schedules.Event.TheVariants as event
 use Rattle.private_store.specs.declared.schedules.NodeEvent.TheVariants.{Own}
-use Rattle.private_store.specs.rules.Hands.{Hand}
-use Rattle.private_store.specs.rules.Trace.{hands_by}
-use Rattle.private_store.specs.laws.NodeInputs.{JobInput, Before, wants_memory, own_here, own_due, notes_of, notes_here, hands_after, only_of, inputs_to}
+use Rattle.private_store.specs.rules.Grants.{StandingGrant}
+use Rattle.private_store.specs.rules.Trace.{grants_by}
+use Rattle.private_store.specs.laws.NodeInputs.{JobInput, Before, wants_memory, own_here, own_due, notes_of, notes_here, grants_after, only_of, inputs_to}
 use Rattle.private_store.specs.rules.Contents.{View, judge}
 use Rattle.private_store.specs.rules.Private.{view_step, view_from}
 use Rattle.spill_work.specs.declared.queue.Queued.{Queued}
@@ -29,7 +29,7 @@ use Rattle.node_core.specs.Hosted.{Hosted, IsViewBy, Shows, ShowsAll, row_at, be
 use Rattle.node_core.specs.Calls.{needs_no_memory}
 use Rattle.node_core.specs.OneJob.{event_input_of, view_by, one_view_after, IsGiven as IsRowGiven, IsOperatorAnswer as IsOneAnswer, IsAnswerByViews, IsLineAfter, NodeStepOne}
 use Rattle.node_core.specs.Outcomes.{with_no_notes}
-use Rattle.node_core.specs.Judged.{is_finish, moves_hands, judged_as, IsCallJudged}
+use Rattle.node_core.specs.Judged.{is_finish, moves_grants, judged_as, IsCallJudged}
 use Rattle.node_core.specs.Steps.{before_of, job_of_event, IsGiven, answer_of_check, judged_notes, stale_unless, queued, taken_if, line_left, asked_now, line_after, IsEventAnswer, NodeStepFrom, NodeStep}
 use Rattle.store_facts.proofs.Tests.{both, both_left, both_right}
 use Rattle.node_core.proofs.Never.{told_never}
@@ -40,48 +40,48 @@ use Rattle.node_core.proofs.Taking.{marked-is}
 
 -- to its own job
 abbrev pub own_of : Event → Reply (List ℕ) → Option JobInput
-own_of e told = option_map (λ x. record { job = job_of_event e; input = x }) (event_input_of e told)
+own_of e response = option_map (λ x. record { job = job_of_event e; input = x }) (event_input_of e response)
 
 -- a Finish is answered Ok exactly if its work is out
 abbrev pub IsFinishAnswer : Before → Event → Reply (List ℕ) → Type 0
-IsFinishAnswer before (event.Finish job number a) told = told ≡ answer_of_check (stale_unless (before.out job.0 number))
-IsFinishAnswer before _ told = told ≡ told
+IsFinishAnswer before (event.Finish job number a) response = response ≡ answer_of_check (stale_unless (before.out job.0 number))
+IsFinishAnswer before _ response = response ≡ response
 
 finish_own : (job : JobNo) (number : ℕ) (a : DeviceAnswer) (out : Bool) → cond out (Some (record { job = job.0; input = input.Answer number a })) None ≡ own_of (event.Finish job number a) (answer_of_check (stale_unless out))
 finish_own job number a true = refl
 finish_own job number a false = refl
 
-pub own_due_is : (before : Before) (e : Event) (told : Reply (List ℕ)) → IsFinishAnswer before e told → own_due before (Own e) told ≡ own_of e told
+pub own_due_is : (before : Before) (e : Event) (response : Reply (List ℕ)) → IsFinishAnswer before e response → own_due before (Own e) response ≡ own_of e response
 own_due_is before (event.Admit job quota key) reply.Ok is = refl
 own_due_is before (event.Admit job quota key) _ is = refl
 own_due_is before (event.JobEnd job) reply.Ok is = refl
 own_due_is before (event.JobEnd job) _ is = refl
-own_due_is before (event.Call job session c) told is = refl
+own_due_is before (event.Call job session c) response is = refl
 own_due_is before (event.Requota job quota) reply.Ok is = refl
 own_due_is before (event.Requota job quota) _ is = refl
-own_due_is before event.Take told is = refl
-own_due_is before (event.Finish job number a) told is = finish_own job number a (before.out job.0 number) ∙ sym (ap (own_of (event.Finish job number a)) is)
+own_due_is before event.Take response is = refl
+own_due_is before (event.Finish job number a) response is = finish_own job number a (before.out job.0 number) ∙ sym (ap (own_of (event.Finish job number a)) is)
 
-pub own_here_is : (before : Before) (e : Event) (told : Reply (List ℕ)) → IsFinishAnswer before e told → wants_memory told ≡ false → own_here before (Own e) told ≡ own_of e told
+pub own_here_is : (before : Before) (e : Event) (response : Reply (List ℕ)) → IsFinishAnswer before e response → wants_memory response ≡ false → own_here before (Own e) response ≡ own_of e response
 own_here_is before (event.Admit job quota key) reply.Ok is never = refl
 own_here_is before (event.Admit job quota key) _ is never = refl
 own_here_is before (event.JobEnd job) reply.Ok is never = refl
 own_here_is before (event.JobEnd job) _ is never = refl
-own_here_is before (event.Call job session c) told is never =
+own_here_is before (event.Call job session c) response is never =
     ap (λ t. cond t None (Some (record { job = job.0; input = input.Call session c }))) never
 own_here_is before (event.Requota job quota) reply.Ok is never = refl
 own_here_is before (event.Requota job quota) _ is never = refl
-own_here_is before event.Take told is never = refl
-own_here_is before (event.Finish job number a) told is never =
+own_here_is before event.Take response is never = refl
+own_here_is before (event.Finish job number a) response is never =
     ap (λ t. cond t None (cond (before.out job.0 number) (Some (record { job = job.0; input = input.Answer number a })) None)) never
-    ∙ own_due_is before (event.Finish job number a) told is
+    ∙ own_due_is before (event.Finish job number a) response is
 
--- the event with this answer tells no grantee of a hand, and the hands stand as they stood
-pub record IsStill (e : Event) (told : Reply (List ℕ)) : Type 0 where
-  pub notes : (before : Before) → notes_here before (Own e) told ≡ []
-  pub hands : (hands : List Hand) → hands_after hands (Own e) told ≡ hands
+-- the event with this answer tells no grantee of a grant, and the grants stand as they stood
+pub record IsStill (e : Event) (response : Reply (List ℕ)) : Type 0 where
+  pub notes : (before : Before) → notes_here before (Own e) response ≡ []
+  pub grants : (grants : List StandingGrant) → grants_after grants (Own e) response ≡ grants
 
-no_note : (before : Before) (e : Event) → moves_hands e ≡ false → notes_of before e ≡ []
+no_note : (before : Before) (e : Event) → moves_grants e ≡ false → notes_of before e ≡ []
 no_note before (event.Admit job quota key) lasting = refl
 no_note before (event.JobEnd job) lasting = absurd cc
 no_note before (event.Call job session (command.Create id kind n)) lasting = refl
@@ -105,36 +105,36 @@ no_note before (event.Requota job quota) lasting = refl
 no_note before event.Take lasting = refl
 no_note before (event.Finish job number a) lasting = refl
 
-hands_stay : (hands : List Hand) (e : Event) → moves_hands e ≡ false → hands_by hands e ≡ hands
-hands_stay hands (event.Admit job quota key) lasting = refl
-hands_stay hands (event.JobEnd job) lasting = absurd cc
-hands_stay hands (event.Call job session (command.Create id kind n)) lasting = refl
-hands_stay hands (event.Call job session (command.Write id offset bytes)) lasting = refl
-hands_stay hands (event.Call job session (command.Seal id)) lasting = refl
-hands_stay hands (event.Call job session (command.Get id)) lasting = refl
-hands_stay hands (event.Call job session (command.Read id offset n)) lasting = refl
-hands_stay hands (event.Call job session (command.Release id)) lasting = refl
-hands_stay hands (event.Call job session command.List) lasting = refl
-hands_stay hands (event.Call job session command.Usage) lasting = refl
-hands_stay hands (event.Call job session command.Leave) lasting = refl
-hands_stay hands (event.Call job session (command.Unpin id task)) lasting = refl
-hands_stay hands (event.Call job session (command.Borrow id task)) lasting = refl
-hands_stay hands (event.Call job session (command.GiveUp id task)) lasting = refl
-hands_stay hands (event.Call job session (command.Delete id)) lasting = refl
-hands_stay hands (event.Call job session (command.EndTask task)) lasting = absurd cc
-hands_stay hands (event.Call job session (command.Grant id target)) lasting = absurd cc
-hands_stay hands (event.Call job session (command.Withdraw id target)) lasting = absurd cc
-hands_stay hands (event.Call job session (command.Peek id offset n)) lasting = refl
-hands_stay hands (event.Requota job quota) lasting = refl
-hands_stay hands event.Take lasting = refl
-hands_stay hands (event.Finish job number a) lasting = refl
+grants_stay : (grants : List StandingGrant) (e : Event) → moves_grants e ≡ false → grants_by grants e ≡ grants
+grants_stay grants (event.Admit job quota key) lasting = refl
+grants_stay grants (event.JobEnd job) lasting = absurd cc
+grants_stay grants (event.Call job session (command.Create id kind n)) lasting = refl
+grants_stay grants (event.Call job session (command.Write id offset bytes)) lasting = refl
+grants_stay grants (event.Call job session (command.Seal id)) lasting = refl
+grants_stay grants (event.Call job session (command.Get id)) lasting = refl
+grants_stay grants (event.Call job session (command.Read id offset n)) lasting = refl
+grants_stay grants (event.Call job session (command.Release id)) lasting = refl
+grants_stay grants (event.Call job session command.List) lasting = refl
+grants_stay grants (event.Call job session command.Usage) lasting = refl
+grants_stay grants (event.Call job session command.Leave) lasting = refl
+grants_stay grants (event.Call job session (command.Unpin id task)) lasting = refl
+grants_stay grants (event.Call job session (command.Borrow id task)) lasting = refl
+grants_stay grants (event.Call job session (command.GiveUp id task)) lasting = refl
+grants_stay grants (event.Call job session (command.Delete id)) lasting = refl
+grants_stay grants (event.Call job session (command.EndTask task)) lasting = absurd cc
+grants_stay grants (event.Call job session (command.Grant id target)) lasting = absurd cc
+grants_stay grants (event.Call job session (command.Withdraw id target)) lasting = absurd cc
+grants_stay grants (event.Call job session (command.Peek id offset n)) lasting = refl
+grants_stay grants (event.Requota job quota) lasting = refl
+grants_stay grants event.Take lasting = refl
+grants_stay grants (event.Finish job number a) lasting = refl
 
-pub lasting_still : (e : Event) (told : Reply (List ℕ)) → moves_hands e ≡ false → IsStill e told
-lasting_still e reply.Ok lasting = record { notes = λ before. no_note before e lasting; hands = λ hands. hands_stay hands e lasting }
-lasting_still e _ lasting = record { notes = λ before. refl; hands = λ hands. refl }
+pub lasting_still : (e : Event) (response : Reply (List ℕ)) → moves_grants e ≡ false → IsStill e response
+lasting_still e reply.Ok lasting = record { notes = λ before. no_note before e lasting; grants = λ grants. grants_stay grants e lasting }
+lasting_still e _ lasting = record { notes = λ before. refl; grants = λ grants. refl }
 
 pub refused_still : (e : Event) (refusal : Refusal) → IsStill e (reply.Refused refusal)
-refused_still e refusal = record { notes = λ before. refl; hands = λ hands. refl }
+refused_still e refusal = record { notes = λ before. refl; grants = λ grants. refl }
 
 -- ---- every job's view
 
@@ -236,13 +236,13 @@ module _ (old new : Hosted) (v : ℕ → View) (shows : ShowsAll old v) where
   pub own_shown : (job : JobNo) (x : Input) → Shows new job.0 (cond (job.0 == job.0) (view_step old.number (v job.0) x).view (v job.0)) → Shows new job.0 (view_step old.number (v job.0) x).view
   own_shown job x h = let same : (job.0 == job.0) ≡ true = grind (arith, nat_tests) in subst (λ t. Shows new job.0 (cond t (view_step old.number (v job.0) x).view (v job.0))) same h
 
-  pub line_is : (e : Event) (told : Reply (List ℕ)) → IsLineAfter old.works e told new.works → ((job : ℕ) → Shows new job (one_view_after old.number job (v job) e told))
-      → new.works.works ≡ line_left old.works.works (Own e) told ++ asked_now old.number v (own_of e told)
+  pub line_is : (e : Event) (response : Reply (List ℕ)) → IsLineAfter old.works e response new.works → ((job : ℕ) → Shows new job (one_view_after old.number job (v job) e response))
+      → new.works.works ≡ line_left old.works.works (Own e) response ++ asked_now old.number v (own_of e response)
   line_is (event.Admit job quota key) reply.Ok h after = same_line job (input.Begin quota) (own_shown job (input.Begin quota) (after job.0)) h
   line_is (event.Admit job quota key) _ h after = h ∙ sym (append-nil old.works.works)
   line_is (event.JobEnd job) reply.Ok h after = left_line job input.End (own_shown job input.End (after job.0)) (λ work. not (is_of job work)) h
   line_is (event.JobEnd job) _ h after = h ∙ sym (append-nil old.works.works)
-  line_is (event.Call job session c) told h after = called_line job (input.Call session c) (own_shown job (input.Call session c) (after job.0)) h
+  line_is (event.Call job session c) response h after = called_line job (input.Call session c) (own_shown job (input.Call session c) (after job.0)) h
   line_is (event.Requota job quota) reply.Ok h after = same_line job (input.Requota quota) (own_shown job (input.Requota quota) (after job.0)) h
   line_is (event.Requota job quota) _ h after = h ∙ sym (append-nil old.works.works)
   line_is event.Take (reply.Work work) h after =
@@ -255,13 +255,13 @@ module _ (old new : Hosted) (v : ℕ → View) (shows : ShowsAll old v) where
 
 -- ---- the step
 
-pub finish_answer : (old : Hosted) (v : ℕ → View) (e : Event) (told : Reply (List ℕ)) → IsEventAnswer old v e told → IsFinishAnswer (before_of old v) e told
-finish_answer old v (event.Admit job quota key) told is = refl
-finish_answer old v (event.JobEnd job) told is = refl
-finish_answer old v (event.Call job session c) told is = refl
-finish_answer old v (event.Requota job quota) told is = refl
-finish_answer old v event.Take told is = refl
-finish_answer old v (event.Finish job number a) told is = is
+pub finish_answer : (old : Hosted) (v : ℕ → View) (e : Event) (response : Reply (List ℕ)) → IsEventAnswer old v e response → IsFinishAnswer (before_of old v) e response
+finish_answer old v (event.Admit job quota key) response is = refl
+finish_answer old v (event.JobEnd job) response is = refl
+finish_answer old v (event.Call job session c) response is = refl
+finish_answer old v (event.Requota job quota) response is = refl
+finish_answer old v event.Take response is = refl
+finish_answer old v (event.Finish job number a) response is = is
 
 module _ (old new : Hosted) (e : Event) (given : RowGiven) (still : IsStill e given.reply) (h : NodeStepOne old e given new) where
   module _ (v : ℕ → View) (shows : ShowsAll old v) where
@@ -286,12 +286,12 @@ module _ (old new : Hosted) (e : Event) (given : RowGiven) (still : IsStill e gi
     answer : IsFinishAnswer before e given.reply
     answer = finish_answer old v e given.reply operator
 
-    told : IsGiven old.number v (own_due before (Own e) given.reply) (with_no_notes given)
-    told = subst (λ o. IsGiven old.number v o (with_no_notes given)) (sym (own_due_is before e given.reply answer)) (told_is (event_input_of e given.reply) (h.told (v (job_of_event e)) (shows (job_of_event e))))
+    response : IsGiven old.number v (own_due before (Own e) given.reply) (with_no_notes given)
+    response = subst (λ o. IsGiven old.number v o (with_no_notes given)) (sym (own_due_is before e given.reply answer)) (told_is (event_input_of e given.reply) (h.response (v (job_of_event e)) (shows (job_of_event e))))
 
     -- an answer is never that there is no memory
     never : wants_memory given.reply ≡ false
-    never = told_never old v old.number before e (with_no_notes given) operator told
+    never = told_never old v old.number before e (with_no_notes given) operator response
 
     inputs_are : (job : ℕ) → inputs_to before (Own e) given.reply job ≡ only_of job (option_to_list (own_of e given.reply))
     inputs_are job =
@@ -311,7 +311,7 @@ module _ (old new : Hosted) (e : Event) (given : RowGiven) (still : IsStill e gi
     from : NodeStepFrom old v (Own e) (with_no_notes given) new
     from = record {
       views = views;
-      told = told;
+      response = response;
       notes = sym (ap (judged_notes old.number v) (still.notes before));
       operator = operator;
       line = line;
@@ -320,7 +320,7 @@ module _ (old new : Hosted) (e : Event) (given : RowGiven) (still : IsStill e gi
   pub all_steps : NodeStep old (Own e) (with_no_notes given) new
   all_steps = record {
     number = h.number;
-    hands = h.hands ∙ sym (still.hands old.hands);
+    grants = h.grants ∙ sym (still.grants old.grants);
     admissions = h.admissions;
     lives = h.lives;
     each = from;
@@ -347,8 +347,8 @@ call_judged (event.Requota job quota) _ = refl
 call_judged event.Take _ = refl
 call_judged (event.Finish job number a) _ = refl
 
--- what moves hands may take memory
-pub moves_frugal : (node : Hosted) (e : Event) → moves_hands e ≡ true → needs_no_memory node e ≡ true → ⊥
+-- what moves grants may take memory
+pub moves_frugal : (node : Hosted) (e : Event) → moves_grants e ≡ true → needs_no_memory node e ≡ true → ⊥
 moves_frugal node (event.JobEnd job) moves frugal = absurd cc
 moves_frugal node (event.Call job session (command.Create id kind n)) moves frugal = absurd cc
 moves_frugal node (event.Call job session (command.Write id offset bytes)) moves frugal = absurd cc

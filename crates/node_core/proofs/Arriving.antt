@@ -14,7 +14,7 @@ use Rattle.private_store.specs.declared.inputs.Input.TheVariants as input
 use Rattle.private_store.specs.declared.inputs.Judged.{Judged}
 use Rattle.private_store.specs.declared.schedules.NodeEvent.TheVariants.{Arrive}
 use Rattle.private_store.specs.rules.Jobs.{same_job}
-use Rattle.private_store.specs.rules.Hands.{Hand}
+use Rattle.private_store.specs.rules.Grants.{StandingGrant}
 use Rattle.private_store.specs.rules.Events.{is_live, located, chunk_arrived, not_here_arrived, pull_arrived}
 use Rattle.private_store.specs.rules.Contents.{Contents, View, judge, source_in, chunk_verdict, pull_matches}
 use Rattle.private_store.specs.rules.Private.{view_step, view_from}
@@ -23,7 +23,7 @@ use Rattle.store_facts.proofs.Checks.{checked-true}
 use Rattle.spill_work.specs.Line.{WorkLine, IsSameFor, same_work_job as same_line_job}
 use Rattle.job_admission.specs.Admissions.{Admissions, live_at, lives_of}
 use Rattle.node_table.specs.Asked.{HasAsked}
-use Rattle.grants.specs.Table.{AreHands}
+use Rattle.grants.specs.Table.{AreGrants}
 use Rattle.node_table.specs.Row.{Row, beside_of}
 use Rattle.node_table.specs.Shown.{seen, IsShown, RowGiven, only, RowStep}
 use Rattle.node_core.specs.Hosted.{Hosted, IsRowView, IsViewBy, Shows, ShowsAll, empty_view, empty_shape, bytes_here, beside_at}
@@ -34,24 +34,24 @@ use Rattle.node_core.specs.Steps.{before_of, answer_of_check, stale_unless, aske
 use Rattle.node_core.proofs.AllJobs.{one_input, called_line, own_shown}
 use Rattle.node_core.proofs.Lines.{asked_nothing}
 use Rattle.node_core.proofs.Never.{stale_wants}
-use Rattle.node_core.proofs.Views.{Refuses, Takes, node_of, view_is, views_stepped, told_stepped, views_same, told_refused}
+use Rattle.node_core.proofs.Views.{Refuses, Takes, node_of, view_is, views_stepped, told_stepped, views_same, response_refused}
 
 -- a store that isn't live refuses it
-arrival_refuses : (number : ℕ) (a : Admissions) (line : WorkLine) (hands : List Hand) (job : JobNo) (x : Arrival) → Refuses number a line hands job (input.Arrive x) refl Stale
-arrival_refuses number a line hands job (arrival.Located id n entries) life beside dead =
+arrival_refuses : (number : ℕ) (a : Admissions) (line : WorkLine) (grants : List StandingGrant) (job : JobNo) (x : Arrival) → Refuses number a line grants job (input.Arrive x) refl Stale
+arrival_refuses number a line grants job (arrival.Located id n entries) life beside dead =
     let s = empty_shape job.0 life beside in checked-true s (not (is_live s)) Stale [] (located s id n (source_in number entries)) (ap not dead)
-arrival_refuses number a line hands job (arrival.FromPeer from (peer.Pull id n len digest indexes)) life beside dead =
+arrival_refuses number a line grants job (arrival.FromPeer from (peer.Pull id n len digest indexes)) life beside dead =
     let s = empty_shape job.0 life beside in checked-true s (not (is_live s)) Stale [] (pull_arrived [] s id (pull_matches (empty_view job.0 life beside) id len digest)) (ap not dead)
-arrival_refuses number a line hands job (arrival.FromPeer from (peer.Chunk id n index bytes)) life beside dead =
+arrival_refuses number a line grants job (arrival.FromPeer from (peer.Chunk id n index bytes)) life beside dead =
     let s = empty_shape job.0 life beside in checked-true s (not (is_live s)) Stale [] (chunk_arrived s id n index from (chunk_verdict (empty_view job.0 life beside) id n index bytes from)) (ap not dead)
-arrival_refuses number a line hands job (arrival.FromPeer from (peer.NotHere id n)) life beside dead =
+arrival_refuses number a line grants job (arrival.FromPeer from (peer.NotHere id n)) life beside dead =
     let s = empty_shape job.0 life beside in checked-true s (not (is_live s)) Stale [] (not_here_arrived s id n from) (ap not dead)
 
 -- what is told of the job's view and of the others' is the step of all of them
 module _ (old new : Hosted) (job : JobNo) (a : Arrival) (given : RowGiven)
-    (number : new.number ≡ old.number) (admissions : new.admissions ≡ old.admissions) (hands : new.hands ≡ old.hands)
+    (number : new.number ≡ old.number) (admissions : new.admissions ≡ old.admissions) (grants : new.grants ≡ old.grants)
     (views : (v : ℕ → View) → ShowsAll old v → (q : ℕ) → Shows new q (cond (q == job.0) (view_step old.number (v q) (input.Arrive a)).view (v q)))
-    (told : (view : View) → Shows old job.0 view → IsStepOf old.number view (input.Arrive a) given)
+    (response : (view : View) → Shows old job.0 view → IsStepOf old.number view (input.Arrive a) given)
     (asked : (v : ℕ → View) → ShowsAll old v → HasAsked old.works job new.works)
     (answer : given.reply ≡ answer_of_check (stale_unless (is_some (live_at old.admissions job)))) where
   abbrev x : Input
@@ -78,7 +78,7 @@ module _ (old new : Hosted) (job : JobNo) (a : Arrival) (given : RowGiven)
     from : NodeStepFrom old v (Arrive job a) (with_no_notes given) new
     from = record {
       views = λ q. subst (Shows new q) (sym (view_after q)) (views v shows q);
-      told = let t = told (v job.0) (shows job.0) in record { reply = t.reply; posts = t.posts; erased = t.erased };
+      response = let t = response (v job.0) (shows job.0) in record { reply = t.reply; posts = t.posts; erased = t.erased };
       notes = refl;
       operator = answer;
       line = line;
@@ -87,7 +87,7 @@ module _ (old new : Hosted) (job : JobNo) (a : Arrival) (given : RowGiven)
   arrival_steps : NodeStep old (Arrive job a) (with_no_notes given) new
   arrival_steps = record {
     number = number;
-    hands = hands;
+    grants = grants;
     admissions = admissions;
     lives = ap (λ a. lives_of a.live) admissions;
     each = from;
@@ -96,50 +96,50 @@ module _ (old new : Hosted) (job : JobNo) (a : Arrival) (given : RowGiven)
 -- ---- at a node
 
 -- a job that isn't live refuses the message
-module _ (number : ℕ) (a : Admissions) (line : WorkLine) (hands : List Hand) (job : JobNo) (x : Arrival) (rows : List (JobNo × Row)) (none : lookup (same_job job) rows ≡ None) (dead : is_some (live_at a job) ≡ false) where
+module _ (number : ℕ) (a : Admissions) (line : WorkLine) (grants : List StandingGrant) (job : JobNo) (x : Arrival) (rows : List (JobNo × Row)) (none : lookup (same_job job) rows ≡ None) (dead : is_some (live_at a job) ≡ false) where
   abbrev all : Hosted
-  all = node_of number a line hands rows
+  all = node_of number a line grants rows
 
   pub stale_steps : NodeStep all (Arrive job x) (with_no_notes (only (reply.Refused Stale))) all
   stale_steps =
-      let refuses = arrival_refuses number a line hands job x in
+      let refuses = arrival_refuses number a line grants job x in
       arrival_steps all all job x (only (reply.Refused Stale)) refl refl refl
-      (λ v shows q. views_same number a line hands job (input.Arrive x) refl rows none Stale refuses q (v q) (shows q))
-      (told_refused number a line hands job (input.Arrive x) refl rows none Stale refuses)
+      (λ v shows q. views_same number a line grants job (input.Arrive x) refl rows none Stale refuses q (v q) (shows q))
+      (response_refused number a line grants job (input.Arrive x) refl rows none Stale refuses)
       (λ v shows. asked_nothing line job)
       (ap (λ b. answer_of_check (stale_unless b)) (sym dead))
 
 -- a row that took the message
-module _ (number : ℕ) (a : Admissions) (line : WorkLine) (hands : List Hand) (table : AreHands hands) (job : JobNo) (x : Arrival) (old new : List (JobNo × Row)) (row after : Row) (works : WorkLine) (told : RowGiven)
+module _ (number : ℕ) (a : Admissions) (line : WorkLine) (grants : List StandingGrant) (table : AreGrants grants) (job : JobNo) (x : Arrival) (old new : List (JobNo × Row)) (row after : Row) (works : WorkLine) (response : RowGiven)
     (found : lookup (same_job job) old ≡ Some row)
     (updated : (q : JobNo) → lookup (same_job q) new ≡ cond (same_job job q) (Some after) (lookup (same_job q) old))
-    (took : (given : List Hand) (bytes : ObjectId → List ℕ) (contents : Contents) → IsShown row (beside_of line given bytes row.job) contents
-    → RowStep number row (beside_of line given bytes row.job) contents (input.Arrive x) told after (beside_of works given bytes row.job))
+    (took : (given : List StandingGrant) (bytes : ObjectId → List ℕ) (contents : Contents) → IsShown row (beside_of line given bytes row.job) contents
+    → RowStep number row (beside_of line given bytes row.job) contents (input.Arrive x) response after (beside_of works given bytes row.job))
     (asked : HasAsked line (record { 0 = row.job }) works)
     (others : (other : JobNo) → same_line_job (record { 0 = row.job }) other ≡ false → IsSameFor other line works)
     (live : is_some (live_at a job) ≡ true)
-    (is_ok : told.reply ≡ reply.Ok) where
+    (is_ok : response.reply ≡ reply.Ok) where
   abbrev at_first : Hosted
-  at_first = node_of number a line hands old
+  at_first = node_of number a line grants old
 
   abbrev afterwards : Hosted
-  afterwards = node_of number a works hands new
+  afterwards = node_of number a works grants new
 
   -- the row is the job's
   module _ (own : row.job ≡ job.0) where
-    obeys : Takes number job (input.Arrive x) hands (bytes_here old) row line told after works
-    obeys = subst (λ n. (contents : Contents) → row.job ≡ n → IsShown row (beside_of line hands (bytes_here old) n) contents
-        → RowStep number row (beside_of line hands (bytes_here old) n) contents (input.Arrive x) told after (beside_of works hands (bytes_here old) n)) own
-        (λ contents same shown. took hands (bytes_here old) contents shown)
+    obeys : Takes number job (input.Arrive x) grants (bytes_here old) row line response after works
+    obeys = subst (λ n. (contents : Contents) → row.job ≡ n → IsShown row (beside_of line grants (bytes_here old) n) contents
+        → RowStep number row (beside_of line grants (bytes_here old) n) contents (input.Arrive x) response after (beside_of works grants (bytes_here old) n)) own
+        (λ contents same shown. took grants (bytes_here old) contents shown)
 
     same_others : (other : JobNo) → same_line_job job other ≡ false → IsSameFor other line works
     same_others = subst (λ n. (other : JobNo) → same_line_job (record { 0 = n }) other ≡ false → IsSameFor other line works) own others
 
     views_after : (v : ℕ → View) → ShowsAll at_first v → (q : ℕ) → Shows afterwards q (cond (q == job.0) (view_step number (v q) (input.Arrive x)).view (v q))
-    views_after = views_stepped number a a refl line works hands table job (input.Arrive x) old new row after told found updated obeys same_others
+    views_after = views_stepped number a a refl line works grants table job (input.Arrive x) old new row after response found updated obeys same_others
 
-    told_after : (view : View) → Shows at_first job.0 view → IsStepOf number view (input.Arrive x) told
-    told_after = told_stepped number a a refl line works hands table job (input.Arrive x) old new row after told found updated obeys same_others
+    told_after : (view : View) → Shows at_first job.0 view → IsStepOf number view (input.Arrive x) response
+    told_after = told_stepped number a a refl line works grants table job (input.Arrive x) old new row after response found updated obeys same_others
 
     asked_after : HasAsked line job works
     asked_after = subst (λ n. HasAsked line (record { 0 = n }) works) own asked
@@ -147,9 +147,9 @@ module _ (number : ℕ) (a : Admissions) (line : WorkLine) (hands : List Hand) (
   own_row : (view : View) → Shows at_first job.0 view → row.job ≡ job.0
   own_row view h = (subst (IsViewBy a.greatest (beside_at at_first job.0) job.0 view) found h.by_row).own
 
-  pub row_steps : NodeStep at_first (Arrive job x) (with_no_notes told) afterwards
+  pub row_steps : NodeStep at_first (Arrive job x) (with_no_notes response) afterwards
   row_steps =
-      arrival_steps at_first afterwards job x told refl refl refl
+      arrival_steps at_first afterwards job x response refl refl refl
       (λ v shows q. views_after (own_row (v job.0) (shows job.0)) v shows q)
       (λ view h. told_after (own_row view h) view h)
       (λ v shows. asked_after (own_row (v job.0) (shows job.0)))
@@ -157,14 +157,14 @@ module _ (number : ℕ) (a : Admissions) (line : WorkLine) (hands : List Hand) (
 
   -- what it was to the job
   module _ (word : Judged)
-      (is : (given : List Hand) (bytes : ObjectId → List ℕ) (contents : Contents) → IsShown row (beside_of line given bytes row.job) contents
+      (is : (given : List StandingGrant) (bytes : ObjectId → List ℕ) (contents : Contents) → IsShown row (beside_of line given bytes row.job) contents
       → word ≡ judge number (seen row (beside_of line given bytes row.job) contents) (input.Arrive x)) where
-    pub row_judged : (view : View) → Shows at_first job.0 view → option_map (judge number view) (arrived x told.reply) ≡ Some word
+    pub row_judged : (view : View) → Shows at_first job.0 view → option_map (judge number view) (arrived x response.reply) ≡ Some word
     row_judged view h =
         let r : IsRowView row (beside_at at_first job.0) job.0 view = subst (IsViewBy a.greatest (beside_at at_first job.0) job.0 view) found h.by_row in
         let word_is : (contents : Contents) → IsShown row (beside_at at_first job.0) contents → word ≡ judge number (seen row (beside_at at_first job.0) contents) (input.Arrive x) =
-        subst (λ n. (contents : Contents) → IsShown row (beside_of line hands (bytes_here old) n) contents → word ≡ judge number (seen row (beside_of line hands (bytes_here old) n) contents) (input.Arrive x))
-        r.own (is hands (bytes_here old)) in
+        subst (λ n. (contents : Contents) → IsShown row (beside_of line grants (bytes_here old) n) contents → word ≡ judge number (seen row (beside_of line grants (bytes_here old) n) contents) (input.Arrive x))
+        r.own (is grants (bytes_here old)) in
         ap (λ t. option_map (judge number view) (arrived x t)) is_ok
         ∙ ap (λ v. Some (judge number v (input.Arrive x))) (view_is row (beside_at at_first job.0) job.0 view r)
         ∙ sym (ap Some (word_is view.contents r.shown))

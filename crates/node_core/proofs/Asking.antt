@@ -6,7 +6,7 @@ use Rattle.obj_id.specs.declared.ids.JobNo.{JobNo}
 use Rattle.obj_id.specs.declared.ids.ObjectId.{ObjectId}
 use Rattle.obj_id.specs.declared.commands.Usage.{Usage}
 use Rattle.obj_id.specs.declared.refusals.Refusal.TheVariants.{NotAdmitted, NotGranted}
-use Rattle.private_store.specs.rules.Hands.{Hand}
+use Rattle.private_store.specs.rules.Grants.{StandingGrant}
 use Rattle.private_store.specs.rules.Jobs.{same_job}
 use Rattle.private_store.specs.rules.Shape.{Shape}
 use Rattle.private_store.specs.rules.Events.{is_live}
@@ -31,9 +31,9 @@ module _ (node : Hosted) (job : JobNo) (row : Row) (found : row_at node job ≡ 
   pub row_shown : IsRowView row beside job.0 view
   row_shown = subst (IsViewBy node.admissions.greatest beside job.0 view) found h.by_row
 
-  pub usage_told : (told : Usage) → ((hands : List Hand) (bytes : ObjectId → List ℕ) (contents : Contents) → IsShown row (beside_of node.works hands bytes row.job) contents → told ≡ usage_of (shape_of row (beside_of node.works hands bytes row.job))) → told ≡ usage_of view.shape
-  usage_told told is =
-      is node.hands (bytes_here node.rows) view.contents (subst (λ n. IsShown row (beside_at node n) view.contents) (sym row_shown.own) row_shown.shown)
+  pub usage_told : (response : Usage) → ((grants : List StandingGrant) (bytes : ObjectId → List ℕ) (contents : Contents) → IsShown row (beside_of node.works grants bytes row.job) contents → response ≡ usage_of (shape_of row (beside_of node.works grants bytes row.job))) → response ≡ usage_of view.shape
+  usage_told response is =
+      is node.grants (bytes_here node.rows) view.contents (subst (λ n. IsShown row (beside_at node n) view.contents) (sym row_shown.own) row_shown.shown)
       ∙ ap usage_of (ap (λ n. shape_of row (beside_at node n)) row_shown.own ∙ sym row_shown.shape)
 
   live_shape : is_live view.shape ≡ true

@@ -19,7 +19,7 @@ use Rattle.store_facts.proofs.Tests.{true_false}
 use Rattle.spill_work.specs.Line.{WorkLine}
 use Rattle.node_core.specs.Calls.{is_of_row, is_own, is_plain}
 use Rattle.node_core.specs.Hosted.{Hosted}
-use Rattle.node_core.specs.MemoryLast.{hands_check, IsRoomDue}
+use Rattle.node_core.specs.MemoryLast.{grants_check, IsRoomDue}
 
 module _ (node job : ℕ) (row : Row) (beside : SharedTables) (session : ℕ) (contents : Contents) (own : row.job ≡ job) (h : IsShown row beside contents) where
   foreign_is : (id : ObjectId) (c : Command (List ℕ)) (d : Change) → (id.job.0 == job) ≡ false → commanded row.order (shape_of row beside) session (without_payload c) ≡ owned (shape_of row beside) id d
@@ -53,12 +53,12 @@ plain_waits_not node row line (command.Create id kind n) plain = true_false plai
 plain_waits_not node row line (command.Get id) plain = true_false plain
 plain_waits_not node row line _ plain = tt
 
--- no hand stands against a command that a row carries out
-pub row_by_hands : (node : Hosted) (row : Row) (job : ℕ) (c : Command (List ℕ)) → is_of_row c ≡ true → hands_check node row job c ≡ None
-row_by_hands node row job (command.Grant id target) of_row = true_false of_row
-row_by_hands node row job (command.Withdraw id target) of_row = true_false of_row
-row_by_hands node row job (command.Peek id offset n) of_row = true_false of_row
-row_by_hands node row job _ of_row = refl
+-- no grant stands against a command that a row carries out
+pub row_by_grants : (node : Hosted) (row : Row) (job : ℕ) (c : Command (List ℕ)) → is_of_row c ≡ true → grants_check node row job c ≡ None
+row_by_grants node row job (command.Grant id target) of_row = true_false of_row
+row_by_grants node row job (command.Withdraw id target) of_row = true_false of_row
+row_by_grants node row job (command.Peek id offset n) of_row = true_false of_row
+row_by_grants node row job _ of_row = refl
 
 -- what follows from a result follows where there is one
 pub if_ok : {X : Type 0} {E : Type 0} {P Q : X → Type 0} (r : Result X E) → IfOk r P → ((x : X) → P x → Q x) → IfOk r Q

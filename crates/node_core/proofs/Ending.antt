@@ -24,15 +24,15 @@ use Rattle.private_store.specs.rules.Change.{sending, erasing}
 use Rattle.private_store.specs.rules.Events.{end_job_here, over}
 use Rattle.private_store.specs.rules.Step.{step}
 use Rattle.private_store.specs.rules.Contents.{Contents, View, kept}
-use Rattle.private_store.specs.rules.Hands.{Hand, hands_ended, hands_left, is_given_by}
-use Rattle.private_store.specs.laws.Invariants.{has_hand}
+use Rattle.private_store.specs.rules.Grants.{StandingGrant, grants_ended, grants_left, is_given_by}
+use Rattle.private_store.specs.laws.Invariants.{has_grant}
 use Rattle.private_store.specs.rules.Private.{view_step, outcome, to_directory, no_contents}
 use Rattle.private_store.specs.rules.Shared.{job_is}
 use Rattle.store_facts.proofs.Checks.{checked-nil, checked-false}
 use Rattle.store_facts.proofs.Tests.{true_false, both, both_left, both_right}
 use Rattle.spill_work.specs.Line.{WorkLine, Drops, is_of as is_of_line}
-use Rattle.grants.specs.Table.{AreHands}
-use Rattle.grants.proofs.ForCallers.{left_are_hands}
+use Rattle.grants.specs.Table.{AreGrants}
+use Rattle.grants.proofs.ForCallers.{left_are_grants}
 use Rattle.job_admission.specs.Admissions.{Admissions, live_at, lives_of, finished}
 use Rattle.node_table.specs.Granting.{row_bytes}
 use Rattle.node_table.specs.Notes.{beside_rest}
@@ -41,7 +41,7 @@ use Rattle.node_table.specs.Shown.{seen, only, IsShown, RowGiven}
 use Rattle.node_table.proofs.ForCallers.{sorted-copies, keys-backed, is_of, none_given, rest_of_job, kept_as_they_are}
 use Rattle.node_table.specs.Ending.{keys_backed}
 use Rattle.node_core.proofs.Granted.{own_gave}
-use Rattle.node_core.proofs.HandsEnd.{ended_shows, ended_inputs, ends_judged}
+use Rattle.node_core.proofs.GrantsEnd.{ended_shows, ended_inputs, ends_judged}
 use Rattle.node_core.specs.Hosted.{Hosted, AreHosted, IsHosted, IsRowView, IsBare, IsViewBy, Shows, ShowsAll, empty_view, bytes_here, beside_at}
 use Rattle.node_core.specs.JobEnds.{IsOwnEnd, LetsJobGo}
 use Rattle.node_core.specs.OneJob.{IsStepOf}
@@ -142,34 +142,34 @@ module _ (number : ℕ) (row : Row) (beside : SharedTables) (contents : Contents
 pub end_refused : (node : Hosted) (job : JobNo) → is_some (live_at node.admissions job) ≡ false → NodeStep node (Own (event.JobEnd job)) (with_no_notes (only (reply.Refused NotAdmitted))) node
 end_refused node job none = record {
   number = refl;
-  hands = refl;
+  grants = refl;
   admissions = refl;
   lives = refl;
   each = λ v shows. record {
     views = shows;
-    told = record { posts = refl; erased = refl };
+    response = record { posts = refl; erased = refl };
     notes = refl;
     operator = sym (ap (λ t. answer_of_check (cond t None (Some NotAdmitted))) none);
     line = sym (append-nil node.works.works);
   };
 }
 
-module _ (number : ℕ) (a b : Admissions) (line after_line : WorkLine) (hands : List Hand) (table : AreHands hands) (job : JobNo) (old new : List (JobNo × Row))
+module _ (number : ℕ) (a b : Admissions) (line after_line : WorkLine) (grants : List StandingGrant) (table : AreGrants grants) (job : JobNo) (old new : List (JobNo × Row))
     (kept : AreHosted a old) (is_live : is_some (live_at a job) ≡ true) (is : b ≡ finished a job) (drops : Drops line job after_line)
     (updated : (q : JobNo) → lookup (same_job q) new ≡ cond (same_job job q) None (lookup (same_job q) old))
     (lives : lives_of b.live ≡ filter (λ live. not (job_is job.0 live)) (lives_of a.live))
     (own_row : Row) (found : lookup (same_job job) old ≡ Some own_row) (erased : List DeviceKey) (keys : erased ≡ keys_backed own_row (ids_of own_row.copies)) where
-  abbrev test : Hand → Bool
+  abbrev test : StandingGrant → Bool
   test = is_given_by job.0
 
-  abbrev left : List Hand
-  left = hands_left test hands
+  abbrev left : List StandingGrant
+  left = grants_left test grants
 
-  abbrev ended_hands : List Hand
-  ended_hands = hands_ended test hands
+  abbrev ended_grants : List StandingGrant
+  ended_grants = grants_ended test grants
 
   abbrev before : Hosted
-  before = node_of number a line hands old
+  before = node_of number a line grants old
 
   abbrev after : Hosted
   after = node_of number b after_line left new
@@ -183,12 +183,12 @@ module _ (number : ℕ) (a b : Admissions) (line after_line : WorkLine) (hands :
   row_view : (view : View) → Shows before job.0 view → IsRowView own_row (beside_at before job.0) job.0 view
   row_view view h = subst (IsViewBy a.greatest (beside_at before job.0) job.0 view) found h.by_row
 
-  -- no hand is left of an object of the job
+  -- no grant is left of an object of the job
   none_of_job : (id : ObjectId) → list_any (is_of id) left ≡ true → same_job job id.job ≡ true → false ≡ true
   none_of_job id there same =
       let jobs : id.job.0 ≡ job.0 = sym (eqb-true job.0 id.job.0 same) in
-      let gave : has_hand (row_given_by left job.0) id ≡ true = subst (λ n. has_hand (row_given_by left n) id ≡ true) jobs (own_gave left (left_are_hands test hands table) id there) in
-      ap (λ given. has_hand given id) (sym (none_given hands (bytes_here old) test table number job.0 ended (rest_of_job hands (bytes_here old) job.0))) ∙ gave
+      let gave : has_grant (row_given_by left job.0) id ≡ true = subst (λ n. has_grant (row_given_by left n) id ≡ true) jobs (own_gave left (left_are_grants test grants table) id there) in
+      ap (λ given. has_grant given id) (sym (none_given grants (bytes_here old) test table number job.0 ended (rest_of_job grants (bytes_here old) job.0))) ∙ gave
 
   rows_other : (q : JobNo) → same_job job q ≡ false → lookup (same_job q) new ≡ lookup (same_job q) old
   rows_other q e = updated q ∙ ap (λ t. cond t None (lookup (same_job q) old)) e
@@ -207,8 +207,8 @@ module _ (number : ℕ) (a b : Admissions) (line after_line : WorkLine) (hands :
     r : IsRowView own_row (beside_at before job.0) job.0 (v job.0)
     r = row_view (v job.0) (shows job.0)
 
-    -- after the own step, before it is told of ends
-    left_bare : IsBare a.greatest (beside_rest after_line test hands (bytes_here old) job.0) job.0 (view_step number (v job.0) input.End).view
+    -- after the own step, before it is notified of ends
+    left_bare : IsBare a.greatest (beside_rest after_line test grants (bytes_here old) job.0) job.0 (view_step number (v job.0) input.End).view
     left_bare = record {
       life = ended;
       is = ap (λ w. (view_step number w input.End).view) (view_is own_row (beside_at before job.0) job.0 (v job.0) r)
@@ -217,12 +217,12 @@ module _ (number : ℕ) (a b : Admissions) (line after_line : WorkLine) (hands :
       fresh = λ above. absurd (grind (arith, nat_tests, not_above, above));
       works = drops.own_works;
       used = drops.own_used;
-      given = rest_of_job hands (bytes_here old) job.0;
+      given = rest_of_job grants (bytes_here old) job.0;
     }
 
-    own_left : IsViewBy a.greatest (beside_rest after_line test hands (bytes_here old) job.0) job.0 (view_step number (v job.0) input.End).view (lookup (same_job job) new)
+    own_left : IsViewBy a.greatest (beside_rest after_line test grants (bytes_here old) job.0) job.0 (view_step number (v job.0) input.End).view (lookup (same_job job) new)
     own_left =
-        subst (IsViewBy a.greatest (beside_rest after_line test hands (bytes_here old) job.0) job.0 (view_step number (v job.0) input.End).view)
+        subst (IsViewBy a.greatest (beside_rest after_line test grants (bytes_here old) job.0) job.0 (view_step number (v job.0) input.End).view)
         (sym (updated job ∙ ap (λ t. cond t None (lookup (same_job job) old)) (itself job))) left_bare
 
     told_end : IsStepOf number (v job.0) input.End (record { reply = reply.Ok; posts = to_directory (EndJob number); erased = erased })
@@ -236,21 +236,21 @@ module _ (number : ℕ) (a b : Admissions) (line after_line : WorkLine) (hands :
         ∙ end_works number own_row (beside_at before job.0) (v job.0).contents r.shown
 
   abbrev pub given : NodeGiven
-  given = record { reply = reply.Ok; posts = to_directory (EndJob number); erased = erased; notes = map end_noted ended_hands }
+  given = record { reply = reply.Ok; posts = to_directory (EndJob number); erased = erased; notes = map end_noted ended_grants }
 
   pub end_steps : NodeStep before (Own (event.JobEnd job)) given after
   end_steps = record {
     number = refl;
-    hands = refl;
+    grants = refl;
     admissions = is;
     lives = lives;
     each = λ v shows.
-        let told = told_end v shows in
+        let response = told_end v shows in
         record {
-          views = λ q. subst (Shows after q) (sym (ended_inputs number job.0 input.End ended_hands q (v q)))
-              (ended_shows number a b low line after_line hands table test job input.End old new (λ hand e. e) rows_other drops.others bytes_left v shows (own_left v shows) q);
-          told = record { reply = told.reply; posts = told.posts; erased = told.erased };
-          notes = ends_judged number v ended_hands;
+          views = λ q. subst (Shows after q) (sym (ended_inputs number job.0 input.End ended_grants q (v q)))
+              (ended_shows number a b low line after_line grants table test job input.End old new (λ grant e. e) rows_other drops.others bytes_left v shows (own_left v shows) q);
+          response = record { reply = response.reply; posts = response.posts; erased = response.erased };
+          notes = ends_judged number v ended_grants;
           operator = sym (ap (λ t. answer_of_check (cond t None (Some NotAdmitted))) is_live);
           line = drops.works ∙ sym (append-nil (filter (λ work. not (is_of_line job work)) line.works))
               ∙ ap (λ ws. filter (λ work. not (is_of_line job work)) line.works ++ queued job.0 ws) (sym (no_works v shows));
@@ -258,13 +258,13 @@ module _ (number : ℕ) (a b : Admissions) (line after_line : WorkLine) (hands :
   }
 
 -- from what it gives and what it leaves
-pub job_ends : (old new : Hosted) (job : JobNo) (own : RowGiven) → IsHosted old.admissions old.hands old.rows → is_some (live_at old.admissions job) ≡ true → IsOwnEnd old job own → LetsJobGo old job new
-    → NodeStep old (Own (event.JobEnd job)) (with_ends own (hands_ended (is_given_by job.0) old.hands)) new
+pub job_ends : (old new : Hosted) (job : JobNo) (own : RowGiven) → IsHosted old.admissions old.grants old.rows → is_some (live_at old.admissions job) ≡ true → IsOwnEnd old job own → LetsJobGo old job new
+    → NodeStep old (Own (event.JobEnd job)) (with_ends own (grants_ended (is_given_by job.0) old.grants)) new
 job_ends old new job own hosted is_live gives leaves =
-    let at_end : new ≡ node_of old.number new.admissions new.works (hands_left (is_given_by job.0) old.hands) new.rows = λ i. node_of (leaves.number i) new.admissions new.works (leaves.hands i) new.rows in
-    subst (λ (n : Hosted). NodeStep old (Own (event.JobEnd job)) (with_ends own (hands_ended (is_given_by job.0) old.hands)) n) (sym at_end)
-    (subst (λ (given : RowGiven). NodeStep old (Own (event.JobEnd job)) (with_ends given (hands_ended (is_given_by job.0) old.hands)) (node_of old.number new.admissions new.works (hands_left (is_given_by job.0) old.hands) new.rows)) (sym gives.is)
-    (end_steps old.number old.admissions new.admissions old.works new.works old.hands hosted.table job old.rows new.rows hosted.jobs is_live leaves.admissions leaves.works leaves.rows leaves.lives
+    let at_end : new ≡ node_of old.number new.admissions new.works (grants_left (is_given_by job.0) old.grants) new.rows = λ i. node_of (leaves.number i) new.admissions new.works (leaves.grants i) new.rows in
+    subst (λ (n : Hosted). NodeStep old (Own (event.JobEnd job)) (with_ends own (grants_ended (is_given_by job.0) old.grants)) n) (sym at_end)
+    (subst (λ (given : RowGiven). NodeStep old (Own (event.JobEnd job)) (with_ends given (grants_ended (is_given_by job.0) old.grants)) (node_of old.number new.admissions new.works (grants_left (is_given_by job.0) old.grants) new.rows)) (sym gives.is)
+    (end_steps old.number old.admissions new.admissions old.works new.works old.grants hosted.table job old.rows new.rows hosted.jobs is_live leaves.admissions leaves.works leaves.rows leaves.lives
     gives.row gives.found (keys_backed gives.row (ids_of gives.row.copies)) refl))
 
 -- a live job has a row

@@ -8,7 +8,7 @@ use Rattle.std.specs.Option.{option_map_or}
 use Rattle.std.proofs.lemmas.Map.{keys-set_value}
 use Rattle.obj_id.specs.declared.ids.JobNo.{JobNo}
 use Rattle.private_store.specs.rules.Contents.{View}
-use Rattle.private_store.specs.rules.Hands.{Hand}
+use Rattle.private_store.specs.rules.Grants.{StandingGrant}
 use Rattle.private_store.specs.rules.Jobs.{same_job}
 use Rattle.spill_work.specs.Line.{WorkLine}
 use Rattle.job_admission.specs.declared.Live.{Live}
@@ -42,8 +42,8 @@ module _ (a : Admissions) (job : JobNo) where
   }
 
 -- the live jobs' counts are in no view
-pub entered_shows : (number : ℕ) (a b : Admissions) (line : WorkLine) (hands : List Hand) (rows : List (JobNo × Row)) → b.greatest ≡ a.greatest → (q : ℕ) (view : View)
-    → Shows (node_of number b line hands rows) q view ↔ Shows (node_of number a line hands rows) q view
-entered_shows number a b line hands rows same q view =
-    let by_greatest : ℕ → Type 0 = λ g. IsViewBy g (beside_at (node_of number a line hands rows) q) q view (lookup (same_job (record { 0 = q })) rows) in
+pub entered_shows : (number : ℕ) (a b : Admissions) (line : WorkLine) (grants : List StandingGrant) (rows : List (JobNo × Row)) → b.greatest ≡ a.greatest → (q : ℕ) (view : View)
+    → Shows (node_of number b line grants rows) q view ↔ Shows (node_of number a line grants rows) q view
+entered_shows number a b line grants rows same q view =
+    let by_greatest : ℕ → Type 0 = λ g. IsViewBy g (beside_at (node_of number a line grants rows) q) q view (lookup (same_job (record { 0 = q })) rows) in
     (λ h. record { by_row = subst by_greatest same h.by_row }, λ h. record { by_row = subst by_greatest (sym same) h.by_row })

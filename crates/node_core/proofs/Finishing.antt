@@ -18,7 +18,7 @@ use Rattle.private_store.specs.declared.inputs.WorkVerdict.{WorkVerdict}
 use Rattle.private_store.specs.declared.inputs.WorkVerdict.TheVariants as work
 use Rattle.private_store.specs.declared.schedules.Event.{Event}
 use Rattle.private_store.specs.declared.schedules.Event.TheVariants as event
-use Rattle.private_store.specs.rules.Hands.{Hand}
+use Rattle.private_store.specs.rules.Grants.{StandingGrant}
 use Rattle.private_store.specs.rules.Jobs.{same_job}
 use Rattle.private_store.specs.rules.Tables.{at}
 use Rattle.private_store.specs.rules.Shape.{Copy, Shape, Change, WorkInFlight}
@@ -31,7 +31,7 @@ use Rattle.store_facts.proofs.Tests.{true_false, none_some}
 use Rattle.spill_work.specs.declared.queue.Queued.{Queued}
 use Rattle.spill_work.specs.Line.{WorkLine, IsSameFor, same_work_job as same_line_job, shown, is_of, is_at, finish_check}
 use Rattle.job_admission.specs.Admissions.{Admissions}
-use Rattle.grants.specs.Table.{AreHands}
+use Rattle.grants.specs.Table.{AreGrants}
 use Rattle.node_table.specs.Row.{Row, SharedTables, beside_of, shape_of}
 use Rattle.node_table.specs.Shown.{seen, IsShown, RowGiven, only, RowStep}
 use Rattle.node_table.proofs.ForCallers.{copy_at_work, at-copies_found}
@@ -170,7 +170,7 @@ same_view q job old view h = by (q == job)
     by true = h
     by false = h
 
-module _ (nodeno : ℕ) (a : Admissions) (line : WorkLine) (hands : List Hand) (job : JobNo) (number : ℕ) (answer : DeviceAnswer) where
+module _ (nodeno : ℕ) (a : Admissions) (line : WorkLine) (grants : List StandingGrant) (job : JobNo) (number : ℕ) (answer : DeviceAnswer) where
   abbrev x : Input
   x = input.Answer number answer
 
@@ -179,7 +179,7 @@ module _ (nodeno : ℕ) (a : Admissions) (line : WorkLine) (hands : List Hand) (
 
   module _ (rows : List (JobNo × Row)) (none : lookup (same_job job) rows ≡ None) where
     abbrev without : Hosted
-    without = node_of nodeno a line hands rows
+    without = node_of nodeno a line grants rows
 
     none_at : (view : View) → Shows without job.0 view → is_taken line.works job.0 number ≡ false
     none_at view h =
@@ -190,39 +190,39 @@ module _ (nodeno : ℕ) (a : Admissions) (line : WorkLine) (hands : List Hand) (
     stale_steps = record {
       number = refl;
       views = λ v shows q. same_view q job.0 without (v q) (shows q);
-      told = λ view h. record { posts = refl; erased = refl };
+      response = λ view h. record { posts = refl; erased = refl };
       operator = refl;
       by_views = λ v shows. sym (ap (λ t. answer_of_check (stale_unless t)) (none_at (v job.0) (shows job.0)));
       admissions = refl;
       lives = refl;
       line = λ v shows. untaken_stay job number line.works (none_at (v job.0) (shows job.0));
-      hands = refl;
+      grants = refl;
     }
 
   -- ---- a live job
 
   -- what is told of the row and the line, where the row's job is of this number
-  pub record Finished (row after : Row) (works : WorkLine) (told : RowGiven) (verdict : WorkVerdict) (n : ℕ) : Type 0 where
-    pub step : finish_check line (record { 0 = n }) number ≡ None → (bytes : ObjectId → List ℕ) (contents : Contents) → IsShown row (beside_of line hands bytes n) contents
-        → RowStep nodeno row (beside_of line hands bytes n) contents x told after (beside_of works hands bytes n)
-    pub judged : finish_check line (record { 0 = n }) number ≡ None → (bytes : ObjectId → List ℕ) (contents : Contents) → IsShown row (beside_of line hands bytes n) contents
-        → verdict ≡ work_verdict (seen row (beside_of line hands bytes n) contents) number answer
+  pub record Finished (row after : Row) (works : WorkLine) (response : RowGiven) (verdict : WorkVerdict) (n : ℕ) : Type 0 where
+    pub step : finish_check line (record { 0 = n }) number ≡ None → (bytes : ObjectId → List ℕ) (contents : Contents) → IsShown row (beside_of line grants bytes n) contents
+        → RowStep nodeno row (beside_of line grants bytes n) contents x response after (beside_of works grants bytes n)
+    pub judged : finish_check line (record { 0 = n }) number ≡ None → (bytes : ObjectId → List ℕ) (contents : Contents) → IsShown row (beside_of line grants bytes n) contents
+        → verdict ≡ work_verdict (seen row (beside_of line grants bytes n) contents) number answer
     pub line_is : finish_check line (record { 0 = n }) number ≡ None → works ≡ record line { works = filter (λ work. not (is_at (record { 0 = n }) number work)) line.works }
     pub others : (other : JobNo) → same_line_job (record { 0 = n }) other ≡ false → IsSameFor other line works
-    pub stale : (r : Refusal) → finish_check line (record { 0 = n }) number ≡ Some r → told ≡ only (reply.Refused Stale)
+    pub stale : (r : Refusal) → finish_check line (record { 0 = n }) number ≡ Some r → response ≡ only (reply.Refused Stale)
     pub same : (r : Refusal) → finish_check line (record { 0 = n }) number ≡ Some r → after ≡ row
     pub same_line : (r : Refusal) → finish_check line (record { 0 = n }) number ≡ Some r → works ≡ line
 
-  module _ (table : AreHands hands) (old new : List (JobNo × Row)) (row after : Row) (works : WorkLine) (told : RowGiven) (verdict : WorkVerdict)
+  module _ (table : AreGrants grants) (old new : List (JobNo × Row)) (row after : Row) (works : WorkLine) (response : RowGiven) (verdict : WorkVerdict)
       (found : lookup (same_job job) old ≡ Some row)
       (updated : (q : JobNo) → lookup (same_job q) new ≡ cond (same_job job q) (Some after) (lookup (same_job q) old))
       (new_is : new ≡ set_value (same_job job) old after)
-      (finished : Finished row after works told verdict row.job) where
+      (finished : Finished row after works response verdict row.job) where
     abbrev node_old : Hosted
-    node_old = node_of nodeno a line hands old
+    node_old = node_of nodeno a line grants old
 
     abbrev node_new : Hosted
-    node_new = node_of nodeno a works hands new
+    node_new = node_of nodeno a works grants new
 
     abbrev beside : SharedTables
     beside = beside_at node_old job.0
@@ -235,8 +235,8 @@ module _ (nodeno : ℕ) (a : Admissions) (line : WorkLine) (hands : List Hand) (
       r : IsRowView row beside job.0 view
       r = subst (IsViewBy a.greatest beside job.0 view) found h.by_row
 
-      f : Finished row after works told verdict job.0
-      f = subst (Finished row after works told verdict) r.own finished
+      f : Finished row after works response verdict job.0
+      f = subst (Finished row after works response verdict) r.own finished
 
       few : length (filter (is_at job number) line.works) ≤ 1
       few = let n = one_each job number line.works in let one = r.shown.kept.kept.shape.one_number number in omega (arith, n, one)
@@ -252,7 +252,7 @@ module _ (nodeno : ℕ) (a : Admissions) (line : WorkLine) (hands : List Hand) (
 
       untouched : taken ≡ false → node_new ≡ node_old
       untouched is =
-          (λ i. node_of nodeno a (f.same_line Stale (failed is) i) hands ((new_is ∙ ap (set_value (same_job job) old) (f.same Stale (failed is)) ∙ set_value_same (same_job job) old row found) i))
+          (λ i. node_of nodeno a (f.same_line Stale (failed is) i) grants ((new_is ∙ ap (set_value (same_job job) old) (f.same Stale (failed is)) ∙ set_value_same (same_job job) old row found) i))
 
       step_ok : taken ≡ true → (view_step nodeno (seen row beside view.contents) x).reply ≡ reply.Ok
       step_ok is =
@@ -262,26 +262,26 @@ module _ (nodeno : ℕ) (a : Admissions) (line : WorkLine) (hands : List Hand) (
           ap (whole_reply (seen row beside view.contents) x)
           (answer_ok (shape_of row beside) number (work_verdict (seen row beside view.contents) number answer) (shown w.0.asked) k.0.copy flying (at-copies_found row.copies w.0.asked.id k.0 k.1))
 
-      told_ok : taken ≡ true → told.reply ≡ reply.Ok
-      told_ok is = (f.step (passed is) (bytes_here old) view.contents r.shown).reply ∙ step_ok is
+      response_ok : taken ≡ true → response.reply ≡ reply.Ok
+      response_ok is = (f.step (passed is) (bytes_here old) view.contents r.shown).reply ∙ step_ok is
 
-      told_stale : taken ≡ false → told ≡ only (reply.Refused Stale)
+      told_stale : taken ≡ false → response ≡ only (reply.Refused Stale)
       told_stale is = f.stale Stale (failed is)
 
-      reply_is : told.reply ≡ answer_of_check (stale_unless taken)
+      reply_is : response.reply ≡ answer_of_check (stale_unless taken)
       reply_is = by taken refl
         where
-          by : (t : Bool) → taken ≡ t → told.reply ≡ answer_of_check (stale_unless t)
-          by true is = told_ok is
+          by : (t : Bool) → taken ≡ t → response.reply ≡ answer_of_check (stale_unless t)
+          by true is = response_ok is
           by false is = ap (λ g. g.reply) (told_stale is)
 
-      given : IsGiven nodeno view (event_input_of e told.reply) told
+      given : IsGiven nodeno view (event_input_of e response.reply) response
       given = by taken refl
         where
-          by : (t : Bool) → taken ≡ t → IsGiven nodeno view (event_input_of e told.reply) told
+          by : (t : Bool) → taken ≡ t → IsGiven nodeno view (event_input_of e response.reply) response
           by true is =
-              subst (λ g. IsGiven nodeno view (event_input_of e g) told) (sym (told_ok is))
-              (told_stepped nodeno a a refl line works hands table job x old new row after told found updated (λ contents own shown. f.step (passed is) (bytes_here old) contents shown) f.others view h)
+              subst (λ g. IsGiven nodeno view (event_input_of e g) response) (sym (response_ok is))
+              (told_stepped nodeno a a refl line works grants table job x old new row after response found updated (λ contents own shown. f.step (passed is) (bytes_here old) contents shown) f.others view h)
           by false is = subst (λ g. IsGiven nodeno view (event_input_of e g.reply) g) (sym (told_stale is)) (record { posts = refl; erased = refl })
 
       line_left : works.works ≡ filter (left_by job number) line.works
@@ -292,39 +292,39 @@ module _ (nodeno : ℕ) (a : Admissions) (line : WorkLine) (hands : List Hand) (
           by false is = ap (λ (l : WorkLine). l.works) (f.same_line Stale (failed is)) ∙ untaken_stay job number line.works is
 
       -- what it was to the job
-      pub finish_judged : option_map (judge nodeno view) (event_input_of e told.reply) ≡ if_ok told.reply (judged.Answer number verdict)
+      pub finish_judged : option_map (judge nodeno view) (event_input_of e response.reply) ≡ if_ok response.reply (judged.Answer number verdict)
       finish_judged = by taken refl
         where
-          by : (t : Bool) → taken ≡ t → option_map (judge nodeno view) (event_input_of e told.reply) ≡ if_ok told.reply (judged.Answer number verdict)
+          by : (t : Bool) → taken ≡ t → option_map (judge nodeno view) (event_input_of e response.reply) ≡ if_ok response.reply (judged.Answer number verdict)
           by true is =
-              subst (λ g. option_map (judge nodeno view) (event_input_of e g) ≡ if_ok g (judged.Answer number verdict)) (sym (told_ok is))
+              subst (λ g. option_map (judge nodeno view) (event_input_of e g) ≡ if_ok g (judged.Answer number verdict)) (sym (response_ok is))
               (ap (λ v. Some (judged.Answer number v)) (ap (λ v. work_verdict v number answer) (view_is row beside job.0 view r) ∙ sym (f.judged (passed is) (bytes_here old) view.contents r.shown)))
           by false is = subst (λ g. option_map (judge nodeno view) (event_input_of e g.reply) ≡ if_ok g.reply (judged.Answer number verdict)) (sym (told_stale is)) refl
 
-    views : (v : ℕ → View) → ShowsAll node_old v → (q : ℕ) → Shows node_new q (cond (q == job.0) (view_by nodeno (v q) (event_input_of e told.reply)) (v q))
+    views : (v : ℕ → View) → ShowsAll node_old v → (q : ℕ) → Shows node_new q (cond (q == job.0) (view_by nodeno (v q) (event_input_of e response.reply)) (v q))
     views v shows q = by taken refl
       where
         own : Shows node_old job.0 (v job.0)
         own = shows job.0
 
-        by : (t : Bool) → taken ≡ t → Shows node_new q (cond (q == job.0) (view_by nodeno (v q) (event_input_of e told.reply)) (v q))
+        by : (t : Bool) → taken ≡ t → Shows node_new q (cond (q == job.0) (view_by nodeno (v q) (event_input_of e response.reply)) (v q))
         by true is =
             let f = f (v job.0) own in
-            subst (λ g. Shows node_new q (cond (q == job.0) (view_by nodeno (v q) (event_input_of e g)) (v q))) (sym (told_ok (v job.0) own is))
-            (views_stepped nodeno a a refl line works hands table job x old new row after told found updated (λ contents at shown. f.step (passed (v job.0) own is) (bytes_here old) contents shown) f.others v shows q)
+            subst (λ g. Shows node_new q (cond (q == job.0) (view_by nodeno (v q) (event_input_of e g)) (v q))) (sym (response_ok (v job.0) own is))
+            (views_stepped nodeno a a refl line works grants table job x old new row after response found updated (λ contents at shown. f.step (passed (v job.0) own is) (bytes_here old) contents shown) f.others v shows q)
         by false is =
             subst (λ g. Shows node_new q (cond (q == job.0) (view_by nodeno (v q) (event_input_of e g.reply)) (v q))) (sym (told_stale (v job.0) own is))
             (subst (λ n. Shows n q (cond (q == job.0) (v q) (v q))) (sym (untouched (v job.0) own is)) (same_view q job.0 node_old (v q) (shows q)))
 
-    pub finish_steps : NodeStepOne node_old e told node_new
+    pub finish_steps : NodeStepOne node_old e response node_new
     finish_steps = record {
       number = refl;
       views = views;
-      told = given;
+      response = given;
       operator = refl;
       by_views = λ v shows. reply_is (v job.0) (shows job.0);
       admissions = refl;
       lives = refl;
       line = λ v shows. line_left (v job.0) (shows job.0);
-      hands = refl;
+      grants = refl;
     }

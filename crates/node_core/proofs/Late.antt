@@ -12,7 +12,7 @@ use Rattle.private_store.specs.declared.schedules.Event.TheVariants as event
 use Rattle.private_store.specs.declared.schedules.NodeEvent.TheVariants.{Own}
 use Rattle.private_store.specs.rules.Contents.{Contents}
 use Rattle.private_store.specs.rules.Private.{view_step}
-use Rattle.private_store.specs.rules.Hands.{Hand}
+use Rattle.private_store.specs.rules.Grants.{StandingGrant}
 use Rattle.spill_work.specs.Line.{WorkLine}
 use Rattle.node_table.specs.Granting.{peek_check}
 use Rattle.node_table.specs.Row.{Row, SharedTables, beside_of}
@@ -20,23 +20,23 @@ use Rattle.node_table.specs.MemoryLast.{is_more, work_has_begun, may_grow, IsDue
 use Rattle.node_table.specs.Shown.{seen, IsShown}
 use Rattle.node_table.proofs.ForCallers.{seal_late, read_late, list_late, leave_late, unpin_late, borrow_late, give_up_late, delete_late, end_task_late, peeks}
 use Rattle.node_core.specs.Hosted.{Hosted, IsRowView, IsViewBy, bytes_here, beside_at}
-use Rattle.node_core.specs.MemoryLast.{is_accepted, hands_check, IsMemoryLast, IsRoomDue, IsUnrefused, IsEventUnrefused}
+use Rattle.node_core.specs.MemoryLast.{is_accepted, grants_check, IsMemoryLast, IsRoomDue, IsUnrefused, IsEventUnrefused}
 use Rattle.node_core.specs.Steps.{answer_of_check}
-use Rattle.node_core.proofs.HandCommands.{IsGrowing, grant_late, withdraw_late}
+use Rattle.node_core.proofs.GrantCommands.{IsGrowing, grant_late, withdraw_late}
 use Rattle.node_core.proofs.Taking.{front_given}
 use Rattle.node_core.proofs.Views.{view_is}
 
 -- a Peek that passed its check
-peek_late : (node : ℕ) (line : WorkLine) (hands : List Hand) (bytes : ObjectId → List ℕ) (row : Row) (contents : Contents) (session : ℕ) (id : ObjectId) (offset n : ℕ) → IsShown row (beside_of line hands bytes row.job) contents
-    → peek_check hands row.job id (length (bytes id)) offset n ≡ None
-    → IsGrowing node row (beside_of line hands bytes row.job) contents session (command.Peek id offset n)
-peek_late node line hands bytes row contents session id offset n h passed =
-    let before = seen row (beside_of line hands bytes row.job) contents in
+peek_late : (node : ℕ) (line : WorkLine) (grants : List StandingGrant) (bytes : ObjectId → List ℕ) (row : Row) (contents : Contents) (session : ℕ) (id : ObjectId) (offset n : ℕ) → IsShown row (beside_of line grants bytes row.job) contents
+    → peek_check grants row.job id (length (bytes id)) offset n ≡ None
+    → IsGrowing node row (beside_of line grants bytes row.job) contents session (command.Peek id offset n)
+peek_late node line grants bytes row contents session id offset n h passed =
+    let before = seen row (beside_of line grants bytes row.job) contents in
     ap (is_more (work_has_begun before (view_step node before (input.Call session (command.Peek id offset n)))))
-    (sym (peeks node line hands bytes row contents session id offset n h).reply ∙ ap (λ o. option_map_or reply.Refused o (reply.Bytes (take n (drop offset (bytes id))))) passed)
+    (sym (peeks node line grants bytes row contents session id offset n h).reply ∙ ap (λ o. option_map_or reply.Refused o (reply.Bytes (take n (drop offset (bytes id))))) passed)
 
 module _ (node : ℕ) (row : Row) (beside : SharedTables) (contents : Contents) (session : ℕ) (h : IsShown row beside contents) where
-  -- that a command is due more than a refusal, where it is the hands that say so, or the plan for room
+  -- that a command is due more than a refusal, where it is the grants that say so, or the plan for room
   abbrev pub IsLateBeside : Command (List ℕ) → Type 0
   IsLateBeside (command.Create id kind n) = IsGrowing node row beside contents session (command.Create id kind n)
   IsLateBeside (command.Get id) = IsGrowing node row beside contents session (command.Get id)
@@ -65,23 +65,23 @@ module _ (node : ℕ) (row : Row) (beside : SharedTables) (contents : Contents) 
   row_late (command.Peek id offset n) u p = p
 
 -- what a row is due beside its own job's works is due beside the works of a job of that number
-due_beside : (node : ℕ) (line : WorkLine) (hands : List Hand) (bytes : ObjectId → List ℕ) (job : ℕ) (row : Row) (contents : Contents) (session : ℕ) → row.job ≡ job → IsShown row (beside_of line hands bytes job) contents
-    → (c : Command (List ℕ)) → IsDueMore node row line c → IsGrowing node row (beside_of line hands bytes job) contents session c
-due_beside node line hands bytes job row contents session own h c due =
-    subst (λ j. IsGrowing node row (beside_of line hands bytes j) contents session c) own
-    (due session hands bytes contents (subst (λ j. IsShown row (beside_of line hands bytes j) contents) (sym own) h))
+due_beside : (node : ℕ) (line : WorkLine) (grants : List StandingGrant) (bytes : ObjectId → List ℕ) (job : ℕ) (row : Row) (contents : Contents) (session : ℕ) → row.job ≡ job → IsShown row (beside_of line grants bytes job) contents
+    → (c : Command (List ℕ)) → IsDueMore node row line c → IsGrowing node row (beside_of line grants bytes job) contents session c
+due_beside node line grants bytes job row contents session own h c due =
+    subst (λ j. IsGrowing node row (beside_of line grants bytes j) contents session c) own
+    (due session grants bytes contents (subst (λ j. IsShown row (beside_of line grants bytes j) contents) (sym own) h))
 
 -- whatever the command is
 late_beside : (node : Hosted) (job : JobNo) (row : Row) (contents : Contents) (session : ℕ) (h : IsShown row (beside_at node job.0) contents) → row.job ≡ job.0
-    → (c : Command (List ℕ)) → hands_check node row job.0 c ≡ None → IsRoomDue node.number row node.works c → IsLateBeside node.number row (beside_at node job.0) contents session h c
-late_beside node job row contents session h own (command.Create id kind n) passed due = due_beside node.number node.works node.hands (bytes_here node.rows) job.0 row contents session own h (command.Create id kind n) due
-late_beside node job row contents session h own (command.Get id) passed due = due_beside node.number node.works node.hands (bytes_here node.rows) job.0 row contents session own h (command.Get id) due
-late_beside node job row contents session h own (command.Grant id target) passed due = grant_late node.number node.works node.hands (bytes_here node.rows) job row contents session id target own h passed
-late_beside node job row contents session h own (command.Withdraw id target) passed due = withdraw_late node.number node.works node.hands (bytes_here node.rows) job row contents session id target own h passed
+    → (c : Command (List ℕ)) → grants_check node row job.0 c ≡ None → IsRoomDue node.number row node.works c → IsLateBeside node.number row (beside_at node job.0) contents session h c
+late_beside node job row contents session h own (command.Create id kind n) passed due = due_beside node.number node.works node.grants (bytes_here node.rows) job.0 row contents session own h (command.Create id kind n) due
+late_beside node job row contents session h own (command.Get id) passed due = due_beside node.number node.works node.grants (bytes_here node.rows) job.0 row contents session own h (command.Get id) due
+late_beside node job row contents session h own (command.Grant id target) passed due = grant_late node.number node.works node.grants (bytes_here node.rows) job row contents session id target own h passed
+late_beside node job row contents session h own (command.Withdraw id target) passed due = withdraw_late node.number node.works node.grants (bytes_here node.rows) job row contents session id target own h passed
 late_beside node job row contents session h own (command.Peek id offset n) passed due =
     subst (λ j. IsGrowing node.number row (beside_at node j) contents session (command.Peek id offset n)) own
-    (peek_late node.number node.works node.hands (bytes_here node.rows) row contents session id offset n
-    (subst (λ j. IsShown row (beside_at node j) contents) (sym own) h) (subst (λ j. peek_check node.hands j id (length (bytes_here node.rows id)) offset n ≡ None) (sym own) passed))
+    (peek_late node.number node.works node.grants (bytes_here node.rows) row contents session id offset n
+    (subst (λ j. IsShown row (beside_at node j) contents) (sym own) h) (subst (λ j. peek_check node.grants j id (length (bytes_here node.rows id)) offset n ≡ None) (sym own) passed))
 late_beside node job row contents session h own _ passed due = tt
 
 pub event_late : (node : Hosted) (e : Event) → IsEventUnrefused node e → IsMemoryLast node (Own e)
@@ -92,7 +92,7 @@ event_late node (event.Call job session c) u v shows =
     let r : IsRowView u.row beside job.0 (v job.0) = subst (IsViewBy node.admissions.greatest beside job.0 (v job.0)) u.found (shows job.0).by_row in
     subst (λ w. may_grow w (view_step node.number w (input.Call session c)) ≡ true) (sym (view_is u.row beside job.0 (v job.0) r))
     (row_late node.number u.row beside (v job.0).contents session r.shown c (subst (λ n. IsUnrefused u.row n session c) (sym r.own) u.unrefused)
-    (late_beside node job u.row (v job.0).contents session r.shown r.own c u.by_hands (u.by_room r.own)))
+    (late_beside node job u.row (v job.0).contents session r.shown r.own c u.by_grants (u.by_room r.own)))
 event_late node (event.Requota job quota) u v shows = ap (λ check. is_accepted (answer_of_check check)) (u (v job.0) (shows job.0))
 event_late node event.Take u v shows = ap is_accepted (front_given node u.asked u.first u.row u.found v shows).1
 event_late node (event.Finish job number a) u v shows = absurd u

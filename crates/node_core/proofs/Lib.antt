@@ -1,13 +1,13 @@
 mod Others
 mod Lines
 mod Granted
-mod HandCommands
+mod GrantCommands
 mod Views
 mod Calling
 mod Listed
 mod Peeks
 mod Admitting
-mod HandsEnd
+mod GrantsEnd
 mod Ending
 mod Asking
 mod Entering

@@ -11,7 +11,8 @@ use Rattle.obj_id.specs.declared.works.WorkKind.{WorkKind}
 use Rattle.obj_id.specs.declared.works.WorkKind.TheVariants.{Write, Read}
 use Rattle.private_store.specs.rules.Shape.{WorkInFlight}
 use Rattle.store_facts.proofs.Tests.{both_left, both_right}
-use Rattle.spill_work.specs.Line.{WorkLine, is_write_work, works_of, used_by, numbered, numbered_works}
+use Rattle.spill_work.specs.Line.{WorkLine, works_of, used_by, numbered, numbered_works}
+use Rattle.obj_id.specs.Works.{is_write}
 use Rattle.node_table.specs.Asked.{HasAsked}
 use Rattle.node_core.specs.Steps.{queued}
 
@@ -40,10 +41,10 @@ above-numbered : (kind : WorkKind) (used last : ℕ) (ids : List ObjectId) → u
 above-numbered kind used last [] h = refl
 above-numbered kind used last (id ∷ ids) h =
     let new : nat_lt used (last + 1) ≡ true = grind (arith, nat_tests, h) in
-    ap (λ b. cond b (record { number = last + 1; id = id; writes = is_write_work kind } ∷ above used (numbered_works kind (last + 1) ids)) (above used (numbered_works kind (last + 1) ids))) new
-    ∙ ap (λ ws. record { number = last + 1; id = id; writes = is_write_work kind } ∷ ws) (above-numbered kind used (last + 1) ids (omega (arith, h)))
+    ap (λ b. cond b (record { number = last + 1; id = id; writes = is_write kind } ∷ above used (numbered_works kind (last + 1) ids)) (above used (numbered_works kind (last + 1) ids))) new
+    ∙ ap (λ ws. record { number = last + 1; id = id; writes = is_write kind } ∷ ws) (above-numbered kind used (last + 1) ids (omega (arith, h)))
 
-kind_again : (kind : WorkKind) → cond (is_write_work kind) Write Read ≡ kind
+kind_again : (kind : WorkKind) → cond (is_write kind) Write Read ≡ kind
 kind_again Write = refl
 kind_again Read = refl
 

@@ -10,10 +10,10 @@ use Rattle.private_store.specs.declared.inputs.Input.TheVariants as input
 use Rattle.private_store.specs.declared.schedules.Event.TheVariants as event
 use Rattle.private_store.specs.rules.Commands.{granted_items}
 use Rattle.private_store.specs.rules.Contents.{Contents}
-use Rattle.private_store.specs.rules.Hands.{Hand}
+use Rattle.private_store.specs.rules.Grants.{StandingGrant}
 use Rattle.private_store.specs.rules.Jobs.{same_job}
 use Rattle.spill_work.specs.Line.{WorkLine}
-use Rattle.grants.specs.Table.{AreHands}
+use Rattle.grants.specs.Table.{AreGrants}
 use Rattle.grants.proofs.ForCallers.{seen_items}
 use Rattle.job_admission.specs.Admissions.{Admissions}
 use Rattle.node_table.specs.Row.{Row, SharedTables, shape_of}
@@ -33,20 +33,20 @@ row_stays rows job row found q = by (same_job job q) refl
     by false e = refl
     by true e = ap (λ n. lookup (same_job (record { 0 = n })) rows) (sym (eqb-true job.0 q.0 e)) ∙ found
 
-module _ (number : ℕ) (a : Admissions) (line : WorkLine) (hands : List Hand) (table : AreHands hands) (job : JobNo) (session : ℕ) (rows : List (JobNo × Row)) (row : Row)
-    (found : lookup (same_job job) rows ≡ Some row) (granted : List GrantedItem) (is : granted ≡ granted_here (node_of number a line hands rows) job.0) (told : Reply (List ℕ))
+module _ (number : ℕ) (a : Admissions) (line : WorkLine) (grants : List StandingGrant) (table : AreGrants grants) (job : JobNo) (session : ℕ) (rows : List (JobNo × Row)) (row : Row)
+    (found : lookup (same_job job) rows ≡ Some row) (granted : List GrantedItem) (is : granted ≡ granted_here (node_of number a line grants rows) job.0) (response : Reply (List ℕ))
     (lists : (node session : ℕ) (beside : SharedTables) (contents : Contents) → IsShown row beside contents → granted ≡ granted_items (shape_of row beside)
-    → RowStep node row beside contents (input.Call session command.List) (only told) row beside) where
-  pub list_steps : NodeStepOne (node_of number a line hands rows) (event.Call job session command.List) (only told) (node_of number a line hands rows)
+    → RowStep node row beside contents (input.Call session command.List) (only response) row beside) where
+  pub list_steps : NodeStepOne (node_of number a line grants rows) (event.Call job session command.List) (only response) (node_of number a line grants rows)
   list_steps =
-      call_steps number a line hands job session command.List table rows rows row row line (only told) found (row_stays rows job row found) (asked_nothing line job)
+      call_steps number a line grants job session command.List table rows rows row row line (only response) found (row_stays rows job row found) (asked_nothing line job)
       (λ contents own shown.
-      let beside = beside_at (node_of number a line hands rows) job.0 in
-      lists number session beside contents shown (is ∙ sym (seen_items (λ id. length (bytes_here rows id)) job.0 hands (shape_of row beside) refl)))
+      let beside = beside_at (node_of number a line grants rows) job.0 in
+      lists number session beside contents shown (is ∙ sym (seen_items (λ id. length (bytes_here rows id)) job.0 grants (shape_of row beside) refl)))
       (λ other differ. record { works = refl; used = refl })
 
 -- a List of a live job is refused for nothing but memory
-pub list_late : (number : ℕ) (a : Admissions) (line : WorkLine) (hands : List Hand) (rows : List (JobNo × Row)) (job : JobNo) (session : ℕ) (row : Row) → lookup (same_job job) rows ≡ Some row
-    → (node : Hosted) → node_of number a line hands rows ≡ node → IsCallUnrefused node job session command.List
-list_late number a line hands rows job session row found node is =
-    subst (λ n. IsCallUnrefused n job session command.List) is (record { row = row; found = found; unrefused = record { own = refl; passed = refl; grows = refl }; by_hands = refl; by_room = λ own. tt })
+pub list_late : (number : ℕ) (a : Admissions) (line : WorkLine) (grants : List StandingGrant) (rows : List (JobNo × Row)) (job : JobNo) (session : ℕ) (row : Row) → lookup (same_job job) rows ≡ Some row
+    → (node : Hosted) → node_of number a line grants rows ≡ node → IsCallUnrefused node job session command.List
+list_late number a line grants rows job session row found node is =
+    subst (λ n. IsCallUnrefused n job session command.List) is (record { row = row; found = found; unrefused = record { own = refl; passed = refl; grows = refl }; by_grants = refl; by_room = λ own. tt })

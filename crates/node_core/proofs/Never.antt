@@ -27,7 +27,7 @@ use Rattle.spill_work.specs.declared.queue.Queued.{Queued}
 use Rattle.spill_work.specs.Line.{front_of}
 use Rattle.job_admission.specs.Admissions.{Admissions, lives_of, live_at, window_place_for}
 use Rattle.node_core.specs.Hosted.{Hosted}
-use Rattle.node_core.specs.Steps.{NodeGiven, is_taken, row_work_of, take_told, answer_of_check, stale_unless, IsEventAnswer, IsGiven}
+use Rattle.node_core.specs.Steps.{NodeGiven, is_taken, row_work_of, take_response, answer_of_check, stale_unless, IsEventAnswer, IsGiven}
 
 abbrev checks_of : Admissions → JobNo → Quota → List (Bool × Refusal)
 checks_of a job quota =
@@ -66,7 +66,7 @@ pub stale_wants : (fine : Bool) → wants_memory {P = List ℕ} (answer_of_check
 stale_wants true = refl
 stale_wants false = refl
 
-take_wants : (works : List Queued) (v : ℕ → View) → wants_memory {P = List ℕ} (take_told works v) ≡ false
+take_wants : (works : List Queued) (v : ℕ → View) → wants_memory {P = List ℕ} (take_response works v) ≡ false
 take_wants works v = by (front_of works)
   where
     by_work : (o : Option (Work (List ℕ))) → wants_memory {P = List ℕ} (option_map_or reply.Work o reply.NoWork) ≡ false

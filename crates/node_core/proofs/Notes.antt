@@ -1,4 +1,4 @@
--- What an event is to the grantees of hands: inputs of two kinds, which send nothing and which no view judges.
+-- What an event is to the grantees: inputs of two kinds, which send nothing and which no view judges.
 use Rattle.std.proofs.Common.{◌≡◌, ℕ, Bool, true, false, cond, ◌==◌, List, [], ◌∷◌, map, Option, Some, None, refl}
 use Rattle.std.specs.Prelude.{filter}
 use Rattle.std.specs.Option.{option_map_or}
@@ -11,11 +11,11 @@ use Rattle.private_store.specs.declared.schedules.Event.{Event}
 use Rattle.private_store.specs.declared.schedules.Event.TheVariants as event
 use Rattle.private_store.specs.declared.schedules.NodeEvent.{NodeEvent}
 use Rattle.private_store.specs.declared.schedules.NodeEvent.TheVariants.{Own, Arrive}
-use Rattle.private_store.specs.rules.Hands.{Hand, hands_ended}
+use Rattle.private_store.specs.rules.Grants.{StandingGrant, grants_ended}
 use Rattle.private_store.specs.rules.Trace.{ends}
 use Rattle.private_store.specs.laws.NodeInputs.{JobInput, Before, only_of, notes_of, notes_here, withdrawn_here}
 
--- a hand that comes or ends
+-- a grant that comes or ends
 abbrev pub is_note : Input → Bool
 is_note (input.Received id bytes grantor depth) = true
 is_note (input.Withdrawn id grantor depth) = true
@@ -37,17 +37,17 @@ only_notes job (x ∷ xs) q = by (x.job == job) (only_notes job xs q.1)
     by true rest = (q.0, rest)
     by false rest = rest
 
-withdrawn_notes : (hands : List Hand) → AreJobNotes (map withdrawn_here hands)
+withdrawn_notes : (grants : List StandingGrant) → AreJobNotes (map withdrawn_here grants)
 withdrawn_notes [] = tt
-withdrawn_notes (hand ∷ hands) = (refl, withdrawn_notes hands)
+withdrawn_notes (grant ∷ grants) = (refl, withdrawn_notes grants)
 
-ended_notes : (hands : List Hand) (o : Option (Hand → Bool)) → AreJobNotes (option_map_or (λ test. map withdrawn_here (hands_ended test hands)) o [])
-ended_notes hands None = tt
-ended_notes hands (Some test) = withdrawn_notes (hands_ended test hands)
+ended_notes : (grants : List StandingGrant) (o : Option (StandingGrant → Bool)) → AreJobNotes (option_map_or (λ test. map withdrawn_here (grants_ended test grants)) o [])
+ended_notes grants None = tt
+ended_notes grants (Some test) = withdrawn_notes (grants_ended test grants)
 
 event_notes : (b : Before) (e : Event) → AreJobNotes (notes_of b e)
 event_notes b (event.Call job session (command.Grant id target)) = (refl, tt)
-event_notes b e = ended_notes b.hands (ends e)
+event_notes b e = ended_notes b.grants (ends e)
 
 pub here_notes : (b : Before) (e : NodeEvent) (r : Reply (List ℕ)) → AreJobNotes (notes_here b e r)
 here_notes b (Own e) reply.Ok = event_notes b e

@@ -17,10 +17,10 @@ use Rattle.private_store.specs.rules.Jobs.{same_job}
 use Rattle.private_store.specs.rules.Limits.{is_quota}
 use Rattle.private_store.specs.rules.Copies.{fits_quota}
 use Rattle.private_store.specs.rules.Contents.{Contents, View}
-use Rattle.private_store.specs.rules.Hands.{Hand}
+use Rattle.private_store.specs.rules.Grants.{StandingGrant}
 use Rattle.private_store.specs.rules.Shared.{job_is, widened, can_widen}
 use Rattle.spill_work.specs.Line.{WorkLine, IsSameFor, same_work_job as same_line_job}
-use Rattle.grants.specs.Table.{AreHands}
+use Rattle.grants.specs.Table.{AreGrants}
 use Rattle.job_admission.specs.declared.Live.{Live}
 use Rattle.job_admission.specs.Admissions.{Admissions, live_at, lives_of, resize_check, resized}
 use Rattle.node_table.specs.Quotas.{store_check}
@@ -52,9 +52,9 @@ in_order true true false wide is = refl
 in_order true false fits wide is = refl
 in_order false fine fits wide is = absurd cc
 
-module _ (number : ℕ) (a : Admissions) (line : WorkLine) (hands : List Hand) (rows : List (JobNo × Row)) (kept : AreHosted a rows) (job : JobNo) (quota : Quota) where
+module _ (number : ℕ) (a : Admissions) (line : WorkLine) (grants : List StandingGrant) (rows : List (JobNo × Row)) (kept : AreHosted a rows) (job : JobNo) (quota : Quota) where
   abbrev node : Hosted
-  node = node_of number a line hands rows
+  node = node_of number a line grants rows
 
   lives : list_any (job_is job.0) (lives_of a.live) ≡ is_some (lookup (same_job job) rows)
   lives = live_is job.0 a.live ∙ sym (ap (list_any (same_job job)) kept.jobs) ∙ sym (is_some-lookup (same_job job) rows)
@@ -98,21 +98,21 @@ module _ (a : Admissions) (job : JobNo) (quota : Quota) where
 
 -- ---- the step
 
-module _ (number : ℕ) (a b : Admissions) (line : WorkLine) (hands : List Hand) (table : AreHands hands) (job : JobNo) (quota : Quota) (old new : List (JobNo × Row)) (row after : Row)
+module _ (number : ℕ) (a b : Admissions) (line : WorkLine) (grants : List StandingGrant) (table : AreGrants grants) (job : JobNo) (quota : Quota) (old new : List (JobNo × Row)) (row after : Row)
     (found : lookup (same_job job) old ≡ Some row)
     (updated : (q : JobNo) → lookup (same_job q) new ≡ cond (same_job job q) (Some after) (lookup (same_job q) old))
     (is : b ≡ resized a job quota) (lives : lives_of b.live ≡ map (widened job.0 quota.window) (lives_of a.live))
     (steps : (node : ℕ) (beside : SharedTables) (contents : Contents) → IsShown row beside contents → RowStep node row beside contents (input.Requota quota) (only reply.Ok) after beside) where
   abbrev at_old : Hosted
-  at_old = node_of number a line hands old
+  at_old = node_of number a line grants old
 
   abbrev at_new : Hosted
-  at_new = node_of number b line hands new
+  at_new = node_of number b line grants new
 
   low : b.greatest ≡ a.greatest
   low = ap (λ (c : Admissions). c.greatest) is ∙ resized-greatest a job quota
 
-  takes : Takes number job (input.Requota quota) hands (bytes_here old) row line (only reply.Ok) after line
+  takes : Takes number job (input.Requota quota) grants (bytes_here old) row line (only reply.Ok) after line
   takes contents own shown = steps number (beside_at at_old job.0) contents shown
 
   same : (other : JobNo) → same_line_job job other ≡ false → IsSameFor other line line
@@ -121,12 +121,12 @@ module _ (number : ℕ) (a b : Admissions) (line : WorkLine) (hands : List Hand)
   pub requota_steps : requota_refusal at_old job quota ≡ None → ((view : View) → Shows at_old job.0 view → None ≡ requota_check a view job quota) → NodeStepOne at_old (event.Requota job quota) (only reply.Ok) at_new
   requota_steps none shown = record {
     number = refl;
-    views = views_stepped number a b low line line hands table job (input.Requota quota) old new row after (only reply.Ok) found updated takes same;
-    told = told_stepped number a b low line line hands table job (input.Requota quota) old new row after (only reply.Ok) found updated takes same;
+    views = views_stepped number a b low line line grants table job (input.Requota quota) old new row after (only reply.Ok) found updated takes same;
+    response = told_stepped number a b low line line grants table job (input.Requota quota) old new row after (only reply.Ok) found updated takes same;
     operator = sym (ap answer_of_check none);
     by_views = λ v h. ap answer_of_check (shown (v job.0) (h job.0));
     admissions = is;
     lives = lives;
     line = λ v shows. refl;
-    hands = refl;
+    grants = refl;
   }

@@ -12,7 +12,7 @@ use Rattle.obj_id.specs.declared.works.Work.{Work}
 use Rattle.private_store.specs.declared.schedules.Event.TheVariants as event
 use Rattle.private_store.specs.rules.Jobs.{same_job}
 use Rattle.private_store.specs.rules.Contents.{Contents, View}
-use Rattle.private_store.specs.rules.Hands.{Hand}
+use Rattle.private_store.specs.rules.Grants.{StandingGrant}
 use Rattle.private_store.specs.rules.Shape.{WorkInFlight}
 use Rattle.store_facts.proofs.KeptLists.{count-yes, count-no, some_counted, find-any}
 use Rattle.store_facts.proofs.Tests.{some_value, none_some}
@@ -25,7 +25,7 @@ use Rattle.node_table.specs.Shown.{seen, only, IsShown}
 use Rattle.node_core.specs.Hosted.{Hosted, IsRowView, IsBare, IsViewBy, Shows, ShowsAll, bytes_here, beside_at}
 use Rattle.node_core.specs.OneJob.{NodeStepOne}
 use Rattle.node_table.proofs.ForCallers.{copy_at_work, alike_bytes, work_is}
-use Rattle.node_core.specs.Steps.{taken_if, row_work_given, row_work_of, take_told}
+use Rattle.node_core.specs.Steps.{taken_if, row_work_given, row_work_of, take_response}
 use Rattle.node_core.proofs.Others.{other_view}
 use Rattle.node_core.proofs.Views.{node_of, view_is}
 
@@ -125,40 +125,40 @@ front_found (w ∷ ws) asked front one = by w.taken front (is_of asked.job w) re
 
 -- ---- the step
 
-module _ (number : ℕ) (a : Admissions) (line : WorkLine) (hands : List Hand) (rows : List (JobNo × Row)) where
+module _ (number : ℕ) (a : Admissions) (line : WorkLine) (grants : List StandingGrant) (rows : List (JobNo × Row)) where
   abbrev pub at_line : WorkLine → Hosted
-  at_line works = node_of number a works hands rows
+  at_line works = node_of number a works grants rows
 
-  same_view : (q : ℕ) (view : View) → Shows (at_line line) q view → (told : Reply (List ℕ)) (new : Hosted) → Shows new q view → Shows new q (cond (q == 0) view view)
-  same_view q view h told new shows = by (q == 0)
+  same_view : (q : ℕ) (view : View) → Shows (at_line line) q view → (response : Reply (List ℕ)) (new : Hosted) → Shows new q view → Shows new q (cond (q == 0) view view)
+  same_view q view h response new shows = by (q == 0)
     where
       by : (b : Bool) → Shows new q (cond b view view)
       by true = shows
       by false = shows
 
   -- nothing is given
-  pub none_taken : ((v : ℕ → View) → ShowsAll (at_line line) v → reply.NoWork ≡ take_told line.works v) → NodeStepOne (at_line line) event.Take (only reply.NoWork) (at_line line)
-  none_taken told = record {
+  pub none_taken : ((v : ℕ → View) → ShowsAll (at_line line) v → reply.NoWork ≡ take_response line.works v) → NodeStepOne (at_line line) event.Take (only reply.NoWork) (at_line line)
+  none_taken response = record {
     number = refl;
     views = λ v shows q. same_view q (v q) (shows q) reply.NoWork (at_line line) (shows q);
-    told = λ view h. record { posts = refl; erased = refl };
+    response = λ view h. record { posts = refl; erased = refl };
     operator = refl;
-    by_views = told;
+    by_views = response;
     admissions = refl;
     lives = refl;
     line = λ v shows. refl;
-    hands = refl;
+    grants = refl;
   }
 
   module _ (asked : IoRequest) (front : front_of line.works ≡ Some asked) where
     -- what is told of the front
-    front_told : (v : ℕ → View) (o : Option (Work (List ℕ))) → o ≡ row_work_of asked.job.0 asked.number (v asked.job.0) → option_map_or reply.Work o reply.NoWork ≡ take_told line.works v
+    front_told : (v : ℕ → View) (o : Option (Work (List ℕ))) → o ≡ row_work_of asked.job.0 asked.number (v asked.job.0) → option_map_or reply.Work o reply.NoWork ≡ take_response line.works v
     front_told v o is =
         ap (λ o. option_map_or reply.Work o reply.NoWork) is
         ∙ sym (ap (λ o. option_map_or (λ (asked : IoRequest). option_map_or reply.Work (row_work_of asked.job.0 asked.number (v asked.job.0)) reply.NoWork) o reply.NoWork) front)
 
     -- a job without a row has no works
-    pub no_row : lookup (same_job asked.job) rows ≡ None → (v : ℕ → View) → ShowsAll (at_line line) v → reply.NoWork ≡ take_told line.works v
+    pub no_row : lookup (same_job asked.job) rows ≡ None → (v : ℕ → View) → ShowsAll (at_line line) v → reply.NoWork ≡ take_response line.works v
     no_row none v shows =
         let beside = beside_at (at_line line) asked.job.0 in
         let b : IsBare a.greatest beside asked.job.0 (v asked.job.0) = subst (IsViewBy a.greatest beside asked.job.0 (v asked.job.0)) none (shows asked.job.0).by_row in
@@ -166,7 +166,7 @@ module _ (number : ℕ) (a : Admissions) (line : WorkLine) (hands : List Hand) (
 
     module _ (row : Row) (found : lookup (same_job asked.job) rows ≡ Some row) (o : Option (Work (List ℕ)))
         (given : (beside : SharedTables) (contents : Contents) → asked.job.0 ≡ row.job → IsShown row beside contents → find (λ w. w.number == asked.number) beside.works ≡ Some (shown asked) → o ≡ row_work_of row.job asked.number (seen row beside contents)) where
-      pub told_is : (v : ℕ → View) → ShowsAll (at_line line) v → option_map_or reply.Work o reply.NoWork ≡ take_told line.works v
+      pub told_is : (v : ℕ → View) → ShowsAll (at_line line) v → option_map_or reply.Work o reply.NoWork ≡ take_response line.works v
       told_is v shows =
           let beside = beside_at (at_line line) asked.job.0 in
           let r : IsRowView row beside asked.job.0 (v asked.job.0) = subst (IsViewBy a.greatest beside asked.job.0 (v asked.job.0)) found (shows asked.job.0).by_row in
@@ -182,21 +182,21 @@ module _ (number : ℕ) (a : Admissions) (line : WorkLine) (hands : List Hand) (
         views = λ v shows q. same_view q (v q) (shows q) (reply.Work work) (at_line after)
             (record {
               by_row = other_view (beside_at (at_line line) q) (beside_at (at_line after) q)
-                  (alike_bytes (bytes_here rows) (bytes_here rows) line after hands q (record { works = marks.same (record { 0 = q }); used = ap (λ (l : WorkLine). used_by l (record { 0 = q })) marks.line }) (λ id there. refl))
+                  (alike_bytes (bytes_here rows) (bytes_here rows) line after grants q (record { works = marks.same (record { 0 = q }); used = ap (λ (l : WorkLine). used_by l (record { 0 = q })) marks.line }) (λ id there. refl))
                   a.greatest q (v q) (lookup (same_job (record { 0 = q })) rows) (shows q).by_row;
             });
-        told = λ view h. record { posts = refl; erased = refl };
+        response = λ view h. record { posts = refl; erased = refl };
         operator = refl;
         by_views = λ v shows. sym (ap (λ o. option_map_or reply.Work o reply.NoWork) is) ∙ told_is v shows;
         admissions = refl;
         lives = refl;
         line = λ v shows. ap (λ (l : WorkLine). l.works) marks.line ∙ (λ i. marked_taken (sym of_job i) (sym under i) line.works);
-        hands = refl;
+        grants = refl;
       }
 
 -- the front of a job that has a row is given
 pub front_given : (node : Hosted) (asked : IoRequest) → front_of node.works.works ≡ Some asked → (row : Row) → lookup (same_job asked.job) node.rows ≡ Some row → (v : ℕ → View) → ShowsAll node v
-    → (work : Work (List ℕ)) × (take_told node.works.works v ≡ reply.Work work)
+    → (work : Work (List ℕ)) × (take_response node.works.works v ≡ reply.Work work)
 front_given node asked front row found v shows =
     let beside = beside_at node asked.job.0 in
     let r : IsRowView row beside asked.job.0 (v asked.job.0) = subst (IsViewBy node.admissions.greatest beside asked.job.0 (v asked.job.0)) found (shows asked.job.0).by_row in

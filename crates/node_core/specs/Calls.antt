@@ -8,7 +8,7 @@ use Rattle.private_store.specs.declared.inputs.Input.TheVariants as input
 use Rattle.private_store.specs.declared.schedules.Event.{Event}
 use Rattle.private_store.specs.declared.schedules.Event.TheVariants as event
 use Rattle.private_store.specs.rules.Contents.{Contents}
-use Rattle.private_store.specs.rules.Hands.{Hand}
+use Rattle.private_store.specs.rules.Grants.{StandingGrant}
 use Rattle.spill_work.specs.Line.{WorkLine}
 use Rattle.node_table.specs.Row.{Row, beside_of}
 use Rattle.node_table.specs.Shown.{IsShown, RowGiven, RowStep}
@@ -58,11 +58,11 @@ is_answered_here (command.Read id offset n) = true
 is_answered_here command.Usage = true
 is_answered_here _ = false
 
--- the job's row and works take the command's step, whatever hands stand and contents it shows
+-- the job's row and works take the command's step, whatever grants stand and contents it shows
 abbrev pub CallStep : ℕ → ℕ → Row → WorkLine → ℕ → Command (List ℕ) → RowGiven → Row → WorkLine → Type 0
-CallStep node job old line session c told new after =
-    (hands : List Hand) (bytes : ObjectId → List ℕ) (contents : Contents) → old.job ≡ job → IsShown old (beside_of line hands bytes job) contents
-    → RowStep node old (beside_of line hands bytes job) contents (input.Call session c) told new (beside_of after hands bytes job)
+CallStep node job old line session c response new after =
+    (grants : List StandingGrant) (bytes : ObjectId → List ℕ) (contents : Contents) → old.job ≡ job → IsShown old (beside_of line grants bytes job) contents
+    → RowStep node old (beside_of line grants bytes job) contents (input.Call session c) response new (beside_of after grants bytes job)
 
 -- a command that takes no memory of a job with this row, or none, and so is never refused for it: Leave takes some
 -- where a copy is doomed

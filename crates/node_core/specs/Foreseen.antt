@@ -1,4 +1,4 @@
--- What is known of an event before it is taken: how many messages it sends at most, and whom it may tell of hands.
+-- What is known of an event before it is taken: how many messages it sends at most, and whom it may tell of grants.
 use Rattle.std.specs.Prelude.{◌≡◌, ℕ, ◌+◌, ◌*◌, List, [], ◌∷◌, length, map, Option}
 use Rattle.std.specs.Option.{option_map_or}
 use Rattle.obj_id.specs.declared.ids.JobNo.{JobNo}
@@ -11,7 +11,7 @@ use Rattle.obj_id.specs.declared.commands.Reply.{Reply}
 use Rattle.obj_id.specs.declared.commands.Reply.TheVariants as reply
 use Rattle.private_store.specs.declared.schedules.Event.{Event}
 use Rattle.private_store.specs.declared.schedules.Event.TheVariants as event
-use Rattle.private_store.specs.rules.Hands.{Hand, hands_ended}
+use Rattle.private_store.specs.rules.Grants.{StandingGrant, grants_ended}
 use Rattle.private_store.specs.rules.Trace.{ends}
 use Rattle.node_table.specs.Row.{Row}
 use Rattle.node_core.specs.Hosted.{Hosted, row_at}
@@ -43,23 +43,23 @@ most_by_arrival own (arrival.FromPeer from (peer.Pull id number n digest indexes
 most_by_arrival own (arrival.FromPeer from (peer.Chunk id number index bytes)) = option_map_or (λ row. 1) own 0
 most_by_arrival own (arrival.FromPeer from (peer.NotHere id number)) = option_map_or (λ row. 1) own 0
 
--- of hands, those to whom they were given
-abbrev pub grantees_told : List Hand → List JobNo
-grantees_told hands = map (λ hand. record { 0 = hand.grantee }) hands
+-- of grants, those to whom they were given
+abbrev pub grantees_in : List StandingGrant → List JobNo
+grantees_in grants = map (λ grant. record { 0 = grant.grantee }) grants
 
--- the hands that end if the event is accepted, and their grantees, in the order in which they are told
-abbrev pub ended_by : List Hand → Event → List Hand
-ended_by hands e = option_map_or (λ test. hands_ended test hands) (ends e) []
+-- the grants that end if the event is accepted, and their grantees, in the order in which they are announced
+abbrev pub ended_by : List StandingGrant → Event → List StandingGrant
+ended_by grants e = option_map_or (λ test. grants_ended test grants) (ends e) []
 
-abbrev pub grantees_of_ended : List Hand → Event → List JobNo
-grantees_of_ended hands e = grantees_told (ended_by hands e)
+abbrev pub grantees_of_ended : List StandingGrant → Event → List JobNo
+grantees_of_ended grants e = grantees_in (ended_by grants e)
 
--- the jobs that the event tells of hands if it is accepted, one for each note, in their order
-abbrev pub grantees_of : List Hand → Event → List JobNo
-grantees_of hands (event.Call job session (command.Grant id target)) = target ∷ []
-grantees_of hands e = option_map_or (λ test. grantees_told (hands_ended test hands)) (ends e) []
+-- the jobs that the event tells of grants if it is accepted, one for each note, in their order
+abbrev pub grantees_of : List StandingGrant → Event → List JobNo
+grantees_of grants (event.Call job session (command.Grant id target)) = target ∷ []
+grantees_of grants e = option_map_or (λ test. grantees_in (grants_ended test grants)) (ends e) []
 
 -- these are the jobs that it told
-abbrev pub AreTakers : List Hand → Event → Reply (List ℕ) → List JobNo → Type 0
-AreTakers hands e reply.Ok grantees = grantees ≡ grantees_of hands e
-AreTakers hands e _ grantees = grantees ≡ []
+abbrev pub AreTakers : List StandingGrant → Event → Reply (List ℕ) → List JobNo → Type 0
+AreTakers grants e reply.Ok grantees = grantees ≡ grantees_of grants e
+AreTakers grants e _ grantees = grantees ≡ []

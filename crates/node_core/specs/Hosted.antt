@@ -9,10 +9,10 @@ use Rattle.private_store.specs.rules.Jobs.{same_job}
 use Rattle.private_store.specs.rules.Shape.{Life, Shape, not_begun, unbegun}
 use Rattle.private_store.specs.rules.Events.{is_live}
 use Rattle.private_store.specs.rules.Contents.{View}
-use Rattle.private_store.specs.rules.Hands.{Hand}
+use Rattle.private_store.specs.rules.Grants.{StandingGrant}
 use Rattle.private_store.specs.rules.Private.{no_contents}
 use Rattle.spill_work.specs.Line.{WorkLine}
-use Rattle.grants.specs.Table.{AreHands}
+use Rattle.grants.specs.Table.{AreGrants}
 use Rattle.job_admission.specs.Admissions.{Admissions}
 use Rattle.node_table.specs.Granting.{row_bytes}
 use Rattle.node_table.specs.Row.{Row, SharedTables, beside_of, received_bytes, shape_of}
@@ -24,8 +24,8 @@ pub record Hosted : Type 0 where
   pub admissions : Admissions
   -- of all jobs
   pub works : WorkLine
-  -- the standing hands, oldest first
-  pub hands : List Hand
+  -- the standing grants, oldest first
+  pub grants : List StandingGrant
   -- of the live jobs, in the order of their admission
   pub rows : List (JobNo × Row)
 
@@ -38,10 +38,10 @@ pub record AreHosted (a : Admissions) (rows : List (JobNo × Row)) : Type 0 wher
   pub jobs : keys_of rows ≡ keys_of a.live
   pub within : list_all (λ job. nat_le job.0 a.greatest) (keys_of a.live) ≡ true
 
--- what is so of every node: its hands are a table
-pub record IsHosted (a : Admissions) (hands : List Hand) (rows : List (JobNo × Row)) : Type 0 where
+-- what is so of every node: its grants are a table
+pub record IsHosted (a : Admissions) (grants : List StandingGrant) (rows : List (JobNo × Row)) : Type 0 where
   pub jobs : AreHosted a rows
-  pub table : AreHands hands
+  pub table : AreGrants grants
 
 -- ---- bytes
 
@@ -53,7 +53,7 @@ bytes_here rows id = option_map_or (λ row. row_bytes row id) (lookup (same_job 
 
 -- what a job's row is shown beside
 abbrev pub beside_at : Hosted → ℕ → SharedTables
-beside_at node job = beside_of node.works node.hands (bytes_here node.rows) job
+beside_at node job = beside_of node.works node.grants (bytes_here node.rows) job
 
 -- the row and what stands beside it show the view of a live job
 pub record IsRowView (row : Row) (beside : SharedTables) (job : ℕ) (view : View) : Type 0 where
@@ -76,7 +76,7 @@ pub record IsBare (greatest : ℕ) (beside : SharedTables) (job : ℕ) (view : V
   pub dead : is_live (empty_shape job life beside) ≡ false
   -- one whose number is above all that were admitted here has not begun
   pub fresh : greatest < job → life ≡ not_begun
-  -- and the line has no work of it, and no hand is its gift
+  -- and the line has no work of it, and no grant is its gift
   pub works : beside.works ≡ []
   pub used : beside.used ≡ 0
   pub given : beside.given ≡ []

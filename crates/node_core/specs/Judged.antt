@@ -27,21 +27,21 @@ abbrev pub is_finish : Event → Bool
 is_finish (event.Finish job number a) = true
 is_finish _ = false
 
--- whether it may give a hand or end some, which those are told of as well to whom objects are granted
-abbrev pub moves_hands : Event → Bool
-moves_hands (event.JobEnd job) = true
-moves_hands (event.Call job session (command.EndTask task)) = true
-moves_hands (event.Call job session (command.Grant id target)) = true
-moves_hands (event.Call job session (command.Withdraw id target)) = true
-moves_hands _ = false
+-- whether it may give a grant or end some, which those are notified of as well to whom objects are granted
+abbrev pub moves_grants : Event → Bool
+moves_grants (event.JobEnd job) = true
+moves_grants (event.Call job session (command.EndTask task)) = true
+moves_grants (event.Call job session (command.Grant id target)) = true
+moves_grants (event.Call job session (command.Withdraw id target)) = true
+moves_grants _ = false
 
 -- what an event with this answer was, if it is no Finish
 abbrev pub judged_as : Event → Reply (List ℕ) → Option Judged
-judged_as (event.Admit job quota key) told = if_ok told (judged.Begin quota)
-judged_as (event.Requota job quota) told = if_ok told (judged.Requota quota)
-judged_as (event.JobEnd job) told = if_ok told judged.End
-judged_as (event.Call job session c) told = Some (judged.Call session (without_payload c))
-judged_as _ told = None
+judged_as (event.Admit job quota key) response = if_ok response (judged.Begin quota)
+judged_as (event.Requota job quota) response = if_ok response (judged.Requota quota)
+judged_as (event.JobEnd job) response = if_ok response judged.End
+judged_as (event.Call job session c) response = Some (judged.Call session (without_payload c))
+judged_as _ response = None
 
 -- of a command it is told whatever the views are
 abbrev pub IsCallJudged : Event → Option Judged → Type 0
@@ -49,8 +49,8 @@ IsCallJudged (event.Call job session c) was = was ≡ Some (judged.Call session 
 IsCallJudged _ was = was ≡ was
 
 -- this is what the event with this answer was to its job
-pub record IsJudged (old : Hosted) (e : Event) (told : Reply (List ℕ)) (was : Option Judged) : Type 0 where
-  pub by_view : (view : View) → Shows old (job_of_event e) view → option_map (judge old.number view) (event_input_of e told) ≡ was
+pub record IsJudged (old : Hosted) (e : Event) (response : Reply (List ℕ)) (was : Option Judged) : Type 0 where
+  pub by_view : (view : View) → Shows old (job_of_event e) view → option_map (judge old.number view) (event_input_of e response) ≡ was
   pub by_call : IsCallJudged e was
 
 -- ---- messages
@@ -62,7 +62,7 @@ arrived a _ = None
 
 -- this is what the arrival with this answer was to its job
 abbrev pub IsArrivalJudged : Hosted → JobNo → Arrival → Reply (List ℕ) → Option Judged → Type 0
-IsArrivalJudged old job a told was = (view : View) → Shows old job.0 view → option_map (judge old.number view) (arrived a told) ≡ was
+IsArrivalJudged old job a response was = (view : View) → Shows old job.0 view → option_map (judge old.number view) (arrived a response) ≡ was
 
 -- ---- small enough for a frame
 
@@ -71,9 +71,9 @@ abbrev pub SeesFew : Hosted → Type 0
 SeesFew node = (v : ℕ → View) → ShowsAll node v → (job : ℕ) → is_some (row_at node (record { 0 = job })) ≡ true → AreGrantedWithin (v job).shape.received
 
 abbrev pub IsSmallCall : Event → Reply (List ℕ) → Type 0
-IsSmallCall (event.Call job session c) told = is_small_reply told ≡ true
-IsSmallCall _ told = told ≡ told
+IsSmallCall (event.Call job session c) response = is_small_reply response ≡ true
+IsSmallCall _ response = response ≡ response
 
 -- the reply to a command has a frame, if the node shows a view of each job
 abbrev pub IsSmall : Hosted → Event → Reply (List ℕ) → Type 0
-IsSmall old e told = (v : ℕ → View) → ShowsAll old v → IsSmallCall e told
+IsSmall old e response = (v : ℕ → View) → ShowsAll old v → IsSmallCall e response

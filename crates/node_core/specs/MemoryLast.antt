@@ -27,17 +27,17 @@ use Rattle.node_table.specs.MemoryLast.{may_grow, IsDueMore}
 use Rattle.node_core.specs.Hosted.{Hosted, row_at, Shows, ShowsAll, bytes_here}
 use Rattle.node_core.specs.Calls.{is_own, takes_no_memory}
 use Rattle.node_core.specs.Granting.{grant_refusal}
-use Rattle.node_core.specs.Steps.{is_taken, answer_of_check, end_check, requota_check, stale_unless, take_told}
+use Rattle.node_core.specs.Steps.{is_taken, answer_of_check, end_check, requota_check, stale_unless, take_response}
 
 -- the answer that an event is due
-abbrev pub told_by : Hosted → (ℕ → View) → NodeEvent → Reply (List ℕ)
-told_by node v (Own (event.Admit job quota key)) = answer_of_check (admit_check node.admissions job quota)
-told_by node v (Own (event.Requota job quota)) = answer_of_check (requota_check node.admissions (v job.0) job quota)
-told_by node v (Own (event.JobEnd job)) = answer_of_check (end_check node.admissions job)
-told_by node v (Own event.Take) = take_told node.works.works v
-told_by node v (Own (event.Finish job number a)) = answer_of_check (stale_unless (is_taken node.works.works job.0 number))
-told_by node v (Own (event.Call job session c)) = (view_step node.number (v job.0) (input.Call session c)).reply
-told_by node v (Arrive job a) = answer_of_check (stale_unless (is_some (live_at node.admissions job)))
+abbrev pub response_by : Hosted → (ℕ → View) → NodeEvent → Reply (List ℕ)
+response_by node v (Own (event.Admit job quota key)) = answer_of_check (admit_check node.admissions job quota)
+response_by node v (Own (event.Requota job quota)) = answer_of_check (requota_check node.admissions (v job.0) job quota)
+response_by node v (Own (event.JobEnd job)) = answer_of_check (end_check node.admissions job)
+response_by node v (Own event.Take) = take_response node.works.works v
+response_by node v (Own (event.Finish job number a)) = answer_of_check (stale_unless (is_taken node.works.works job.0 number))
+response_by node v (Own (event.Call job session c)) = (view_step node.number (v job.0) (input.Call session c)).reply
+response_by node v (Arrive job a) = answer_of_check (stale_unless (is_some (live_at node.admissions job)))
 
 -- whether there is something to do
 abbrev pub is_accepted : Reply (List ℕ) → Bool
@@ -48,7 +48,7 @@ is_accepted _ = true
 -- whether an event may want memory
 abbrev pub may_want : Hosted → (ℕ → View) → NodeEvent → Bool
 may_want node v (Own (event.Call job session c)) = may_grow (v job.0) (view_step node.number (v job.0) (input.Call session c))
-may_want node v e = is_accepted (told_by node v e)
+may_want node v e = is_accepted (response_by node v e)
 
 -- what an error is: no other refusal was all that was due
 abbrev pub IsMemoryLast : Hosted → NodeEvent → Type 0
@@ -73,12 +73,12 @@ IsRoomDue node row line (command.Create id kind n) = IsDueMore node row line (co
 IsRoomDue node row line (command.Get id) = IsDueMore node row line (command.Get id)
 IsRoomDue node row line _ = Unit {0}
 
--- why a command of the job with this row is refused by the hands that stand
-abbrev pub hands_check : Hosted → Row → ℕ → Command (List ℕ) → Option Refusal
-hands_check node row job (command.Grant id target) = grant_refusal row job id target.0 (grant_check node.hands job id target.0)
-hands_check node row job (command.Withdraw id target) = withdraw_check node.hands job id target.0
-hands_check node row job (command.Peek id offset n) = peek_check node.hands job id (length (bytes_here node.rows id)) offset n
-hands_check node row job _ = None
+-- why a command of the job with this row is refused by the grants that stand
+abbrev pub grants_check : Hosted → Row → ℕ → Command (List ℕ) → Option Refusal
+grants_check node row job (command.Grant id target) = grant_refusal row job id target.0 (grant_check node.grants job id target.0)
+grants_check node row job (command.Withdraw id target) = withdraw_check node.grants job id target.0
+grants_check node row job (command.Peek id offset n) = peek_check node.grants job id (length (bytes_here node.rows id)) offset n
+grants_check node row job _ = None
 
 -- why a task of a job with this row, or none, can't end
 abbrev pub task_refusal : Option Row → TaskNo → Option Refusal
@@ -89,7 +89,7 @@ pub record IsCallUnrefused (node : Hosted) (job : JobNo) (session : ℕ) (c : Co
   pub row : Row
   pub found : row_at node job ≡ Some row
   pub unrefused : IsUnrefused row job.0 session c
-  pub by_hands : hands_check node row job.0 c ≡ None
+  pub by_grants : grants_check node row job.0 c ≡ None
   pub by_room : row.job ≡ job.0 → IsRoomDue node.number row node.works c
 
 -- a work that nobody has taken, of a job that has a row

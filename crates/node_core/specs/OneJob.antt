@@ -1,4 +1,4 @@
--- What an event that moves no hand does at a node, told of one job at a time: it is an input of its own job alone.
+-- What an event that moves no grant does at a node, told of one job at a time: it is an input of its own job alone.
 use Rattle.std.specs.Prelude.{◌≡◌, ℕ, ◌==◌, if◌then◌else◌, not, ◌&&◌, List, [], filter, Option, Some, None}
 use Rattle.std.specs.Option.{option_map_or}
 use Rattle.obj_id.specs.declared.commands.Reply.{Reply}
@@ -14,7 +14,7 @@ use Rattle.node_table.specs.Asked.{HasAsked}
 use Rattle.node_table.specs.Shown.{RowGiven}
 use Rattle.private_store.specs.declared.schedules.NodeEvent.TheVariants.{Own}
 use Rattle.node_core.specs.Hosted.{Hosted, Shows, ShowsAll}
-use Rattle.node_core.specs.Steps.{job_of_event, is_taken, answer_of_check, end_check, requota_check, stale_unless, take_told, admissions_after, live_jobs_after}
+use Rattle.node_core.specs.Steps.{job_of_event, is_taken, answer_of_check, end_check, requota_check, stale_unless, take_response, admissions_after, live_jobs_after}
 use Rattle.job_admission.specs.Admissions.{lives_of, admit_check}
 use Rattle.node_core.specs.Quotas.{requota_refusal}
 
@@ -25,7 +25,7 @@ event_input_of (event.Admit job quota key) reply.Ok = Some (input.Begin quota)
 event_input_of (event.Requota job quota) reply.Ok = Some (input.Requota quota)
 event_input_of (event.JobEnd job) reply.Ok = Some input.End
 event_input_of (event.Finish job number a) reply.Ok = Some (input.Answer number a)
-event_input_of (event.Call job session c) told = Some (input.Call session c)
+event_input_of (event.Call job session c) response = Some (input.Call session c)
 event_input_of _ _ = None
 
 -- the job's view after an event that is this to it
@@ -34,7 +34,7 @@ view_by node view o = option_map_or (λ x. (view_step node view x).view) o view
 
 -- the view of any job after an event with this answer
 abbrev pub one_view_after : ℕ → ℕ → View → Event → Reply (List ℕ) → View
-one_view_after node job view e told = if job == job_of_event e then view_by node view (event_input_of e told) else view
+one_view_after node job view e response = if job == job_of_event e then view_by node view (event_input_of e response) else view
 
 -- the reply, the messages and the keys are those of the private step
 pub record IsStepOf (node : ℕ) (view : View) (x : Input) (given : RowGiven) : Type 0 where
@@ -53,25 +53,25 @@ IsGiven node view None given = IsSilent given
 
 -- what the operator is answered
 abbrev pub IsOperatorAnswer : Hosted → Event → Reply (List ℕ) → Type 0
-IsOperatorAnswer node (event.Admit job quota key) told = told ≡ answer_of_check (admit_check node.admissions job quota)
-IsOperatorAnswer node (event.Requota job quota) told = told ≡ answer_of_check (requota_refusal node job quota)
-IsOperatorAnswer node (event.JobEnd job) told = told ≡ answer_of_check (end_check node.admissions job)
-IsOperatorAnswer node _ told = told ≡ told
+IsOperatorAnswer node (event.Admit job quota key) response = response ≡ answer_of_check (admit_check node.admissions job quota)
+IsOperatorAnswer node (event.Requota job quota) response = response ≡ answer_of_check (requota_refusal node job quota)
+IsOperatorAnswer node (event.JobEnd job) response = response ≡ answer_of_check (end_check node.admissions job)
+IsOperatorAnswer node _ response = response ≡ response
 
 -- what is answered by what the views say: a Take, a Finish, and a change of quota
 abbrev pub IsAnswerByViews : Hosted → (ℕ → View) → Event → Reply (List ℕ) → Type 0
-IsAnswerByViews node v (event.Requota job quota) told = told ≡ answer_of_check (requota_check node.admissions (v job.0) job quota)
-IsAnswerByViews node v event.Take told = told ≡ take_told node.works.works v
-IsAnswerByViews node v (event.Finish job number a) told = told ≡ answer_of_check (stale_unless (is_taken node.works.works job.0 number))
-IsAnswerByViews node v _ told = told ≡ told
+IsAnswerByViews node v (event.Requota job quota) response = response ≡ answer_of_check (requota_check node.admissions (v job.0) job quota)
+IsAnswerByViews node v event.Take response = response ≡ take_response node.works.works v
+IsAnswerByViews node v (event.Finish job number a) response = response ≡ answer_of_check (stale_unless (is_taken node.works.works job.0 number))
+IsAnswerByViews node v _ response = response ≡ response
 
 -- the line of works: a Take marks the work that it gives, a Finish takes its taken work out, an end takes the job's works out,
 -- and a command's works come last
 abbrev pub IsLineAfter : WorkLine → Event → Reply (List ℕ) → WorkLine → Type 0
 IsLineAfter old event.Take (reply.Work work) new = new.works ≡ marked_taken work.job work.number old.works
 IsLineAfter old (event.JobEnd job) reply.Ok new = new.works ≡ filter (λ work. not (is_of job work)) old.works
-IsLineAfter old (event.Finish job number a) told new = new.works ≡ filter (λ work. not (is_at job number work && work.taken)) old.works
-IsLineAfter old (event.Call job session c) told new = HasAsked old job new
+IsLineAfter old (event.Finish job number a) response new = new.works ≡ filter (λ work. not (is_at job number work && work.taken)) old.works
+IsLineAfter old (event.Call job session c) response new = HasAsked old job new
 IsLineAfter old _ _ new = new.works ≡ old.works
 
 pub record NodeStepOne (old : Hosted) (e : Event) (given : RowGiven) (new : Hosted) : Type 0 where
@@ -79,11 +79,11 @@ pub record NodeStepOne (old : Hosted) (e : Event) (given : RowGiven) (new : Host
   -- every job's view is the private step of the view before on what the event is to that job
   pub views : (v : ℕ → View) → ShowsAll old v → (job : ℕ) → Shows new job (one_view_after old.number job (v job) e given.reply)
   -- and what it gives is that step's
-  pub told : (view : View) → Shows old (job_of_event e) view → IsGiven old.number view (event_input_of e given.reply) given
+  pub response : (view : View) → Shows old (job_of_event e) view → IsGiven old.number view (event_input_of e given.reply) given
   pub operator : IsOperatorAnswer old e given.reply
   pub by_views : (v : ℕ → View) → ShowsAll old v → IsAnswerByViews old v e given.reply
   pub admissions : new.admissions ≡ admissions_after old.admissions (Own e) given.reply
   pub lives : lives_of new.admissions.live ≡ live_jobs_after old.admissions.memory (lives_of old.admissions.live) (Own e) given.reply
   pub line : (v : ℕ → View) → ShowsAll old v → IsLineAfter old.works e given.reply new.works
-  -- the hands stand as they stood
-  pub hands : new.hands ≡ old.hands
+  -- the grants stand as they stood
+  pub grants : new.grants ≡ old.grants

@@ -1,7 +1,7 @@
 -- What an event gives, as the private steps have it.
 use Rattle.std.specs.Prelude.{ℕ, List, [], ◌∷◌, map}
 use Rattle.private_store.specs.declared.inputs.Judged.TheVariants as judged
-use Rattle.private_store.specs.rules.Hands.{Hand}
+use Rattle.private_store.specs.rules.Grants.{StandingGrant}
 use Rattle.node_table.specs.Erased.{keys_of}
 use Rattle.node_table.specs.Shown.{RowGiven}
 use Rattle.node_core.specs.declared.outcome.Note.{Note}
@@ -15,13 +15,13 @@ input_noted note = record { job = note.job.0; input = note.input }
 abbrev pub inputs_noted : List Note → List JobJudged
 inputs_noted notes = map input_noted notes
 
--- what the end of a hand is to its grantee
-abbrev pub end_noted : Hand → JobJudged
-end_noted hand = record { job = hand.grantee; input = judged.Withdrawn hand.id (record { 0 = hand.grantor }) hand.depth }
+-- what the end of a grant is to its grantee
+abbrev pub end_noted : StandingGrant → JobJudged
+end_noted grant = record { job = grant.grantee; input = judged.Withdrawn grant.id (record { 0 = grant.grantor }) grant.depth }
 
--- what a hand of an object of this length is to its grantee
-abbrev pub received_noted : Hand → ℕ → JobJudged
-received_noted hand n = record { job = hand.grantee; input = judged.Received hand.id n (record { 0 = hand.grantor }) hand.depth }
+-- what a grant of an object of this length is to its grantee
+abbrev pub received_noted : StandingGrant → ℕ → JobJudged
+received_noted grant n = record { job = grant.grantee; input = judged.Received grant.id n (record { 0 = grant.grantor }) grant.depth }
 
 abbrev pub node_given_of : NodeOutcome → NodeGiven
 node_given_of o =
@@ -32,14 +32,14 @@ node_given_of o =
       notes = inputs_noted o.notes;
     }
 
--- what a row gave, where no hand changed
+-- what a row gave, where no grant changed
 abbrev pub with_no_notes : RowGiven → NodeGiven
 with_no_notes given = record { reply = given.reply; posts = given.posts; erased = given.erased; notes = [] }
 
--- where this hand of an object of this length was given
-abbrev pub with_given : RowGiven → Hand → ℕ → NodeGiven
-with_given given hand n = record { reply = given.reply; posts = given.posts; erased = given.erased; notes = received_noted hand n ∷ [] }
+-- where this grant of an object of this length was given
+abbrev pub with_given : RowGiven → StandingGrant → ℕ → NodeGiven
+with_given given grant n = record { reply = given.reply; posts = given.posts; erased = given.erased; notes = received_noted grant n ∷ [] }
 
--- where these hands ended
-abbrev pub with_ends : RowGiven → List Hand → NodeGiven
+-- where these grants ended
+abbrev pub with_ends : RowGiven → List StandingGrant → NodeGiven
 with_ends given ended = record { reply = given.reply; posts = given.posts; erased = given.erased; notes = map end_noted ended }

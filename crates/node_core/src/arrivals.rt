@@ -8,7 +8,7 @@ ghost use Rattle.obj_id.specs.declared.refusals.Refusal.TheVariants.{Stale};
 ghost use Rattle.private_store.specs.declared.inputs.Input.TheVariants as input;
 ghost use Rattle.private_store.specs.declared.schedules.NodeEvent.TheVariants as node_event;
 ghost use Rattle.private_store.specs.rules.Contents.{Contents, judge, source_in as source_in_lem};
-ghost use Rattle.private_store.specs.rules.Hands.{Hand};
+ghost use Rattle.private_store.specs.rules.Grants.{StandingGrant};
 ghost use Rattle.spill_work.specs.Line.{same_work_job, IsSameFor};
 ghost use Rattle.node_table.specs.Asked.{HasAsked};
 ghost use Rattle.node_table.specs.Outcomes.{row_given_of};
@@ -36,7 +36,7 @@ impl Node {
     /// The view that the node shows of the job afterwards is what the private step makes of the view before on that
     /// message, and every other job's is as it was. `Stale` if the job isn't live, and then nothing changes. The error
     /// is out of memory, and then nothing has changed; it never stands in for `Stale`. It sends no more messages than
-    /// `foresee_arrival` says, tells no job of a hand, and says what it was to its own job: nothing if it is stale.
+    /// `foresee_arrival` says, tells no job of a grant, and says what it was to its own job: nothing if it is stale.
     pub fn arrive(&mut self, job: JobNo, arrival: &Arrival) -> Result<NodeOutcome, AllocError>
         ensures ok { IfOk result (λ o. NodeStep self.old (node_event.Arrive job arrival.now) (node_given_of o) self.new) }
         ensures memory_last { OnErr result (IsMemoryLast self.old (node_event.Arrive job arrival.now)) }
@@ -65,11 +65,11 @@ fn deliver(
     works: &mut Works,
     arrival: &Arrival,
 ) -> Result<(node_table::RowOutcome, Judged), AllocError>
-    ensures ok { IfOk result (λ o. (hands : List Hand) (bytes : ObjectId → List ℕ) (contents : Contents) → IsShown row.old (beside_of works.old hands bytes row.old.job) contents
-        → RowStep node row.old (beside_of works.old hands bytes row.old.job) contents (input.Arrive arrival.now) (row_given_of o.0) row.new (beside_of works.new hands bytes row.old.job)) }
-    ensures judged { IfOk result (λ o. (hands : List Hand) (bytes : ObjectId → List ℕ) (contents : Contents) → IsShown row.old (beside_of works.old hands bytes row.old.job) contents
-        → o.1 ≡ judge node (seen row.old (beside_of works.old hands bytes row.old.job) contents) (input.Arrive arrival.now)) }
-    ensures told { IfOk result (λ o. o.0.reply ≡ reply.Ok) }
+    ensures ok { IfOk result (λ o. (grants : List StandingGrant) (bytes : ObjectId → List ℕ) (contents : Contents) → IsShown row.old (beside_of works.old grants bytes row.old.job) contents
+        → RowStep node row.old (beside_of works.old grants bytes row.old.job) contents (input.Arrive arrival.now) (row_given_of o.0) row.new (beside_of works.new grants bytes row.old.job)) }
+    ensures judged { IfOk result (λ o. (grants : List StandingGrant) (bytes : ObjectId → List ℕ) (contents : Contents) → IsShown row.old (beside_of works.old grants bytes row.old.job) contents
+        → o.1 ≡ judge node (seen row.old (beside_of works.old grants bytes row.old.job) contents) (input.Arrive arrival.now)) }
+    ensures response { IfOk result (λ o. o.0.reply ≡ reply.Ok) }
     ensures bounded { IfOk result (λ o. length o.0.messages ≤ most_by_arrival (Some row.old) arrival.now) }
     ensures line { OnOk result (HasAsked works.old (record { 0 = row.old.job }) works.new) }
     ensures others { (other : JobNo) → same_work_job (record { 0 = row.old.job }) other ≡ false → IsSameFor other works.old works.new }
@@ -105,11 +105,11 @@ fn deliver_from(
     from: u32,
     message: &PeerMessage,
 ) -> Result<(node_table::RowOutcome, Judged), AllocError>
-    ensures ok { IfOk result (λ o. (hands : List Hand) (bytes : ObjectId → List ℕ) (contents : Contents) → IsShown row.old (beside_of works.old hands bytes row.old.job) contents
-        → RowStep node row.old (beside_of works.old hands bytes row.old.job) contents (input.Arrive (arrival.FromPeer from message.now)) (row_given_of o.0) row.new (beside_of works.new hands bytes row.old.job)) }
-    ensures judged { IfOk result (λ o. (hands : List Hand) (bytes : ObjectId → List ℕ) (contents : Contents) → IsShown row.old (beside_of works.old hands bytes row.old.job) contents
-        → o.1 ≡ judge node (seen row.old (beside_of works.old hands bytes row.old.job) contents) (input.Arrive (arrival.FromPeer from message.now))) }
-    ensures told { IfOk result (λ o. o.0.reply ≡ reply.Ok) }
+    ensures ok { IfOk result (λ o. (grants : List StandingGrant) (bytes : ObjectId → List ℕ) (contents : Contents) → IsShown row.old (beside_of works.old grants bytes row.old.job) contents
+        → RowStep node row.old (beside_of works.old grants bytes row.old.job) contents (input.Arrive (arrival.FromPeer from message.now)) (row_given_of o.0) row.new (beside_of works.new grants bytes row.old.job)) }
+    ensures judged { IfOk result (λ o. (grants : List StandingGrant) (bytes : ObjectId → List ℕ) (contents : Contents) → IsShown row.old (beside_of works.old grants bytes row.old.job) contents
+        → o.1 ≡ judge node (seen row.old (beside_of works.old grants bytes row.old.job) contents) (input.Arrive (arrival.FromPeer from message.now))) }
+    ensures response { IfOk result (λ o. o.0.reply ≡ reply.Ok) }
     ensures bounded { IfOk result (λ o. length o.0.messages ≤ most_by_arrival (Some row.old) (arrival.FromPeer from message.now)) }
     ensures line { OnOk result (HasAsked works.old (record { 0 = row.old.job }) works.new) }
     ensures others { (other : JobNo) → same_work_job (record { 0 = row.old.job }) other ≡ false → IsSameFor other works.old works.new }

@@ -92,7 +92,7 @@ fn answer(
     command: &Command<Bytes>,
 ) -> Result<Reply<Bytes>, AllocError>
     requires { is_answered_here command.now ≡ true }
-    ensures ok { IfOk result (λ told. (node job : ℕ) → is_own_lem job command.now ≡ true → CallStep node job row.old works.now session command.now (only told) row.new works.now) }
+    ensures ok { IfOk result (λ response. (node job : ℕ) → is_own_lem job command.now ≡ true → CallStep node job row.old works.now session command.now (only response) row.new works.now) }
     ensures memory_last { OnErr result (IsMemoryLastOnRow row.old session command.now) }
     ensures err { OnErr result (row.new ≡ row.old) }
 {
@@ -123,7 +123,7 @@ fn is_own(job: JobNo, command: &Command<Bytes>) -> bool
         | Command::Borrow(id, _)
         | Command::GiveUp(id, _)
         | Command::Delete(id) => id.job().0 == job.0,
-        // of hands it is the grants that tell
+        // of grants it is their table that tells
         Command::Grant(..) | Command::Withdraw(..) | Command::Peek { .. } => true,
         Command::EndTask(_) | Command::List | Command::Usage | Command::Leave => true,
     }

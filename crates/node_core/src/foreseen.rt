@@ -1,13 +1,13 @@
 //! What a node knows of an event before it is taken.
 ghost use Rattle.std.specs.Prelude.{◌≡◌, ◌∷◌, [], Some, IfOk};
 ghost use Rattle.node_core.specs.Hosted.{row_at};
-ghost use Rattle.node_core.specs.Foreseen.{grantees_of_ended as grantees_of_ended_lem, most_by_arrival as most_by_arrival_lem, most_by_command as most_by_command_lem, most_messages as most_messages_lem, grantees_of as grantees_of_lem, grantees_told};
+ghost use Rattle.node_core.specs.Foreseen.{grantees_of_ended as grantees_of_ended_lem, most_by_arrival as most_by_arrival_lem, most_by_command as most_by_command_lem, most_messages as most_messages_lem, grantees_of as grantees_of_lem, grantees_in};
 
 use crate::Node;
 use bytes::Bytes;
-use grants::Hand;
+use grants::StandingGrant;
 use node_table::JobRow;
-use obj_id::{Arrival, Command, Items, JobNo, PeerMessage};
+use obj_id::{Arrival, Command, ItemList, JobNo, PeerMessage};
 use private_store::Event;
 use std::alloc::{AllocError, Global};
 
@@ -40,10 +40,10 @@ impl Node {
         Foreseen { most_messages }
     }
 
-    /// The jobs that the event tells of hands if it is accepted, one for each note, in their order. The error is out
+    /// The jobs that the event tells of grants if it is accepted, one for each note, in their order. The error is out
     /// of memory. It changes nothing.
-    pub fn grantees(&self, event: &Event) -> Result<Items<JobNo>, AllocError>
-        ensures grantees { IfOk result (λ grantees. grantees ≡ grantees_of_lem self.now.hands event.now) }
+    pub fn grantees(&self, event: &Event) -> Result<ItemList<JobNo>, AllocError>
+        ensures grantees { IfOk result (λ grantees. grantees ≡ grantees_of_lem self.now.grants event.now) }
     {
         match event {
             Event::Call {
@@ -54,25 +54,25 @@ impl Node {
         }
     }
 
-    /// The grantees of the hands that end if the event is accepted, in the order in which they are told.
-    fn grantees_of_ended(&self, event: &Event) -> Result<Items<JobNo>, AllocError>
-        ensures { IfOk result (λ grantees. grantees ≡ grantees_of_ended_lem self.now.hands event.now) }
+    /// The grantees of the grants that end if the event is accepted, in the order in which they are announced.
+    fn grantees_of_ended(&self, event: &Event) -> Result<ItemList<JobNo>, AllocError>
+        ensures { IfOk result (λ grantees. grantees ≡ grantees_of_ended_lem self.now.grants event.now) }
     {
         let ends = match event {
-            Event::JobEnd(job) => self.hands.ends_with_job(*job)?,
+            Event::JobEnd(job) => self.grants.ends_with_job(*job)?,
             Event::Call {
                 job,
                 command: Command::EndTask(task),
                 ..
-            } => { self.hands.ends_with_task(*job, *task)? }
+            } => { self.grants.ends_with_task(*job, *task)? }
             Event::Call {
                 job,
                 command: Command::Withdraw(id, target),
                 ..
-            } => { self.hands.ends_with_hand(*job, *id, *target)? }
-            _ => return Ok(Items::new(self.alloc)),
+            } => { self.grants.ends_with_grant(*job, *id, *target)? }
+            _ => return Ok(ItemList::new(self.alloc)),
         };
-        grantees_of(self.alloc, ends.hands())
+        grantees_of(self.alloc, ends.grants())
     }
 
     /// The most messages that the event sends.
@@ -111,23 +111,23 @@ impl Node {
 }
 
 /// One grantee.
-fn one_grantee(alloc: Global, grantee: JobNo) -> Result<Items<JobNo>, AllocError>
+fn one_grantee(alloc: Global, grantee: JobNo) -> Result<ItemList<JobNo>, AllocError>
     ensures { IfOk result (λ grantees. grantees ≡ grantee ∷ []) }
 {
     let mut grantees = Vec::with_capacity(alloc, 1)?;
     grantees.push(grantee)?;
-    Ok(Items::from_vec(grantees))
+    Ok(ItemList::from_vec(grantees))
 }
 
-/// The grantees of the hands, in their order.
-fn grantees_of(alloc: Global, hands: &[Hand]) -> Result<Items<JobNo>, AllocError>
-    ensures { IfOk result (λ grantees. grantees ≡ grantees_told hands.now) }
+/// The grantees of the grants, in their order.
+fn grantees_of(alloc: Global, grants: &[StandingGrant]) -> Result<ItemList<JobNo>, AllocError>
+    ensures { IfOk result (λ grantees. grantees ≡ grantees_in grants.now) }
 {
-    let mut grantees = Vec::with_capacity(alloc, hands.len())?;
-    for hand in hands {
-        grantees.push(hand.grantee())?;
+    let mut grantees = Vec::with_capacity(alloc, grants.len())?;
+    for grant in grants {
+        grantees.push(grant.grantee())?;
     }
-    Ok(Items::from_vec(grantees))
+    Ok(ItemList::from_vec(grantees))
 }
 
 /// The most messages that a live job's node sends if this arrives: a Pull is sent the chunks that it asks for, or makes room

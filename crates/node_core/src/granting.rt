@@ -20,7 +20,7 @@ use private_store::Judged;
 use std::alloc::{AllocError, Global};
 
 impl Node {
-    /// Grants an object, the job's own or one that it was granted, to the target, live or not: the target is told.
+    /// Grants an object, the job's own or one that it was granted, to the target, live or not: the target is notified.
     /// `NotAdmitted` if the job isn't live; of an own object `BadId`, `Gone`, `Absent`, `NotResident`, `Exists` or
     /// `TooMany`, of another's `BadId`, `NotGranted`, `Exists` or `TooMany`. The error is out of memory, and then nothing
     /// has changed.
@@ -34,7 +34,7 @@ impl Node {
         ensures ok { IfOk result (λ o. NodeStep self.old (node_event.Own (event.Call job session (command.Grant id.now target))) (node_given_of o) self.new) }
         ensures silent { IfOk result (λ o. o.messages ≡ []) }
         ensures judged { IfOk result (λ o. o.judged ≡ judged_as (event.Call job session (command.Grant id.now target)) o.reply) }
-        ensures grantees { IfOk result (λ o. AreTakers self.old.hands (event.Call job session (command.Grant id.now target)) o.reply (map (λ note. note.job) o.notes)) }
+        ensures grantees { IfOk result (λ o. AreTakers self.old.grants (event.Call job session (command.Grant id.now target)) o.reply (map (λ note. note.job) o.notes)) }
         ensures memory_last { OnErr result (IsCallUnrefused self.old job session (command.Grant id.now target)) }
         ensures err { OnErr result (self.new ≡ self.old) }
     {
@@ -43,20 +43,20 @@ impl Node {
         let Some(row) = self.rows.get_mut(&job) else {
             return Ok(NodeOutcome::refused(self.alloc, Refusal::NotAdmitted, judged));
         };
-        let table = self.hands.grant_check(job, *id, target);
+        let table = self.grants.grant_check(job, *id, target);
         if let Some(refusal) = grant_refusal(row, job, id, target, table) {
             return Ok(NodeOutcome::refused(self.alloc, refusal, judged));
         }
         let notes = Vec::with_capacity(self.alloc, 1)?;
-        let Ok(hand) = self.hands.grant(job, *id, target) else {
+        let Ok(made) = self.grants.grant(job, *id, target) else {
             return Err(AllocError);
         };
         let outcome = give(self.alloc, job, row, session, id, target, table);
-        Ok(NodeOutcome::with_given(outcome, notes, &hand, length, judged))
+        Ok(NodeOutcome::with_given(outcome, notes, &made, length, judged))
     }
 
-    /// Takes back from the target an object that the job granted to it: the hand ends, with all that hang on it, and
-    /// each grantee is told. `NotAdmitted` if the job isn't live, `NotGranted` if no such hand stands. The error is
+    /// Takes back from the target an object that the job granted to it: the grant ends, with all that hang on it, and
+    /// each grantee is notified. `NotAdmitted` if the job isn't live, `NotGranted` if no such grant stands. The error is
     /// out of memory, and then nothing has changed.
     pub(crate) fn withdraw(
         &mut self,
@@ -68,7 +68,7 @@ impl Node {
         ensures ok { IfOk result (λ o. NodeStep self.old (node_event.Own (event.Call job session (command.Withdraw id.now target))) (node_given_of o) self.new) }
         ensures silent { IfOk result (λ o. o.messages ≡ []) }
         ensures judged { IfOk result (λ o. o.judged ≡ judged_as (event.Call job session (command.Withdraw id.now target)) o.reply) }
-        ensures grantees { IfOk result (λ o. AreTakers self.old.hands (event.Call job session (command.Withdraw id.now target)) o.reply (map (λ note. note.job) o.notes)) }
+        ensures grantees { IfOk result (λ o. AreTakers self.old.grants (event.Call job session (command.Withdraw id.now target)) o.reply (map (λ note. note.job) o.notes)) }
         ensures memory_last { OnErr result (IsCallUnrefused self.old job session (command.Withdraw id.now target)) }
         ensures err { OnErr result (self.new ≡ self.old) }
     {
@@ -76,20 +76,20 @@ impl Node {
         let Some(row) = self.rows.get_mut(&job) else {
             return Ok(NodeOutcome::refused(self.alloc, Refusal::NotAdmitted, judged));
         };
-        if !self.hands.has_given(job, *id, target) {
+        if !self.grants.has_given(job, *id, target) {
             return Ok(NodeOutcome::refused(self.alloc, Refusal::NotGranted, judged));
         }
-        let notes = Vec::with_capacity(self.alloc, self.hands.len())?;
-        let Ok(ended) = self.hands.withdraw(job, *id, target) else {
+        let notes = Vec::with_capacity(self.alloc, self.grants.len())?;
+        let Ok(ended) = self.grants.withdraw(job, *id, target) else {
             return Err(AllocError);
         };
-        let granted = self.hands.is_granted(*id);
+        let granted = self.grants.is_granted(*id);
         let outcome = let_go(self.alloc, job, row, session, id, target, granted);
         Ok(NodeOutcome::with_ends(outcome, notes, ended.as_slice(), judged))
     }
 }
 
-/// Why the job of this row can't grant the object to the target, if this is what the table of hands says. Of another
+/// Why the job of this row can't grant the object to the target, if this is what the table of grants says. Of another
 /// job's object the table alone decides.
 fn grant_refusal(
     row: &JobRow,
@@ -127,7 +127,7 @@ fn give(
     node_table::RowOutcome::only(alloc, Reply::Ok)
 }
 
-/// The step of the job's row by a Withdraw of a hand that stood, if hands of the object from its own job are left or
+/// The step of the job's row by a Withdraw of a grant that stood, if grants of the object from its own job are left or
 /// none. Takes no memory.
 fn let_go(
     alloc: Global,

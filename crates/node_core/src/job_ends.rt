@@ -2,7 +2,7 @@
 ghost use Rattle.std.specs.Prelude.{◌≡◌, ◌≤◌, None, true, length, map, is_some, IfOk, OnErr};
 ghost use Rattle.private_store.specs.declared.schedules.Event.TheVariants as event;
 ghost use Rattle.private_store.specs.declared.schedules.NodeEvent.TheVariants as node_event;
-ghost use Rattle.private_store.specs.rules.Hands.{is_given_by};
+ghost use Rattle.private_store.specs.rules.Grants.{is_given_by};
 ghost use Rattle.grants.specs.Table.{ends_found};
 ghost use Rattle.job_admission.specs.Admissions.{live_at};
 ghost use Rattle.node_table.specs.Outcomes.{row_given_of};
@@ -14,32 +14,32 @@ ghost use Rattle.node_core.specs.Steps.{NodeStep, end_check};
 
 use crate::Node;
 use crate::outcome::NodeOutcome;
-use grants::EndingHands;
+use grants::EndingGrants;
 use obj_id::{DirectoryMessage, Endpoint, JobNo, Message, Refusal, Reply};
 use private_store::Judged;
 use std::alloc::AllocError;
 
 impl Node {
-    /// The operator ends a job: nothing is left of it here, the directory is told, the device keys of its copies are to be
-    /// erased, and what it granted ends, with all that hangs on it: the grantees are told in the order of the ends. The error
+    /// The operator ends a job: nothing is left of it here, the directory is notified, the device keys of its copies are to be
+    /// erased, and what it granted ends, with all that hangs on it: the grantees are notified in the order of the ends. The error
     /// is out of memory, and then nothing has changed.
     pub(crate) fn end_job(&mut self, job: JobNo) -> Result<NodeOutcome, AllocError>
         ensures ok { IfOk result (λ o. NodeStep self.old (node_event.Own (event.JobEnd job)) (node_given_of o) self.new) }
         ensures bounded { IfOk result (λ o. length o.messages ≤ 1) }
         ensures judged { IfOk result (λ o. o.judged ≡ judged_as (event.JobEnd job) o.reply) }
-        ensures grantees { IfOk result (λ o. AreTakers self.old.hands (event.JobEnd job) o.reply (map (λ note. note.job) o.notes)) }
+        ensures grantees { IfOk result (λ o. AreTakers self.old.grants (event.JobEnd job) o.reply (map (λ note. note.job) o.notes)) }
         ensures memory_last { OnErr result (end_check self.old.admissions job ≡ None) }
         ensures err { OnErr result (self.new ≡ self.old) }
     {
         if !self.admission.is_live(job) {
             return Ok(NodeOutcome::refused(self.alloc, Refusal::NotAdmitted, None));
         }
-        let ends = self.hands.ends_with_job(job)?;
-        let notes = Vec::with_capacity(self.alloc, ends.hands().len())?;
+        let ends = self.grants.ends_with_job(job)?;
+        let notes = Vec::with_capacity(self.alloc, ends.grants().len())?;
         let outcome = self.own_end(job)?;
         self.let_job_go(job, &ends);
         let judged = Some(Judged::End);
-        Ok(NodeOutcome::with_ends(outcome, notes, ends.hands(), judged))
+        Ok(NodeOutcome::with_ends(outcome, notes, ends.grants(), judged))
     }
 
     /// What the end of a live job gives to the job itself, before anything changes.
@@ -64,16 +64,16 @@ impl Node {
         })
     }
 
-    /// Nothing of a live job is left here, nor of the hands that end with it. Takes no memory.
-    fn let_job_go(&mut self, job: JobNo, ends: &EndingHands)
+    /// Nothing of a live job is left here, nor of the grants that end with it. Takes no memory.
+    fn let_job_go(&mut self, job: JobNo, ends: &EndingGrants)
         requires live { is_some (live_at self.old.admissions job) ≡ true }
-        requires found { ends.now ≡ ends_found (is_given_by job.0) self.old.hands }
+        requires found { ends.now ≡ ends_found (is_given_by job.0) self.old.grants }
         ensures { LetsJobGo self.old job self.new }
     {
         let Ok(()) = self.admission.finish_job(job) else {
             unreachable!()
         };
-        self.hands.take_out(ends);
+        self.grants.take_out(ends);
         self.works.drop_job(job);
         self.gone = self.rows.shift_remove(&job);
     }

@@ -1,7 +1,7 @@
 //! What an event was to its own job, without contents.
 ghost use Rattle.std.specs.Prelude.{◌≡◌};
-ghost use Rattle.private_store.specs.rules.Contents.{without_payload as brief_lem};
-ghost use Rattle.node_core.specs.Judged.{if_ok as if_ok_lem, judged_as as judged_as_lem, moves_hands as moves_hands_lem};
+ghost use Rattle.private_store.specs.rules.Contents.{without_payload as without_payload_lem};
+ghost use Rattle.node_core.specs.Judged.{if_ok as if_ok_lem, judged_as as judged_as_lem, moves_grants as moves_grants_lem};
 
 use bytes::Bytes;
 use obj_id::{Command, Reply};
@@ -24,9 +24,9 @@ pub(crate) fn judged_as(event: &Event, reply: &Reply<Bytes>) -> Option<Judged>
     }
 }
 
-/// Whether the event may give a hand or end some.
-pub(crate) fn moves_hands(event: &Event) -> bool
-    ensures { result ≡ moves_hands_lem event.now }
+/// Whether the event may give a grant or end some.
+pub(crate) fn moves_grants(event: &Event) -> bool
+    ensures { result ≡ moves_grants_lem event.now }
 {
     match event {
         Event::JobEnd(_) => true,
@@ -50,7 +50,7 @@ pub(crate) fn if_ok(reply: &Reply<Bytes>, input: Judged) -> Option<Judged>
 
 /// The command, with the number of the bytes that it writes.
 fn without_payload(command: &Command<Bytes>) -> Command<u64>
-    ensures { result ≡ brief_lem command.now }
+    ensures { result ≡ without_payload_lem command.now }
 {
     match command {
         Command::Create {

@@ -24,7 +24,7 @@ ghost use Rattle.node_core.specs.MemoryLast.{IsCallUnrefused, IsEventUnrefused, 
 ghost use Rattle.node_core.specs.OneJob.{NodeStepOne};
 ghost use Rattle.node_core.specs.Outcomes.{node_given_of};
 ghost use Rattle.node_core.specs.Foreseen.{most_by_command, most_messages, AreTakers};
-ghost use Rattle.node_core.specs.Judged.{is_finish, moves_hands, judged_as, IsJudged, SeesFew, IsSmall};
+ghost use Rattle.node_core.specs.Judged.{is_finish, moves_grants, judged_as, IsJudged, SeesFew, IsSmall};
 
 mod arrivals;
 mod calls;
@@ -60,7 +60,7 @@ pub struct Node {
     admission: Admission,
     works: Works,
     // those that stand
-    hands: Grants,
+    grants: Grants,
     // of the live jobs
     rows: IndexMap<JobNo, JobRow>,
     // of the job that ended last, until it is taken away: to free all its bytes takes long
@@ -75,7 +75,7 @@ impl Drop for Node {
             number: _number,
             admission: _admission,
             works: _works,
-            hands: _hands,
+            grants: _grants,
             rows: _rows,
             gone: _gone,
         } = self;
@@ -87,9 +87,9 @@ impl Model for Node {
 
     ghost Value = { Hosted };
 
-    ghost view = { λ n. record { number = n.number; admissions = n.admission; works = n.works; hands = n.hands; rows = n.rows.entries } };
+    ghost view = { λ n. record { number = n.number; admissions = n.admission; works = n.works; grants = n.grants; rows = n.rows.entries } };
 
-    ghost invariant = { λ n. IsHosted n.admission n.hands n.rows.entries };
+    ghost invariant = { λ n. IsHosted n.admission n.grants n.rows.entries };
 }
 
 impl Node {
@@ -99,7 +99,7 @@ impl Node {
         ensures number { result.number ≡ number }
         ensures admissions { result.admissions ≡ record { memory = memory; greatest = 0; live = [] } }
         ensures works { result.works ≡ record { works = []; used = [] } }
-        ensures hands { result.hands ≡ [] }
+        ensures grants { result.grants ≡ [] }
         ensures shows { (job : ℕ) → Shows result job (view_of (no_store job)) }
     {
         Node {
@@ -107,7 +107,7 @@ impl Node {
             number,
             admission: Admission::new(alloc, memory),
             works: Works::new(alloc),
-            hands: Grants::new(alloc),
+            grants: Grants::new(alloc),
             rows: IndexMap::new(alloc),
             gone: None,
         }
@@ -119,14 +119,14 @@ impl Node {
     /// make of the view before, on the list of inputs that the event is to that job. The error is out of memory, and then nothing
     /// has changed: it never stands in for a refusal that is known before anything grows. A Finish and the commands Write,
     /// Release and Usage take no memory, nor does Leave while no copy is doomed. It sends no more messages than
-    /// `foresee` says, tells of hands the jobs that `grantees` says, and says what it was to its own job. The reply to a command
+    /// `foresee` says, tells of grants the jobs that `grantees` says, and says what it was to its own job. The reply to a command
     /// has a frame.
     pub fn apply(&mut self, event: &Event) -> Result<NodeOutcome, AllocError>
         ensures ok { IfOk result (λ o. NodeStep self.old (node_event.Own event.now) (node_given_of o) self.new) }
         ensures memory_last { OnErr result (IsMemoryLast self.old (node_event.Own event.now)) }
         ensures bounded { IfOk result (λ o. length o.messages ≤ most_messages self.old event.now) }
         ensures judged { IfOk result (λ o. IsJudged self.old event.now o.reply o.judged) }
-        ensures grantees { IfOk result (λ o. AreTakers self.old.hands event.now o.reply (map (λ note. note.job) o.notes)) }
+        ensures grantees { IfOk result (λ o. AreTakers self.old.grants event.now o.reply (map (λ note. note.job) o.notes)) }
         ensures small { IfOk result (λ o. IsSmall self.old event.now o.reply) }
         ensures without_memory { needs_no_memory self.old event.now ≡ true → IsOk result }
         ensures err { OnErr result (self.new ≡ self.old) }
@@ -141,8 +141,8 @@ impl Node {
             let (outcome, judged) = self.finish(*job, *number, answer);
             return Ok(NodeOutcome::of_row(self.alloc, outcome, judged));
         }
-        if judged::moves_hands(event) {
-            return self.move_hands(event);
+        if judged::moves_grants(event) {
+            return self.move_grants(event);
         }
         let outcome = self.step_one(event)?;
         let judged = judged::judged_as(event, &outcome.reply);
@@ -156,13 +156,13 @@ impl Node {
         let _ = self.admission.live_jobs();
     }
 
-    /// A step of what may end hands or give one.
-    fn move_hands(&mut self, event: &Event) -> Result<NodeOutcome, AllocError>
-        requires moves { moves_hands event.now ≡ true }
+    /// A step of what may end grants or give one.
+    fn move_grants(&mut self, event: &Event) -> Result<NodeOutcome, AllocError>
+        requires moves { moves_grants event.now ≡ true }
         ensures ok { IfOk result (λ o. NodeStep self.old (node_event.Own event.now) (node_given_of o) self.new) }
         ensures bounded { IfOk result (λ o. length o.messages ≤ most_messages self.old event.now) }
         ensures judged { IfOk result (λ o. o.judged ≡ judged_as event.now o.reply) }
-        ensures grantees { IfOk result (λ o. AreTakers self.old.hands event.now o.reply (map (λ note. note.job) o.notes)) }
+        ensures grantees { IfOk result (λ o. AreTakers self.old.grants event.now o.reply (map (λ note. note.job) o.notes)) }
         ensures memory_last { OnErr result (IsEventUnrefused self.old event.now) }
         ensures err { OnErr result (self.new ≡ self.old) }
     {
@@ -190,7 +190,7 @@ impl Node {
     /// A step of all else but a Finish.
     fn step_one(&mut self, event: &Event) -> Result<node_table::RowOutcome, AllocError>
         requires other { is_finish event.now ≡ false }
-        requires lasting { moves_hands event.now ≡ false }
+        requires lasting { moves_grants event.now ≡ false }
         ensures ok { IfOk result (λ o. NodeStepOne self.old event.now (row_given_of o) self.new) }
         ensures bounded { IfOk result (λ o. length o.messages ≤ most_messages self.old event.now) }
         ensures memory_last { OnErr result (IsEventUnrefused self.old event.now) }
@@ -240,17 +240,17 @@ impl Node {
         &self.works
     }
 
-    /// The hands that stand, of all jobs. Takes no memory.
-    pub fn hands(&self) -> &Grants
-        ensures { result.now ≡ self.now.hands }
+    /// The grants that stand, of all jobs. Takes no memory.
+    pub fn grants(&self) -> &Grants
+        ensures { result.now ≡ self.now.grants }
     {
-        &self.hands
+        &self.grants
     }
 
     /// A job's quotas and what is used of them, in bytes and in numbers. `NotAdmitted` if the job isn't
     /// live. No event: nothing changes. Takes no memory.
     pub fn usage(&self, job: JobNo) -> Result<Usage, Refusal>
-        ensures told { IfOk result (λ told. (view : View) → Shows self.now job.0 view → told ≡ usage_of view.shape) }
+        ensures response { IfOk result (λ response. (view : View) → Shows self.now job.0 view → response ≡ usage_of view.shape) }
         ensures live { is_ok result ≡ is_some (live_at self.now.admissions job) }
         ensures refused { (r : Refusal) → IsErrOf result r → r ≡ NotAdmitted }
     {
@@ -278,7 +278,7 @@ impl Node {
         row.lend(session, id)
     }
 
-    /// A session's command that ends no hand and gives none: its job's row carries it out, but for List and Peek, which
+    /// A session's command that ends no grant and gives none: its job's row carries it out, but for List and Peek, which
     /// read other rows too. `NotAdmitted` if the job isn't live.
     fn call(
         &mut self,
@@ -286,7 +286,7 @@ impl Node {
         session: u32,
         command: &Command<Bytes>,
     ) -> Result<node_table::RowOutcome, AllocError>
-        requires lasting { moves_hands (event.Call job session command.now) ≡ false }
+        requires lasting { moves_grants (event.Call job session command.now) ≡ false }
         ensures ok { IfOk result (λ o. NodeStepOne self.old (event.Call job session command.now) (row_given_of o) self.new) }
         ensures bounded { IfOk result (λ o. length o.messages ≤ most_by_command (row_at self.old job) command.now) }
         ensures memory_last { OnErr result (IsCallUnrefused self.old job session command.now) }

@@ -9,8 +9,8 @@ ghost use Rattle.node_core.specs.MemoryLast.{IsCallUnrefused};
 ghost use Rattle.node_core.specs.OneJob.{NodeStepOne};
 
 use crate::Node;
-use grants::Hand;
-use obj_id::{GrantedItem, Items, JobNo, ObjectId, Refusal, Reply};
+use grants::StandingGrant;
+use obj_id::{GrantedItem, ItemList, JobNo, ObjectId, Refusal, Reply};
 use std::alloc::AllocError;
 
 impl Node {
@@ -34,37 +34,37 @@ impl Node {
         Ok(node_table::RowOutcome::only(self.alloc, reply))
     }
 
-    /// The objects that others granted to the job, by rising id, each with the depth of its oldest hand.
-    fn granted(&self, job: JobNo) -> Result<Items<GrantedItem>, AllocError>
+    /// The objects that others granted to the job, by rising id, each with the depth of its oldest grant.
+    fn granted(&self, job: JobNo) -> Result<ItemList<GrantedItem>, AllocError>
         ensures { IfOk result (λ items. items ≡ granted_here self.now job.0) }
     {
-        let seen = self.hands.seen(job)?;
+        let seen = self.grants.seen(job)?;
         self.granted_items(seen.as_slice())
     }
 
-    /// The objects of these hands.
-    fn granted_items(&self, hands: &[Hand]) -> Result<Items<GrantedItem>, AllocError>
-        ensures { IfOk result (λ items. items ≡ map (granted_item_lem self.now.rows) hands.now) }
+    /// The objects of these grants.
+    fn granted_items(&self, grants: &[StandingGrant]) -> Result<ItemList<GrantedItem>, AllocError>
+        ensures { IfOk result (λ items. items ≡ map (granted_item_lem self.now.rows) grants.now) }
     {
         let mut items = Vec::new(self.alloc);
-        for hand in hands {
-            items.push(self.granted_item(hand))?;
+        for grant in grants {
+            items.push(self.granted_item(grant))?;
         }
-        Ok(Items::from_vec(items))
+        Ok(ItemList::from_vec(items))
     }
 
-    /// The object of a hand.
-    fn granted_item(&self, hand: &Hand) -> GrantedItem
-        ensures { result ≡ granted_item_lem self.now.rows hand.now }
+    /// The object of a grant.
+    fn granted_item(&self, grant: &StandingGrant) -> GrantedItem
+        ensures { result ≡ granted_item_lem self.now.rows grant.now }
     {
         GrantedItem {
-            id: hand.id(),
-            length: self.granted_length(&hand.id()),
-            depth: hand.depth(),
+            id: grant.id(),
+            length: self.granted_length(&grant.id()),
+            depth: grant.depth(),
         }
     }
 
-    /// The length of an object of which a hand stands, as the row of its own job has it. Takes no memory.
+    /// The length of an object of which a grant stands, as the row of its own job has it. Takes no memory.
     pub fn granted_length(&self, id: &ObjectId) -> u32
         ensures { result ≡ length (bytes_here self.now.rows id.now) }
     {

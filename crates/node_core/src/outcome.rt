@@ -6,13 +6,13 @@ ghost use Rattle.node_table.specs.Shown.{only};
 ghost use Rattle.node_core.specs.Outcomes.{node_given_of, input_noted, end_noted, received_noted, with_no_notes, with_given, with_ends};
 
 use bytes::Bytes;
-use grants::Hand;
+use grants::StandingGrant;
 use node_table::Erase;
-use obj_id::{Endpoint, Items, JobNo, Message, Refusal, Reply};
+use obj_id::{Endpoint, ItemList, JobNo, Message, Refusal, Reply};
 use private_store::Judged;
 use std::alloc::Global;
 
-/// What an event was to the grantee of a hand, without contents.
+/// What an event was to the grantee of a grant, without contents.
 #[derive(Debug, Drop)]
 pub struct Note {
     /// The grantee.
@@ -21,19 +21,19 @@ pub struct Note {
 }
 
 /// What an event gave: the answer, the messages that are to be sent, in their order and each with its place, the
-/// device keys that are to be erased, in order of id, and what it was to the grantees of hands.
+/// device keys that are to be erased, in order of id, and what it was to the grantees.
 #[derive(Drop)]
 pub struct NodeOutcome {
     pub reply: Reply<Bytes>,
-    pub messages: Items<(Endpoint, Message)>,
+    pub messages: ItemList<(Endpoint, Message)>,
     pub erase: Erase,
-    pub notes: Items<Note>,
+    pub notes: ItemList<Note>,
     /// What it was to its own job, without contents, or nothing.
     pub judged: Option<Judged>,
 }
 
 impl NodeOutcome {
-    /// What a row gave, if no hand changed, with what the event was to its job. Takes no memory.
+    /// What a row gave, if no grant changed, with what the event was to its job. Takes no memory.
     pub(crate) fn of_row(
         alloc: Global,
         outcome: node_table::RowOutcome,
@@ -47,7 +47,7 @@ impl NodeOutcome {
             reply: outcome.reply,
             messages: outcome.messages,
             erase: outcome.erase,
-            notes: Items::new(alloc),
+            notes: ItemList::new(alloc),
             judged,
         }
     }
@@ -62,35 +62,35 @@ impl NodeOutcome {
         NodeOutcome::of_row(alloc, outcome, judged)
     }
 
-    /// What a row gave, if this hand of an object of this length was given: `notes` is empty, and has room for one.
+    /// What a row gave, if this grant of an object of this length was given: `notes` is empty, and has room for one.
     pub(crate) fn with_given(
         outcome: node_table::RowOutcome,
         notes: Vec<Note>,
-        hand: &Hand,
+        grant: &StandingGrant,
         length: u32,
         judged: Option<Judged>,
     ) -> NodeOutcome
         requires empty { (notes.items ≡ []) × (vec_len notes ≡ 0) }
         requires room { 1 ≤ vec_capacity notes }
-        ensures given { node_given_of result ≡ with_given (row_given_of outcome) hand.now length }
+        ensures given { node_given_of result ≡ with_given (row_given_of outcome) grant.now length }
         ensures judged { result.judged ≡ judged }
     {
         let mut notes = notes;
-        notes.push(received_note(hand, length)).unwrap();
+        notes.push(received_note(grant, length)).unwrap();
         NodeOutcome {
             reply: outcome.reply,
             messages: outcome.messages,
             erase: outcome.erase,
-            notes: Items::from_vec(notes),
+            notes: ItemList::from_vec(notes),
             judged,
         }
     }
 
-    /// The same, if these hands end by it: `notes` is empty, and has room for a note of each.
+    /// The same, if these grants end by it: `notes` is empty, and has room for a note of each.
     pub(crate) fn with_ends(
         outcome: node_table::RowOutcome,
         notes: Vec<Note>,
-        ended: &[Hand],
+        ended: &[StandingGrant],
         judged: Option<Judged>,
     ) -> NodeOutcome
         requires empty { (notes.items ≡ []) × (vec_len notes ≡ 0) }
@@ -99,44 +99,44 @@ impl NodeOutcome {
         ensures judged { result.judged ≡ judged }
     {
         let mut notes = notes;
-        for hand in ended {
-            notes.push(end_note(hand)).unwrap();
+        for grant in ended {
+            notes.push(end_note(grant)).unwrap();
         }
         NodeOutcome {
             reply: outcome.reply,
             messages: outcome.messages,
             erase: outcome.erase,
-            notes: Items::from_vec(notes),
+            notes: ItemList::from_vec(notes),
             judged,
         }
     }
 }
 
-/// What a hand of an object of this length is to its grantee.
-fn received_note(hand: &Hand, length: u32) -> Note
-    ensures { input_noted result ≡ received_noted hand.now length }
+/// What a grant of an object of this length is to its grantee.
+fn received_note(grant: &StandingGrant, length: u32) -> Note
+    ensures { input_noted result ≡ received_noted grant.now length }
 {
     Note {
-        job: hand.grantee(),
+        job: grant.grantee(),
         input: Judged::Received {
-            id: hand.id(),
+            id: grant.id(),
             length,
-            grantor: hand.grantor(),
-            depth: hand.depth(),
+            grantor: grant.grantor(),
+            depth: grant.depth(),
         },
     }
 }
 
-/// What the end of a hand is to its grantee.
-fn end_note(hand: &Hand) -> Note
-    ensures { input_noted result ≡ end_noted hand.now }
+/// What the end of a grant is to its grantee.
+fn end_note(grant: &StandingGrant) -> Note
+    ensures { input_noted result ≡ end_noted grant.now }
 {
     Note {
-        job: hand.grantee(),
+        job: grant.grantee(),
         input: Judged::Withdrawn {
-            id: hand.id(),
-            grantor: hand.grantor(),
-            depth: hand.depth(),
+            id: grant.id(),
+            grantor: grant.grantor(),
+            depth: grant.depth(),
         },
     }
 }

@@ -53,7 +53,7 @@ impl Node {
         offset: u32,
         len: u32,
     ) -> Option<Refusal>
-        ensures { result ≡ peek_check_lem self.now.hands job.0 id.now whole offset len }
+        ensures { result ≡ peek_check_lem self.now.grants job.0 id.now whole offset len }
     {
         if id.job().0 == job.0 {
             return Some(Refusal::NotGranted);
@@ -70,14 +70,14 @@ impl Node {
         None
     }
 
-    /// Whether a hand of the object to the job stands.
+    /// Whether a grant of the object to the job stands.
     fn sees(&self, job: JobNo, id: &ObjectId) -> bool
-        ensures { result ≡ list_any (shows id.now job.0) self.now.hands }
+        ensures { result ≡ list_any (shows id.now job.0) self.now.grants }
     {
-        self.hands.seen_by(job, *id).is_some()
+        self.grants.seen_by(job, *id).is_some()
     }
 
-    /// The bytes of an object of which a hand stands, lent by the row of its own job.
+    /// The bytes of an object of which a grant stands, lent by the row of its own job.
     fn granted_bytes(&self, id: &ObjectId) -> Lent<'_>
         ensures bytes { result.bytes.now ≡ bytes_here self.now.rows id.now }
         ensures same { IfSome result.shared (λ shared. shared ≡ result.bytes.now) }

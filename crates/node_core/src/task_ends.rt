@@ -18,7 +18,7 @@ use std::alloc::AllocError;
 
 impl Node {
     /// A session ends a task of its job: the row doesn't take the task's commands from then on, and what the job granted
-    /// of the task's objects ends, with all that hangs on it: the grantees are told in the order of the ends. All growth
+    /// of the task's objects ends, with all that hangs on it: the grantees are notified in the order of the ends. All growth
     /// comes first. The error is out of memory, and then nothing has changed.
     pub(crate) fn end_task(
         &mut self,
@@ -29,7 +29,7 @@ impl Node {
         ensures ok { IfOk result (λ o. NodeStep self.old (node_event.Own (event.Call job session (command.EndTask task))) (node_given_of o) self.new) }
         ensures bounded { IfOk result (λ o. length o.messages ≤ most_by_command (row_at self.old job) (command.EndTask task)) }
         ensures judged { IfOk result (λ o. o.judged ≡ judged_as (event.Call job session (command.EndTask task)) o.reply) }
-        ensures grantees { IfOk result (λ o. AreTakers self.old.hands (event.Call job session (command.EndTask task)) o.reply (map (λ note. note.job) o.notes)) }
+        ensures grantees { IfOk result (λ o. AreTakers self.old.grants (event.Call job session (command.EndTask task)) o.reply (map (λ note. note.job) o.notes)) }
         ensures memory_last { OnErr result (IsCallUnrefused self.old job session (command.EndTask task)) }
         ensures err { OnErr result (self.new ≡ self.old) }
     {
@@ -38,14 +38,14 @@ impl Node {
             let outcome = node_table::RowOutcome::only(self.alloc, Reply::Refused(refusal));
             return Ok(NodeOutcome::of_row(self.alloc, outcome, judged));
         }
-        let ends = self.hands.ends_with_task(job, task)?;
-        let notes = Vec::with_capacity(self.alloc, ends.hands().len())?;
+        let ends = self.grants.ends_with_task(job, task)?;
+        let notes = Vec::with_capacity(self.alloc, ends.grants().len())?;
         let Some(row) = self.rows.get_mut(&job) else {
             unreachable!()
         };
         let outcome = row.end_task(self.alloc, self.number, session, task)?;
-        self.hands.take_out(&ends);
-        Ok(NodeOutcome::with_ends(outcome, notes, ends.hands(), judged))
+        self.grants.take_out(&ends);
+        Ok(NodeOutcome::with_ends(outcome, notes, ends.grants(), judged))
     }
 
     /// Why the task can't end: `NotAdmitted` if its job isn't live, `Gone` if it has ended already, `TooMany` at 1,024

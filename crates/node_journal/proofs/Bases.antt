@@ -7,7 +7,7 @@ use base.Stored.{Coded-set}
 use native.Mathlib.Nat.{ℕ_set}
 use Rattle.obj_id.specs.declared.ids.JobNo.{JobNo}
 use Rattle.private_store.specs.rules.Contents.{View}
-use Rattle.private_store.specs.rules.Replay.{Brief, brief_of}
+use Rattle.private_store.specs.rules.Replay.{ReplayState, replay_state_of}
 use Rattle.store_facts.proofs.Tests.{none_some}
 use Rattle.plain_store.specs.contracts.store.PlainStore as plain
 use Rattle.plain_store.specs.Parts.{has_begun}
@@ -30,15 +30,15 @@ last_is low (x ∷ y ∷ ys) l e = last_is (step_of x) (y ∷ ys) l (sym (ap (sl
 
 -- ---- the base of one list
 
-pub Brief-set : IsSet Brief
-Brief-set = Coded-set plain.the_row.coded
+pub ReplayState-set : IsSet ReplayState
+ReplayState-set = Coded-set plain.the_row.coded
 
 -- what the node shows is what the journal tells of
-pub base_is : (node : Hosted) (journals : ℕ → Journal) (job : ℕ) (base : Brief) → ∥ Tells node journals ∥₁
-    → ((view : View) → Shows node job view → has_begun view.shape.life ≡ (has_begun (journals job).base.store.shape.life || list_any begins (journals job).list) → base ≡ brief_of view) → base ≡ store_of (journals job)
-base_is node journals job base h is = ∥∥₁_elim h (Brief-set _ _) (λ t.
-    let told = t.told job in
-    is (t.views job) (t.shown job) (sym (ap (λ (b : Brief). has_begun b.shape.life) told.replays) ∙ replay_begins (journals job).list (journals job).base.store told.due) ∙ sym told.replays)
+pub base_is : (node : Hosted) (journals : ℕ → Journal) (job : ℕ) (base : ReplayState) → ∥ Tells node journals ∥₁
+    → ((view : View) → Shows node job view → has_begun view.shape.life ≡ (has_begun (journals job).base.store.shape.life || list_any begins (journals job).list) → base ≡ replay_state_of view) → base ≡ store_of (journals job)
+base_is node journals job base h is = ∥∥₁_elim h (ReplayState-set _ _) (λ t.
+    let response = t.response job in
+    is (t.views job) (t.shown job) (sym (ap (λ (b : ReplayState). has_begun b.shape.life) response.replays) ∙ replay_begins (journals job).list (journals job).base.store response.due) ∙ sym response.replays)
 
 -- and so are the works that it has as taken
 pub taken_is : (node : Hosted) (journals : ℕ → Journal) (job : JobNo) → ∥ Tells node journals ∥₁ → works_taken_by node.works job ≡ taken_of (journals job.0)

@@ -19,10 +19,10 @@ use Rattle.private_store.specs.rules.Change.{checked, needing, settled, done, re
 use Rattle.private_store.specs.rules.Copies.{is_idle}
 use Rattle.private_store.specs.rules.Limits.{is_quota}
 use Rattle.private_store.specs.rules.Room.{set_copy, drop_copy}
-use Rattle.private_store.specs.rules.Events.{is_live, begin, answer, written, read_back, work_of, without_work, is_hand, hand_ended, withdrawn}
+use Rattle.private_store.specs.rules.Events.{is_live, begin, answer, written, read_back, work_of, without_work, is_the_grant, grant_ended, withdrawn}
 use Rattle.private_store.specs.laws.Made.{Edit, marks, drops, creates, fetches, asks, finishes, flags, ends_task, gives, leaves, receives, loses, begins, requotas, ends, Edits, none, then_edit}
 use Rattle.private_store.specs.rules.Step.{step}
-use Rattle.private_store.specs.rules.Replay.{Brief, Line as Replayed, replayed, brief_after}
+use Rattle.private_store.specs.rules.Replay.{ReplayState, Line as Replayed, replayed, replay_after}
 use Rattle.store_facts.proofs.Checks.{checked-nil, checked-true, checked-false}
 use Rattle.store_facts.proofs.EachStep.{step_made}
 use Rattle.plain_store.specs.Parts.{has_begun}
@@ -41,7 +41,7 @@ edit_begun store after (asks writes id) h = h
 edit_begun store after (finishes number) h = h
 edit_begun store after (flags failed) h = h
 edit_begun store after (ends_task task) h = h
-edit_begun store after (gives hand) h = h
+edit_begun store after (gives grant) h = h
 edit_begun store after (leaves stands) h = h
 edit_begun store after (receives id n grantor depth is) h = h
 edit_begun store after (loses id grantor depth seen found) h = h
@@ -85,9 +85,9 @@ module _ (store : Shape) where
       ]))
 
   withdrawn_same : (id : ObjectId) (grantor depth : ℕ) → Same (withdrawn store id grantor depth)
-  withdrawn_same id grantor depth = elim (at store.received id) as (λ (o : Option Seen). (option_map_or (λ (seen : Seen). cond (list_any (is_hand grantor depth) seen.hands) (hand_ended store id grantor depth seen) store) o store).life ≡ store.life) [
+  withdrawn_same id grantor depth = elim (at store.received id) as (λ (o : Option Seen). (option_map_or (λ (seen : Seen). cond (list_any (is_the_grant grantor depth) seen.grants) (grant_ended store id grantor depth seen) store) o store).life ≡ store.life) [
     | None ↦ refl
-    | Some seen ↦ elim (list_any (is_hand grantor depth) seen.hands) as (λ b. (cond b (hand_ended store id grantor depth seen) store).life ≡ store.life) [ true ↦ refl | false ↦ refl ]
+    | Some seen ↦ elim (list_any (is_the_grant grantor depth) seen.grants) as (λ b. (cond b (grant_ended store id grantor depth seen) store).life ≡ store.life) [ true ↦ refl | false ↦ refl ]
   ]
 
   module _ (dead : is_live store ≡ false) where
@@ -186,17 +186,17 @@ abbrev rest_told : List (Reply ℕ) → List (Reply ℕ)
 rest_told [] = []
 rest_told (r ∷ rs) = rs
 
-pub replay_begins : (ls : List Line) (b : Brief) → AreDue b (lines_of ls) → has_begun (replayed b (lines_of ls)).shape.life ≡ (has_begun b.shape.life || list_any line_begins ls)
+pub replay_begins : (ls : List Line) (b : ReplayState) → AreDue b (lines_of ls) → has_begun (replayed b (lines_of ls)).shape.life ≡ (has_begun b.shape.life || list_any line_begins ls)
 replay_begins [] b due = or_false (has_begun b.shape.life)
 replay_begins (l ∷ ls) b due = by (replay_begins ls) (journal_line_of l) due
   where
-    Then : Brief → Type 0
+    Then : ReplayState → Type 0
     Then from = AreDue from (lines_of ls) → has_begun (replayed from (lines_of ls)).shape.life ≡ (has_begun from.shape.life || list_any line_begins ls)
 
-    by : ((from : Brief) → Then from) → (o : Option Replayed) → AreDue b (option_to_list o ++ lines_of ls)
-        → has_begun (replayed b (option_to_list o ++ lines_of ls)).shape.life ≡ (has_begun b.shape.life || (option_map_or (λ (told : Replayed). is_begin told.input && is_ok told.reply) o false || list_any line_begins ls))
+    by : ((from : ReplayState) → Then from) → (o : Option Replayed) → AreDue b (option_to_list o ++ lines_of ls)
+        → has_begun (replayed b (option_to_list o ++ lines_of ls)).shape.life ≡ (has_begun b.shape.life || (option_map_or (λ (response : Replayed). is_begin response.input && is_ok response.reply) o false || list_any line_begins ls))
     by later None due = later b due
-    by later (Some told) due =
-        later (brief_after b told.input) (ap rest_told due)
-        ∙ ap (λ t. t || list_any line_begins ls) (step_so b.order b.shape told.input ∙ ap (λ r. has_begun b.shape.life || (is_begin told.input && is_ok r)) (sym (ap (first_told reply.Ok) due)))
-        ∙ or_assoc (has_begun b.shape.life) (is_begin told.input && is_ok told.reply) (list_any line_begins ls)
+    by later (Some response) due =
+        later (replay_after b response.input) (ap rest_told due)
+        ∙ ap (λ t. t || list_any line_begins ls) (step_so b.order b.shape response.input ∙ ap (λ r. has_begun b.shape.life || (is_begin response.input && is_ok r)) (sym (ap (first_told reply.Ok) due)))
+        ∙ or_assoc (has_begun b.shape.life) (is_begin response.input && is_ok response.reply) (list_any line_begins ls)

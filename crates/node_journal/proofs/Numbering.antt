@@ -154,8 +154,8 @@ agreed_within count entry true j h not = by (nat_le entry.number j.covered) refl
 pub same_here : (a b : ℕ) → (a == b) ≡ true → a ≡ b
 same_here a b h = grind (arith, nat_tests, h)
 
-pub less_than_next : (n count : ℕ) (next told : Entry) → nat_le n count ≡ true → next ≡ told → told.number ≡ count + 1 → n < next.number
-less_than_next n count next told le is number = by next.number (ap (λ (e : Entry). e.number) is ∙ number)
+pub less_than_next : (n count : ℕ) (next response : Entry) → nat_le n count ≡ true → next ≡ response → response.number ≡ count + 1 → n < next.number
+less_than_next n count next response le is number = by next.number (ap (λ (e : Entry). e.number) is ∙ number)
   where
     by : (m : ℕ) → m ≡ count + 1 → n < m
     by m e = grind (arith, nat_tests, le, e)

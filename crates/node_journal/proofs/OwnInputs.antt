@@ -18,18 +18,18 @@ use Rattle.node_core.proofs.ForCallers.{own_of, IsFinishAnswer}
 abbrev pub of_job : ℕ → Option Input → Option JobInput
 of_job job o = option_map (λ x. record { job = job; input = x }) o
 
-pub here_is : (before : Before) (e : Event) (told : Reply (List ℕ)) → IsFinishAnswer before e told → ((job : ℕ) (x : Input) → own_of e told ≡ Some (record { job = job; input = x }) → wants_memory told ≡ false) → own_here before (Own e) told ≡ own_of e told
+pub here_is : (before : Before) (e : Event) (response : Reply (List ℕ)) → IsFinishAnswer before e response → ((job : ℕ) (x : Input) → own_of e response ≡ Some (record { job = job; input = x }) → wants_memory response ≡ false) → own_here before (Own e) response ≡ own_of e response
 here_is before (event.Admit job quota key) reply.Ok is never = refl
 here_is before (event.Admit job quota key) _ is never = refl
 here_is before (event.JobEnd job) reply.Ok is never = refl
 here_is before (event.JobEnd job) _ is never = refl
-here_is before (event.Call job session c) told is never = ap (λ t. cond t None (Some (record { job = job.0; input = input.Call session c }))) (never job.0 (input.Call session c) refl)
+here_is before (event.Call job session c) response is never = ap (λ t. cond t None (Some (record { job = job.0; input = input.Call session c }))) (never job.0 (input.Call session c) refl)
 here_is before (event.Requota job quota) reply.Ok is never = refl
 here_is before (event.Requota job quota) _ is never = refl
-here_is before event.Take told is never = refl
-here_is before (event.Finish job number a) told is never = by (before.out job.0 number) is
+here_is before event.Take response is never = refl
+here_is before (event.Finish job number a) response is never = by (before.out job.0 number) is
   where
-    by : (out : Bool) → told ≡ answer_of_check (stale_unless out) → cond (wants_memory told) None (cond out (Some (record { job = job.0; input = input.Answer number a })) None) ≡ own_of (event.Finish job number a) told
+    by : (out : Bool) → response ≡ answer_of_check (stale_unless out) → cond (wants_memory response) None (cond out (Some (record { job = job.0; input = input.Answer number a })) None) ≡ own_of (event.Finish job number a) response
     by true is = subst (λ t. cond (wants_memory t) None (Some (record { job = job.0; input = input.Answer number a })) ≡ own_of (event.Finish job number a) t) (sym is) refl
     by false is = subst (λ t. cond (wants_memory t) None None ≡ own_of (event.Finish job number a) t) (sym is) refl
 

@@ -34,7 +34,7 @@ judged_of node view (arrival.FromPeer from (peer.Chunk id number index bytes)) =
 judged_of node view (arrival.FromPeer from (peer.NotHere id number)) = both (same_id id id) (number == number && from == from) (same_id-itself id) (both (number == number) (from == from) (equal number) (equal from))
 
 module _ (old : Hosted) (to : JobNo) (a : Arrival) (was : Option Judged) where
-  by_view : (view : View) (told : Reply (List ℕ)) → option_map (judge old.number view) (arrived a told) ≡ was → is_entered a told was ≡ true
+  by_view : (view : View) (response : Reply (List ℕ)) → option_map (judge old.number view) (arrived a response) ≡ was → is_entered a response was ≡ true
   by_view view reply.Ok is = subst (λ w. is_entered a reply.Ok w ≡ true) is (judged_of old.number view a)
   by_view view (reply.Placed o n) is = subst (λ w. is_none w ≡ true) is refl
   by_view view (reply.Got n) is = subst (λ w. is_none w ≡ true) is refl
@@ -46,8 +46,8 @@ module _ (old : Hosted) (to : JobNo) (a : Arrival) (was : Option Judged) where
   by_view view (reply.Refused r) is = subst (λ w. is_none w ≡ true) is refl
 
   -- a node with a journal shows a view
-  pub entry_is_of : (told : Reply (List ℕ)) (before : ℕ → Journal) → IsArrivalJudged old to a told was → ∥ Tells old before ∥₁ → is_entered a told was ≡ true
-  entry_is_of told before is h = ∥∥₁_elim h (Bool-set _ _) (λ t. by_view (t.views to.0) told (is (t.views to.0) (t.shown to.0)))
+  pub entry_is_of : (response : Reply (List ℕ)) (before : ℕ → Journal) → IsArrivalJudged old to a response was → ∥ Tells old before ∥₁ → is_entered a response was ≡ true
+  entry_is_of response before is h = ∥∥₁_elim h (Bool-set _ _) (λ t. by_view (t.views to.0) response (is (t.views to.0) (t.shown to.0)))
 
 -- a message is one arrival
 pub one_arrival : (o : Option Arrival) (a b : Arrival) → o ≡ Some a → o ≡ Some b → a ≡ b

@@ -4,7 +4,7 @@ use Rattle.std.specs.Prelude.{if◌then◌else◌, nat_le, option_map, option_to
 use Rattle.std.specs.List.{list_any}
 use Rattle.std.proofs.Math.Logic.{∥∥₁_map}
 use Rattle.private_store.specs.declared.inputs.Judged.{Judged}
-use Rattle.private_store.specs.rules.Replay.{Brief, Line as Replayed, replayed, brief_after, brief_step}
+use Rattle.private_store.specs.rules.Replay.{ReplayState, Line as Replayed, replayed, replay_after, replay_step}
 use Rattle.store_facts.proofs.Tests.{both_right}
 use Rattle.node_core.specs.Hosted.{Hosted}
 use Rattle.node_journal.specs.declared.entries.Agreement.TheVariants as agree
@@ -47,28 +47,28 @@ abbrev first_of : {X : Type 0} → X → List X → X
 first_of y [] = y
 first_of y (x ∷ xs) = x
 
-after_one : (brief : Brief) (o : Option Replayed) (rest : List Replayed) → AreDue brief (option_to_list o ++ rest) → AreDue (replayed brief (option_to_list o)) rest
-after_one brief None rest h = h
-after_one brief (Some t) rest h = ap rest_of h
+after_one : (replay_state : ReplayState) (o : Option Replayed) (rest : List Replayed) → AreDue replay_state (option_to_list o ++ rest) → AreDue (replayed replay_state (option_to_list o)) rest
+after_one replay_state None rest h = h
+after_one replay_state (Some t) rest h = ap rest_of h
 
-due_first : (brief : Brief) (own : Entry) (o : Option Judged) (x : Judged) (rest : List Replayed) → o ≡ Some x
-    → AreDue brief (option_to_list (option_map (λ (y : Judged). record { input = y; reply = own.reply }) o) ++ rest) → own.reply ≡ unlisted (brief_step brief x).reply
-due_first brief own o x rest is h =
-    let due : AreDue brief (record { input = x; reply = own.reply } ∷ rest) = subst (λ p. AreDue brief (option_to_list (option_map (λ (y : Judged). record { input = y; reply = own.reply }) p) ++ rest)) is h in
+due_first : (replay_state : ReplayState) (own : Entry) (o : Option Judged) (x : Judged) (rest : List Replayed) → o ≡ Some x
+    → AreDue replay_state (option_to_list (option_map (λ (y : Judged). record { input = y; reply = own.reply }) o) ++ rest) → own.reply ≡ unlisted (replay_step replay_state x).reply
+due_first replay_state own o x rest is h =
+    let due : AreDue replay_state (record { input = x; reply = own.reply } ∷ rest) = subst (λ p. AreDue replay_state (option_to_list (option_map (λ (y : Judged). record { input = y; reply = own.reply }) p) ++ rest)) is h in
     ap (first_of own.reply) due
 
-due_at : (brief : Brief) (before : List Line) (own : Entry) (after : List Line) (x : Judged) → own.input ≡ Some x → AreDue brief (lines_of (before ++ line.Entry own ∷ after))
-    → own.reply ≡ unlisted (brief_step (replayed brief (lines_of before)) x).reply
-due_at brief [] own after x is h = due_first brief own own.input x (lines_of after) is h
-due_at brief (l ∷ before) own after x is h =
-    due_at (replayed brief (option_to_list (journal_line_of l))) before own after x is (after_one brief (journal_line_of l) (lines_of (before ++ line.Entry own ∷ after)) h)
-    ∙ ap (λ b. unlisted (brief_step b x).reply) (sym (replayed_one brief (journal_line_of l) (lines_of before)))
+due_at : (replay_state : ReplayState) (before : List Line) (own : Entry) (after : List Line) (x : Judged) → own.input ≡ Some x → AreDue replay_state (lines_of (before ++ line.Entry own ∷ after))
+    → own.reply ≡ unlisted (replay_step (replayed replay_state (lines_of before)) x).reply
+due_at replay_state [] own after x is h = due_first replay_state own own.input x (lines_of after) is h
+due_at replay_state (l ∷ before) own after x is h =
+    due_at (replayed replay_state (option_to_list (journal_line_of l))) before own after x is (after_one replay_state (journal_line_of l) (lines_of (before ++ line.Entry own ∷ after)) h)
+    ∙ ap (λ b. unlisted (replay_step b x).reply) (sym (replayed_one replay_state (journal_line_of l) (lines_of before)))
 
-given_at : (brief : Brief) (n : ℕ) (before : List Line) (own : Entry) (after : List Line) → AreWorksDue brief n (before ++ line.Entry own ∷ after) → IsWorkDue (replayed brief (lines_of before)) (taken_from n before) (line.Entry own)
-given_at brief n [] own after h = h.0
-given_at brief n (l ∷ before) own after h =
-    subst (λ b. IsWorkDue b (taken_from (taken_after n l) before) (line.Entry own)) (sym (replayed_one brief (journal_line_of l) (lines_of before)))
-    (given_at (replayed brief (option_to_list (journal_line_of l))) (taken_after n l) before own after h.1)
+given_at : (replay_state : ReplayState) (n : ℕ) (before : List Line) (own : Entry) (after : List Line) → AreWorksDue replay_state n (before ++ line.Entry own ∷ after) → IsWorkDue (replayed replay_state (lines_of before)) (taken_from n before) (line.Entry own)
+given_at replay_state n [] own after h = h.0
+given_at replay_state n (l ∷ before) own after h =
+    subst (λ b. IsWorkDue b (taken_from (taken_after n l) before) (line.Entry own)) (sym (replayed_one replay_state (journal_line_of l) (lines_of before)))
+    (given_at (replayed replay_state (option_to_list (journal_line_of l))) (taken_after n l) before own after h.1)
 
 -- ---- a receipt that the journal has
 
@@ -82,7 +82,7 @@ found true entry journal h = by (nat_le entry.number journal.covered) (list_any 
     by false false e = absurd cc
 
 pub receipt_due : (node : Hosted) (journals : ℕ → Journal) (job : ℕ) (here : Bool) (entry : Entry) → ∥ Tells node journals ∥₁ → agreement here entry (journals job) ≡ agree.Yes → ∥ IsDueIn (journals job) entry ∥₁
-receipt_due node journals job here entry told h = ∥∥₁_map told (λ t.
+receipt_due node journals job here entry response h = ∥∥₁_map response (λ t.
     let base = (journals job).base in
     let s = stands entry (journals job).list (found here entry (journals job) h) in
     record {
@@ -91,25 +91,25 @@ receipt_due node journals job here entry told h = ∥∥₁_map told (λ t.
       after = s.after;
       stands = s.is;
       same = s.same;
-      due = λ x is. due_at base.store s.before s.own s.after x is (subst (λ ls. AreDue base.store (lines_of ls)) s.is (t.told job).due);
+      due = λ x is. due_at base.store s.before s.own s.after x is (subst (λ ls. AreDue base.store (lines_of ls)) s.is (t.response job).due);
       given = λ take. ((given_at base.store base.taken s.before s.own s.after (subst (AreWorksDue base.store base.taken) s.is (t.works job))).0 take).1;
     })
 
 -- ---- two journals
 
-abbrev after_inputs : Brief → List Judged → Brief
-after_inputs brief [] = brief
-after_inputs brief (x ∷ xs) = after_inputs (brief_after brief x) xs
+abbrev after_inputs : ReplayState → List Judged → ReplayState
+after_inputs replay_state [] = replay_state
+after_inputs replay_state (x ∷ xs) = after_inputs (replay_after replay_state x) xs
 
 -- what is replayed are the inputs
-by_inputs : (brief : Brief) (ls : List Replayed) → replayed brief ls ≡ after_inputs brief (map (λ (l : Replayed). l.input) ls)
-by_inputs brief [] = refl
-by_inputs brief (l ∷ ls) = by_inputs (brief_after brief l.input) ls
+by_inputs : (replay_state : ReplayState) (ls : List Replayed) → replayed replay_state ls ≡ after_inputs replay_state (map (λ (l : Replayed). l.input) ls)
+by_inputs replay_state [] = refl
+by_inputs replay_state (l ∷ ls) = by_inputs (replay_after replay_state l.input) ls
 
 pub answers_agree : (first second : Journal) (a b : Entry) → AnswersAgree first second a b
 answers_agree first second a b d e base same x is was =
     let one = by_inputs first.base.store (lines_of d.before) in
     let two = by_inputs second.base.store (lines_of e.before) in
     d.due x is
-    ∙ ap (λ brief. unlisted (brief_step brief x).reply) (one ∙ (λ i. after_inputs (base i) (same i)) ∙ sym two)
+    ∙ ap (λ replay_state. unlisted (replay_step replay_state x).reply) (one ∙ (λ i. after_inputs (base i) (same i)) ∙ sym two)
     ∙ sym (e.due x was)

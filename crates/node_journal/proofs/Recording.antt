@@ -7,7 +7,7 @@ use Rattle.obj_id.specs.declared.ids.JobNo.{JobNo}
 use Rattle.obj_id.specs.declared.commands.Reply.{Reply}
 use Rattle.obj_id.specs.declared.commands.Reply.TheVariants as reply
 use Rattle.private_store.specs.declared.schedules.Event.{Event}
-use Rattle.private_store.specs.rules.Hands.{Hand}
+use Rattle.private_store.specs.rules.Grants.{StandingGrant}
 use Rattle.private_store.specs.rules.Jobs.{same_job}
 use Rattle.store_facts.proofs.Tests.{true_false}
 use Rattle.node_core.specs.declared.outcome.Note.{Note}
@@ -15,7 +15,7 @@ use Rattle.node_core.specs.Foreseen.{AreTakers, grantees_of}
 use Rattle.node_journal.specs.declared.entries.Line.{Line}
 use Rattle.node_journal.specs.Journals.{Journal, with_lines}
 
--- those that a step told of hands are among the jobs that it might tell, and no more
+-- those that a step told of grants are among the jobs that it might tell, and no more
 any_mapped : (grantee : JobNo) (notes : List Note) → list_any (same_job grantee) (map (λ (note : Note). note.job) notes) ≡ list_any (λ (note : Note). same_job grantee note.job) notes
 any_mapped grantee [] = refl
 any_mapped grantee (note ∷ notes) = ap (λ b. same_job grantee note.job || b) (any_mapped grantee notes)
@@ -35,21 +35,21 @@ module _ (notes : List Note) (grantees : List JobNo) where
   told_none : jobs_of notes ≡ [] → (grantee : JobNo) → list_any (λ note. same_job grantee note.job) notes ≡ true → (list_any (same_job grantee) grantees ≡ true) × (length notes ≤ length grantees)
   told_none is grantee h = true_false (sym (sym (any_mapped grantee notes) ∙ ap (list_any (same_job grantee)) is) ∙ h)
 
-  told_within : (hands : List Hand) (e : Event) (told : Reply (List ℕ)) → AreTakers hands e told (jobs_of notes) → grantees ≡ grantees_of hands e
+  told_within : (grants : List StandingGrant) (e : Event) (response : Reply (List ℕ)) → AreTakers grants e response (jobs_of notes) → grantees ≡ grantees_of grants e
       → (grantee : JobNo) → list_any (λ note. same_job grantee note.job) notes ≡ true → (list_any (same_job grantee) grantees ≡ true) × (length notes ≤ length grantees)
-  told_within hands e reply.Ok are is = told_same (are ∙ sym is)
-  told_within hands e _ are is = told_none are
+  told_within grants e reply.Ok are is = told_same (are ∙ sym is)
+  told_within grants e _ are is = told_none are
 
 -- room for the notes after the entry
 pub notes_fit : {most n spare after : ℕ} → most + 1 ≤ spare → spare ≤ after + 1 → n ≤ most → n ≤ after
 notes_fit room left few = omega (arith, room, left, few)
 
-pub room_left : (notes : List Note) (grantees : List JobNo) (hands : List Hand) (e : Event) (told : Reply (List ℕ)) (before after : ℕ → ℕ)
-    → AreTakers hands e told (map (λ note. note.job) notes) → grantees ≡ grantees_of hands e
+pub room_left : (notes : List Note) (grantees : List JobNo) (grants : List StandingGrant) (e : Event) (response : Reply (List ℕ)) (before after : ℕ → ℕ)
+    → AreTakers grants e response (map (λ note. note.job) notes) → grantees ≡ grantees_of grants e
     → ((grantee : JobNo) → list_any (same_job grantee) grantees ≡ true → length grantees + 1 ≤ before grantee.0) → ((other : ℕ) → before other ≤ after other + 1)
     → (grantee : JobNo) → list_any (λ note. same_job grantee note.job) notes ≡ true → length notes ≤ after grantee.0
-room_left notes grantees hands e told before after are is room left grantee h =
-    let w = told_within notes grantees hands e told are is grantee h in
+room_left notes grantees grants e response before after are is room left grantee h =
+    let w = told_within notes grantees grants e response are is grantee h in
     notes_fit (room grantee w.0) (left grantee.0) w.1
 
 -- an entry of this job or another, and notes after it

@@ -9,7 +9,7 @@ use Rattle.obj_id.specs.declared.ids.JobNo.{JobNo}
 use Rattle.obj_id.specs.declared.commands.Reply.{Reply}
 use Rattle.obj_id.specs.declared.commands.Reply.TheVariants as reply
 use Rattle.private_store.specs.declared.schedules.Event.{Event}
-use Rattle.private_store.specs.rules.Hands.{Hand}
+use Rattle.private_store.specs.rules.Grants.{StandingGrant}
 use Rattle.node_core.specs.declared.outcome.Note.{Note}
 use Rattle.node_core.specs.Foreseen.{AreTakers, grantees_of}
 use Rattle.node_core.specs.Outcomes.{inputs_noted}
@@ -76,9 +76,9 @@ notes_count number job (note ∷ notes) = by (is_its job note.job) (notes_count 
     by true h = omega (arith, h)
     by false h = omega (arith, h)
 
-notes_few : (hands : List Hand) (e : Event) (told : Reply (List ℕ)) (number job : ℕ) (notes : List Note) → AreTakers hands e told (map (λ (note : Note). note.job) notes)
-    → length (notes_for number (inputs_noted notes) job) ≤ count_by (is_its job) (grantees_of hands e)
-notes_few hands e told number job notes are = subst (λ n. n ≤ count_by (is_its job) (grantees_of hands e)) (sym (notes_count number job notes)) (by told are)
+notes_few : (grants : List StandingGrant) (e : Event) (response : Reply (List ℕ)) (number job : ℕ) (notes : List Note) → AreTakers grants e response (map (λ (note : Note). note.job) notes)
+    → length (notes_for number (inputs_noted notes) job) ≤ count_by (is_its job) (grantees_of grants e)
+notes_few grants e response number job notes are = subst (λ n. n ≤ count_by (is_its job) (grantees_of grants e)) (sym (notes_count number job notes)) (by response are)
   where
     same : (a b : ℕ) → a ≡ b → a ≤ b
     same a b h = omega (arith, h)
@@ -86,7 +86,7 @@ notes_few hands e told number job notes are = subst (λ n. n ≤ count_by (is_it
     none : (a b : ℕ) → a ≡ 0 → a ≤ b
     none a b h = omega (arith, h)
 
-    by : (told : Reply (List ℕ)) → AreTakers hands e told (map (λ (note : Note). note.job) notes) → count_by (is_its job) (map (λ (note : Note). note.job) notes) ≤ count_by (is_its job) (grantees_of hands e)
+    by : (response : Reply (List ℕ)) → AreTakers grants e response (map (λ (note : Note). note.job) notes) → count_by (is_its job) (map (λ (note : Note). note.job) notes) ≤ count_by (is_its job) (grantees_of grants e)
     by reply.Ok are = same _ _ (ap (count_by (is_its job)) are)
     by _ are = none _ _ (ap (count_by (is_its job)) are)
 
@@ -113,16 +113,16 @@ stays_few own job grantees j made full is some few = by full is
     by true is = omega (arith, few, some, count_few job grantees, one (own == job))
     by false is = omega (arith, few, room (length j.list) (lines_due own grantees job) is, length-append j.list made)
 
-pub all_few : (own : ℕ) (hands : List Hand) (e : Event) (told : Reply (List ℕ)) (number job : ℕ) (notes : List Note) (j after : Journal) (entry : Line)
-    → AreTakers hands e told (map (λ (note : Note). note.job) notes) → length (grantees_of hands e) < most_lines
-    → after ≡ with_lines (folded_if (list_is_full own (grantees_of hands e) job (length j.list)) j) ((if own == job then entry ∷ [] else []) ++ notes_for number (inputs_noted notes) job)
+pub all_few : (own : ℕ) (grants : List StandingGrant) (e : Event) (response : Reply (List ℕ)) (number job : ℕ) (notes : List Note) (j after : Journal) (entry : Line)
+    → AreTakers grants e response (map (λ (note : Note). note.job) notes) → length (grantees_of grants e) < most_lines
+    → after ≡ with_lines (folded_if (list_is_full own (grantees_of grants e) job (length j.list)) j) ((if own == job then entry ∷ [] else []) ++ notes_for number (inputs_noted notes) job)
     → length after.list ≤ most_lines
-all_few own hands e told number job notes j after entry are some is =
-    let grantees : List JobNo = grantees_of hands e in
+all_few own grants e response number job notes j after entry are some is =
+    let grantees : List JobNo = grantees_of grants e in
     let made : List Line = (if own == job then entry ∷ [] else []) ++ notes_for number (inputs_noted notes) job in
     subst (λ (k : Journal). length k.list ≤ most_lines) (sym is)
     (stays_few own job grantees j made (list_is_full own grantees job (length j.list)) refl some
-    (made_few own job grantees entry (notes_for number (inputs_noted notes) job) (notes_few hands e told number job notes are)))
+    (made_few own job grantees entry (notes_for number (inputs_noted notes) job) (notes_few grants e response number job notes are)))
 
 -- after a message, which tells nobody
 pub arrival_few : (own number job : ℕ) (notes : List Note) (j after : Journal) (entry : Line) → notes ≡ []

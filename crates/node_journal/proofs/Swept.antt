@@ -10,7 +10,7 @@ use Rattle.obj_id.specs.declared.ids.JobNo.{JobNo}
 use Rattle.private_store.specs.rules.Jobs.{same_job}
 use Rattle.private_store.specs.rules.Shape.{Life, Shape, not_begun, live, ended, unbegun}
 use Rattle.private_store.specs.rules.Contents.{View}
-use Rattle.private_store.specs.rules.Replay.{Brief, brief_of, unbegun_brief, replayed}
+use Rattle.private_store.specs.rules.Replay.{ReplayState, replay_state_of, unbegun_replay, replayed}
 use Rattle.store_facts.proofs.Tests.{both_left, both_right, or_cases, true_false, false_true}
 use Rattle.plain_store.specs.Parts.{has_begun}
 use Rattle.node_core.specs.Hosted.{Hosted, IsViewBy, Shows, empty_view, beside_at, row_at}
@@ -19,9 +19,9 @@ use Rattle.node_journal.specs.declared.entries.Agreement.TheVariants as agree
 use Rattle.node_journal.specs.declared.entries.Entry.{Entry}
 use Rattle.node_journal.specs.declared.entries.Line.{Line}
 use Rattle.node_journal.specs.declared.entries.Line.TheVariants as line
-use Rattle.node_journal.specs.Journals.{AreEntriesNumbered, GivesDue, IsSwept, IsTold, Journal, StillAgrees, Tells, agreement, fresh, folded, folded_if, follows, has_entries, has_hands, is_some_entry, is_this, last_of, lines_of, many_lines, most_lines, rise_above, same_entry, seems_fresh, with_notes_absorbed, with_notes_absorbed_if, step_of, swept_if, taken_of}
+use Rattle.node_journal.specs.Journals.{AreEntriesNumbered, GivesDue, IsSwept, IsJournalOf, Journal, StillAgrees, Tells, agreement, fresh, folded, folded_if, follows, has_entries, has_grants, is_some_entry, is_this, last_of, lines_of, many_lines, most_lines, rise_above, same_entry, seems_fresh, with_notes_absorbed, with_notes_absorbed_if, step_of, swept_if, taken_of}
 use Rattle.node_journal.specs.Logs.{JobLog, journal_of}
-use Rattle.node_journal.proofs.Bases.{Brief-set}
+use Rattle.node_journal.proofs.Bases.{ReplayState-set}
 use Rattle.node_journal.proofs.Logging.{journal_in}
 use Rattle.node_journal.proofs.Numbering.{fold_numbered}
 use Rattle.node_journal.proofs.Rooms.{fold_few}
@@ -36,7 +36,7 @@ same_number a b t = grind (arith, nat_tests)
 abbrev by_parts : Bool → Bool → Journal → Journal
 by_parts entries many journal = if entries then folded_if many journal else with_notes_absorbed journal
 
-parts_told : (view : View) (entries many : Bool) (j : Journal) → IsTold view j → IsTold view (by_parts entries many j)
+parts_told : (view : View) (entries many : Bool) (j : Journal) → IsJournalOf view j → IsJournalOf view (by_parts entries many j)
 parts_told view true true j h = record { kept = h.kept; replays = h.replays; due = refl }
 parts_told view true false j h = h
 parts_told view false many j h = record { kept = h.kept; replays = h.replays; due = refl }
@@ -50,7 +50,7 @@ parts_works : (entries many : Bool) (j : Journal) → GivesDue j → GivesDue (b
 parts_works true many j h = folded_works many j h
 parts_works false many j h = tt
 
-swept_told : (view : View) (dead : Bool) (j : Journal) → IsTold view j → IsTold view (swept_if dead j)
+swept_told : (view : View) (dead : Bool) (j : Journal) → IsJournalOf view j → IsJournalOf view (swept_if dead j)
 swept_told view true j h = parts_told view (has_entries j) (nat_le many_lines (length j.list)) j h
 swept_told view false j h = h
 
@@ -66,13 +66,13 @@ pub all_swept : (node : Hosted) (before after : ℕ → Journal) (dead : ℕ →
 all_swept node before after dead is h = told_alike node node (λ job. swept_if (dead job) (before job)) after refl is (∥∥₁_map h (λ t. record {
   views = t.views;
   shown = t.shown;
-  told = λ job. swept_told (t.views job) (dead job) (before job) (t.told job);
+  response = λ job. swept_told (t.views job) (dead job) (before job) (t.response job);
   taken = λ job. swept_taken (dead job) (before job) ∙ t.taken job;
   first = t.first;
   works = λ job. swept_works (dead job) (before job) (t.works job);
 }))
 
-settled_told : (view : View) (some : Bool) (j : Journal) → IsTold view j → IsTold view (with_notes_absorbed_if some j)
+settled_told : (view : View) (some : Bool) (j : Journal) → IsJournalOf view j → IsJournalOf view (with_notes_absorbed_if some j)
 settled_told view true j h = parts_told view false false j h
 settled_told view false j h = h
 
@@ -88,7 +88,7 @@ pub all_settled : (node : Hosted) (before after : ℕ → Journal) (some : ℕ �
 all_settled node before after some is h = told_alike node node (λ job. with_notes_absorbed_if (some job) (before job)) after refl is (∥∥₁_map h (λ t. record {
   views = t.views;
   shown = t.shown;
-  told = λ job. settled_told (t.views job) (some job) (before job) (t.told job);
+  response = λ job. settled_told (t.views job) (some job) (before job) (t.response job);
   taken = λ job. settled_taken (some job) (before job) ∙ t.taken job;
   first = t.first;
   works = λ job. settled_works (some job) (before job) (t.works job);
@@ -139,14 +139,14 @@ none_settled job journals none other = by (job == other) refl
 -- ---- a job that no step was of
 
 -- the node shows that nothing was of it
-shows_fresh : (node : Hosted) (job : ℕ) (view : View) → Shows node job view → has_begun view.shape.life ≡ false → view.shape.received ≡ [] → brief_of view ≡ unbegun_brief job
+shows_fresh : (node : Hosted) (job : ℕ) (view : View) → Shows node job view → has_begun view.shape.life ≡ false → view.shape.received ≡ [] → replay_state_of view ≡ unbegun_replay job
 shows_fresh node job view h new none =
-    elim (row_at node (record { 0 = job })) as (λ o. IsViewBy node.admissions.greatest (beside_at node job) job view o → brief_of view ≡ unbegun_brief job) [
+    elim (row_at node (record { 0 = job })) as (λ o. IsViewBy node.admissions.greatest (beside_at node job) job view o → replay_state_of view ≡ unbegun_replay job) [
       | Some row ↦ λ v. true_false (sym new ∙ ap (λ (s : Shape). has_begun s.life) v.shape)
-      | None ↦ λ v. ap brief_of v.is ∙ by v.life (sym (ap (λ (w : View). has_begun w.shape.life) v.is) ∙ new) (sym (ap (λ (w : View). w.shape.received) v.is) ∙ none)
+      | None ↦ λ v. ap replay_state_of v.is ∙ by v.life (sym (ap (λ (w : View). has_begun w.shape.life) v.is) ∙ new) (sym (ap (λ (w : View). w.shape.received) v.is) ∙ none)
     ] h.by_row
   where
-    by : (life : Life) → has_begun life ≡ false → (beside_at node job).received ≡ [] → brief_of (empty_view job life (beside_at node job)) ≡ unbegun_brief job
+    by : (life : Life) → has_begun life ≡ false → (beside_at node job).received ≡ [] → replay_state_of (empty_view job life (beside_at node job)) ≡ unbegun_replay job
     by not_begun e r = ap (λ received. record { shape = record (unbegun job) { received = received }; order = [] }) r
     by live e r = false_true e
     by ended e r = false_true e
@@ -162,7 +162,7 @@ nothing n h = zero_is n (not_true (nat_lt 0 n) h)
     zero_is n is = grind (arith, nat_tests, is)
 
 abbrev no_more : Journal → Bool
-no_more j = not (has_begun j.base.store.shape.life) && not (has_hands j.base)
+no_more j = not (has_begun j.base.store.shape.life) && not (has_grants j.base)
 
 module _ (node : Hosted) (journals : ℕ → Journal) (job : ℕ) (h : ∥ Tells node journals ∥₁) (seems : seems_fresh (journals job) ≡ true) where
   abbrev j : Journal
@@ -187,16 +187,16 @@ module _ (node : Hosted) (journals : ℕ → Journal) (job : ℕ) (h : ∥ Tells
   taken = same_number j.base.taken 0 (both_left (j.base.taken == 0) (no_more j) after_list)
 
   new : has_begun j.base.store.shape.life ≡ false
-  new = not_true (has_begun j.base.store.shape.life) (both_left (not (has_begun j.base.store.shape.life)) (not (has_hands j.base)) after_taken)
+  new = not_true (has_begun j.base.store.shape.life) (both_left (not (has_begun j.base.store.shape.life)) (not (has_grants j.base)) after_taken)
 
   none : j.base.store.shape.received ≡ []
-  none = nil_from_length j.base.store.shape.received (nothing (length j.base.store.shape.received) (both_right (not (has_begun j.base.store.shape.life)) (not (has_hands j.base)) after_taken))
+  none = nil_from_length j.base.store.shape.received (nothing (length j.base.store.shape.received) (both_right (not (has_begun j.base.store.shape.life)) (not (has_grants j.base)) after_taken))
 
-  store : j.base.store ≡ unbegun_brief job
-  store = ∥∥₁_elim h (Brief-set _ _) (λ t.
-      let is : j.base.store ≡ brief_of (t.views job) = sym (ap (λ ls. replayed j.base.store (lines_of ls)) list) ∙ (t.told job).replays in
+  store : j.base.store ≡ unbegun_replay job
+  store = ∥∥₁_elim h (ReplayState-set _ _) (λ t.
+      let is : j.base.store ≡ replay_state_of (t.views job) = sym (ap (λ ls. replayed j.base.store (lines_of ls)) list) ∙ (t.response job).replays in
       is ∙ shows_fresh node job (t.views job) (t.shown job)
-      (sym (ap (λ (b : Brief). has_begun b.shape.life) is) ∙ new) (sym (ap (λ (b : Brief). b.shape.received) is) ∙ none))
+      (sym (ap (λ (b : ReplayState). has_begun b.shape.life) is) ∙ new) (sym (ap (λ (b : ReplayState). b.shape.received) is) ∙ none))
 
   pub is_fresh : journals job ≡ fresh job
   is_fresh = λ i. record { base = record { store = store i; taken = taken i }; covered = covered i; list = list i }

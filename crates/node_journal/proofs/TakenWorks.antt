@@ -110,11 +110,11 @@ module _ (old : Hosted) (v : ℕ → View) (shows : ShowsAll old v) (number : �
       omega (arith, each, one)
 
   abbrev Leaves : Event → Reply (List ℕ) → Option Judged → Type 0
-  Leaves e told was = KeepsTaken works (line_left works (Own e) told) (job_at works (Own e)) (line.Entry (entry_for number named was told))
+  Leaves e response was = KeepsTaken works (line_left works (Own e) response) (job_at works (Own e)) (line.Entry (entry_for number named was response))
 
   -- what an event with this answer is to its job
   abbrev pub word : Event → Reply (List ℕ) → Option Judged
-  word e told = option_map (judge old.number (v (job_of_event e))) (event_input_of e told)
+  word e response = option_map (judge old.number (v (job_of_event e))) (event_input_of e response)
 
   -- a Take
   taken_so : (asked : IoRequest) (work : Work (List ℕ)) → front_of works ≡ Some asked → row_work_of asked.job.0 asked.number (v asked.job.0) ≡ Some work → Leaves event.Take (reply.Work work) None
@@ -133,8 +133,8 @@ module _ (old : Hosted) (v : ℕ → View) (shows : ShowsAll old v) (number : �
       plus_one : (n : ℕ) → suc n ≡ n + 1
       plus_one n = omega arith
 
-  take_leaves : (told : Reply (List ℕ)) → IsEventAnswer old v event.Take told → Leaves event.Take told None
-  take_leaves told is = subst (λ t. Leaves event.Take t None) (sym is) (by (front_of works) refl)
+  take_leaves : (response : Reply (List ℕ)) → IsEventAnswer old v event.Take response → Leaves event.Take response None
+  take_leaves response is = subst (λ t. Leaves event.Take t None) (sym is) (by (front_of works) refl)
     where
       nothing : Leaves event.Take reply.NoWork None
       nothing = same_line works (job_at works (Own event.Take)) (line.Entry (entry_for number named None reply.NoWork)) (λ n. refl)
@@ -149,8 +149,8 @@ module _ (old : Hosted) (v : ℕ → View) (shows : ShowsAll old v) (number : �
       by (Some asked) front = given asked front (row_work_of asked.job.0 asked.number (v asked.job.0)) refl
 
   -- a device's answer
-  finish_leaves : (job : JobNo) (n : ℕ) (a : DeviceAnswer) (told : Reply (List ℕ)) → IsEventAnswer old v (event.Finish job n a) told → Leaves (event.Finish job n a) told (word (event.Finish job n a) told)
-  finish_leaves job n a told is = subst (λ t. Leaves e t (word e t)) (sym is) (by (is_taken works job.0 n) refl)
+  finish_leaves : (job : JobNo) (n : ℕ) (a : DeviceAnswer) (response : Reply (List ℕ)) → IsEventAnswer old v (event.Finish job n a) response → Leaves (event.Finish job n a) response (word (event.Finish job n a) response)
+  finish_leaves job n a response is = subst (λ t. Leaves e t (word e t)) (sym is) (by (is_taken works job.0 n) refl)
     where
       e : Event
       e = event.Finish job n a
@@ -170,8 +170,8 @@ module _ (old : Hosted) (v : ℕ → View) (shows : ShowsAll old v) (number : �
           subst (λ left. KeepsTaken works left job.0 made) (sym (stays job n works out)) (same_line works job.0 made (λ m. refl))
 
   -- the end of a job
-  end_leaves : (job : JobNo) (told : Reply (List ℕ)) → IsEventAnswer old v (event.JobEnd job) told → Leaves (event.JobEnd job) told (word (event.JobEnd job) told)
-  end_leaves job told is = subst (λ t. Leaves (event.JobEnd job) t (word (event.JobEnd job) t)) (sym is) (by (is_some (live_at old.admissions job)))
+  end_leaves : (job : JobNo) (response : Reply (List ℕ)) → IsEventAnswer old v (event.JobEnd job) response → Leaves (event.JobEnd job) response (word (event.JobEnd job) response)
+  end_leaves job response is = subst (λ t. Leaves (event.JobEnd job) t (word (event.JobEnd job) t)) (sym is) (by (is_some (live_at old.admissions job)))
     where
       differ : (a b c : ℕ) → (a == b) ≡ false → (b == c) ≡ true → (a == c) ≡ false
       differ a b c h k = grind (arith, nat_tests, h, k)
@@ -184,21 +184,21 @@ module _ (old : Hosted) (v : ℕ → View) (shows : ShowsAll old v) (number : �
       }
       by false = same_line works job.0 (line.Entry (entry_for number named None (reply.Refused NotAdmitted))) (λ m. refl)
 
-  leaves : (e : Event) (told : Reply (List ℕ)) → IsEventAnswer old v e told → Leaves e told (word e told)
-  leaves (event.Admit job quota key) told is = subst (λ t. Leaves (event.Admit job quota key) t (word (event.Admit job quota key) t)) (sym is) (by (admit_check old.admissions job quota))
+  leaves : (e : Event) (response : Reply (List ℕ)) → IsEventAnswer old v e response → Leaves e response (word e response)
+  leaves (event.Admit job quota key) response is = subst (λ t. Leaves (event.Admit job quota key) t (word (event.Admit job quota key) t)) (sym is) (by (admit_check old.admissions job quota))
     where
       by : (o : Option Refusal) → Leaves (event.Admit job quota key) (answer_of_check o) (word (event.Admit job quota key) (answer_of_check o))
       by None = same_line works job.0 _ (λ n. refl)
       by (Some r) = same_line works job.0 _ (λ n. refl)
-  leaves (event.Requota job quota) told is = subst (λ t. Leaves (event.Requota job quota) t (word (event.Requota job quota) t)) (sym is) (by (requota_check old.admissions (v job.0) job quota))
+  leaves (event.Requota job quota) response is = subst (λ t. Leaves (event.Requota job quota) t (word (event.Requota job quota) t)) (sym is) (by (requota_check old.admissions (v job.0) job quota))
     where
       by : (o : Option Refusal) → Leaves (event.Requota job quota) (answer_of_check o) (word (event.Requota job quota) (answer_of_check o))
       by None = same_line works job.0 _ (λ n. refl)
       by (Some r) = same_line works job.0 _ (λ n. refl)
-  leaves (event.JobEnd job) told is = end_leaves job told is
-  leaves event.Take told is = take_leaves told is
-  leaves (event.Finish job n a) told is = finish_leaves job n a told is
-  leaves (event.Call job session c) told is = same_line works job.0 _ (λ n. refl)
+  leaves (event.JobEnd job) response is = end_leaves job response is
+  leaves event.Take response is = take_leaves response is
+  leaves (event.Finish job n a) response is = finish_leaves job n a response is
+  leaves (event.Call job session c) response is = same_line works job.0 _ (λ n. refl)
 
   asked_untaken : (o : Option JobInput) → are_untaken (asked_now old.number v o) ≡ true
   asked_untaken None = refl
@@ -215,11 +215,11 @@ module _ (old : Hosted) (v : ℕ → View) (shows : ShowsAll old v) (number : �
       (asked_untaken (own_here (before_of old v) (Own e) given.reply)))
 
   -- a message takes no work and ends none
-  message_keeps : (view : View) (a : Arrival) (n : ℕ) (told : Reply (List ℕ)) → taken_after n (line.Entry (entry_for number named (Some (judge old.number view (input.Arrive a))) told)) ≡ n
-  message_keeps view (arrival.Located id k entries) n told = refl
-  message_keeps view (arrival.FromPeer from (peer.Pull id k size digest indexes)) n told = refl
-  message_keeps view (arrival.FromPeer from (peer.Chunk id k index bytes)) n told = refl
-  message_keeps view (arrival.FromPeer from (peer.NotHere id k)) n told = refl
+  message_keeps : (view : View) (a : Arrival) (n : ℕ) (response : Reply (List ℕ)) → taken_after n (line.Entry (entry_for number named (Some (judge old.number view (input.Arrive a))) response)) ≡ n
+  message_keeps view (arrival.Located id k entries) n response = refl
+  message_keeps view (arrival.FromPeer from (peer.Pull id k size digest indexes)) n response = refl
+  message_keeps view (arrival.FromPeer from (peer.Chunk id k index bytes)) n response = refl
+  message_keeps view (arrival.FromPeer from (peer.NotHere id k)) n response = refl
 
   pub arrival_keeps : (to : JobNo) (a : Arrival) (given : NodeGiven) (new : Hosted) → NodeStepFrom old v (Arrive to a) given new → (was : Option Judged) → was ≡ Some (judge old.number (v to.0) (input.Arrive a))
       → KeepsTaken works new.works.works to.0 (line.Entry (entry_for number named was given.reply))
@@ -231,9 +231,9 @@ module _ (old : Hosted) (v : ℕ → View) (shows : ShowsAll old v) (number : �
       (asked_untaken (own_here (before_of old v) (Arrive to a) given.reply)))
 
 -- one that came too late
-pub stale_keeps : (works : List Queued) (own number : ℕ) (named : EventName) (was : Option Judged) (told : Reply (List ℕ)) (r : Refusal) → was ≡ None → told ≡ reply.Refused r
-    → KeepsTaken works works own (line.Entry (entry_for number named was told))
-stale_keeps works own number named was told r none refused = same_line works own (line.Entry (entry_for number named was told)) (λ n i. taken_after n (line.Entry (entry_for number named (none i) (refused i))))
+pub stale_keeps : (works : List Queued) (own number : ℕ) (named : EventName) (was : Option Judged) (response : Reply (List ℕ)) (r : Refusal) → was ≡ None → response ≡ reply.Refused r
+    → KeepsTaken works works own (line.Entry (entry_for number named was response))
+stale_keeps works own number named was response r none refused = same_line works own (line.Entry (entry_for number named was response)) (λ n i. taken_after n (line.Entry (entry_for number named (none i) (refused i))))
 
 -- ---- what a journal tells
 

@@ -21,7 +21,7 @@ use Rattle.private_store.specs.rules.Contents.{View, judge}
 use Rattle.private_store.specs.laws.Answers.{wants_memory, is_small_reply}
 use Rattle.private_store.specs.laws.NodeInputs.{JobInput, Before, own_here, notes_here, only_of, inputs_to}
 use Rattle.private_store.specs.rules.Private.{view_step, view_from, view_of, no_store}
-use Rattle.private_store.specs.rules.Replay.{Line as Replayed, replayed, brief_after, brief_step, brief_of}
+use Rattle.private_store.specs.rules.Replay.{Line as Replayed, replayed, replay_after, replay_step, replay_state_of}
 use Rattle.store_facts.proofs.AnswersAre.{view_never_wants, answers_whole}
 use Rattle.store_facts.proofs.Tests.{none_some}
 use Rattle.store_facts.proofs.StepsKept.{no_store_kept, view_keeps}
@@ -36,7 +36,7 @@ use Rattle.node_journal.specs.declared.entries.EventName.{EventName}
 use Rattle.node_journal.specs.declared.entries.Line.{Line}
 use Rattle.node_journal.specs.declared.entries.Line.TheVariants as line
 use Rattle.node_journal.specs.Replies.{unlisted, kept_reply}
-use Rattle.node_journal.specs.Journals.{Journal, fresh, entry_for, event_name, notes_for, lines_made, journal_line_of, lines_of, store_of, AreDue, GivesDue, IsTold, IsWorkDue, Tells, gives_work, taken_of, taken_come_first, folded_if, with_lines, is_call}
+use Rattle.node_journal.specs.Journals.{Journal, fresh, entry_for, event_name, notes_for, lines_made, journal_line_of, lines_of, store_of, AreDue, GivesDue, IsJournalOf, IsWorkDue, Tells, gives_work, taken_of, taken_come_first, folded_if, with_lines, is_call}
 use Rattle.node_core.proofs.ForCallers.{own_of, IsFinishAnswer, finish_answer, own_due_is, is_note, AreJobNotes, here_notes}
 use Rattle.node_journal.proofs.OwnInputs.{of_job, here_is, if_own, own_inputs}
 use Rattle.node_journal.proofs.Lists.{lines_of-snoc, replayed-snoc, due-snoc}
@@ -46,18 +46,18 @@ use Rattle.node_journal.proofs.WorksDue.{arrival_due, event_due, folded_works, n
 -- ---- lines
 
 -- the replay of a list with a line more that is an input
-module _ (node : ℕ) (view : View) (x : Input) (j : Journal) (l : Line) (told : Reply ℕ) (h : IsTold view j) where
+module _ (node : ℕ) (view : View) (x : Input) (j : Journal) (l : Line) (response : Reply ℕ) (h : IsJournalOf view j) where
   abbrev next : Replayed
-  next = record { input = judge node view x; reply = told }
+  next = record { input = judge node view x; reply = response }
 
-  pub line_told : journal_line_of l ≡ Some next → told ≡ unlisted (brief_step (brief_of view) next.input).reply → IsTold (view_step node view x).view (with_lines j (l ∷ []))
+  pub line_told : journal_line_of l ≡ Some next → response ≡ unlisted (replay_step (replay_state_of view) next.input).reply → IsJournalOf (view_step node view x).view (with_lines j (l ∷ []))
   line_told is due =
       let ls : List Line = j.list in
       let lines : lines_of (ls ++ l ∷ []) ≡ lines_of ls ++ next ∷ [] = lines_of-snoc ls l ∙ ap (λ o. lines_of ls ++ option_to_list o) is in
       record {
         kept = view_keeps node view x h.kept;
-        replays = ap (replayed j.base.store) lines ∙ replayed-snoc j.base.store (lines_of ls) next ∙ ap (λ b. brief_after b next.input) h.replays;
-        due = subst (AreDue j.base.store) (sym lines) (due-snoc j.base.store (lines_of ls) next h.due (due ∙ ap (λ b. unlisted (brief_step b next.input).reply) (sym h.replays)));
+        replays = ap (replayed j.base.store) lines ∙ replayed-snoc j.base.store (lines_of ls) next ∙ ap (λ b. replay_after b next.input) h.replays;
+        due = subst (AreDue j.base.store) (sym lines) (due-snoc j.base.store (lines_of ls) next h.due (due ∙ ap (λ b. unlisted (replay_step b next.input).reply) (sym h.replays)));
       }
 
 -- ---- notes
@@ -74,7 +74,7 @@ judged_alike node v w (input.Arrive a) q = absurd cc
 judged_alike node v w input.End q = absurd cc
 
 -- and it is answered Ok
-note_due : (node : ℕ) (view : View) (x : Input) → is_note x ≡ true → reply.Ok ≡ unlisted (brief_step (brief_of view) (judge node view x)).reply
+note_due : (node : ℕ) (view : View) (x : Input) → is_note x ≡ true → reply.Ok ≡ unlisted (replay_step (replay_state_of view) (judge node view x)).reply
 note_due node view (input.Received id bytes grantor depth) q = refl
 note_due node view (input.Withdrawn id grantor depth) q = refl
 note_due node view (input.Begin quota) q = absurd cc
@@ -84,26 +84,26 @@ note_due node view (input.Answer number a) q = absurd cc
 note_due node view (input.Arrive a) q = absurd cc
 note_due node view input.End q = absurd cc
 
-notes_told : (node number job : ℕ) (v : ℕ → View) (xs : List JobInput) → AreJobNotes xs → (view : View) (j : Journal) → IsTold view j
-    → IsTold (view_from node view (only_of job xs)) (with_lines j (notes_for number (judged_notes node v xs) job))
-notes_told node number job v [] q view j h = subst (λ ls. IsTold view (record j { list = ls })) (sym (append-nil j.list)) h
+notes_told : (node number job : ℕ) (v : ℕ → View) (xs : List JobInput) → AreJobNotes xs → (view : View) (j : Journal) → IsJournalOf view j
+    → IsJournalOf (view_from node view (only_of job xs)) (with_lines j (notes_for number (judged_notes node v xs) job))
+notes_told node number job v [] q view j h = subst (λ ls. IsJournalOf view (record j { list = ls })) (sym (append-nil j.list)) h
 notes_told node number job v (x ∷ xs) q view j h = by (x.job == job) (notes_told node number job v xs q.1)
   where
     note : Line
     note = line.Note number (judge node (v x.job) x.input)
 
     Then : View → Journal → List Input → List Line → Type 0
-    Then w before inputs more = IsTold (view_from node w inputs) (with_lines before more)
+    Then w before inputs more = IsJournalOf (view_from node w inputs) (with_lines before more)
 
-    here : IsTold (view_step node view x.input).view (with_lines j (note ∷ []))
+    here : IsJournalOf (view_step node view x.input).view (with_lines j (note ∷ []))
     here = line_told node view x.input j note reply.Ok h
         (ap (λ y. Some (record { input = y; reply = reply.Ok })) (judged_alike node (v x.job) view x.input q.0)) (note_due node view x.input q.0)
 
-    by : (t : Bool) → ((w : View) (before : Journal) → IsTold w before → Then w before (only_of job xs) (notes_for number (judged_notes node v xs) job))
+    by : (t : Bool) → ((w : View) (before : Journal) → IsJournalOf w before → Then w before (only_of job xs) (notes_for number (judged_notes node v xs) job))
         → Then view j (map (λ (y : JobInput). y.input) (cond t (x ∷ filter (λ (y : JobInput). y.job == job) xs) (filter (λ (y : JobInput). y.job == job) xs)))
         (map (λ (n : JobJudged). line.Note number n.input) (cond t (record { job = x.job; input = judge node (v x.job) x.input } ∷ filter (λ (n : JobJudged). n.job == job) (judged_notes node v xs)) (filter (λ (n : JobJudged). n.job == job) (judged_notes node v xs))))
     by true rest =
-        subst (λ ls. IsTold (view_from node (view_step node view x.input).view (only_of job xs)) (record j { list = ls })) (append_assoc j.list (note ∷ []) (notes_for number (judged_notes node v xs) job))
+        subst (λ ls. IsJournalOf (view_from node (view_step node view x.input).view (only_of job xs)) (record j { list = ls })) (append_assoc j.list (note ∷ []) (notes_for number (judged_notes node v xs) job))
         (rest (view_step node view x.input).view (with_lines j (note ∷ [])) here)
     by false rest = rest view j h
 
@@ -114,7 +114,7 @@ pub told_alike : (old new : Hosted) (before after : ℕ → Journal) → new ≡
 told_alike old new _ after same is h = subst (λ node. ∥ Tells node after ∥₁) (sym same) (∥∥₁_map h (λ t. record {
   views = t.views;
   shown = t.shown;
-  told = λ job. subst (IsTold (t.views job)) (sym (is job)) (t.told job);
+  response = λ job. subst (IsJournalOf (t.views job)) (sym (is job)) (t.response job);
   taken = λ job. ap taken_of (is job) ∙ t.taken job;
   first = t.first;
   works = λ job. subst GivesDue (sym (is job)) (t.works job);
@@ -124,15 +124,15 @@ told_folded : (node : Hosted) (journals : ℕ → Journal) (full : ℕ → Bool)
 told_folded node journals full h = record {
   views = h.views;
   shown = h.shown;
-  told = λ job. by job (full job);
+  response = λ job. by job (full job);
   taken = λ job. folded_taken (full job) (journals job) ∙ h.taken job;
   first = h.first;
   works = λ job. folded_works (full job) (journals job) (h.works job);
 }
   where
-    by : (job : ℕ) (b : Bool) → IsTold (h.views job) (folded_if b (journals job))
-    by job true = record { kept = (h.told job).kept; replays = (h.told job).replays; due = refl }
-    by job false = h.told job
+    by : (job : ℕ) (b : Bool) → IsJournalOf (h.views job) (folded_if b (journals job))
+    by job true = record { kept = (h.response job).kept; replays = (h.response job).replays; due = refl }
+    by job false = h.response job
 
 pub all_folded : (node : Hosted) (before after : ℕ → Journal) (full : ℕ → Bool) → ((job : ℕ) → after job ≡ folded_if (full job) (before job)) → ∥ Tells node before ∥₁ → ∥ Tells node after ∥₁
 all_folded node before after full is h = told_alike node node (λ job. folded_if (full job) (before job)) after refl is (∥∥₁_map h (told_folded node before full))
@@ -167,13 +167,13 @@ module _ (old new : Hosted) (e : Event) (given : NodeGiven) (number : ℕ) (step
   abbrev own : ℕ
   own = job_at old.works.works (Own e)
 
-  own_at : (g : Event) (told : Reply (List ℕ)) (x : Input) → event_input_of g told ≡ Some x → job_at old.works.works (Own g) ≡ job_of_event g
-  own_at (event.Admit job quota key) told x is = refl
-  own_at (event.Requota job quota) told x is = refl
-  own_at (event.JobEnd job) told x is = refl
-  own_at event.Take told x is = none_some x is
-  own_at (event.Finish job n a) told x is = refl
-  own_at (event.Call job session c) told x is = refl
+  own_at : (g : Event) (response : Reply (List ℕ)) (x : Input) → event_input_of g response ≡ Some x → job_at old.works.works (Own g) ≡ job_of_event g
+  own_at (event.Admit job quota key) response x is = refl
+  own_at (event.Requota job quota) response x is = refl
+  own_at (event.JobEnd job) response x is = refl
+  own_at event.Take response x is = none_some x is
+  own_at (event.Finish job n a) response x is = refl
+  own_at (event.Call job session c) response x is = refl
 
   module _ (v : ℕ → View) (shows : ShowsAll old v) where
     abbrev before : Before
@@ -191,7 +191,7 @@ module _ (old new : Hosted) (e : Event) (given : NodeGiven) (number : ℕ) (step
     told_is : (x : Input) → event_input_of e given.reply ≡ Some x → IsStepOf old.number (v (job_of_event e)) x given
     told_is x is =
         subst (λ o. IsGiven old.number v (of_job (job_of_event e) o) given) is
-        (subst (λ o. IsGiven old.number v o given) (own_due_is before e given.reply answer) from.told)
+        (subst (λ o. IsGiven old.number v o given) (own_due_is before e given.reply answer) from.response)
 
     -- the answer to an input is never that there is no memory
     never : (x : Input) → event_input_of e given.reply ≡ Some x → wants_memory given.reply ≡ false
@@ -213,12 +213,12 @@ module _ (old new : Hosted) (e : Event) (given : NodeGiven) (number : ℕ) (step
     judged_is : (o : Option Input) → event_input_of e given.reply ≡ o → was ≡ option_map (judge old.number (v (job_of_event e))) o
     judged_is o is = sym (is_judged.by_view (v (job_of_event e)) (shows (job_of_event e))) ∙ ap (option_map (judge old.number (v (job_of_event e)))) is
 
-    module _ (job : ℕ) (j : Journal) (h : IsTold (v job) j) where
+    module _ (job : ℕ) (j : Journal) (h : IsJournalOf (v job) j) where
       abbrev ls : List Line
       ls = j.list
 
       -- an event that is no input of its job
-      none_told : event_input_of e given.reply ≡ None → IsTold (v job) (with_lines j (line.Entry entry ∷ []))
+      none_told : event_input_of e given.reply ≡ None → IsJournalOf (v job) (with_lines j (line.Entry entry ∷ []))
       none_told is =
           let lines : lines_of (ls ++ line.Entry entry ∷ []) ≡ lines_of ls =
           lines_of-snoc ls (line.Entry entry) ∙ ap (λ o. lines_of ls ++ option_to_list (option_map (λ x. record { input = x; reply = entry.reply }) o)) (judged_is None is) ∙ append-nil (lines_of ls) in
@@ -229,8 +229,8 @@ module _ (old new : Hosted) (e : Event) (given : NodeGiven) (number : ℕ) (step
           }
 
     -- one that is
-    module _ (job : ℕ) (its : job_of_event e ≡ job) (j : Journal) (h : IsTold (v job) j) where
-      some_told : (x : Input) → event_input_of e given.reply ≡ Some x → IsTold (view_step old.number (v job) x).view (with_lines j (line.Entry entry ∷ []))
+    module _ (job : ℕ) (its : job_of_event e ≡ job) (j : Journal) (h : IsJournalOf (v job) j) where
+      some_told : (x : Input) → event_input_of e given.reply ≡ Some x → IsJournalOf (view_step old.number (v job) x).view (with_lines j (line.Entry entry ∷ []))
       some_told x is =
           line_told old.number (v job) x j (line.Entry entry) (kept_reply given.reply) h
           (ap (option_map (λ y. record { input = y; reply = entry.reply })) (judged_is (Some x) is ∙ ap (λ k. Some (judge old.number (v k) x)) its))
@@ -247,29 +247,29 @@ module _ (old new : Hosted) (e : Event) (given : NodeGiven) (number : ℕ) (step
         by false false = refl
     input_at (Some x) is job = ap (λ k. if_own (k == job) (Some x)) (sym (own_at e given.reply x is))
 
-    own_told : (job : ℕ) (j : Journal) → IsTold (v job) j
-        → IsTold (view_from old.number (v job) (if_own (own == job) (event_input_of e given.reply))) (with_lines j (if own == job then line.Entry entry ∷ [] else []))
+    own_told : (job : ℕ) (j : Journal) → IsJournalOf (v job) j
+        → IsJournalOf (view_from old.number (v job) (if_own (own == job) (event_input_of e given.reply))) (with_lines j (if own == job then line.Entry entry ∷ [] else []))
     own_told job j h = by (own == job) (event_input_of e given.reply) refl refl
       where
         own_is : (own == job) ≡ true → own ≡ job
         own_is t = grind (arith, nat_tests)
 
         by : (b : Bool) (o : Option Input) → (own == job) ≡ b → event_input_of e given.reply ≡ o
-            → IsTold (view_from old.number (v job) (if_own b o)) (with_lines j (cond b (line.Entry entry ∷ []) []))
+            → IsJournalOf (view_from old.number (v job) (if_own b o)) (with_lines j (cond b (line.Entry entry ∷ []) []))
         by true None t is = none_told job j h is
         by true (Some x) t is = some_told job (sym (own_at e given.reply x is) ∙ own_is t) j h x is
-        by false o t is = subst (λ ls. IsTold (v job) (record j { list = ls })) (sym (append-nil j.list)) h
+        by false o t is = subst (λ ls. IsJournalOf (v job) (record j { list = ls })) (sym (append-nil j.list)) h
 
-    one_told : (job : ℕ) (j : Journal) → IsTold (v job) j
-        → IsTold (view_from old.number (v job) (inputs_to before (Own e) given.reply job)) (with_lines j (lines_made number named own was given job))
+    one_told : (job : ℕ) (j : Journal) → IsJournalOf (v job) j
+        → IsJournalOf (view_from old.number (v job) (inputs_to before (Own e) given.reply job)) (with_lines j (lines_made number named own was given job))
     one_told job j h =
         let entered : List Line = if own == job then line.Entry entry ∷ [] else [] in
         let mine : List Input = if_own (own == job) (event_input_of e given.reply) in
         let inputs = inputs_are job ∙ ap (λ xs. xs ++ only_of job noted) (input_at (event_input_of e given.reply) refl job) in
-        subst (λ xs. IsTold (view_from old.number (v job) xs) (with_lines j (lines_made number named own was given job))) (sym inputs)
-        (subst (λ w. IsTold w (with_lines j (lines_made number named own was given job))) (sym (from-append old.number (v job) mine (only_of job noted)))
-        (subst (λ notes. IsTold (view_from old.number (view_from old.number (v job) mine) (only_of job noted)) (with_lines j (entered ++ notes_for number notes job))) (sym from.notes)
-        (subst (λ ls. IsTold (view_from old.number (view_from old.number (v job) mine) (only_of job noted)) (record j { list = ls })) (append_assoc j.list entered (notes_for number (judged_notes old.number v noted) job))
+        subst (λ xs. IsJournalOf (view_from old.number (v job) xs) (with_lines j (lines_made number named own was given job))) (sym inputs)
+        (subst (λ w. IsJournalOf w (with_lines j (lines_made number named own was given job))) (sym (from-append old.number (v job) mine (only_of job noted)))
+        (subst (λ notes. IsJournalOf (view_from old.number (view_from old.number (v job) mine) (only_of job noted)) (with_lines j (entered ++ notes_for number notes job))) (sym from.notes)
+        (subst (λ ls. IsJournalOf (view_from old.number (view_from old.number (v job) mine) (only_of job noted)) (record j { list = ls })) (append_assoc j.list entered (notes_for number (judged_notes old.number v noted) job))
         (notes_told old.number number job v noted (here_notes before (Own e) given.reply) (view_from old.number (v job) mine) (with_lines j entered) (own_told job j h)))))
 
   -- the fact under the lock
@@ -277,9 +277,9 @@ module _ (old new : Hosted) (e : Event) (given : NodeGiven) (number : ℕ) (step
   told_next before after is h = record {
     views = λ job. view_from old.number (h.views job) (inputs_to (before_of old h.views) (Own e) given.reply job);
     shown = (steps.each h.views h.shown).views;
-    told = λ job.
-        subst (IsTold (view_from old.number (h.views job) (inputs_to (before_of old h.views) (Own e) given.reply job))) (sym (is job))
-        (one_told h.views h.shown job (before job) (h.told job));
+    response = λ job.
+        subst (IsJournalOf (view_from old.number (h.views job) (inputs_to (before_of old h.views) (Own e) given.reply job))) (sym (is job))
+        (one_told h.views h.shown job (before job) (h.response job));
     taken = λ job. next_taken old.works.works new.works.works number own job named was given (before job) (after job) keeps (is job) (h.taken job);
     first = keeps.first h.first;
     works = λ job. next_works number own job named was given (before job) (after job) (due job) (is job) (h.works job);
@@ -287,10 +287,10 @@ module _ (old new : Hosted) (e : Event) (given : NodeGiven) (number : ℕ) (step
     where
       due : (job : ℕ) → own ≡ job → IsWorkDue (store_of (before job)) (taken_of (before job)) (line.Entry entry)
       due job its =
-          subst (λ b. IsWorkDue b (taken_of (before job)) (line.Entry entry)) (sym (h.told job).replays)
-          (subst (λ n. IsWorkDue (brief_of (h.views job)) n (line.Entry entry)) (sym (h.taken job))
-          (subst (λ k. IsWorkDue (brief_of (h.views k)) (works_taken_by old.works (numbered k)) (line.Entry entry)) its
-          (event_due old h.views h.shown (λ k. (h.told k).kept) h.first number given.reply e was (from h.views h.shown).operator (judged_is h.views h.shown None)
+          subst (λ b. IsWorkDue b (taken_of (before job)) (line.Entry entry)) (sym (h.response job).replays)
+          (subst (λ n. IsWorkDue (replay_state_of (h.views job)) n (line.Entry entry)) (sym (h.taken job))
+          (subst (λ k. IsWorkDue (replay_state_of (h.views k)) (works_taken_by old.works (numbered k)) (line.Entry entry)) its
+          (event_due old h.views h.shown (λ k. (h.response k).kept) h.first number given.reply e was (from h.views h.shown).operator (judged_is h.views h.shown None)
           (λ x is. ap (λ t. gives_work (kept_reply t)) (told_is h.views h.shown x is).reply ∙ step_gives_none old.number (h.views (job_of_event e)) x))))
 
       keeps : KeepsTaken old.works.works new.works.works own (line.Entry entry)
@@ -316,10 +316,10 @@ module _ (old new : Hosted) (e : Event) (given : NodeGiven) (number : ℕ) (step
     pub call_never_wants : ∥ Tells old before ∥₁ → wants_memory given.reply ≡ false
     call_never_wants h = ∥∥₁_elim h (Bool-set _ _) (λ t. by_call (never t.views t.shown))
 
-pub call_small : (old : Hosted) (e : Event) (told : Reply (List ℕ)) (before : ℕ → Journal) → IsSmall old e told → is_call e ≡ true → ∥ Tells old before ∥₁ → is_small_reply told ≡ true
-call_small old e told before small call h = ∥∥₁_elim h (Bool-set _ _) (λ t. by e call (small t.views t.shown))
+pub call_small : (old : Hosted) (e : Event) (response : Reply (List ℕ)) (before : ℕ → Journal) → IsSmall old e response → is_call e ≡ true → ∥ Tells old before ∥₁ → is_small_reply response ≡ true
+call_small old e response before small call h = ∥∥₁_elim h (Bool-set _ _) (λ t. by e call (small t.views t.shown))
   where
-    by : (g : Event) → is_call g ≡ true → IsSmallCall g told → is_small_reply told ≡ true
+    by : (g : Event) → is_call g ≡ true → IsSmallCall g response → is_small_reply response ≡ true
     by (event.Call job session c) call is = is
     by (event.Admit job quota key) call is = absurd cc
     by (event.Requota job quota) call is = absurd cc
@@ -352,8 +352,8 @@ module _ (old new : Hosted) (to : JobNo) (a : Arrival) (given : NodeGiven) (numb
   own_is job t = grind (arith, nat_tests)
 
   -- another job's journal
-  others_told : (view : View) (j : Journal) → IsTold view j → IsTold view (with_lines j [])
-  others_told view j h = subst (λ ls. IsTold view (record j { list = ls })) (sym (append-nil j.list)) h
+  others_told : (view : View) (j : Journal) → IsJournalOf view j → IsJournalOf view (with_lines j [])
+  others_told view j h = subst (λ ls. IsJournalOf view (record j { list = ls })) (sym (append-nil j.list)) h
 
   module _ (v : ℕ → View) (shows : ShowsAll old v) where
     abbrev before_it : Before
@@ -362,8 +362,8 @@ module _ (old new : Hosted) (to : JobNo) (a : Arrival) (given : NodeGiven) (numb
     came_from : NodeStepFrom old v (Arrive to a) given new
     came_from = steps.each v shows
 
-    word_is : (told : Reply (List ℕ)) → given.reply ≡ told → was ≡ option_map (judge old.number (v to.0)) (arrived a told)
-    word_is told is = sym (is_judged (v to.0) (shows to.0)) ∙ ap (λ t. option_map (judge old.number (v to.0)) (arrived a t)) is
+    word_is : (response : Reply (List ℕ)) → given.reply ≡ response → was ≡ option_map (judge old.number (v to.0)) (arrived a response)
+    word_is response is = sym (is_judged (v to.0) (shows to.0)) ∙ ap (λ t. option_map (judge old.number (v to.0)) (arrived a t)) is
 
     -- its job takes it
     module _ (ok : given.reply ≡ reply.Ok) where
@@ -372,24 +372,24 @@ module _ (old new : Hosted) (to : JobNo) (a : Arrival) (given : NodeGiven) (numb
           ap (λ t. only_of job (option_to_list (cond (wants_memory t) None (Some (record { job = to.0; input = x }))) ++ [])) ok
           ∙ own_inputs to.0 job (Some x)
 
-      here_told : (job : ℕ) → to.0 ≡ job → (j : Journal) → IsTold (v job) j → IsTold (view_step old.number (v job) x).view (with_lines j (came ∷ []))
+      here_told : (job : ℕ) → to.0 ≡ job → (j : Journal) → IsJournalOf (v job) j → IsJournalOf (view_step old.number (v job) x).view (with_lines j (came ∷ []))
       here_told job own j h =
           line_told old.number (v job) x j came (kept_reply given.reply) h
           (ap (option_map (λ y. record { input = y; reply = kept_reply given.reply })) (word_is reply.Ok ok ∙ ap (λ k. Some (judge old.number (v k) x)) own))
-          (ap kept_reply (came_from.told.reply ∙ ap (λ k. (view_step old.number (v k) x).reply) own) ∙ ap unlisted (answers_whole old.number (v job) x h.kept))
+          (ap kept_reply (came_from.response.reply ∙ ap (λ k. (view_step old.number (v k) x).reply) own) ∙ ap unlisted (answers_whole old.number (v job) x h.kept))
 
-      taken_told : (job : ℕ) (j : Journal) → IsTold (v job) j → IsTold (view_from old.number (v job) (inputs_to before_it (Arrive to a) given.reply job)) (with_lines j (made job))
+      taken_told : (job : ℕ) (j : Journal) → IsJournalOf (v job) j → IsJournalOf (view_from old.number (v job) (inputs_to before_it (Arrive to a) given.reply job)) (with_lines j (made job))
       taken_told job j h =
-          subst (λ xs. IsTold (view_from old.number (v job) xs) (with_lines j (made job))) (sym (own_input job))
-          (subst (λ ls. IsTold (view_from old.number (v job) (if_own (to.0 == job) (Some x))) (with_lines j ls)) (sym (made_is job)) (by (to.0 == job) refl))
+          subst (λ xs. IsJournalOf (view_from old.number (v job) xs) (with_lines j (made job))) (sym (own_input job))
+          (subst (λ ls. IsJournalOf (view_from old.number (v job) (if_own (to.0 == job) (Some x))) (with_lines j ls)) (sym (made_is job)) (by (to.0 == job) refl))
         where
-          by : (b : Bool) → (to.0 == job) ≡ b → IsTold (view_from old.number (v job) (if_own b (Some x))) (with_lines j (cond b (came ∷ []) []))
+          by : (b : Bool) → (to.0 == job) ≡ b → IsJournalOf (view_from old.number (v job) (if_own b (Some x))) (with_lines j (cond b (came ∷ []) []))
           by true t = here_told job (own_is job t) j h
           by false t = others_told (v job) j h
 
     -- its job isn't live
     module _ (late : given.reply ≡ reply.Refused Stale) where
-      nothing_told : (view : View) (j : Journal) → IsTold view j → IsTold view (with_lines j (came ∷ []))
+      nothing_told : (view : View) (j : Journal) → IsJournalOf view j → IsJournalOf view (with_lines j (came ∷ []))
       nothing_told view j h =
           let ls : List Line = j.list in
           let lines : lines_of (ls ++ came ∷ []) ≡ lines_of ls =
@@ -402,10 +402,10 @@ module _ (old new : Hosted) (to : JobNo) (a : Arrival) (given : NodeGiven) (numb
             due = subst (AreDue j.base.store) (sym lines) h.due;
           }
 
-      stale_told : (job : ℕ) (j : Journal) → IsTold (v job) j → IsTold (v job) (with_lines j (made job))
-      stale_told job j h = subst (λ ls. IsTold (v job) (with_lines j ls)) (sym (made_is job)) (by (to.0 == job))
+      stale_told : (job : ℕ) (j : Journal) → IsJournalOf (v job) j → IsJournalOf (v job) (with_lines j (made job))
+      stale_told job j h = subst (λ ls. IsJournalOf (v job) (with_lines j ls)) (sym (made_is job)) (by (to.0 == job))
         where
-          by : (b : Bool) → IsTold (v job) (with_lines j (cond b (came ∷ []) []))
+          by : (b : Bool) → IsJournalOf (v job) (with_lines j (cond b (came ∷ []) []))
           by true = nothing_told (v job) j h
           by false = others_told (v job) j h
 
@@ -426,9 +426,9 @@ module _ (old new : Hosted) (to : JobNo) (a : Arrival) (given : NodeGiven) (numb
       by true ok = record {
         views = λ job. view_from old.number (h.views job) (inputs_to (before_of old h.views) (Arrive to a) given.reply job);
         shown = (came_from h.views h.shown).views;
-        told = λ job.
-            subst (IsTold (view_from old.number (h.views job) (inputs_to (before_of old h.views) (Arrive to a) given.reply job))) (sym (is job))
-            (taken_told h.views h.shown ok job (before job) (h.told job));
+        response = λ job.
+            subst (IsJournalOf (view_from old.number (h.views job) (inputs_to (before_of old h.views) (Arrive to a) given.reply job))) (sym (is job))
+            (taken_told h.views h.shown ok job (before job) (h.response job));
         taken = λ job. next_taken old.works.works new.works.works number to.0 job brought was given (before job) (after job) (keeps ok) (is job) (h.taken job);
         first = (keeps ok).first h.first;
         works = next_due true ok;
@@ -436,7 +436,7 @@ module _ (old new : Hosted) (to : JobNo) (a : Arrival) (given : NodeGiven) (numb
       by false late = subst (λ node. Tells node after) (sym (stale late)) (record {
         views = h.views;
         shown = h.shown;
-        told = λ job. subst (IsTold (h.views job)) (sym (is job)) (stale_told h.views h.shown late job (before job) (h.told job));
+        response = λ job. subst (IsJournalOf (h.views job)) (sym (is job)) (stale_told h.views h.shown late job (before job) (h.response job));
         taken = λ job. next_taken old.works.works old.works.works number to.0 job brought was given (before job) (after job) (same late) (is job) (h.taken job);
         first = h.first;
         works = next_due false late;
@@ -452,7 +452,7 @@ pub told_at_first : (node : Hosted) (journals : ℕ → Journal) → node.works 
 told_at_first node journals empty shows none = ∣ record {
   views = λ job. view_of (no_store job);
   shown = shows;
-  told = λ job. subst (IsTold (view_of (no_store job))) (sym (none job)) (record { kept = no_store_kept job; replays = refl; due = refl });
+  response = λ job. subst (IsJournalOf (view_of (no_store job))) (sym (none job)) (record { kept = no_store_kept job; replays = refl; due = refl });
   taken = λ job. ap taken_of (none job) ∙ sym (ap (λ (works : WorkLine). works_taken_by works (numbered job)) empty);
   first = ap (λ (works : WorkLine). taken_come_first works.works) empty;
   works = λ job. subst GivesDue (sym (none job)) tt;
@@ -464,7 +464,7 @@ pub told_entered : (old new : Hosted) (journals : ℕ → Journal) → new.works
 told_entered old new journals same views h = ∥∥₁_map h (λ t. record {
   views = t.views;
   shown = λ job. (views job (t.views job)).1 (t.shown job);
-  told = t.told;
+  response = t.response;
   taken = λ job. t.taken job ∙ sym (ap (λ works. works_taken_by works (numbered job)) same);
   first = ap (λ (works : WorkLine). taken_come_first works.works) same ∙ t.first;
   works = t.works;

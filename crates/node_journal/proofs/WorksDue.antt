@@ -25,7 +25,7 @@ use Rattle.private_store.specs.rules.Contents.{View, bytes_at, judge, whole_repl
 use Rattle.private_store.specs.rules.Copies.{is_sealed}
 use Rattle.private_store.specs.laws.Invariants.{IsViewKept, has_extent}
 use Rattle.private_store.specs.rules.Private.{key_of, view_step}
-use Rattle.private_store.specs.rules.Replay.{Brief, brief_of, replayed}
+use Rattle.private_store.specs.rules.Replay.{ReplayState, replay_state_of, replayed}
 use Rattle.private_store.specs.rules.Shape.{Copy, Fetch, WorkInFlight}
 use Rattle.private_store.specs.rules.Step.{step}
 use Rattle.private_store.specs.rules.Tables.{at}
@@ -35,33 +35,33 @@ use Rattle.spill_work.specs.declared.queue.IoRequest.{IoRequest}
 use Rattle.spill_work.specs.declared.queue.Queued.{Queued}
 use Rattle.spill_work.specs.Line.{front_of, shown}
 use Rattle.node_core.specs.Hosted.{Hosted, IsViewBy, Shows, ShowsAll, beside_at, row_at}
-use Rattle.node_core.specs.Steps.{NodeGiven, JobJudged, IsEventAnswer, answer_of_check, job_at, take_told, row_work_given, row_work_of}
+use Rattle.node_core.specs.Steps.{NodeGiven, JobJudged, IsEventAnswer, answer_of_check, job_at, take_response, row_work_given, row_work_of}
 use Rattle.node_core.specs.OneJob.{event_input_of}
 use Rattle.node_core.proofs.ForCallers.{works_shown}
 use Rattle.node_journal.specs.declared.entries.EventName.{EventName}
 use Rattle.node_journal.specs.declared.entries.Line.{Line}
 use Rattle.node_journal.specs.declared.entries.Line.TheVariants as line
 use Rattle.node_journal.specs.Replies.{kept_reply}
-use Rattle.node_journal.specs.Journals.{Journal, AreWorksDue, GivesDue, IsWorkDue, arrival_name, brief_given, entry_for, event_name, folded_if, gives_work, is_take, journal_line_of, lines_made, lines_of, notes_for, store_of, take_due, taken_after, taken_come_first, taken_from, taken_of, with_lines}
+use Rattle.node_journal.specs.Journals.{Journal, AreWorksDue, GivesDue, IsWorkDue, arrival_name, replay_state_given, entry_for, event_name, folded_if, gives_work, is_take, journal_line_of, lines_made, lines_of, notes_for, store_of, take_due, taken_after, taken_come_first, taken_from, taken_of, with_lines}
 use Rattle.node_journal.proofs.Lists.{replayed_one}
 use Rattle.node_journal.proofs.TakenLine.{count, front_at, none_at}
 use Rattle.node_journal.proofs.TakenWorks.{numbered}
 
 -- ---- lines
 
-pub works-append : (brief : Brief) (n : ℕ) (xs ys : List Line) → AreWorksDue brief n xs → AreWorksDue (replayed brief (lines_of xs)) (taken_from n xs) ys → AreWorksDue brief n (xs ++ ys)
-works-append brief n [] ys h more = more
-works-append brief n (x ∷ xs) ys h more = (
+pub works-append : (replay_state : ReplayState) (n : ℕ) (xs ys : List Line) → AreWorksDue replay_state n xs → AreWorksDue (replayed replay_state (lines_of xs)) (taken_from n xs) ys → AreWorksDue replay_state n (xs ++ ys)
+works-append replay_state n [] ys h more = more
+works-append replay_state n (x ∷ xs) ys h more = (
   h.0,
-  works-append (replayed brief (option_to_list (journal_line_of x))) (taken_after n x) xs ys h.1
-      (subst (λ b. AreWorksDue b (taken_from (taken_after n x) xs) ys) (replayed_one brief (journal_line_of x) (lines_of xs)) more),
+  works-append (replayed replay_state (option_to_list (journal_line_of x))) (taken_after n x) xs ys h.1
+      (subst (λ b. AreWorksDue b (taken_from (taken_after n x) xs) ys) (replayed_one replay_state (journal_line_of x) (lines_of xs)) more),
 )
 
 -- notes give none
-notes_due : (brief : Brief) (n number job : ℕ) (notes : List JobJudged) → AreWorksDue brief n (notes_for number notes job)
-notes_due brief n number job notes = by brief (filter (λ (note : JobJudged). note.job == job) notes)
+notes_due : (replay_state : ReplayState) (n number job : ℕ) (notes : List JobJudged) → AreWorksDue replay_state n (notes_for number notes job)
+notes_due replay_state n number job notes = by replay_state (filter (λ (note : JobJudged). note.job == job) notes)
   where
-    by : (b : Brief) (xs : List JobJudged) → AreWorksDue b n (map (λ (note : JobJudged). line.Note number note.input) xs)
+    by : (b : ReplayState) (xs : List JobJudged) → AreWorksDue b n (map (λ (note : JobJudged). line.Note number note.input) xs)
     by b [] = tt
     by b (x ∷ xs) = (tt, by (replayed b (option_to_list (journal_line_of (line.Note number x.input)))) xs)
 
@@ -90,8 +90,8 @@ folded_works false j h = h
 
 -- ---- answers that give no work
 
-gives_none : (told : Reply (List ℕ)) (o : Option Refusal) → told ≡ answer_of_check o → gives_work (kept_reply told) ≡ false
-gives_none told o is = ap (λ t. gives_work (kept_reply t)) is ∙ by o
+gives_none : (response : Reply (List ℕ)) (o : Option Refusal) → response ≡ answer_of_check o → gives_work (kept_reply response) ≡ false
+gives_none response o is = ap (λ t. gives_work (kept_reply t)) is ∙ by o
   where
     by : (o : Option Refusal) → gives_work (kept_reply (answer_of_check o)) ≡ false
     by None = refl
@@ -153,8 +153,8 @@ module _ (job : ℕ) (view : View) (h : IsViewKept view) (own : view.shape.job �
       (h.kept.filled.each w.id copy found).bytes (k.resident ∙ sealed_extent copy.state copy.fetch spilled.0)
 
   -- without its bytes
-  brief_is : (copy : Copy) → at view.shape.copies w.id ≡ Some copy → kept_reply (reply.Work (row_work_given job view w copy)) ≡ reply.Work (brief_given view.shape.job w copy)
-  brief_is copy found = λ i. reply.Work (record {
+  replay_is : (copy : Copy) → at view.shape.copies w.id ≡ Some copy → kept_reply (reply.Work (row_work_given job view w copy)) ≡ reply.Work (replay_state_given view.shape.job w copy)
+  replay_is copy found = λ i. reply.Work (record {
     job = record { 0 = sym own i };
     number = w.number;
     kind = if w.writes then kind.Write else kind.Read;
@@ -168,9 +168,9 @@ module _ (job : ℕ) (view : View) (h : IsViewKept view) (own : view.shape.job �
       payload_is false is = refl
 
   given_is : (o : Option Copy) → at view.shape.copies w.id ≡ o
-      → kept_reply (option_map_or reply.Work (option_map (row_work_given job view w) o) reply.NoWork) ≡ option_map_or reply.Work (option_map (brief_given view.shape.job w) o) reply.NoWork
+      → kept_reply (option_map_or reply.Work (option_map (row_work_given job view w) o) reply.NoWork) ≡ option_map_or reply.Work (option_map (replay_state_given view.shape.job w) o) reply.NoWork
   given_is None is = refl
-  given_is (Some copy) is = brief_is copy is
+  given_is (Some copy) is = replay_is copy is
 
 -- a view is its own job's
 job_shown : (node : Hosted) (job : ℕ) (view : View) → Shows node job view → view.shape.job ≡ job
@@ -189,11 +189,11 @@ module _ (old : Hosted) (v : ℕ → View) (shows : ShowsAll old v) (kept : (job
   turn o = option_map_or (λ asked. asked.job.0) o 0
 
   abbrev due : ℕ → Reply ℕ
-  due job = take_due (brief_of (v job)) (count (numbered job) works)
+  due job = take_due (replay_state_of (v job)) (count (numbered job) works)
 
   due_by : (job : ℕ) (o : Option WorkInFlight) → slice_get (v job).shape.works (count (numbered job) works) ≡ o
-      → due job ≡ option_map_or reply.Work (option_and_then (λ w. option_map (brief_given (v job).shape.job w) (at (v job).shape.copies w.id)) o) reply.NoWork
-  due_by job o is = ap (λ o. option_map_or reply.Work (option_and_then (λ (w : WorkInFlight). option_map (brief_given (v job).shape.job w) (at (v job).shape.copies w.id)) o) reply.NoWork) is
+      → due job ≡ option_map_or reply.Work (option_and_then (λ w. option_map (replay_state_given (v job).shape.job w) (at (v job).shape.copies w.id)) o) reply.NoWork
+  due_by job o is = ap (λ o. option_map_or reply.Work (option_and_then (λ (w : WorkInFlight). option_map (replay_state_given (v job).shape.job w) (at (v job).shape.copies w.id)) o) reply.NoWork) is
 
   front_due : (asked : IoRequest) → front_of works ≡ Some asked → kept_reply (option_map_or reply.Work (row_work_of asked.job.0 asked.number (v asked.job.0)) reply.NoWork) ≡ due asked.job.0
   front_due asked front =
@@ -209,7 +209,7 @@ module _ (old : Hosted) (v : ℕ → View) (shows : ShowsAll old v) (kept : (job
   none_due : (job : ℕ) → front_of works ≡ None → reply.NoWork ≡ due job
   none_due job front = sym (due_by job None (ap (λ ws. slice_get ws (count (numbered job) works)) (works_shown old job (v job) (shows job)).works ∙ none_at (numbered job) works front))
 
-  take_is : kept_reply (take_told works v) ≡ due (job_at works (Own event.Take))
+  take_is : kept_reply (take_response works v) ≡ due (job_at works (Own event.Take))
   take_is = by (front_of works) refl
     where
       by : (o : Option IoRequest) → front_of works ≡ o
@@ -219,23 +219,23 @@ module _ (old : Hosted) (v : ℕ → View) (shows : ShowsAll old v) (kept : (job
 
   -- ---- the entry of an event
 
-  module _ (number : ℕ) (told : Reply (List ℕ)) where
+  module _ (number : ℕ) (response : Reply (List ℕ)) where
     abbrev Due : Event → Option Judged → Type 0
-    Due e was = IsWorkDue (brief_of (v (job_at works (Own e)))) (count (numbered (job_at works (Own e))) works) (line.Entry (entry_for number (event_name (Own e)) was told))
+    Due e was = IsWorkDue (replay_state_of (v (job_at works (Own e)))) (count (numbered (job_at works (Own e))) works) (line.Entry (entry_for number (event_name (Own e)) was response))
 
-    pub event_due : (e : Event) (was : Option Judged) → IsEventAnswer old v e told → (event_input_of e told ≡ None → was ≡ None)
-        → ((x : Input) → event_input_of e told ≡ Some x → gives_work (kept_reply told) ≡ false) → Due e was
-    event_due (event.Admit job quota key) was is none some = (λ t. true_false t, λ _. gives_none told _ is)
-    event_due (event.Requota job quota) was is none some = (λ t. true_false t, λ _. gives_none told _ is)
-    event_due (event.JobEnd job) was is none some = (λ t. true_false t, λ _. gives_none told _ is)
+    pub event_due : (e : Event) (was : Option Judged) → IsEventAnswer old v e response → (event_input_of e response ≡ None → was ≡ None)
+        → ((x : Input) → event_input_of e response ≡ Some x → gives_work (kept_reply response) ≡ false) → Due e was
+    event_due (event.Admit job quota key) was is none some = (λ t. true_false t, λ _. gives_none response _ is)
+    event_due (event.Requota job quota) was is none some = (λ t. true_false t, λ _. gives_none response _ is)
+    event_due (event.JobEnd job) was is none some = (λ t. true_false t, λ _. gives_none response _ is)
     event_due event.Take was is none some = (λ _. (none refl, ap kept_reply is ∙ take_is), λ t. false_true t)
-    event_due (event.Finish job n a) was is none some = (λ t. true_false t, λ _. gives_none told _ is)
+    event_due (event.Finish job n a) was is none some = (λ t. true_false t, λ _. gives_none response _ is)
     event_due (event.Call job session c) was is none some = (λ t. true_false t, λ _. some (input.Call session c) refl)
 
 -- ---- the entry of a message
 
-pub arrival_due : (brief : Brief) (n number : ℕ) (a : Arrival) (was : Option Judged) (told : Reply (List ℕ)) (o : Option Refusal) → told ≡ answer_of_check o → IsWorkDue brief n (line.Entry (entry_for number (arrival_name a) was told))
-arrival_due brief n number a was told o is = (by a, λ _. gives_none told o is)
+pub arrival_due : (replay_state : ReplayState) (n number : ℕ) (a : Arrival) (was : Option Judged) (response : Reply (List ℕ)) (o : Option Refusal) → response ≡ answer_of_check o → IsWorkDue replay_state n (line.Entry (entry_for number (arrival_name a) was response))
+arrival_due replay_state n number a was response o is = (by a, λ _. gives_none response o is)
   where
     by : {B : Type 0} (a : Arrival) → is_take (arrival_name a) ≡ true → B
     by (arrival.Located id k entries) t = true_false t

@@ -20,13 +20,13 @@ use Rattle.private_store.specs.rules.Tables.{at}
 use Rattle.private_store.specs.rules.Shape.{Copy, WorkInFlight}
 use Rattle.private_store.specs.rules.Contents.{View}
 use Rattle.private_store.specs.rules.Private.{key_of}
-use Rattle.private_store.specs.rules.Hands.{Hand}
+use Rattle.private_store.specs.rules.Grants.{StandingGrant}
 use Rattle.plain_store.specs.Parts.{has_begun}
 use Rattle.job_admission.specs.Admissions.{live_at}
 use Rattle.spill_work.specs.declared.queue.Queued.{Queued}
 use Rattle.spill_work.specs.Line.{works_taken_by}
 use Rattle.private_store.specs.laws.Invariants.{IsViewKept}
-use Rattle.private_store.specs.rules.Replay.{Brief, Line as Replayed, unbegun_brief, replayed, answers_due, brief_of}
+use Rattle.private_store.specs.rules.Replay.{ReplayState, Line as Replayed, unbegun_replay, replayed, answers_due, replay_state_of}
 use Rattle.node_core.specs.Hosted.{Hosted, ShowsAll}
 use Rattle.node_core.specs.Foreseen.{grantees_of}
 use Rattle.node_core.specs.Steps.{NodeGiven, JobJudged, job_at}
@@ -53,7 +53,7 @@ pub record Journal : Type 0 where
 
 -- of a job that no step was of
 abbrev pub fresh : ℕ → Journal
-fresh job = record { base = record { store = unbegun_brief job; taken = 0 }; covered = 0; list = [] }
+fresh job = record { base = record { store = unbegun_replay job; taken = 0 }; covered = 0; list = [] }
 
 -- the lines that a list has at most
 abbrev pub most_lines : ℕ
@@ -80,9 +80,9 @@ event_name (Arrive job a) = arrival_name a
 
 -- the entry of an event of this name, which was this to its job, and was answered so
 abbrev pub entry_for : ℕ → EventName → Option Judged → Reply (List ℕ) → Entry
-entry_for number named was told = record { number = number; event = named; input = was; reply = kept_reply told }
+entry_for number named was response = record { number = number; event = named; input = was; reply = kept_reply response }
 
--- what a step of this number tells the job as the grantee of hands
+-- what a step of this number tells the job as a grantee
 abbrev pub notes_for : ℕ → List JobJudged → ℕ → List Line
 notes_for number notes job = map (λ note. line.Note number note.input) (filter (λ note. note.job == job) notes)
 
@@ -104,7 +104,7 @@ lines_of [] = []
 lines_of (l ∷ ls) = option_to_list (journal_line_of l) ++ lines_of ls
 
 -- the store that the journal tells of
-abbrev pub store_of : Journal → Brief
+abbrev pub store_of : Journal → ReplayState
 store_of journal = replayed journal.base.store (lines_of journal.list)
 
 -- ---- which works are taken
@@ -119,9 +119,9 @@ gives_work _ = false
 
 -- of so many taken works, those that are left after an input: a device's answer ends one, and the job's end all
 abbrev pub taken_left : ℕ → Judged → Reply ℕ → ℕ
-taken_left n (judged.Answer number verdict) told = if is_ok told then n - 1 else n
-taken_left n judged.End told = if is_ok told then 0 else n
-taken_left n _ told = n
+taken_left n (judged.Answer number verdict) response = if is_ok response then n - 1 else n
+taken_left n judged.End response = if is_ok response then 0 else n
+taken_left n _ response = n
 
 -- how many of the job's works are taken after a line, if so many were before it: an entry that is no input may give one
 abbrev pub taken_after : ℕ → Line → ℕ
@@ -148,8 +148,8 @@ taken_come_first (work ∷ works) = if work.taken then taken_come_first works el
 -- ---- which work a Take gives
 
 -- a work of the job with its key and its length, and of a write's bytes their number
-abbrev pub brief_given : ℕ → WorkInFlight → Copy → Work ℕ
-brief_given job w copy =
+abbrev pub replay_state_given : ℕ → WorkInFlight → Copy → Work ℕ
+replay_state_given job w copy =
     record {
       job = record { 0 = job };
       number = w.number;
@@ -160,48 +160,48 @@ brief_given job w copy =
     }
 
 -- the first of the store's works that isn't taken, if so many are: those that are taken come first
-abbrev pub work_due : Brief → ℕ → Option (Work ℕ)
-work_due brief taken =
-    option_and_then (λ w. option_map (brief_given brief.shape.job w) (at brief.shape.copies w.id)) (slice_get brief.shape.works taken)
+abbrev pub work_due : ReplayState → ℕ → Option (Work ℕ)
+work_due replay_state taken =
+    option_and_then (λ w. option_map (replay_state_given replay_state.shape.job w) (at replay_state.shape.copies w.id)) (slice_get replay_state.shape.works taken)
 
 -- what a Take is answered when it is the job's turn
-abbrev pub take_due : Brief → ℕ → Reply ℕ
-take_due brief taken = option_map_or reply.Work (work_due brief taken) reply.NoWork
+abbrev pub take_due : ReplayState → ℕ → Reply ℕ
+take_due replay_state taken = option_map_or reply.Work (work_due replay_state taken) reply.NoWork
 
 abbrev pub is_take : EventName → Bool
 is_take name.Take = true
 is_take _ = false
 
 -- after this store, with so many of its works taken: a Take's entry is no input, and gives the work that is due; no other gives one
-abbrev pub IsWorkDue : Brief → ℕ → Line → Type 0
-IsWorkDue brief taken (line.Entry entry) =
-    (is_take entry.event ≡ true → (entry.input ≡ None) × (entry.reply ≡ take_due brief taken)) × (is_take entry.event ≡ false → gives_work entry.reply ≡ false)
-IsWorkDue brief taken (line.Note number x) = Unit {0}
+abbrev pub IsWorkDue : ReplayState → ℕ → Line → Type 0
+IsWorkDue replay_state taken (line.Entry entry) =
+    (is_take entry.event ≡ true → (entry.input ≡ None) × (entry.reply ≡ take_due replay_state taken)) × (is_take entry.event ≡ false → gives_work entry.reply ≡ false)
+IsWorkDue replay_state taken (line.Note number x) = Unit {0}
 
 -- so is each line, where it stands
-abbrev pub AreWorksDue : Brief → ℕ → List Line → Type 0
-AreWorksDue brief taken [] = Unit {0}
-AreWorksDue brief taken (l ∷ ls) = IsWorkDue brief taken l × AreWorksDue (replayed brief (option_to_list (journal_line_of l))) (taken_after taken l) ls
+abbrev pub AreWorksDue : ReplayState → ℕ → List Line → Type 0
+AreWorksDue replay_state taken [] = Unit {0}
+AreWorksDue replay_state taken (l ∷ ls) = IsWorkDue replay_state taken l × AreWorksDue (replayed replay_state (option_to_list (journal_line_of l))) (taken_after taken l) ls
 
 abbrev pub GivesDue : Journal → Type 0
 GivesDue journal = AreWorksDue journal.base.store journal.base.taken journal.list
 
 -- each line has the answer that the replay gives there
-abbrev pub AreDue : Brief → List Replayed → Type 0
-AreDue brief ls = map (λ (l : Replayed). l.reply) ls ≡ map unlisted (answers_due brief (map (λ (l : Replayed). l.input) ls))
+abbrev pub AreDue : ReplayState → List Replayed → Type 0
+AreDue replay_state ls = map (λ (l : Replayed). l.reply) ls ≡ map unlisted (answers_due replay_state (map (λ (l : Replayed). l.input) ls))
 
 -- what a job's journal tells of its view
-pub record IsTold (view : View) (journal : Journal) : Type 0 where
+pub record IsJournalOf (view : View) (journal : Journal) : Type 0 where
   pub kept : IsViewKept view
   -- the replay of its lines on its base gives it, without its contents, and their answers
-  pub replays : store_of journal ≡ brief_of view
+  pub replays : store_of journal ≡ replay_state_of view
   pub due : AreDue journal.base.store (lines_of journal.list)
 
 -- the node shows views of which the journals tell, those of every job number
 pub record Tells (node : Hosted) (journals : ℕ → Journal) : Type 0 where
   pub views : ℕ → View
   pub shown : ShowsAll node views
-  pub told : (job : ℕ) → IsTold (views job) (journals job)
+  pub response : (job : ℕ) → IsJournalOf (views job) (journals job)
   -- of each job's works, in the order asked, those that were taken are as many as its journal tells, and the first
   pub taken : (job : ℕ) → taken_of (journals job) ≡ works_taken_by node.works (record { 0 = job })
   pub first : taken_come_first node.works.works ≡ true
@@ -248,7 +248,7 @@ folded_if full journal = if full then folded journal else journal
 abbrev pub with_lines : Journal → List Line → Journal
 with_lines journal ls = record journal { list = journal.list ++ ls }
 
--- the lines of a job that a step makes at most: the entry, if the step is of this job, and a note for each hand that it tells
+-- the lines of a job that a step makes at most: the entry, if the step is of this job, and a note for each grant that it tells
 -- the job of
 abbrev pub lines_due : ℕ → List JobNo → ℕ → ℕ
 lines_due own grantees job = count_by (λ grantee. grantee.0 == job) grantees + (if own == job then 1 else 0)
@@ -257,14 +257,14 @@ lines_due own grantees job = count_by (λ grantee. grantee.0 == job) grantees + 
 abbrev pub list_is_full : ℕ → List JobNo → ℕ → ℕ → Bool
 list_is_full own grantees job lines = nat_lt most_lines (lines + lines_due own grantees job)
 
--- the jobs that it tells of hands if it is accepted, one for each note: a message tells nobody
-abbrev pub grantees_at : List Hand → NodeEvent → List JobNo
-grantees_at hands (Own e) = grantees_of hands e
-grantees_at hands (Arrive job a) = []
+-- the jobs that it tells of grants if it is accepted, one for each note: a message tells nobody
+abbrev pub grantees_at : List StandingGrant → NodeEvent → List JobNo
+grantees_at grants (Own e) = grantees_of grants e
+grantees_at grants (Arrive job a) = []
 
 -- whether the job's list is folded before the event is taken: it might have no room for what the event makes
 abbrev pub is_folded_by : Hosted → NodeEvent → ℕ → List Line → Bool
-is_folded_by node e job ls = list_is_full (job_at node.works.works e) (grantees_at node.hands e) job (length ls)
+is_folded_by node e job ls = list_is_full (job_at node.works.works e) (grantees_at node.grants e) job (length ls)
 
 -- a job's journal after a step of this number that the node took: folded first if there might be no room, with its lines
 abbrev pub journal_after : Hosted → ℕ → NodeEvent → Option Judged → NodeGiven → ℕ → Journal → Journal
@@ -306,13 +306,13 @@ IsSwept live before after = (after ≡ before) ⊎ ((live ≡ false) × (after �
 abbrev pub is_live_in : Hosted → ℕ → Bool
 is_live_in node job = is_some (live_at node.admissions (record { 0 = job }))
 
--- whether the base has a hand to the job that stood
-abbrev pub has_hands : Base → Bool
-has_hands base = nat_lt 0 (length base.store.shape.received)
+-- whether the base has a grant to the job that stood
+abbrev pub has_grants : Base → Bool
+has_grants base = nat_lt 0 (length base.store.shape.received)
 
--- whether the job had not begun, no hand to it stood and no work of it was taken
+-- whether the job had not begun, no grant to it stood and no work of it was taken
 abbrev pub is_blank : Base → Bool
-is_blank base = base.taken == 0 && (not (has_begun base.store.shape.life) && not (has_hands base))
+is_blank base = base.taken == 0 && (not (has_begun base.store.shape.life) && not (has_grants base))
 
 -- whether no step was of the job, as far as a journal of one that isn't live tells
 abbrev pub seems_fresh : Journal → Bool
@@ -326,7 +326,7 @@ is_begin _ = false
 
 -- whether the line is of the job's admission
 abbrev pub begins : Line → Bool
-begins l = option_map_or (λ (told : Replayed). is_begin told.input && is_ok told.reply) (journal_line_of l) false
+begins l = option_map_or (λ (response : Replayed). is_begin response.input && is_ok response.reply) (journal_line_of l) false
 
 -- ---- receipts
 

@@ -7,7 +7,7 @@ use Rattle.obj_id.specs.declared.ids.JobNo.{JobNo}
 use Rattle.private_store.specs.rules.Jobs.{same_job}
 use Rattle.node_journal.specs.declared.entries.Line.{Line}
 use Rattle.node_journal.specs.declared.folding.Base.{Base}
-use Rattle.node_journal.specs.Journals.{Journal, fresh, base_after, has_hands}
+use Rattle.node_journal.specs.Journals.{Journal, fresh, base_after, has_grants}
 
 -- what a contract sees of one job's journal
 pub record JobLog : Type 0 where
@@ -26,9 +26,9 @@ list_of logs job = (journal_of logs job).list
 abbrev pub spare_of : List (JobNo × JobLog) → ℕ → ℕ
 spare_of logs job = option_map_or (λ log. log.spare) (lookup (same_job (record { 0 = job })) logs) 0
 
--- whether the journal says something: it has a line, or one that was folded, or a hand in its base
+-- whether the journal says something: it has a line, or one that was folded, or a grant in its base
 abbrev pub was_kept : Journal → Bool
-was_kept journal = (nat_lt 0 journal.covered || nat_lt 0 (length journal.list)) || has_hands journal.base
+was_kept journal = (nat_lt 0 journal.covered || nat_lt 0 (length journal.list)) || has_grants journal.base
 
 -- the jobs whose journals do
 abbrev pub jobs_kept : List (JobNo × JobLog) → List JobNo

@@ -31,16 +31,16 @@ abbrev pub post_of : {L : Type 0} → Posted L → Post
 post_of posted = (posted.to, posted.message)
 
 -- a mail gives its next message, as its sender's, or none is left
-pub record DeliversPost {L : Type 0} (old : Mail L) (told : Option (Posted L)) (new : Mail L) : Type 0 where
-  pub posts : posts_left old ≡ option_to_list (option_map post_of told) ++ posts_left new
-  pub sender : IfSome told (λ p. (p.job ≡ old.job) × (p.from ≡ place.Node old.node) × (p.entry ≡ old.entry))
+pub record DeliversPost {L : Type 0} (old : Mail L) (response : Option (Posted L)) (new : Mail L) : Type 0 where
+  pub posts : posts_left old ≡ option_to_list (option_map post_of response) ++ posts_left new
+  pub sender : IfSome response (λ p. (p.job ≡ old.job) × (p.from ≡ place.Node old.node) × (p.entry ≡ old.entry))
   pub same : (new.job ≡ old.job) × (new.node ≡ old.node) × (new.entry ≡ old.entry)
 
 -- what a message tells the directory
-abbrev pub directory_told_by : Message → Option DirectoryMessage
-directory_told_by (message.ToDirectory m) = Some m
-directory_told_by (message.Located id number entries) = None
-directory_told_by (message.ToPeer m) = None
+abbrev pub directory_message_in : Message → Option DirectoryMessage
+directory_message_in (message.ToDirectory m) = Some m
+directory_message_in (message.Located id number entries) = None
+directory_message_in (message.ToPeer m) = None
 
 -- a message that isn't for the node of this number
 abbrev pub IsAstray : {L : Type 0} → ℕ → Posted L → Type 0

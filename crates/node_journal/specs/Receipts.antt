@@ -1,7 +1,7 @@
 -- What a receipt is worth: the journal has an entry like its own, whose answer is the one that is due.
 use Rattle.std.specs.Prelude.{◌≡◌, true, List, ◌∷◌, ◌++◌, map, Some}
 use Rattle.private_store.specs.declared.inputs.Judged.{Judged}
-use Rattle.private_store.specs.rules.Replay.{Line as Replayed, brief_step, replayed}
+use Rattle.private_store.specs.rules.Replay.{Line as Replayed, replay_step, replayed}
 use Rattle.node_journal.specs.declared.entries.Entry.{Entry}
 use Rattle.node_journal.specs.declared.entries.Line.{Line}
 use Rattle.node_journal.specs.declared.entries.Line.TheVariants as line
@@ -17,7 +17,7 @@ pub record IsDueIn (journal : Journal) (entry : Entry) : Type 0 where
   pub after : List Line
   pub stands : journal.list ≡ before ++ line.Entry own ∷ after
   pub same : same_entry entry (line.Entry own) ≡ true
-  pub due : (x : Judged) → own.input ≡ Some x → own.reply ≡ unlisted (brief_step (replayed journal.base.store (lines_of before)) x).reply
+  pub due : (x : Judged) → own.input ≡ Some x → own.reply ≡ unlisted (replay_step (replayed journal.base.store (lines_of before)) x).reply
   pub given : is_take own.event ≡ true → own.reply ≡ take_due (replayed journal.base.store (lines_of before)) (taken_from journal.base.taken before)
 
 -- what came before the entry, as inputs of its job

@@ -7,8 +7,8 @@ ghost use Rattle.node_journal.specs.Replies.{kept_reply};
 
 use bytes::Bytes;
 use node_core::{Node, NodeOutcome};
-use obj_id::{Arrival, Items, JobNo, ObjectId, PeerMessage, Quota, Reply};
-use private_store::{Event, Judged, brief_work};
+use obj_id::{Arrival, ItemList, JobNo, ObjectId, PeerMessage, Quota, Reply};
+use private_store::{Event, Judged, work_without_payload};
 use std::alloc::Global;
 use std::marker::PhantomData;
 use std::sync::ledger::Ledger;
@@ -66,7 +66,7 @@ pub struct Entry {
 pub enum Line {
     /// A step that was an event of the job.
     Entry(Entry),
-    /// What the step with this entry's number was to the job as the grantee of a hand, without contents. It is always answered
+    /// What the step with this entry's number was to the job as the grantee of a grant, without contents. It is always answered
     /// Ok, and a job's own step may be followed by notes of its own.
     Note(u64, Judged),
 }
@@ -208,9 +208,9 @@ fn kept_reply_of(alloc: Global, reply: &Reply<Bytes>) -> Reply<u64>
         Reply::Placed(offset, extent) => Reply::Placed(*offset, *extent),
         Reply::Got(length) => Reply::Got(*length),
         Reply::Bytes(bytes) => Reply::Bytes(bytes.len() as u64),
-        Reply::List(_, _) => Reply::List(Items::new(alloc), Items::new(alloc)),
+        Reply::List(_, _) => Reply::List(ItemList::new(alloc), ItemList::new(alloc)),
         Reply::Usage(usage) => Reply::Usage(*usage),
-        Reply::Work(work) => Reply::Work(brief_work(work)),
+        Reply::Work(work) => Reply::Work(work_without_payload(work)),
         Reply::NoWork => Reply::NoWork,
         Reply::Refused(refusal) => Reply::Refused(*refusal),
     }

@@ -1,6 +1,6 @@
 //! Which lists a step folds, and the bases that they are folded into.
 ghost use Rattle.std.specs.Prelude.{◌≡◌, ℕ, ◌+◌, ◌<◌, ◌≤◌, ◌==◌, ◌&&◌, ◌||◌, length, IfOk, OnOk};
-ghost use Rattle.node_journal.specs.Journals.{Tells, most_lines, list_is_full as has_no_room_lem, lines_due as lines_due_lem, base_after, has_hands as has_hands_lem, is_blank as is_blank_lem};
+ghost use Rattle.node_journal.specs.Journals.{Tells, most_lines, list_is_full as has_no_room_lem, lines_due as lines_due_lem, base_after, has_grants as has_grants_lem, is_blank as is_blank_lem};
 ghost use Rattle.node_journal.specs.Logs.{journal_of, list_of, AreBases, has_base as has_base_lem};
 
 use crate::logs::Logs;
@@ -23,18 +23,18 @@ pub(crate) struct Base {
 }
 
 impl Base {
-    /// Whether it has a hand to the job that stood.
-    pub(crate) fn has_hands(&self) -> bool
-        ensures { result ≡ has_hands_lem self.now }
+    /// Whether it has a grant to the job that stood.
+    pub(crate) fn has_grants(&self) -> bool
+        ensures { result ≡ has_grants_lem self.now }
     {
         !self.store.received.is_empty()
     }
 
-    /// Whether the job had not begun, no hand to it stood and no work of it was taken.
+    /// Whether the job had not begun, no grant to it stood and no work of it was taken.
     pub(crate) fn is_blank(&self) -> bool
         ensures { result ≡ is_blank_lem self.now }
     {
-        self.taken == 0 && !self.store.has_begun() && !self.has_hands()
+        self.taken == 0 && !self.store.has_begun() && !self.has_grants()
     }
 }
 
@@ -54,7 +54,7 @@ pub(crate) fn base_of(
     })
 }
 
-/// The bases of those lists that might have no room for what a step makes of this job that tells these grantees of hands, one
+/// The bases of those lists that might have no room for what a step makes of this job that tells these grantees of their grants, one
 /// for each.
 pub(crate) fn bases_of(
     alloc: Global,
@@ -63,7 +63,7 @@ pub(crate) fn bases_of(
     own: JobNo,
     grantees: &[JobNo],
 ) -> Result<Vec<(JobNo, Base)>, AllocError>
-    requires told { ∥ Tells node.now (journal_of logs.now) ∥₁ }
+    requires response { ∥ Tells node.now (journal_of logs.now) ∥₁ }
     requires few { (job : ℕ) → length (list_of logs.now job) ≤ most_lines }
     requires some { length grantees.now < most_lines }
     ensures stores { IfOk result (λ bases. AreBases bases.items (journal_of logs.now)) }
@@ -87,7 +87,7 @@ fn add_base(
     job: JobNo,
     bases: &mut Vec<(JobNo, Base)>,
 ) -> Result<(), AllocError>
-    requires told { ∥ Tells node.now (journal_of logs.now) ∥₁ }
+    requires response { ∥ Tells node.now (journal_of logs.now) ∥₁ }
     requires few { (job : ℕ) → length (list_of logs.now job) ≤ most_lines }
     requires some { length grantees.now < most_lines }
     requires stores { AreBases bases.old.items (journal_of logs.now) }

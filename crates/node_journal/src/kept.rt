@@ -32,7 +32,7 @@ use crate::sweeping::sweep_job;
 use bytes::Bytes;
 use hashed_bytes::Hashed;
 use node_core::{JobRow, Node, NodeOutcome, Prepared};
-use obj_id::{Arrival, Endpoint, Items, JobKey, JobNo, ObjectId, Refusal};
+use obj_id::{Arrival, Endpoint, ItemList, JobKey, JobNo, ObjectId, Refusal};
 use private_store::Event;
 use std::alloc::{AllocError, Global};
 use std::marker::PhantomData;
@@ -66,7 +66,7 @@ pub struct Kept<L: Ledger> {
     pub ghost named: { node.number ≡ number },
     pub ghost numbered: { (job : ℕ) → AreEntriesNumbered count (journal_of logs job) },
     pub ghost few: { (job : ℕ) → length (list_of logs job) ≤ most_lines },
-    pub ghost told: { ∥ Tells node (journal_of logs) ∥₁ },
+    pub ghost response: { ∥ Tells node (journal_of logs) ∥₁ },
 }
 
 impl<L: Ledger> Kept<L> {
@@ -90,12 +90,12 @@ impl<L: Ledger> Kept<L> {
     }
 
     /// Steps the node by one event, and adds one entry, which the receipt names, and after it a note to each job that the
-    /// step told of a hand. The entry stands under the event's job, and a Take's under the job whose work it gives. A list that
+    /// step told of a grant. The entry stands under the event's job, and a Take's under the job whose work it gives. A list that
     /// might become longer than 65,536 lines by that is folded first: its base is then the replay of its old base and lines, and
     /// it has the new lines alone.
     ///
     /// The error is out of memory: for the event, its entry or a fold, or since 1,152,921,504,606,846,975 entries were made or
-    /// the event tells 65,536 hands or more. Then nothing has changed.
+    /// the event tells of 65,536 grants or more. Then nothing has changed.
     pub fn step(&mut self, event: &Event) -> Result<Made<L>, AllocError>
         ensures node { IfOk result (λ r. NodeStep self.old.node (node_event.Own event.now) (node_given_of r.outcome) self.new.node) }
         ensures journal { IfOk result (λ r. (job : ℕ) → journal_of self.new.logs job
@@ -134,7 +134,7 @@ impl<L: Ledger> Kept<L> {
     }
 
     /// A message that was posted to this node arrives, by `Node::arrive`, and adds one entry to its job's list, which the receipt
-    /// names. It tells nobody of a hand, so there is no note. The list is folded first if it has 65,536 lines: its base is then
+    /// names. It tells nobody of a grant, so there is no note. The list is folded first if it has 65,536 lines: its base is then
     /// the replay of its old base and lines, and it has the new entry alone.
     ///
     /// `Stale` if it was posted to another place, or isn't made for a node; and `NoMemory` if the message, its entry or a fold
@@ -235,7 +235,7 @@ impl<L: Ledger> Kept<L> {
 
     /// Folds the job's lines into its base: the new base is the replay of the old one and its lines, covers the number of the
     /// last of them, and no line is left. The memory of the lines is given back, and all else stays. Takes a walk over the lines
-    /// and over the job's copies, works and hands. The error is out of memory, and then nothing has changed.
+    /// and over the job's copies, works and grants. The error is out of memory, and then nothing has changed.
     pub fn checkpoint(&mut self, job: JobNo) -> Result<(), AllocError>
         ensures journal { OnOk result ((other : ℕ) → journal_of self.new.logs other ≡ folded_if (job.0 == other) (journal_of self.old.logs other)) }
         ensures same { (self.new.node ≡ self.old.node) × (self.new.count ≡ self.old.count) × (self.new.number ≡ self.old.number) }
@@ -463,9 +463,9 @@ impl<L: Ledger> Kept<L> {
         }
     }
 
-    /// The job numbers whose journal has a line, or one that was folded, or a hand in its base, each once and rising: 0 among them,
+    /// The job numbers whose journal has a line, or one that was folded, or a grant in its base, each once and rising: 0 among them,
     /// if there was an entry of no job. Takes a walk over them, a sort, and memory for each. The error is out of memory.
-    pub fn jobs(&self) -> Result<Items<JobNo>, AllocError>
+    pub fn jobs(&self) -> Result<ItemList<JobNo>, AllocError>
         ensures kept { IfOk result (λ jobs. (job : ℕ) → list_any (λ own. own.0 == job) jobs ≡ was_kept (journal_of self.now.logs job)) }
         ensures once { IfOk result (λ jobs. IsDistinct same_job jobs) }
         ensures rising { IfOk result (λ jobs. IsNonDecreasingBy (λ (job : JobNo). job.0) jobs) }
@@ -510,7 +510,7 @@ fn has_entry(lines: &[Line], entry: &Entry) -> bool
 }
 
 /// Steps the node, and writes the entry of this number, under the job that the event is of or whose work a Take gives, and what the
-/// step told the grantees of hands; lists that might have no room are folded before. An error changes neither.
+/// step told the grantees; lists that might have no room are folded before. An error changes neither.
 fn record(
     alloc: Global,
     node: &mut Node,
@@ -520,7 +520,7 @@ fn record(
     event: &Event,
 ) -> Result<NodeOutcome, AllocError>
     requires job { job.0 ≡ job_at node.old.works.works (node_event.Own event.now) }
-    requires told { ∥ Tells node.old (journal_of logs.old) ∥₁ }
+    requires response { ∥ Tells node.old (journal_of logs.old) ∥₁ }
     requires few { (job : ℕ) → length (list_of logs.old job) ≤ most_lines }
     ensures node { IfOk result (λ o. NodeStep node.old (node_event.Own event.now) (node_given_of o) node.new) }
     ensures judged { IfOk result (λ o. IsJudged node.old event.now o.reply o.judged) }
@@ -557,7 +557,7 @@ fn record_arrival(
     job: JobNo,
     arrival: &Arrival,
 ) -> Result<NodeOutcome, AllocError>
-    requires told { ∥ Tells node.old (journal_of logs.old) ∥₁ }
+    requires response { ∥ Tells node.old (journal_of logs.old) ∥₁ }
     requires few { (other : ℕ) → length (list_of logs.old other) ≤ most_lines }
     ensures node { IfOk result (λ o. NodeStep node.old (node_event.Arrive job arrival.now) (node_given_of o) node.new) }
     ensures judged { IfOk result (λ o. IsArrivalJudged node.old job arrival.now o.reply o.judged) }

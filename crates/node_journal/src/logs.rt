@@ -15,7 +15,7 @@ use crate::entries::Line;
 use crate::folding::{Base, MOST_LINES};
 use indexmap::IndexMap;
 use node_core::Note;
-use obj_id::{Items, JobNo};
+use obj_id::{ItemList, JobNo};
 use plain_store::PlainStore;
 use std::alloc::{AllocError, Global};
 use std::marker::Model;
@@ -122,11 +122,11 @@ impl Log {
         self.base.store.has_begun() || any_begins(&self.lines)
     }
 
-    /// Whether it says something: it has a line, or one that was folded, or a hand in its base.
+    /// Whether it says something: it has a line, or one that was folded, or a grant in its base.
     fn was_kept(&self) -> bool
         ensures { result ≡ was_kept_lem self.now.journal }
     {
-        self.covered > 0 || !self.lines.is_empty() || self.base.has_hands()
+        self.covered > 0 || !self.lines.is_empty() || self.base.has_grants()
     }
 
     fn covered(&self) -> u64
@@ -233,7 +233,7 @@ impl Logs {
         log.add(line);
     }
 
-    /// Adds what the step of this number told the grantees of hands. There is room for it: this takes no memory.
+    /// Adds what the step of this number told the grantees. There is room for it: this takes no memory.
     pub fn add_notes(&mut self, number: u64, notes: &[Note])
         requires { (grantee : JobNo) → list_any (λ note. same_job grantee note.job) notes.now ≡ true → length notes.now ≤ spare_of self.old grantee.0 }
         ensures { (other : ℕ) → journal_of self.new other ≡ with_lines (journal_of self.old other) (notes_for number (inputs_noted notes.now) other) }
@@ -332,14 +332,14 @@ impl Logs {
     }
 
     /// The jobs whose journal says something, each once and by rising number. Takes a walk over all jobs, a sort, and memory for each.
-    pub fn jobs(&self) -> Result<Items<JobNo>, AllocError>
+    pub fn jobs(&self) -> Result<ItemList<JobNo>, AllocError>
         ensures kept { IfOk result (λ jobs. (job : ℕ) → list_any (λ own. own.0 == job) jobs ≡ was_kept_lem (journal_of self.now job)) }
         ensures once { IfOk result (λ jobs. IsDistinct same_job jobs) }
         ensures rising { IfOk result (λ jobs. IsNonDecreasingBy (λ (job : JobNo). job.0) jobs) }
     {
         let mut jobs = jobs_of(self.alloc, &self.logs)?;
         sort_jobs(&mut jobs)?;
-        Ok(Items::from_vec(jobs))
+        Ok(ItemList::from_vec(jobs))
     }
 
     /// The number of the step that the job's last folded line is of, notes that were settled aside, or 0.

@@ -3,7 +3,7 @@ ghost use Rattle.std.specs.Prelude.{◌≡◌, IfOk, IfSome, OnErr, option_map};
 ghost use Rattle.std.specs.Option.{option_to_list};
 ghost use Rattle.obj_id.specs.declared.messages.Endpoint.TheVariants as place;
 ghost use Rattle.private_store.specs.rules.Cluster.{arrival_of};
-ghost use Rattle.node_journal.specs.Posts.{posts_left, post_of, directory_told_by, PassesOn};
+ghost use Rattle.node_journal.specs.Posts.{posts_left, post_of, directory_message_in, PassesOn};
 
 use crate::entries::Receipt;
 use bytes::Bytes;
@@ -155,7 +155,7 @@ impl<L: Ledger> Posted<L> {
     ///
     /// The error is out of memory, and then the directory is as it was.
     pub fn through(self, directory: &mut Directory) -> Result<Option<Posted<L>>, AllocError>
-        ensures passes { IfOk result (λ answer. PassesOn directory.old directory.new self.job (directory_told_by self.message) (option_to_list (option_map post_of answer))) }
+        ensures passes { IfOk result (λ answer. PassesOn directory.old directory.new self.job (directory_message_in self.message) (option_to_list (option_map post_of answer))) }
         ensures sender { IfOk result (λ answer. IfSome answer (λ p. (p.job ≡ self.job) × (p.from ≡ place.Directory) × (p.entry ≡ self.entry))) }
         ensures err { OnErr result (directory.new ≡ directory.old) }
     {
@@ -166,10 +166,10 @@ impl<L: Ledger> Posted<L> {
             name,
             ..
         } = self;
-        let Message::ToDirectory(told) = message else {
+        let Message::ToDirectory(response) = message else {
             return Ok(None);
         };
-        match directory.apply(job, told)? {
+        match directory.apply(job, response)? {
             DirectoryReply::Nothing => Ok(None),
             DirectoryReply::Located {
                 to,
@@ -211,7 +211,9 @@ pub(crate) fn arrival(from: Endpoint, message: Message) -> Option<Arrival>
                 entries,
             })
         }
-        (Endpoint::Node(node), Message::ToPeer(told)) => Some(Arrival::FromPeer(node, told)),
+        (Endpoint::Node(node), Message::ToPeer(response)) => Some(Arrival::FromPeer(
+            node, response,
+        )),
         _ => None,
     }
 }

@@ -1,2 +1,2 @@
-mod Briefs
+mod ReplayStates
 mod Gathered

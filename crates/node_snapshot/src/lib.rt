@@ -4,15 +4,15 @@
 ghost use Rattle.std.specs.Prelude.{◌≡◌, IfOk, [], if◌then◌else◌};
 ghost use Rattle.private_store.specs.rules.Shape.{not_begun, ended, unbegun};
 ghost use Rattle.private_store.specs.rules.Contents.{View};
-ghost use Rattle.private_store.specs.rules.Replay.{brief_of};
+ghost use Rattle.private_store.specs.rules.Replay.{replay_state_of};
 ghost use Rattle.plain_store.specs.Parts.{has_begun};
 ghost use Rattle.node_core.specs.Hosted.{Shows};
 
 mod copies;
-mod hands;
+mod job_grants;
 mod row;
 
-use hands::{plain_given, received};
+use job_grants::{plain_given, received};
 use node_core::Node;
 use obj_id::{JobNo, ObjectId};
 use plain_store::{Life, PlainStore, SeenObject};
@@ -23,26 +23,26 @@ use std::collections::BTreeMap;
 /// The job's store at this node without contents. Of a job that isn't live the node doesn't know whether it ever was,
 /// which `begun` tells.
 ///
-/// Takes a walk over the job's copies, works and hands, and memory for each. Changes nothing; the error is out of memory.
+/// Takes a walk over the job's copies, works and grants, and memory for each. Changes nothing; the error is out of memory.
 pub fn snapshot(
     alloc: Global,
     node: &Node,
     job: JobNo,
     begun: bool,
 ) -> Result<PlainStore, AllocError>
-    ensures { IfOk result (λ plain. (view : View) → Shows node.now job.0 view → has_begun view.shape.life ≡ begun → plain ≡ brief_of view) }
+    ensures { IfOk result (λ plain. (view : View) → Shows node.now job.0 view → has_begun view.shape.life ≡ begun → plain ≡ replay_state_of view) }
 {
     let received = received(alloc, node, job)?;
     let Some(row) = node.row(job) else {
-        return Ok(bare(alloc, job, begun, received));
+        return Ok(without_row(alloc, job, begun, received));
     };
-    let given = node.hands().given_by(job)?;
+    let given = node.grants().given_by(job)?;
     let given = plain_given(alloc, given.as_slice())?;
     plain_row(alloc, row, node.works(), given, received)
 }
 
 /// The store of a job that isn't live, with nothing but what others granted.
-fn bare(
+fn without_row(
     alloc: Global,
     job: JobNo,
     begun: bool,

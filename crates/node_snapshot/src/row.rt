@@ -1,31 +1,31 @@
 //! The store without contents that a row is.
 ghost use Rattle.std.specs.Prelude.{◌≡◌, ℕ, List, IfOk};
 ghost use Rattle.obj_id.specs.declared.ids.ObjectId.{ObjectId};
-ghost use Rattle.private_store.specs.rules.Hands.{Hand as StandingHand};
+ghost use Rattle.private_store.specs.rules.Grants.{StandingGrant as GrantView};
 ghost use Rattle.spill_work.specs.Line.{works_of};
 ghost use Rattle.node_table.specs.Row.{beside_of, shape_of, row_given_by, received_by};
 
 use crate::copies::plain_copies;
 use lru_evictor::Order;
 use node_table::JobRow;
-use obj_id::{Items, JobNo, ObjectId, WorkKind};
-use plain_store::{GivenHand, Life, PlainStore, PlainWork, SeenObject};
+use obj_id::{ItemList, JobNo, ObjectId, WorkKind};
+use plain_store::{GivenGrant, Life, PlainStore, PlainWork, SeenObject};
 use spill_work::Works;
 use std::alloc::{AllocError, Global};
 use std::collections::BTreeMap;
 
-/// The row's store without contents, beside its works, the hands that it gave and what others granted to it. Takes a
+/// The row's store without contents, beside its works, the grants that it gave and what others granted to it. Takes a
 /// walk over its copies and works, a sort of the copies, and memory for each. The error is out of memory.
 pub(crate) fn plain_row(
     alloc: Global,
     row: &JobRow,
     works: &Works,
-    given: Items<GivenHand>,
+    given: ItemList<GivenGrant>,
     received: BTreeMap<ObjectId, SeenObject>,
 ) -> Result<PlainStore, AllocError>
-    ensures { IfOk result (λ plain. (hands : List StandingHand) (bytes : ObjectId → List ℕ)
-        → given ≡ row_given_by hands row.now.job → received.entries ≡ received_by bytes hands row.now.job
-        → plain ≡ record { shape = shape_of row.now (beside_of works.now hands bytes row.now.job); order = row.now.order }) }
+    ensures { IfOk result (λ plain. (grants : List GrantView) (bytes : ObjectId → List ℕ)
+        → given ≡ row_given_by grants row.now.job → received.entries ≡ received_by bytes grants row.now.job
+        → plain ≡ record { shape = shape_of row.now (beside_of works.now grants bytes row.now.job); order = row.now.order }) }
 {
     let job = row.job();
     let copies = plain_copies(alloc, row.copies())?;

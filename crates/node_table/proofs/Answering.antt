@@ -34,8 +34,8 @@ use Rattle.private_store.specs.rules.Events.{work_of, without_work, read_back}
 use Rattle.private_store.specs.rules.Events as events
 use Rattle.private_store.specs.rules.Contents.{Contents, View, judge, digest_at, keeps_digest, no_digest, has_digest, overwritten, bytes_brought, brought, write_verdict, work_verdict, is_read_back}
 use Rattle.private_store.specs.rules.Contents as contents_of
-use Rattle.private_store.specs.rules.Hands.{Hand}
-use Rattle.private_store.specs.laws.Invariants.{IsCopyKept, has_extent, has_hand, is_restoring}
+use Rattle.private_store.specs.rules.Grants.{StandingGrant}
+use Rattle.private_store.specs.laws.Invariants.{IsCopyKept, has_extent, has_grant, is_restoring}
 use Rattle.private_store.specs.rules.Private.{key_of}
 use Rattle.private_store.specs.rules.Step.{step}
 use Rattle.store_facts.proofs.Filling.{filled}
@@ -51,8 +51,10 @@ use Rattle.job_region.specs.Region.{without, region_bytes_at as placed_bytes}
 use Rattle.lru_evictor.specs.Orders.{AreThere}
 use Rattle.lru_evictor.proofs.ForCallers.{reordered-unused}
 use Rattle.spill_work.specs.declared.queue.IoRequest.{IoRequest}
-use Rattle.spill_work.specs.Line.{WorkLine, shown, is_write_work, used_by, Finishes}
-use Rattle.node_table.specs.Answering.{is_in_work, has_bytes, has_failed, view_read_verdict, work_verdict_of, written_row, refilled, lost_row, read_row, ended_row}
+use Rattle.spill_work.specs.Line.{WorkLine, shown, used_by, Finishes}
+use Rattle.obj_id.specs.Works.{is_write}
+use Rattle.node_table.specs.Answering.{is_in_work, has_bytes, view_read_verdict, work_verdict_of, written_row, refilled, lost_row, read_row, ended_row}
+use Rattle.object_state.specs.Laws.{has_failed}
 use Rattle.node_table.specs.Dropping.{dropped, is_over, settled_row, keys_settled}
 use Rattle.node_table.specs.Entries.{changed}
 use Rattle.node_table.specs.CopyViews.{CopyView, after_write, after_restore, after_failed_restore}
@@ -156,7 +158,7 @@ module _ (row : Row) (beside : SharedTables) (contents : Contents) (h : IsShown 
 
     pub spilling : w.writes ≡ true → is_spilling k ≡ true
     spilling writes =
-        ap (λ o. option_map_or is_write_work o false)
+        ap (λ o. option_map_or is_write o false)
         (h.working w.id k found ∙ work_found number beside.works w flying (h.kept.kept.shape.one_work w.id) ∙ ap (λ b. Some (cond b Write Read)) writes)
 
     pub restoring : w.writes ≡ false → is_restoring k.copy.state ≡ true
@@ -268,10 +270,10 @@ module _ (node : ℕ) (row : Row) (beside : SharedTables) (contents : Contents) 
               subst (λ p. P p y) (sym same) (subst (λ y. P id y) (sym (t.1 ∙ ap f z_is)) here)
           by z e (inr t) = subst (λ y. P q y) (sym t.1) (others q z t.0 e)
 
-      abbrev told : RowGiven
-      told = only reply.Ok
+      abbrev response : RowGiven
+      response = only reply.Ok
 
-      m : TakesChange node row beside contents h x (done base) told row_now after
+      m : TakesChange node row beside contents h x (done base) response row_now after
       m = record {
         shape = ap (λ t. record rest { copies = t; spill_failed = flag }) (sym copies_is);
         order = sym (reordered-unused row.order (copies_of row_now.copies) there_now);
@@ -284,7 +286,7 @@ module _ (node : ℕ) (row : Row) (beside : SharedTables) (contents : Contents) 
         working = of_each (λ q y. y.working ≡ work_on after.works q)
             (ends.free ∙ sym (none_here (work_on after.works id) (working-on after.works id ∙ no_work)))
             (λ q z other e. h.working q z e ∙ sym (work_left number beside.works w flying (live.works.one_number number) q other));
-        granted = of_each (λ q y. y.granted ≡ has_hand beside.given q) (ends.granted ∙ h.granted id k found) (λ q z other e. h.granted q z e);
+        granted = of_each (λ q y. y.granted ≡ has_grant beside.given q) (ends.granted ∙ h.granted id k found) (λ q z other e. h.granted q z e);
         received = received_stays node row beside contents h x refl;
         reply = refl;
         erased = refl;
@@ -330,12 +332,12 @@ module _ (node : ℕ) (row : Row) (beside : SharedTables) (contents : Contents) 
       by_goes false stays =
           moved node row beside contents h x (done base)
           (ends.is ∙ ap (λ t. erasing ends.looked (done t)) (settled_is ∙ ap shape_if stays) ∙ ap (λ ks. record (done base) { erased = ks }) ends.none_gone)
-          told row_now after m refl
+          response row_now after m refl
       by_goes true over =
-          moved node row beside contents h x (change_left node row beside contents h x (done base) told row_now after m refl ends.placed id keys)
+          moved node row beside contents h x (change_left node row beside contents h x (done base) response row_now after m refl ends.placed id keys)
           (ends.is ∙ ap (λ t. erasing ends.looked (done t)) (settled_is ∙ ap shape_if over) ∙ ap (λ ks. record (done (drop_copy base id)) { erased = ks }) ends.one_gone)
           (gives true) (dropped row_now id) after
-          (moves_left node row beside contents h x (done base) told row_now after m refl ends.placed id keys (gives true) refl (one_key row.job (f k).copy.backed)) refl
+          (moves_left node row beside contents h x (done base) response row_now after m refl ends.placed id keys (gives true) refl (one_key row.job (f k).copy.backed)) refl
 
       pub ended_so : RowStep node row beside contents x (record { reply = reply.Ok; posts = []; erased = keys_settled row_now id }) (settled_row row_now id) after
       ended_so =
@@ -596,10 +598,10 @@ module _ (node : ℕ) (row : Row) (beside : SharedTables) (contents : Contents) 
 
 -- ---- the work that left the line
 
-module _ (node : ℕ) (row : Row) (line after : WorkLine) (hands : List Hand) (bytes : ObjectId → List ℕ) (contents : Contents) (h : IsShown row (beside_of line hands bytes row.job) contents)
+module _ (node : ℕ) (row : Row) (line after : WorkLine) (grants : List StandingGrant) (bytes : ObjectId → List ℕ) (contents : Contents) (h : IsShown row (beside_of line grants bytes row.job) contents)
     (number : ℕ) (answer : DeviceAnswer) (asked : IoRequest) (over : Finishes line (record { 0 = row.job }) number asked after) where
   abbrev beside : SharedTables
-  beside = beside_of line hands bytes row.job
+  beside = beside_of line grants bytes row.job
 
   flying : work_of (shape_of row beside) number ≡ Some (shown asked)
   flying = over.own_work
@@ -610,7 +612,7 @@ module _ (node : ℕ) (row : Row) (line after : WorkLine) (hands : List Hand) (b
   abbrev k : CopyView
   k = has.0
 
-  after_is : record beside { works = filter (λ v. not (v.number == number)) beside.works } ≡ beside_of after hands bytes row.job
+  after_is : record beside { works = filter (λ v. not (v.number == number)) beside.works } ≡ beside_of after grants bytes row.job
   after_is =
       (λ i. record beside { works = sym over.own_works i; used = used i })
     where
@@ -618,7 +620,7 @@ module _ (node : ℕ) (row : Row) (line after : WorkLine) (hands : List Hand) (b
       used = ap (λ (l : WorkLine). used_by l (record { 0 = row.job })) (sym over.line)
 
   abbrev Finished : Row → Type 0
-  Finished r = RowStep node row beside contents (input.Answer number answer) (record { reply = reply.Ok; posts = []; erased = keys_settled r asked.id }) (settled_row r asked.id) (beside_of after hands bytes row.job)
+  Finished r = RowStep node row beside contents (input.Answer number answer) (record { reply = reply.Ok; posts = []; erased = keys_settled r asked.id }) (settled_row r asked.id) (beside_of after grants bytes row.job)
 
   abbrev place : Extent
   place = (place_at_work row beside contents h number (shown asked) flying k has.1).0
@@ -627,8 +629,8 @@ module _ (node : ℕ) (row : Row) (line after : WorkLine) (hands : List Hand) (b
   lies_there = (place_at_work row beside contents h number (shown asked) flying k has.1).1
 
   in_work : (kind : WorkKind) → asked.kind ≡ kind → is_in_work asked.kind k ≡ true
-  in_work Write is = ap (λ kind. is_in_work kind k) is ∙ spilling row beside contents h number (shown asked) flying k has.1 (ap is_write_work is)
-  in_work Read is = ap (λ kind. is_in_work kind k) is ∙ restoring row beside contents h number (shown asked) flying k has.1 (ap is_write_work is)
+  in_work Write is = ap (λ kind. is_in_work kind k) is ∙ spilling row beside contents h number (shown asked) flying k has.1 (ap is_write is)
+  in_work Read is = ap (λ kind. is_in_work kind k) is ∙ restoring row beside contents h number (shown asked) flying k has.1 (ap is_write is)
 
   module _ (placed : ArePlaced row.window.placed (place_of row.copies)) (new : Row)
       (ended : (k : CopyView) (e : Extent) → at row.copies asked.id ≡ Some k → extent_of k.copy ≡ Some e → is_in_work asked.kind k ≡ true → new ≡ ended_row asked e k answer row) where
@@ -641,10 +643,10 @@ module _ (node : ℕ) (row : Row) (line after : WorkLine) (hands : List Hand) (b
     by_kind : (kind : WorkKind) → asked.kind ≡ kind → Finished (ended_row (record asked { kind = kind }) place k answer row)
     by_kind Write is =
         subst (λ b. Ended b (written_row asked.number (has_failed (write_verdict answer)) row asked.id)) after_is
-        (write_done node row beside contents h number answer (shown asked) flying k has.1 (ap is_write_work is) placed)
+        (write_done node row beside contents h number answer (shown asked) flying k has.1 (ap is_write is) placed)
     by_kind Read is =
         subst (λ b. Ended b (read_row place k answer row asked.id)) after_is
-        (read_done node row beside contents h number answer (shown asked) flying k has.1 (ap is_write_work is) placed)
+        (read_done node row beside contents h number answer (shown asked) flying k has.1 (ap is_write is) placed)
 
     pub finish_done : Finished new
     finish_done = subst Finished (sym new_is) (by_kind asked.kind refl)
@@ -654,5 +656,5 @@ module _ (node : ℕ) (row : Row) (line after : WorkLine) (hands : List Hand) (b
   finish_judged v judged = judged k has.1 (in_work asked.kind refl) ∙ by asked.kind refl
     where
       by : (kind : WorkKind) → asked.kind ≡ kind → work_verdict_of kind k answer ≡ work_verdict (seen row beside contents) number answer
-      by Write is = sym (write_judged node row beside contents h number answer (shown asked) flying k has.1 (ap is_write_work is))
-      by Read is = sym (read_judged node row beside contents h number answer (shown asked) flying k has.1 (ap is_write_work is))
+      by Write is = sym (write_judged node row beside contents h number answer (shown asked) flying k has.1 (ap is_write is))
+      by Read is = sym (read_judged node row beside contents h number answer (shown asked) flying k has.1 (ap is_write is))

@@ -28,7 +28,7 @@ use Rattle.private_store.specs.rules.Events.{is_live, fetch_of, located_copy}
 use Rattle.private_store.specs.rules.Events as events
 use Rattle.private_store.specs.rules.Contents.{Contents, View, judge, source_in, entry_elsewhere, is_locating, is_sized, keeps_digest, no_digest, bytes_brought, digest_brought, brought, bytes_received}
 use Rattle.private_store.specs.rules.Private.{Post, posts_of, view_after}
-use Rattle.private_store.specs.laws.Invariants.{has_hand, is_fetching, is_pulling, has_extent}
+use Rattle.private_store.specs.laws.Invariants.{has_grant, is_fetching, is_pulling, has_extent}
 use Rattle.store_facts.proofs.Checks.{checked-false, checked-nil}
 use Rattle.store_facts.proofs.Filling.{filled}
 use Rattle.store_facts.proofs.ErasedKeys.{keys_none, all_found}
@@ -144,8 +144,8 @@ module _ (node : ℕ) (row : Row) (beside : SharedTables) (contents : Contents) 
     abbrev pub c : Change
     c = record (done (set_copy s id now.copy)) { sent = sent }
 
-    abbrev pub told : RowGiven
-    told = record { reply = reply.Ok; posts = posts; erased = [] }
+    abbrev pub response : RowGiven
+    response = record { reply = reply.Ok; posts = posts; erased = [] }
 
     -- what is so of the changed copy, and of the others, is so of each
     each_now : (P : ObjectId → CopyView → Type 0) → P id now → ((q : ObjectId) (z : CopyView) → same_id q id ≡ false → at row.copies q ≡ Some z → P q z)
@@ -164,7 +164,7 @@ module _ (node : ℕ) (row : Row) (beside : SharedTables) (contents : Contents) 
         (elsewhere : (q : ObjectId) (z : CopyView) (e : Extent) → same_id q id ≡ false → at row.copies q ≡ Some z → extent_of z.copy ≡ Some e → filled (at (bytes_now node row beside contents h x c) q) z.copy ≡ take z.copy.length (placed_bytes e placed))
         (digest : keeps_digest now.copy ≡ true → unwrap_or (at (digests_now node row beside contents h x c) id) no_digest ≡ unwrap_or now.digest no_digest)
         (digests : (q : ObjectId) → same_id q id ≡ false → at (digests_now node row beside contents h x c) q ≡ at contents.digests q) where
-      pub arrives : TakesChange node row beside contents h x c told row_now beside
+      pub arrives : TakesChange node row beside contents h x c response row_now beside
       arrives = record {
         shape = ap (λ t. record s { copies = t }) (sym (copies-changed f row.copies id k found));
         order = sym (reordered-unused row.order (copies_of row_now.copies) there_now);
@@ -176,14 +176,14 @@ module _ (node : ℕ) (row : Row) (beside : SharedTables) (contents : Contents) 
         digests = each_now (λ q y. keeps_digest y.copy ≡ true → unwrap_or (at (digests_now node row beside contents h x c) q) no_digest ≡ unwrap_or y.digest no_digest)
             digest (λ q z differs was keeps. ap (λ o. unwrap_or o no_digest) (digests q differs) ∙ h.digests q z was keeps);
         working = each_now (λ q y. y.working ≡ work_on beside.works q) (working ∙ h.working id k found) (λ q z differs was. h.working q z was);
-        granted = each_now (λ q y. y.granted ≡ has_hand beside.given q) (granted ∙ h.granted id k found) (λ q z differs was. h.granted q z was);
+        granted = each_now (λ q y. y.granted ≡ has_grant beside.given q) (granted ∙ h.granted id k found) (λ q z differs was. h.granted q z was);
         received = received_stays node row beside contents h x none;
         reply = refl;
         erased = refl;
       }
 
-      pub arrived : change node row beside contents h x ≡ c → ((o : View) → posts ≡ flat_map (posts_of node o x) sent) → RowStep node row beside contents x told row_now beside
-      arrived is posted = moved node row beside contents h x c is told row_now beside arrives (posted (view_after node (seen row beside contents) x (judge node (seen row beside contents) x) c))
+      pub arrived : change node row beside contents h x ≡ c → ((o : View) → posts ≡ flat_map (posts_of node o x) sent) → RowStep node row beside contents x response row_now beside
+      arrived is posted = moved node row beside contents h x c is response row_now beside arrives (posted (view_after node (seen row beside contents) x (judge node (seen row beside contents) x) c))
 
 -- ---- the directory's answer
 

@@ -13,7 +13,7 @@ use Rattle.obj_id.specs.Ids.{id_cmp, same_id}
 use Rattle.store_facts.proofs.Ids.{id_cmp-IsTotalOrder, id_cmp-IsAntisymmetric, same_id-equal}
 use Rattle.private_store.specs.rules.Limits.{most_works, has_numbers}
 use Rattle.private_store.specs.rules.Tables.{ById, at, with_entry, is_among}
-use Rattle.private_store.specs.rules.Hands.{Hand}
+use Rattle.private_store.specs.rules.Grants.{StandingGrant}
 use Rattle.private_store.specs.rules.Shape.{Copy, Shape, Change, WorkInFlight}
 use Rattle.private_store.specs.declared.inputs.Input.{Input}
 use Rattle.private_store.specs.rules.Copies.{extent_of, is_working, is_idle, is_spillable}
@@ -181,16 +181,16 @@ may_ask_fewer line job n few le may =
 
 -- ---- the step
 
-module _ (node : ℕ) (row : Row) (line : WorkLine) (hands : List Hand) (bytes : ObjectId → List ℕ) (contents : Contents) (h : IsShown row (beside_of line hands bytes row.job) contents)
-    (x : Input) (quiet : BringsNothing node (seen row (beside_of line hands bytes row.job) contents) x) (n : ℕ) (f : Shape → ℕ → Change)
-    (by_room : step row.order (shape_of row (beside_of line hands bytes row.job)) (judge node (seen row (beside_of line hands bytes row.job) contents) x) ≡ erasing (shape_of row (beside_of line hands bytes row.job)) (in_room (make_room row.order (shape_of row (beside_of line hands bytes row.job)) n) f))
-    (ids : List ObjectId) (asks : AsksWrites (make_room row.order (shape_of row (beside_of line hands bytes row.job)) n) (shape_of row (beside_of line hands bytes row.job)) ids)
+module _ (node : ℕ) (row : Row) (line : WorkLine) (grants : List StandingGrant) (bytes : ObjectId → List ℕ) (contents : Contents) (h : IsShown row (beside_of line grants bytes row.job) contents)
+    (x : Input) (quiet : BringsNothing node (seen row (beside_of line grants bytes row.job) contents) x) (n : ℕ) (f : Shape → ℕ → Change)
+    (by_room : step row.order (shape_of row (beside_of line grants bytes row.job)) (judge node (seen row (beside_of line grants bytes row.job) contents) x) ≡ erasing (shape_of row (beside_of line grants bytes row.job)) (in_room (make_room row.order (shape_of row (beside_of line grants bytes row.job)) n) f))
+    (ids : List ObjectId) (asks : AsksWrites (make_room row.order (shape_of row (beside_of line grants bytes row.job)) n) (shape_of row (beside_of line grants bytes row.job)) ids)
     (line_after : WorkLine) (in_line : AsksAll line (record { 0 = row.job }) Write ids line_after) where
   abbrev beside : SharedTables
-  beside = beside_of line hands bytes row.job
+  beside = beside_of line grants bytes row.job
 
   abbrev after : SharedTables
-  after = beside_of line_after hands bytes row.job
+  after = beside_of line_after grants bytes row.job
 
   abbrev s : Shape
   s = shape_of row beside
@@ -297,12 +297,12 @@ module _ (node : ℕ) (row : Row) (line : WorkLine) (hands : List Hand) (bytes :
   asked_done = moved node row beside contents h x (erasing s (refused now Pending)) change_is (only (reply.Refused Pending)) new after m refl
 
 -- whatever waited for the room
-pub asked_told : (row : Row) (line : WorkLine) (hands : List Hand) (bytes : ObjectId → List ℕ) (contents : Contents) → IsShown row (beside_of line hands bytes row.job) contents → (n : ℕ)
-    (ids : List ObjectId) → AsksWrites (make_room row.order (shape_of row (beside_of line hands bytes row.job)) n) (shape_of row (beside_of line hands bytes row.job)) ids
+pub asked_told : (row : Row) (line : WorkLine) (grants : List StandingGrant) (bytes : ObjectId → List ℕ) (contents : Contents) → IsShown row (beside_of line grants bytes row.job) contents → (n : ℕ)
+    (ids : List ObjectId) → AsksWrites (make_room row.order (shape_of row (beside_of line grants bytes row.job)) n) (shape_of row (beside_of line grants bytes row.job)) ids
     → (line_after : WorkLine) → AsksAll line (record { 0 = row.job }) Write ids line_after → (after : Row) → after ≡ record row { copies = each_changed spill_begun_if row.copies ids }
-    → TellsRoom row (beside_of line hands bytes row.job) contents n Pending after (beside_of line_after hands bytes row.job)
-asked_told row line hands bytes contents h n ids asks line_after in_line then is = record {
+    → TellsRoom row (beside_of line grants bytes row.job) contents n Pending after (beside_of line_after grants bytes row.job)
+asked_told row line grants bytes contents h n ids asks line_after in_line then is = record {
   tells = λ node x f quiet by_room.
-      subst (λ r. RowStep node row (beside_of line hands bytes row.job) contents x (only (reply.Refused Pending)) r (beside_of line_after hands bytes row.job)) (sym is)
-      (asked_done node row line hands bytes contents h x quiet n f (by_room (ap (λ (r : Room). is_ok r.offset) asks.room_is)) ids asks line_after in_line);
+      subst (λ r. RowStep node row (beside_of line grants bytes row.job) contents x (only (reply.Refused Pending)) r (beside_of line_after grants bytes row.job)) (sym is)
+      (asked_done node row line grants bytes contents h x quiet n f (by_room (ap (λ (r : Room). is_ok r.offset) asks.room_is)) ids asks line_after in_line);
 }

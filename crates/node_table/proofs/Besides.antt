@@ -7,8 +7,8 @@ use Rattle.obj_id.specs.declared.ids.ObjectId.{ObjectId}
 use Rattle.obj_id.specs.Ids.{same_id}
 use Rattle.store_facts.proofs.Ids.{same_id-itself}
 use Rattle.private_store.specs.rules.Contents.{Contents, bytes_at}
-use Rattle.private_store.specs.rules.Hands.{Hand}
-use Rattle.private_store.specs.laws.Invariants.{IsViewKept, has_hand}
+use Rattle.private_store.specs.rules.Grants.{StandingGrant}
+use Rattle.private_store.specs.laws.Invariants.{IsViewKept, has_grant}
 use Rattle.private_store.specs.rules.Shape.{Seen}
 use Rattle.private_store.specs.rules.Tables.{ById, at, with_entry}
 use Rattle.store_facts.proofs.Rows.{at-put, put_rows}
@@ -39,24 +39,24 @@ module _ (a b : SharedTables) (same : IsAlike a b) where
     bytes = h.bytes;
     digests = h.digests;
     working = λ id k found. h.working id k found ∙ ap (λ ws. work_on ws id) same.works;
-    granted = λ id k found. h.granted id k found ∙ ap (λ hands. has_hand hands id) same.given;
+    granted = λ id k found. h.granted id k found ∙ ap (λ grants. has_grant grants id) same.given;
     received = h.received ∙ same.bytes;
   }
 
 -- ---- with other bytes
 
-abbrev pub is_of : ObjectId → Hand → Bool
-is_of id hand = same_id id hand.id
+abbrev pub is_of : ObjectId → StandingGrant → Bool
+is_of id grant = same_id id grant.id
 
--- what was granted is of the hands
-found_of : (bytes : ObjectId → List ℕ) (hs : List Hand) (table : ById Seen) (id : ObjectId) → is_some (at table id) ≡ false → is_some (at (fold (with_taken (λ id. length (bytes id))) table hs) id) ≡ true → list_any (is_of id) hs ≡ true
+-- what was granted is of the grants
+found_of : (bytes : ObjectId → List ℕ) (hs : List StandingGrant) (table : ById Seen) (id : ObjectId) → is_some (at table id) ≡ false → is_some (at (fold (with_taken (λ id. length (bytes id))) table hs) id) ≡ true → list_any (is_of id) hs ≡ true
 found_of bytes [] table id none there = sym none ∙ there
 found_of bytes (h ∷ hs) table id none there = by (same_id id h.id) refl (found_of bytes hs (with_taken (λ id. length (bytes id)) table h) id)
   where
     more : Seen
     more = record {
       length = length (bytes h.id);
-      hands = option_map_or (λ seen. seen.hands) (at table h.id) [] ++ record { grantor = h.grantor; depth = h.depth } ∷ [];
+      grants = option_map_or (λ seen. seen.grants) (at table h.id) [] ++ record { grantor = h.grantor; depth = h.depth } ∷ [];
     }
 
     by : (b : Bool) → same_id id h.id ≡ b → (is_some (at (with_taken (λ id. length (bytes id)) table h) id) ≡ false → is_some (at (fold (with_taken (λ id. length (bytes id))) (with_taken (λ id. length (bytes id)) table h) hs) id) ≡ true → list_any (is_of id) hs ≡ true) → (b || list_any (is_of id) hs) ≡ true
@@ -64,12 +64,12 @@ found_of bytes (h ∷ hs) table id none there = by (same_id id h.id) refl (found
     by false is rest = rest (ap is_some (at-put table h.id more id ∙ ap (λ b. cond b (Some more) (at table id)) is) ∙ none) there
 
 module _ (a b : ObjectId → List ℕ) where
-  same_fold : (hs : List Hand) (table : ById Seen) → ((id : ObjectId) → list_any (is_of id) hs ≡ true → a id ≡ b id) → fold (with_taken (λ id. length (a id))) table hs ≡ fold (with_taken (λ id. length (b id))) table hs
+  same_fold : (hs : List StandingGrant) (table : ById Seen) → ((id : ObjectId) → list_any (is_of id) hs ≡ true → a id ≡ b id) → fold (with_taken (λ id. length (a id))) table hs ≡ fold (with_taken (λ id. length (b id))) table hs
   same_fold [] table agree = refl
   same_fold (h ∷ hs) table agree =
       ap (λ bs. fold (with_taken (λ id. length (a id))) (with_entry table h.id (record {
         length = length bs;
-        hands = option_map_or (λ seen. seen.hands) (at table h.id) [] ++ record { grantor = h.grantor; depth = h.depth } ∷ [];
+        grants = option_map_or (λ seen. seen.grants) (at table h.id) [] ++ record { grantor = h.grantor; depth = h.depth } ∷ [];
       })) hs) (agree h.id (or_left (same_id h.id h.id) (list_any (is_of h.id) hs) (same_id-itself h.id)))
       ∙ same_fold hs (with_taken (λ id. length (b id)) table h) (λ id later. agree id (or_right (same_id id h.id) (list_any (is_of id) hs) later))
 
@@ -78,41 +78,41 @@ module _ (a b : ObjectId → List ℕ) where
   same_filled p (e ∷ table) agree all =
       λ i. (e.0, agree e.0 (both_left (p e.0) (list_all (λ e. p e.0) table) all) i) ∷ same_filled p table agree (both_right (p e.0) (list_all (λ e. p e.0) table) all) i
 
-  -- where the objects of standing hands have the same bytes, and the line is the same to the job
-  pub alike_bytes : (line after : WorkLine) (hands : List Hand) (q : ℕ) → IsSameFor (record { 0 = q }) line after → ((id : ObjectId) → list_any (is_of id) hands ≡ true → a id ≡ b id) → IsAlike (beside_of line hands a q) (beside_of after hands b q)
-  alike_bytes line after hands q same agree = record {
+  -- where the objects of standing grants have the same bytes, and the line is the same to the job
+  pub alike_bytes : (line after : WorkLine) (grants : List StandingGrant) (q : ℕ) → IsSameFor (record { 0 = q }) line after → ((id : ObjectId) → list_any (is_of id) grants ≡ true → a id ≡ b id) → IsAlike (beside_of line grants a q) (beside_of after grants b q)
+  alike_bytes line after grants q same agree = record {
     works = sym same.works;
     used = sym same.used;
     given = refl;
     received = received;
-    bytes = same_filled (λ id. is_some (at (received_by a hands q) id)) (received_by a hands q) agree_there (all_there (received_by a hands q)) ∙ ap (filled b) received;
+    bytes = same_filled (λ id. is_some (at (received_by a grants q) id)) (received_by a grants q) agree_there (all_there (received_by a grants q)) ∙ ap (filled b) received;
   }
     where
-      to_job : List Hand
-      to_job = filter (λ hand. hand.grantee == q) hands
+      to_job : List StandingGrant
+      to_job = filter (λ grant. grant.grantee == q) grants
 
       agree_to : (id : ObjectId) → list_any (is_of id) to_job ≡ true → a id ≡ b id
-      agree_to id there = agree id (any-filter-only (is_of id) (λ hand. hand.grantee == q) hands there)
+      agree_to id there = agree id (any-filter-only (is_of id) (λ grant. grant.grantee == q) grants there)
 
-      received : received_by a hands q ≡ received_by b hands q
+      received : received_by a grants q ≡ received_by b grants q
       received = same_fold to_job [] agree_to
 
-      agree_there : (id : ObjectId) → is_some (at (received_by a hands q) id) ≡ true → a id ≡ b id
+      agree_there : (id : ObjectId) → is_some (at (received_by a grants q) id) ≡ true → a id ≡ b id
       agree_there id there = agree_to id (found_of a to_job [] id refl there)
 
 -- ---- lengths
 
 -- what was granted has the length of its bytes
-length_of : (bytes : ObjectId → List ℕ) (hs : List Hand) (table : ById Seen) → ((id : ObjectId) (x : Seen) → at table id ≡ Some x → length (bytes id) ≡ x.length) → (id : ObjectId) (x : Seen) → at (fold (with_taken (λ id. length (bytes id))) table hs) id ≡ Some x → length (bytes id) ≡ x.length
+length_of : (bytes : ObjectId → List ℕ) (hs : List StandingGrant) (table : ById Seen) → ((id : ObjectId) (x : Seen) → at table id ≡ Some x → length (bytes id) ≡ x.length) → (id : ObjectId) (x : Seen) → at (fold (with_taken (λ id. length (bytes id))) table hs) id ≡ Some x → length (bytes id) ≡ x.length
 length_of bytes [] table before = before
 length_of bytes (h ∷ hs) table before =
     let more : Seen = record {
       length = length (bytes h.id);
-      hands = option_map_or (λ seen. seen.hands) (at table h.id) [] ++ record { grantor = h.grantor; depth = h.depth } ∷ [];
+      grants = option_map_or (λ seen. seen.grants) (at table h.id) [] ++ record { grantor = h.grantor; depth = h.depth } ∷ [];
     } in
     length_of bytes hs (with_taken (λ id. length (bytes id)) table h) (put_rows (λ id o. (x : Seen) → o ≡ Some x → length (bytes id) ≡ x.length) table h.id more (λ x is. ap (λ (s : Seen). s.length) (some_value more x is)) (λ q other. before q))
 
-pub granted_length : (bytes : ObjectId → List ℕ) (hands : List Hand) (q : ℕ) (id : ObjectId) (x : Seen) → at (received_by bytes hands q) id ≡ Some x → length (bytes_at (filled bytes (received_by bytes hands q)) id) ≡ x.length
-granted_length bytes hands q id x found =
-    ap (λ o. length (unwrap_or o [])) (filled_at bytes (received_by bytes hands q) id (ap is_some found))
-    ∙ length_of bytes (filter (λ hand. hand.grantee == q) hands) [] (λ id x none. none_some x none) id x found
+pub granted_length : (bytes : ObjectId → List ℕ) (grants : List StandingGrant) (q : ℕ) (id : ObjectId) (x : Seen) → at (received_by bytes grants q) id ≡ Some x → length (bytes_at (filled bytes (received_by bytes grants q)) id) ≡ x.length
+granted_length bytes grants q id x found =
+    ap (λ o. length (unwrap_or o [])) (filled_at bytes (received_by bytes grants q) id (ap is_some found))
+    ∙ length_of bytes (filter (λ grant. grant.grantee == q) grants) [] (λ id x none. none_some x none) id x found

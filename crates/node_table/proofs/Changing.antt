@@ -6,7 +6,7 @@ use Rattle.obj_id.specs.Ids.{same_id}
 use Rattle.store_facts.proofs.Ids.{same_id-equal}
 use Rattle.private_store.specs.declared.inputs.Input.{Input}
 use Rattle.private_store.specs.rules.Tables.{ById, at, with_entry, is_among}
-use Rattle.private_store.specs.laws.Invariants.{has_hand}
+use Rattle.private_store.specs.laws.Invariants.{has_grant}
 use Rattle.private_store.specs.rules.Shape.{Copy, Change}
 use Rattle.private_store.specs.rules.Copies.{extent_of}
 use Rattle.private_store.specs.rules.Change.{keys_gone}
@@ -112,10 +112,10 @@ module _ (node : ℕ) (row : Row) (beside : SharedTables) (contents : Contents) 
           ap (λ y. y.working) (t.1 ∙ ap f is) ∙ same ∙ ap (λ z. z.working) (sym is) ∙ h.working q z e
 
   -- where the copy is granted or not, as before
-  pub granted_stay : ((f k).granted ≡ k.granted) → (q : ObjectId) (y : CopyView) → at (changed f row.copies id) q ≡ Some y → y.granted ≡ has_hand beside.given q
+  pub granted_stay : ((f k).granted ≡ k.granted) → (q : ObjectId) (y : CopyView) → at (changed f row.copies id) q ≡ Some y → y.granted ≡ has_grant beside.given q
   granted_stay same q y is = by (one q y is).0 (one q y is).1 (one q y is).2
     where
-      by : (z : CopyView) → at row.copies q ≡ Some z → From f row.copies id q y z → y.granted ≡ has_hand beside.given q
+      by : (z : CopyView) → at row.copies q ≡ Some z → From f row.copies id q y z → y.granted ≡ has_grant beside.given q
       by z e (inr t) = ap (λ y. y.granted) t.1 ∙ h.granted q z e
       by z e (inl t) =
           let is : z ≡ k = some_value z k (sym e ∙ ap (at row.copies) (same_id-equal q id t.0) ∙ found) in

@@ -22,7 +22,7 @@ use Rattle.private_store.specs.rules.Shape.{Copy, Shape, Change}
 use Rattle.private_store.specs.rules.Copies.{extent_of}
 use Rattle.private_store.specs.rules.Room.{make_room}
 use Rattle.private_store.specs.rules.Change.{erasing, in_room, has_ended}
-use Rattle.private_store.specs.laws.Invariants.{has_hand, is_remembered}
+use Rattle.private_store.specs.laws.Invariants.{has_grant, is_remembered}
 use Rattle.std.proofs.lemmas.Bool.{eqb-true}
 use Rattle.private_store.specs.rules.Commands.{create, created, is_length}
 use Rattle.private_store.specs.rules.Contents.{Contents, judge}
@@ -120,8 +120,8 @@ module _ (node : ℕ) (row : Row) (beside : SharedTables) (contents : Contents) 
         no_work : work_on beside.works id ≡ None
         no_work = ap (option_map (λ w. if w.writes then Write else Read)) (nothing_found (λ w. same_id id w.id) beside.works (h.kept.kept.shape.works_of_copies id (at-copies_none row.copies id absent)))
 
-        no_hand : has_hand beside.given id ≡ false
-        no_hand = h.kept.kept.shape.hands_of_copies id (eqb-true id.job.0 row.job mine) (at-copies_none row.copies id absent)
+        no_grant : has_grant beside.given id ≡ false
+        no_grant = h.kept.kept.shape.grants_of_copies id (eqb-true id.job.0 row.job mine) (at-copies_none row.copies id absent)
 
         append_nil : {Y : Type 0} (ys : List Y) → ys ++ [] ≡ ys
         append_nil [] = refl
@@ -132,7 +132,7 @@ module _ (node : ℕ) (row : Row) (beside : SharedTables) (contents : Contents) 
             subst (λ ps. RowStep node row beside contents x (record { reply = reply.Placed offset (rounded n); posts = ps; erased = [] }) (replaced row (Some id) id (new_copy_view kind n offset) n offset victims) beside) (append_nil (removals node row.copies victims))
             (placed_done node row beside contents h x quiet n (created id kind n) by_room victims makes placed id (new_copy_view kind n offset)
             (ap (option_and_then (λ (k : CopyView). extent_of k.copy)) absent) stays offset refl refl least free beside.works beside.used (Some id)
-            refl refl (λ u is. some_value u id (sym is)) (λ none. none_some id (sym none)) (λ keeps. true_false keeps) (sym no_work) (λ q differs. refl) (sym no_hand) [] refl)
+            refl refl (λ u is. some_value u id (sym is)) (λ none. none_some id (sym none)) (λ keeps. true_false keeps) (sym no_work) (λ q differs. refl) (sym no_grant) [] refl)
 
 -- whether an id is among others, by the `==` of ids
 pub among-eq : (ids : List ObjectId) (id : ObjectId) → list_any (λ y. id_eq y id) ids ≡ is_among ids id

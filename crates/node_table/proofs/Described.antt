@@ -15,7 +15,7 @@ use Rattle.obj_id.specs.Ids.{id_cmp, same_id}
 use Rattle.private_store.specs.rules.Tables.{ById, at}
 use Rattle.private_store.specs.rules.Extents.{rounded}
 use Rattle.private_store.specs.rules.Shape.{Copy, Shape, WorkInFlight}
-use Rattle.private_store.specs.laws.Invariants.{has_hand}
+use Rattle.private_store.specs.laws.Invariants.{has_grant}
 use Rattle.obj_id.specs.Kinds.{is_primary}
 use Rattle.private_store.specs.rules.Copies.{extent_of, is_held, is_sealed, is_working, device_used}
 use Rattle.private_store.specs.rules.Contents.{Contents}
@@ -60,13 +60,13 @@ idle_same held kept granted working o g e = (λ i. not held && not (g i) && is_n
     none_is None = refl
     none_is (Some kind) = refl
 
-facts_same : (row : Row) (beside : SharedTables) (id : ObjectId) (k : CopyView) → k.granted ≡ has_hand beside.given id → is_some k.working ≡ is_working (shape_of row beside) id → row_facts_of k ≡ store_facts (shape_of row beside) id k.copy
+facts_same : (row : Row) (beside : SharedTables) (id : ObjectId) (k : CopyView) → k.granted ≡ has_grant beside.given id → is_some k.working ≡ is_working (shape_of row beside) id → row_facts_of k ≡ store_facts (shape_of row beside) id k.copy
 facts_same row beside id k g e = λ i. record {
   extent = extent_of k.copy;
   bytes = rounded k.copy.length;
-  evictable = is_sealed k.copy.state && idle_same (is_held k.copy) k.granted (has_hand beside.given id) (is_working (shape_of row beside) id) k.working g e i && (not (is_primary k.copy.kind) || is_some k.copy.backed);
+  evictable = is_sealed k.copy.state && idle_same (is_held k.copy) k.granted (has_grant beside.given id) (is_working (shape_of row beside) id) k.working g e i && (not (is_primary k.copy.kind) || is_some k.copy.backed);
   draining = (e i) && is_some k.copy.offset && not (is_held k.copy) && not (g i);
-  spillable = is_sealed k.copy.state && is_primary k.copy.kind && is_none k.copy.backed && idle_same (is_held k.copy) k.granted (has_hand beside.given id) (is_working (shape_of row beside) id) k.working g e i && not k.copy.doomed;
+  spillable = is_sealed k.copy.state && is_primary k.copy.kind && is_none k.copy.backed && idle_same (is_held k.copy) k.granted (has_grant beside.given id) (is_working (shape_of row beside) id) k.working g e i && not k.copy.doomed;
 }
 
 -- ---- extents

@@ -244,12 +244,12 @@ key_dropped es id copy sorted found = keys_one es (without_entry es id) id left 
 
 -- what was shown of a row before its copy was removed is so of it afterwards
 module _ (node : ℕ) (row : Row) (beside : SharedTables) (contents : Contents) (h : IsShown row beside contents) (x : Input)
-    (c : Change) (told : RowGiven) (r : Row) (after : SharedTables) (m : TakesChange node row beside contents h x c told r after) (unused : c.used ≡ None)
+    (c : Change) (response : RowGiven) (r : Row) (after : SharedTables) (m : TakesChange node row beside contents h x c response r after) (unused : c.used ≡ None)
     (placed : ArePlaced r.window.placed (place_of r.copies)) (id : ObjectId) where
   abbrev pub change_left : List ℕ → Change
   change_left erased = record c { shape = drop_copy c.shape id; erased = erased }
 
-  pub moves_left : (erased : List ℕ) (given : RowGiven) → given.reply ≡ told.reply → given.erased ≡ map (key_of row.job) erased → TakesChange node row beside contents h x (change_left erased) given (dropped r id) after
+  pub moves_left : (erased : List ℕ) (given : RowGiven) → given.reply ≡ response.reply → given.erased ≡ map (key_of row.job) erased → TakesChange node row beside contents h x (change_left erased) given (dropped r id) after
   moves_left erased given same keys = record {
     shape = ap (λ s. drop_copy s id) m.shape ∙ ap (λ t. record (shape_of r after) { copies = t }) (sym (copies-without id r.copies));
     order =

@@ -1,4 +1,4 @@
--- A row takes EndTask: the hands of the task's own objects end, and two walks over all copies follow.
+-- A row takes EndTask: the grants of the task's own objects end, and two walks over all copies follow.
 use Rattle.std.proofs.Common.{◌≡◌, ℕ, Bool, true, false, not, ◌&&◌, ◌||◌, ◌==◌, cond, nat_le, List, [], ◌∷◌, ◌++◌, length, fold, filter, map, flat_map, take, Option, Some, None, is_some, is_none, option_map, unwrap_or, inl, inr, refl, sym, ap, subst, ◌∙◌, T, arith}
 use Rattle.std.specs.Prelude.{option_to_list}
 use Rattle.std.proofs.lemmas.List.{append-nil, append_assoc}
@@ -22,7 +22,7 @@ use Rattle.private_store.specs.declared.inputs.Input.{Input}
 use Rattle.private_store.specs.declared.inputs.Input.TheVariants as input
 use Rattle.private_store.specs.rules.Limits.{most_ended_tasks}
 use Rattle.private_store.specs.rules.Tables.{ById, at, with_entry, ids_of, is_among}
-use Rattle.private_store.specs.rules.Shape.{Copy, Shape, Change, Sending, HandGiven, free, remove_location}
+use Rattle.private_store.specs.rules.Shape.{Copy, Shape, Change, Sending, GrantGiven, free, remove_location}
 use Rattle.private_store.specs.rules.Copies.{extent_of, is_held, is_granted, is_working, is_idle, in_scope, was_sealed}
 use Rattle.private_store.specs.rules.Room.{set_copy, drop_copy}
 use Rattle.private_store.specs.rules.Change.{done, sending, erasing, settled, keys_gone, doom, doom_notice, has_ended}
@@ -30,7 +30,7 @@ use Rattle.private_store.specs.rules.Change as changes
 use Rattle.private_store.specs.rules.Commands.{at_each, give_up_one, of_task, task_ended, end_task, has_borrower, without_borrower}
 use Rattle.private_store.specs.rules.Commands as commands
 use Rattle.private_store.specs.rules.Contents.{Contents, View, judge, keeps_digest, no_digest}
-use Rattle.private_store.specs.laws.Invariants.{has_hand}
+use Rattle.private_store.specs.laws.Invariants.{has_grant}
 use Rattle.private_store.specs.rules.Private.{Post, key_of, posts_of, view_after}
 use Rattle.private_store.specs.rules.Step.{reordered}
 use Rattle.store_facts.proofs.Checks.{checked-nil}
@@ -42,7 +42,7 @@ use Rattle.lru_evictor.proofs.ForCallers.{reordered-unused}
 use Rattle.node_table.specs.Checks.{end_task_check}
 use Rattle.node_table.specs.Dropping.{dropped, is_over, settled_row}
 use Rattle.node_table.specs.Entries.{by_rising_id}
-use Rattle.node_table.specs.EndingTasks.{copies_ungranted, beside_ended, beside_after, task_row, doomed_row, doom_posts, given_up_row, give_up_posts, told_each, keys_of_copies, gone_keys, gone_key}
+use Rattle.node_table.specs.EndingTasks.{copies_ungranted, beside_ended, beside_after, task_row, doomed_row, doom_posts, given_up_row, give_up_posts, posts_of_each, keys_of_copies, gone_keys, gone_key}
 use Rattle.node_table.specs.CopyViews.{CopyView, after_doom, after_give_up, after_grants_ended}
 use Rattle.node_table.specs.Row.{Row, SharedTables, copies_of, shape_of, place_of, ArePlaced}
 use Rattle.node_table.specs.Scope.{removal_notice, removal_notice_at, notice_posts, with_copy}
@@ -60,40 +60,40 @@ use Rattle.node_table.proofs.Scoping.{doom-is, scoped-is, scoped-copy, scoped_co
 use Rattle.node_table.proofs.Settling.{IsMinor}
 use Rattle.node_table.proofs.Stepping.{TakesChange, moved, change, bytes_now, digests_now, same_bytes, received_stays, stays}
 
--- ---- the hands that end
+-- ---- the grants that end
 
 module _ (job : ℕ) (task : TaskNo) where
-  abbrev lasts : HandGiven → Bool
-  lasts hand = not (hand.id.job.0 == job && same_task task hand.id.task)
+  abbrev lasts : GrantGiven → Bool
+  lasts grant = not (grant.id.job.0 == job && same_task task grant.id.task)
 
-  has_hand-ended : (given : List HandGiven) (id : ObjectId) → (id.job.0 == job) ≡ true → has_hand (filter lasts given) id ≡ cond (same_task task id.task) false (has_hand given id)
-  has_hand-ended [] id mine = by (same_task task id.task)
+  has_grant-ended : (given : List GrantGiven) (id : ObjectId) → (id.job.0 == job) ≡ true → has_grant (filter lasts given) id ≡ cond (same_task task id.task) false (has_grant given id)
+  has_grant-ended [] id mine = by (same_task task id.task)
     where
       by : (b : Bool) → false ≡ cond b false false
       by true = refl
       by false = refl
-  has_hand-ended (hand ∷ given) id mine = by (same_id id hand.id) refl (has_hand-ended given id mine)
+  has_grant-ended (grant ∷ given) id mine = by (same_id id grant.id) refl (has_grant-ended given id mine)
     where
-      rest : List HandGiven
+      rest : List GrantGiven
       rest = filter lasts given
 
-      other : same_id id hand.id ≡ false → (t : Bool) → has_hand (cond t (hand ∷ rest) rest) id ≡ has_hand rest id
-      other s true = ap (λ b. b || has_hand rest id) s
+      other : same_id id grant.id ≡ false → (t : Bool) → has_grant (cond t (grant ∷ rest) rest) id ≡ has_grant rest id
+      other s true = ap (λ b. b || has_grant rest id) s
       other s false = refl
 
-      own : same_id id hand.id ≡ true → (t : Bool) → has_hand rest id ≡ cond t false (has_hand given id) → has_hand (cond (not t) (hand ∷ rest) rest) id ≡ cond t false true
+      own : same_id id grant.id ≡ true → (t : Bool) → has_grant rest id ≡ cond t false (has_grant given id) → has_grant (cond (not t) (grant ∷ rest) rest) id ≡ cond t false true
       own s true later = later
-      own s false later = ap (λ b. b || has_hand rest id) s
+      own s false later = ap (λ b. b || has_grant rest id) s
 
-      of_it : same_id id hand.id ≡ true → (hand.id.job.0 == job && same_task task hand.id.task) ≡ same_task task id.task
-      of_it s = ap (λ (i : ObjectId). i.job.0 == job && same_task task i.task) (sym (same_id-equal id hand.id s)) ∙ ap (λ b. b && same_task task id.task) mine
+      of_it : same_id id grant.id ≡ true → (grant.id.job.0 == job && same_task task grant.id.task) ≡ same_task task id.task
+      of_it s = ap (λ (i : ObjectId). i.job.0 == job && same_task task i.task) (sym (same_id-equal id grant.id s)) ∙ ap (λ b. b && same_task task id.task) mine
 
-      by : (b : Bool) → same_id id hand.id ≡ b → has_hand rest id ≡ cond (same_task task id.task) false (has_hand given id)
-          → has_hand (cond (lasts hand) (hand ∷ rest) rest) id ≡ cond (same_task task id.task) false (b || has_hand given id)
-      by true s later = ap (λ c. has_hand (cond (not c) (hand ∷ rest) rest) id) (of_it s) ∙ own s (same_task task id.task) later
-      by false s later = other s (lasts hand) ∙ later
+      by : (b : Bool) → same_id id grant.id ≡ b → has_grant rest id ≡ cond (same_task task id.task) false (has_grant given id)
+          → has_grant (cond (lasts grant) (grant ∷ rest) rest) id ≡ cond (same_task task id.task) false (b || has_grant given id)
+      by true s later = ap (λ c. has_grant (cond (not c) (grant ∷ rest) rest) id) (of_it s) ∙ own s (same_task task id.task) later
+      by false s later = other s (lasts grant) ∙ later
 
--- the table of which the hands of the task's objects have ended
+-- the table of which the grants of the task's objects have ended
 module _ (task : TaskNo) where
   abbrev pub ended : ObjectId → CopyView → CopyView
   ended id k = cond (same_task task id.task) (after_grants_ended k) k
@@ -261,7 +261,7 @@ module _ (node : ℕ) (row : Row) (beside : SharedTables) (contents : Contents) 
             carried (λ z. keeps_digest z.copy ≡ true → unwrap_or (at (digests_now node row beside contents h x (done (s_of r))) q) no_digest ≡ unwrap_or z.digest no_digest)
             (λ z p keep. p ((minor z).keeps keep) ∙ ap (λ d. unwrap_or d no_digest) (sym (minor z).digest)) q y found (λ z there keep. g.moves.digests q z there keep) keeps;
         working = λ q y found. carried (λ z. z.working ≡ work_on after.works q) (λ z p. (minor z).working ∙ p) q y found (λ z there. g.moves.working q z there);
-        granted = λ q y found. carried (λ z. z.granted ≡ has_hand after.given q) (λ z p. (minor z).granted ∙ p) q y found (λ z there. g.moves.granted q z there);
+        granted = λ q y found. carried (λ z. z.granted ≡ has_grant after.given q) (λ z p. (minor z).granted ∙ p) q y found (λ z there. g.moves.granted q z there);
         received = g.moves.received;
         reply = g.moves.reply;
         erased = g.moves.erased;
@@ -320,10 +320,10 @@ module _ (node : ℕ) (row : Row) (beside : SharedTables) (contents : Contents) 
   record Fits (c : Change) (r : Row) (said : List Post) : Type 0 where
     pub good : Good r
     pub shape : c.shape ≡ s_of r
-    pub told : (o : View) → said ≡ flat_map (posts_of node o x) c.sent
+    pub response : (o : View) → said ≡ flat_map (posts_of node o x) c.sent
 
-  fits_as : (c d : Change) (r t : Row) (said told : List Post) → c ≡ d → r ≡ t → said ≡ told → Fits d t told → Fits c r said
-  fits_as c d r t said told cd rt st fits = subst (λ z. Fits z r said) (sym cd) (subst (λ z. Fits d z said) (sym rt) (subst (λ z. Fits d t z) (sym st) fits))
+  fits_as : (c d : Change) (r t : Row) (said response : List Post) → c ≡ d → r ≡ t → said ≡ response → Fits d t response → Fits c r said
+  fits_as c d r t said response cd rt st fits = subst (λ z. Fits z r said) (sym cd) (subst (λ z. Fits d z said) (sym rt) (subst (λ z. Fits d t z) (sym st) fits))
 
   -- ---- a walk
 
@@ -337,10 +337,10 @@ module _ (node : ℕ) (row : Row) (beside : SharedTables) (contents : Contents) 
     each_shape [] r g = refl
     each_shape (id ∷ ids) r g = ap (λ s. shape_each f p s ids) (one r g id).shape ∙ each_shape ids (next r id) (one r g id).good
 
-    each_told : (o : View) (ids : List ObjectId) (r : Row) → Good r → told_each next says r ids ≡ flat_map (posts_of node o x) (sent_each f p (s_of r) ids)
+    each_told : (o : View) (ids : List ObjectId) (r : Row) → Good r → posts_of_each next says r ids ≡ flat_map (posts_of node o x) (sent_each f p (s_of r) ids)
     each_told o [] r g = refl
     each_told o (id ∷ ids) r g =
-        ap (λ t. t ++ told_each next says (next r id) ids) ((one r g id).told o)
+        ap (λ t. t ++ posts_of_each next says (next r id) ids) ((one r g id).response o)
         ∙ ap (λ t. flat_map (posts_of node o x) (meant f p (s_of r) id).sent ++ t)
         (each_told o ids (next r id) (one r g id).good ∙ ap (λ s. flat_map (posts_of node o x) (sent_each f p s ids)) (sym (one r g id).shape))
         ∙ sym (flat_map-append (posts_of node o x) (meant f p (s_of r) id).sent (sent_each f p (meant f p (s_of r) id).shape ids))
@@ -363,7 +363,7 @@ module _ (node : ℕ) (row : Row) (beside : SharedTables) (contents : Contents) 
             (sending-is (option_to_list (doom_notice (s_of r) id)) (done (changes.doomed (s_of r) id))
             ∙ ap (λ (o : Option Copy). record (done (option_map_or (λ copy. settled (set_copy (s_of r) id (record copy { doomed = true })) id) o (s_of r))) { sent = option_to_list (option_map_or (notice_of id) o None) ++ [] }) (at-copies_none r.copies id none))
             (untouched r id after_doom none) (ap doomed_said none)
-            (record { good = g; shape = refl; told = λ o. refl })
+            (record { good = g; shape = refl; response = λ o. refl })
         by (Some k) found =
             let again = touched r g id k found after_doom doomed-minor in
             fits_as (doom (s_of r) id) (record (done (settled (set_copy (s_of r) id (record k.copy { doomed = true })) id)) { sent = option_to_list (notice_of id k.copy) }) row_doomed row_doomed (doomed_said (at r.copies id)) (doomed_said (Some k))
@@ -371,7 +371,7 @@ module _ (node : ℕ) (row : Row) (beside : SharedTables) (contents : Contents) 
             (record {
               good = settled_good (with_copy after_doom r id) again id;
               shape = ap (λ t. settled t id) (sym (touched-shape r g id k found after_doom doomed-minor)) ∙ settled_shape (with_copy after_doom r id) again id;
-              told = λ o. doom_told node id o x k;
+              response = λ o. doom_told node id o x k;
             })
 
     first_fits : Fits (meant doom (λ id. same_task task id.task) (s_of r) id) (doomed_row task r id) (doom_posts node task r id)
@@ -380,7 +380,7 @@ module _ (node : ℕ) (row : Row) (beside : SharedTables) (contents : Contents) 
         by : (b : Bool) → Fits (cond b (doom (s_of r) id) (done (s_of r))) (cond b row_doomed r)
             (notice_posts (removal_notice_at node r.copies id (b && not (option_map_or (λ (k : CopyView). k.copy.doomed) (at r.copies id) false))))
         by true = doom_fits
-        by false = record { good = g; shape = refl; told = λ o. refl }
+        by false = record { good = g; shape = refl; response = λ o. refl }
 
     -- ---- the second walk: its borrows are given up
 
@@ -414,16 +414,16 @@ module _ (node : ℕ) (row : Row) (beside : SharedTables) (contents : Contents) 
       by_state true d b = record {
         good = again;
         shape = sym (shape_is ∙ ap (λ a. set_copy (s_of r) id a) (doomed_still d (in_scope without.copy)));
-        told = λ o. refl;
+        response = λ o. refl;
       }
       by_state false d true =
           let is = scoped-is (s_of r) id without.copy g.sorted d in
           record {
             good = settled_good row_given_up again id;
             shape = ap (λ (c : Change). c.shape) is ∙ ap (λ t. settled t id) (sym shape_is) ∙ settled_shape row_given_up again id;
-            told = λ o. scoped_told node id o x k without.copy refl refl d r.copies found ∙ sym (ap (λ (c : Change). flat_map (posts_of node o x) c.sent) is);
+            response = λ o. scoped_told node id o x k without.copy refl refl d r.copies found ∙ sym (ap (λ (c : Change). flat_map (posts_of node o x) c.sent) is);
           }
-      by_state false d false = record { good = g; shape = refl; told = λ o. refl }
+      by_state false d false = record { good = g; shape = refl; response = λ o. refl }
 
     abbrev changed_by : Option Copy → Change
     changed_by o = option_map_or (λ copy.
@@ -442,7 +442,7 @@ module _ (node : ℕ) (row : Row) (beside : SharedTables) (contents : Contents) 
         by None none =
             fits_as (give_up_one task (s_of r) id) (done (s_of r)) (given_up_row task r id) r (give_up_posts node task r id) []
             (ap changed_by (at-copies_none r.copies id none)) (ap row_by none) (ap said_by none)
-            (record { good = g; shape = refl; told = λ o. refl })
+            (record { good = g; shape = refl; response = λ o. refl })
         by (Some k) found =
             fits_as (give_up_one task (s_of r) id) (changed_by (Some k.copy)) (given_up_row task r id) (row_by (Some k)) (give_up_posts node task r id) (said_by (Some k))
             (ap changed_by (at-copies_found r.copies id k found)) (ap row_by found) (ap said_by found)
@@ -509,10 +509,10 @@ module _ (node : ℕ) (row : Row) (beside : SharedTables) (contents : Contents) 
   r2 = fold (given_up_row task) r1 ids
 
   abbrev first_said : List Post
-  first_said = told_each (doomed_row task) (doom_posts node task) r0 ids
+  first_said = posts_of_each (doomed_row task) (doom_posts node task) r0 ids
 
   abbrev second_said : List Post
-  second_said = told_each (given_up_row task) (give_up_posts node task) r1 ids
+  second_said = posts_of_each (given_up_row task) (give_up_posts node task) r1 ids
 
   abbrev pub given : RowGiven
   given = record { reply = reply.Ok; posts = first_said ++ second_said; erased = gone_keys r2 (keys_of_copies row ids) }
@@ -551,7 +551,7 @@ module _ (node : ℕ) (row : Row) (beside : SharedTables) (contents : Contents) 
   own : (q : ObjectId) (k : CopyView) → at row.copies q ≡ Some k → (q.job.0 == row.job) ≡ true
   own q k found = ap (λ n. n == row.job) (h.kept.kept.shape.each q k.copy (at-copies_found row.copies q k found)).own ∙ same_number row.job
 
-  granted_now : (b : Bool) (q : ObjectId) (k : CopyView) → at row.copies q ≡ Some k → (cond b (after_grants_ended k) k).granted ≡ cond b false (has_hand beside.given q)
+  granted_now : (b : Bool) (q : ObjectId) (k : CopyView) → at row.copies q ≡ Some k → (cond b (after_grants_ended k) k).granted ≡ cond b false (has_grant beside.given q)
   granted_now true q k found = refl
   granted_now false q k found = h.granted q k found
 
@@ -581,7 +581,7 @@ module _ (node : ℕ) (row : Row) (beside : SharedTables) (contents : Contents) 
             ap (λ (k : CopyView). k.working) z.2 ∙ same_part task (λ k. k.working) (λ k. refl) (same_task task q.task) z.0 ∙ h.working q z.0 z.1;
         granted = λ q y found.
             let z = from_ended task row.copies q y found in
-            ap (λ (k : CopyView). k.granted) z.2 ∙ granted_now (same_task task q.task) q z.0 z.1 ∙ sym (has_hand-ended row.job task beside.given q (own q z.0 z.1));
+            ap (λ (k : CopyView). k.granted) z.2 ∙ granted_now (same_task task q.task) q z.0 z.1 ∙ sym (has_grant-ended row.job task beside.given q (own q z.0 z.1));
         received = received_stays node row beside contents h x refl;
         reply = refl;
         erased = refl;

@@ -138,7 +138,7 @@ module _ (s : Shape) where
       later : CanGo ids (evicted_one es id)
       later q k among found p = of q k (at es q) (λ z there. can q z (or_right (same_id q id) (is_among ids q) among) there) (same_id q id) (sym (at-one es id q) ∙ found) p
 
--- the directory is told of each secondary
+-- the directory is notified of each secondary
 pub evictions_told : (s : Shape) (es : ById CopyView) (ids : List ObjectId) → filter_map (eviction_notice (record s { copies = copies_of es })) ids ≡ map remove_location (filter (has_secondary es) ids)
 evictions_told s es [] = refl
 evictions_told s es (id ∷ ids) =

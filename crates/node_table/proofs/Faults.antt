@@ -19,7 +19,7 @@ use Rattle.private_store.specs.rules.Step.{step}
 use Rattle.private_store.specs.laws.Invariants.{is_remembered, is_restoring}
 use Rattle.lru_evictor.proofs.ForCallers.{reordered-unused}
 use Rattle.node_table.specs.Entries.{changed}
-use Rattle.node_table.specs.CopyViews.{CopyView, after_fault_told}
+use Rattle.node_table.specs.CopyViews.{CopyView, after_fault_reported}
 use Rattle.node_table.specs.Row.{Row, SharedTables, copies_of, shape_of}
 use Rattle.node_table.specs.Shown.{seen, IsShown, only, RowStep}
 use Rattle.node_table.proofs.CopyTables.{at-copies_found, copies-changed}
@@ -51,27 +51,27 @@ module _ (node : ℕ) (row : Row) (beside : SharedTables) (contents : Contents) 
 
   module _ (fault : Fault) (faulty : k.copy.fault ≡ Some fault) where
     abbrev now : Copy
-    now = (after_fault_told k).copy
+    now = (after_fault_reported k).copy
 
     abbrev c : Change
     c = erasing s (refused (set_copy s id now) (refusal_of fault))
 
-    keeps : (z : CopyView) → ((after_fault_told z).copy.offset ≡ z.copy.offset) × ((after_fault_told z).copy.length ≡ z.copy.length)
+    keeps : (z : CopyView) → ((after_fault_reported z).copy.offset ≡ z.copy.offset) × ((after_fault_reported z).copy.length ≡ z.copy.length)
     keeps z = (refl, refl)
 
     abbrev row_told : Row
-    row_told = record row { copies = changed after_fault_told row.copies id }
+    row_told = record row { copies = changed after_fault_reported row.copies id }
 
     m : TakesChange node row beside contents h x c (only (reply.Refused (refusal_of fault))) row_told beside
     m = record {
-      shape = ap (λ t. record s { copies = t }) (sym (copies-changed after_fault_told row.copies id k found));
-      order = sym (reordered-unused row.order (copies_of row_told.copies) (there_still node row beside contents h x id k found after_fault_told keeps row.order h.there));
-      there = there_still node row beside contents h x id k found after_fault_told keeps row.order h.there;
-      listed = listed_stay node row beside contents h x id k found after_fault_told keeps row.order h.listed;
-      bytes = bytes_stay node row beside contents h x id k found after_fault_told keeps c refl;
-      digests = digests_stay node row beside contents h x id k found after_fault_told keeps c refl refl (λ keep. keep);
-      working = works_stay node row beside contents h x id k found after_fault_told keeps refl;
-      granted = granted_stay node row beside contents h x id k found after_fault_told keeps refl;
+      shape = ap (λ t. record s { copies = t }) (sym (copies-changed after_fault_reported row.copies id k found));
+      order = sym (reordered-unused row.order (copies_of row_told.copies) (there_still node row beside contents h x id k found after_fault_reported keeps row.order h.there));
+      there = there_still node row beside contents h x id k found after_fault_reported keeps row.order h.there;
+      listed = listed_stay node row beside contents h x id k found after_fault_reported keeps row.order h.listed;
+      bytes = bytes_stay node row beside contents h x id k found after_fault_reported keeps c refl;
+      digests = digests_stay node row beside contents h x id k found after_fault_reported keeps c refl refl (λ keep. keep);
+      working = works_stay node row beside contents h x id k found after_fault_reported keeps refl;
+      granted = granted_stay node row beside contents h x id k found after_fault_reported keeps refl;
       received = received_stays node row beside contents h x refl;
       reply = refl;
       erased = sym (ap (map (key_of row.job)) (keys_with (copies_of row.copies) id now));

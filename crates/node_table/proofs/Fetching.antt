@@ -19,7 +19,7 @@ use Rattle.private_store.specs.declared.inputs.Input.TheVariants as input
 use Rattle.obj_id.specs.declared.messages.PeerMessage.TheVariants.{Pull}
 use Rattle.private_store.specs.rules.Limits.{most_copies, has_numbers}
 use Rattle.private_store.specs.rules.Tables.{at, with_entry, is_among}
-use Rattle.private_store.specs.laws.Invariants.{has_hand}
+use Rattle.private_store.specs.laws.Invariants.{has_grant}
 use Rattle.private_store.specs.rules.Shape.{Copy, Shape, Change, Fetch, Phase, locating, sized, pulling, failed, locate, pull}
 use Rattle.private_store.specs.rules.Copies.{extent_of, was_sealed}
 use Rattle.private_store.specs.rules.Room.{drop_copy}
@@ -96,8 +96,8 @@ module _ (node : ℕ) (row : Row) (beside : SharedTables) (contents : Contents) 
   abbrev pub row_begun : Row
   row_begun = record row { copies = with_entry row.copies id (fetched_copy_view number); order = last_used id row.order; fetches_begun = number }
 
-  abbrev pub told : RowGiven
-  told = record { reply = reply.Refused Pending; posts = to_directory (Locate id node number); erased = [] }
+  abbrev pub response : RowGiven
+  response = record { reply = reply.Refused Pending; posts = to_directory (Locate id node number); erased = [] }
 
   copies_is : with_entry (copies_of row.copies) id (fetched_copy number) ≡ copies_of row_begun.copies
   copies_is = sym (copies-with row.copies id (fetched_copy_view number))
@@ -120,13 +120,13 @@ module _ (node : ℕ) (row : Row) (beside : SharedTables) (contents : Contents) 
         by true t is = subst P (some_value (fetched_copy_view number) y is) (new t)
         by false t is = old is
 
-  no_hand : has_hand beside.given id ≡ false
-  no_hand = h.kept.kept.shape.hands_of_copies id (eqb-true id.job.0 row.job mine) (at-copies_none row.copies id none)
+  no_grant : has_grant beside.given id ≡ false
+  no_grant = h.kept.kept.shape.grants_of_copies id (eqb-true id.job.0 row.job mine) (at-copies_none row.copies id none)
 
   no_work : work_on beside.works id ≡ None
   no_work = ap (option_map (λ w. if w.writes then Write else Read)) (nothing_found (λ w. same_id id w.id) beside.works (h.kept.kept.shape.works_of_copies id (at-copies_none row.copies id none)))
 
-  m : TakesChange node row beside contents h (input.Call session (command.Get id)) (erasing store c) told row_begun beside
+  m : TakesChange node row beside contents h (input.Call session (command.Get id)) (erasing store c) response row_begun beside
   m = record {
     shape = ap (λ t. record store { copies = t; fetches_begun = number }) copies_is;
     order = sym (reordered-used row.order (copies_of row_begun.copies) id there_now);
@@ -140,17 +140,17 @@ module _ (node : ℕ) (row : Row) (beside : SharedTables) (contents : Contents) 
         (λ t keeps. true_false keeps) (λ old keeps. h.digests q y old keeps) keeps;
     working = λ q y there. of_each q y there (λ z. z.working ≡ work_on beside.works q)
         (λ t. sym (ap (work_on beside.works) (same_id-equal q id t) ∙ no_work)) (λ old. h.working q y old);
-    granted = λ q y there. of_each q y there (λ z. z.granted ≡ has_hand beside.given q)
-        (λ t. sym (ap (has_hand beside.given) (same_id-equal q id t) ∙ no_hand)) (λ old. h.granted q y old);
+    granted = λ q y there. of_each q y there (λ z. z.granted ≡ has_grant beside.given q)
+        (λ t. sym (ap (has_grant beside.given) (same_id-equal q id t) ∙ no_grant)) (λ old. h.granted q y old);
     received = received_stays node row beside contents h (input.Call session (command.Get id)) refl;
     reply = refl;
     erased = sym (ap (map (key_of row.job)) (keys_with (copies_of row.copies) id (fetched_copy number)));
   }
 
-  pub fetch_done : fetch_check row.copies row.fetches_begun ≡ None → RowStep node row beside contents (input.Call session (command.Get id)) told row_begun beside
+  pub fetch_done : fetch_check row.copies row.fetches_begun ≡ None → RowStep node row beside contents (input.Call session (command.Get id)) response row_begun beside
   fetch_done passed =
       moved node row beside contents h (input.Call session (command.Get id)) (erasing store c)
-      (get_is node row beside contents session id mine alive h ∙ ap (erasing store) (change_is ∙ ap (λ o. unless_refused store o c) passed)) told row_begun beside m refl
+      (get_is node row beside contents session id mine alive h ∙ ap (erasing store) (change_is ∙ ap (λ o. unless_refused store o c) passed)) response row_begun beside m refl
 
 -- ---- an object that is on its way
 
@@ -217,7 +217,7 @@ module _ (node : ℕ) (row : Row) (beside : SharedTables) (contents : Contents) 
         stays node row beside contents h x (reply.Refused BadSize)
         (phase_is (sized source) at ∙ ap (erasing s) (checked-true s (not (is_length s k.copy.length)) BadSize [] _ (ap not bad))) refl refl refl
 
-    -- a fetch that failed is told of, and its copy is removed
+    -- a fetch that failed is answered, and its copy is removed
     module _ (fault : FetchFault) (at_end : f.phase ≡ failed fault) (placed : ArePlaced row.window.placed (place_of row.copies)) where
       abbrev tells_of : RowGiven
       tells_of = only (reply.Refused (fetch_refusal fault))

@@ -22,7 +22,7 @@ use Rattle.node_table.specs.CopyViews.{CopyView, after_eviction}
 use Rattle.node_table.specs.RoomPlans.{row_facts_of}
 use Rattle.node_table.specs.Entries.{by_rising_id, changed, each_changed}
 use Rattle.node_table.specs.Evicting.{has_secondary, evicted_one, all_evicted}
-use Rattle.node_table.specs.InSync.{facts_in, is_in_sync, InSync, is_in_sync_but, InSyncBut, SameBut, SameButThese, NoneIsGone, KeepPlaces, LiesAlone}
+use Rattle.node_table.specs.InSync.{facts_in, is_in_sync, InSync, is_in_sync_except, InSyncExcept, SameExcept, SameExceptThese, NoneIsGone, KeepPlaces, LiesAlone}
 use Rattle.node_table.specs.Row.{place_of}
 use Rattle.node_table.proofs.Changes.{changed-found, changed-absent}
 use Rattle.node_table.proofs.Evicting.{evicted_of, at-evicted}
@@ -30,20 +30,20 @@ use Rattle.node_table.proofs.Places.{each_place}
 
 -- ---- changes of one copy
 
-pub put_but : (before after : ById CopyView) (id : ObjectId) (k : CopyView) → after ≡ with_entry before id k → SameBut id before after
+pub put_but : (before after : ById CopyView) (id : ObjectId) (k : CopyView) → after ≡ with_entry before id k → SameExcept id before after
 put_but before after id k is x apart = ap (λ t. at t x) is ∙ at-put before id k x ∙ ap (λ b. cond b (Some k) (at before x)) apart
 
-changed_one : (f : CopyView → CopyView) (before : ById CopyView) (id : ObjectId) → SameBut id before (changed f before id)
+changed_one : (f : CopyView → CopyView) (before : ById CopyView) (id : ObjectId) → SameExcept id before (changed f before id)
 changed_one f before id x apart = by (at before id) refl
   where
     by : (o : Option CopyView) → at before id ≡ o → at (changed f before id) x ≡ at before x
     by None none = ap (λ t. at t x) (changed-absent f id before none)
     by (Some k) found = ap (λ t. at t x) (changed-found f id before k found) ∙ at-put before id (f k) x ∙ ap (λ b. cond b (Some (f k)) (at before x)) apart
 
-pub changed_but : (f : CopyView → CopyView) (before after : ById CopyView) (id : ObjectId) → after ≡ changed f before id → SameBut id before after
+pub changed_but : (f : CopyView → CopyView) (before after : ById CopyView) (id : ObjectId) → after ≡ changed f before id → SameExcept id before after
 changed_but f before after id is x apart = ap (λ t. at t x) is ∙ changed_one f before id x apart
 
-pub removed_but : (before after : ById CopyView) (id : ObjectId) → after ≡ without_entry before id → SameBut id before after
+pub removed_but : (before after : ById CopyView) (id : ObjectId) → after ≡ without_entry before id → SameExcept id before after
 removed_but before after id is x apart = ap (λ t. at t x) is ∙ at-drop before id x ∙ ap (λ b. cond (not b) (at before x) None) (same_id-not_back x id apart)
 
 -- ---- changes of some
@@ -52,7 +52,7 @@ more : (a b : Bool) → a || b ≡ false → (a ≡ false) × (b ≡ false)
 more true b h = cc
 more false b h = (refl, h)
 
-pub each_but : (f : CopyView → CopyView) (ids : List ObjectId) (before after : ById CopyView) → after ≡ each_changed f before ids → SameButThese ids before after
+pub each_but : (f : CopyView → CopyView) (ids : List ObjectId) (before after : ById CopyView) → after ≡ each_changed f before ids → SameExceptThese ids before after
 each_but f ids before after is x apart = ap (λ t. at t x) is ∙ by ids before apart
   where
     by : (ids : List ObjectId) (es : ById CopyView) → is_among ids x ≡ false → at (each_changed f es ids) x ≡ at es x
@@ -61,7 +61,7 @@ each_but f ids before after is x apart = ap (λ t. at t x) is ∙ by ids before 
         let both = more (same_id x id) (is_among ids x) h in
         by ids (changed f es id) both.1 ∙ changed_one f es id x both.0
 
-pub evicted_but : (ids : List ObjectId) (before after : ById CopyView) → after ≡ all_evicted ids before → SameButThese ids before after
+pub evicted_but : (ids : List ObjectId) (before after : ById CopyView) → after ≡ all_evicted ids before → SameExceptThese ids before after
 evicted_but ids before after is x apart = ap (λ t. at t x) is ∙ by ids before apart
   where
     one : (es : ById CopyView) (id : ObjectId) → same_id x id ≡ false → at (evicted_one es id) x ≡ at es x
@@ -195,12 +195,12 @@ known test id order all among = by order all (list_any-IsPermutation (same_id id
 
 -- ---- an order that is told of copies one after another
 
--- as `is_in_sync_but`, or the copy is one of those that are left, and may stand as it does
+-- as `is_in_sync_except`, or the copy is one of those that are left, and may stand as it does
 abbrev pub is_waiting : List ObjectId → List ObjectId → ById CopyView → ObjectId → EvictionInfo → Bool
 is_waiting left spared copies id s =
     if is_among spared id then is_none s.extent else (is_among left id && may_lie s.extent (info_at (facts_in copies) id).extent || is_in_sync copies id s)
 
-pub waits : (ids spared : List ObjectId) (before after : ById CopyView) → SameButThese ids before after → KeepPlaces before after → (order : List (ObjectId × EvictionInfo)) → InSyncBut spared before order → AllPass (is_waiting ids spared after) order
+pub waits : (ids spared : List ObjectId) (before after : ById CopyView) → SameExceptThese ids before after → KeepPlaces before after → (order : List (ObjectId × EvictionInfo)) → InSyncExcept spared before order → AllPass (is_waiting ids spared after) order
 waits ids spared before after same keep [] h = tt
 waits ids spared before after same keep (e ∷ es) h =
     (either (is_among spared e.0) (is_among ids e.0) (may_lie e.1.extent (info_at (facts_in after) e.0).extent) (is_none e.1.extent) (is_in_sync before e.0 e.1) (is_in_sync after e.0 e.1) may (λ apart. same_followed before after e.0 e.1 (same e.0 apart)) h.0, waits ids spared before after same keep es h.1)
@@ -218,7 +218,7 @@ waits ids spared before after same keep (e ∷ es) h =
 pub waits_for_all : (es : List (ObjectId × CopyView)) (before now : ById CopyView) → by_rising_id es ≡ now → NoneIsGone before now → KeepPlaces before now → (order : List (ObjectId × EvictionInfo)) → InSync before order → AllPass (is_waiting (keys_of es) [] now) order
 waits_for_all es before now seen none keep order h = waits (keys_of es) [] before now same keep order h
   where
-    same : SameButThese (keys_of es) before now
+    same : SameExceptThese (keys_of es) before now
     same x apart = let gone : at now x ≡ None = ap (λ t. at t x) (sym seen) ∙ absent es x apart in gone ∙ sym (none x gone)
 
 -- what is told of one, and what it comes to
@@ -263,14 +263,14 @@ module _ (id : ObjectId) (left spared : List ObjectId) (copies : ById CopyView) 
           no_more (is_among spared id) (same_id id id) (is_among left id) (may_lie before.extent (info_at (facts_in copies) id).extent) (is_none before.extent) (is_in_sync copies id before)
           (ap (λ t. may_lie before.extent t.extent) (sym is) ∙ may) h
 
-  pub told : (order new : List (ObjectId × EvictionInfo)) → Tells id order (stood (info_in id order) s) new → AllPass (is_waiting (id ∷ left) spared copies) order → AllPass (is_waiting left spared copies) new
-  told order new tells h = tells (is_waiting left spared copies) (others order h) (λ among. here (info_in id order) (known (is_waiting (id ∷ left) spared copies) id order h among))
+  pub response : (order new : List (ObjectId × EvictionInfo)) → Tells id order (stood (info_in id order) s) new → AllPass (is_waiting (id ∷ left) spared copies) order → AllPass (is_waiting left spared copies) new
+  response order new tells h = tells (is_waiting left spared copies) (others order h) (λ among. here (info_in id order) (known (is_waiting (id ∷ left) spared copies) id order h among))
 
 -- one, and no other
 pub told_alone : (id : ObjectId) (before after : ById CopyView) (s : EvictionInfo) (order new : List (ObjectId × EvictionInfo)) → s ≡ info_at (facts_in after) id → Tells id order (stood (info_in id order) s) new
-    → SameBut id before after → KeepPlaces before after → InSync before order → InSync after new
+    → SameExcept id before after → KeepPlaces before after → InSync before order → InSync after new
 told_alone id before after s order new is tells same keep h =
-    told id [] [] after s is order new tells (waits (id ∷ []) [] before after (λ x apart. same x (more (same_id x id) false apart).0) keep order h)
+    response id [] [] after s is order new tells (waits (id ∷ []) [] before after (λ x apart. same x (more (same_id x id) false apart).0) keep order h)
 
 -- an order that is told what one copy is after a change
 module _ (f : CopyView → CopyView) (id : ObjectId) (before after : ById CopyView) (is : after ≡ changed f before id) (s : EvictionInfo) (stands : s ≡ info_at (facts_in after) id) (order new : List (ObjectId × EvictionInfo))
@@ -288,21 +288,21 @@ pub all_others : (id : ObjectId) (test : ObjectId → EvictionInfo → Bool) (or
 all_others id test [] h = tt
 all_others id test (e ∷ es) h = (λ apart. h.0, all_others id test es h.1)
 
-pub others_still : (id : ObjectId) (before after : ById CopyView) → SameBut id before after → (order : List (ObjectId × EvictionInfo)) → OthersPass id (is_in_sync before) order → OthersPass id (is_in_sync after) order
+pub others_still : (id : ObjectId) (before after : ById CopyView) → SameExcept id before after → (order : List (ObjectId × EvictionInfo)) → OthersPass id (is_in_sync before) order → OthersPass id (is_in_sync after) order
 others_still id before after same [] h = tt
 others_still id before after same (e ∷ es) h = (λ apart. same_followed before after e.0 e.1 (same e.0 (same_id-not_back id e.0 apart)) (h.0 apart), others_still id before after same es h.1)
 
-pub others_followed : (id : ObjectId) (before after : ById CopyView) → SameBut id before after → (order : List (ObjectId × EvictionInfo)) → InSync before order → OthersPass id (is_in_sync after) order
+pub others_followed : (id : ObjectId) (before after : ById CopyView) → SameExcept id before after → (order : List (ObjectId × EvictionInfo)) → InSync before order → OthersPass id (is_in_sync after) order
 others_followed id before after same order h = others_still id before after same order (all_others id (is_in_sync before) order h)
 
-pub one_spared : (id : ObjectId) (copies : ById CopyView) (order : List (ObjectId × EvictionInfo)) → InSyncBut (id ∷ []) copies order → OthersPass id (is_in_sync copies) order
+pub one_spared : (id : ObjectId) (copies : ById CopyView) (order : List (ObjectId × EvictionInfo)) → InSyncExcept (id ∷ []) copies order → OthersPass id (is_in_sync copies) order
 one_spared id copies [] h = tt
 one_spared id copies (e ∷ es) h = (λ apart. ap (λ b. cond (b || false) (is_none e.1.extent) (is_in_sync copies e.0 e.1)) (sym (same_id-not_back id e.0 apart)) ∙ h.0, one_spared id copies es h.1)
 
 -- ---- one copy that the order isn't told of yet
 
 -- it had no place
-pub placed_unknown : (id : ObjectId) (before after : ById CopyView) → SameBut id before after → place_of before id ≡ None → (order : List (ObjectId × EvictionInfo)) → InSync before order → InSyncBut (id ∷ []) after order
+pub placed_unknown : (id : ObjectId) (before after : ById CopyView) → SameExcept id before after → place_of before id ≡ None → (order : List (ObjectId × EvictionInfo)) → InSync before order → InSyncExcept (id ∷ []) after order
 placed_unknown id before after same none [] h = tt
 placed_unknown id before after same none (e ∷ es) h = (by (same_id e.0 id) refl, placed_unknown id before after same none es h.1)
   where
@@ -311,15 +311,15 @@ placed_unknown id before after same none (e ∷ es) h = (by (same_id e.0 id) ref
     by false t = same_followed before after e.0 e.1 (same e.0 t) h.0
 
 -- it was used, and lies nowhere as far as the order knows
-pub entered_unknown : (id : ObjectId) (before after : ById CopyView) → SameBut id before after → at before id ≡ None → (order new : List (ObjectId × EvictionInfo))
-    → ((test : ObjectId → EvictionInfo → Bool) → OthersPass id test order → test id nowhere ≡ true → AllPass test new) → InSync before order → InSyncBut (id ∷ []) after new
+pub entered_unknown : (id : ObjectId) (before after : ById CopyView) → SameExcept id before after → at before id ≡ None → (order new : List (ObjectId × EvictionInfo))
+    → ((test : ObjectId → EvictionInfo → Bool) → OthersPass id test order → test id nowhere ≡ true → AllPass test new) → InSync before order → InSyncExcept (id ∷ []) after new
 entered_unknown id before after same none order new entered h =
-    entered (is_in_sync_but (id ∷ []) after) (all_others id (is_in_sync_but (id ∷ []) after) order (placed_unknown id before after same (ap lies none) order h))
+    entered (is_in_sync_except (id ∷ []) after) (all_others id (is_in_sync_except (id ∷ []) after) order (placed_unknown id before after same (ap lies none) order h))
     (ap (λ b. cond (b || false) true (is_in_sync after id nowhere)) (same_id-itself id))
 
 -- it is told now, where the copy lies alone
 module _ (id : ObjectId) (copies : ById CopyView) (e : Extent) (h : LiesAlone copies id e) where
-  clear : (order : List (ObjectId × EvictionInfo)) → InSyncBut (id ∷ []) copies order → begins_in e.offset order ≡ false
+  clear : (order : List (ObjectId × EvictionInfo)) → InSyncExcept (id ∷ []) copies order → begins_in e.offset order ≡ false
   clear [] followed = refl
   clear (x ∷ xs) followed = λ i. by (same_id x.0 id) refl followed.0 i || clear xs followed.1 i
     where
@@ -345,7 +345,7 @@ module _ (id : ObjectId) (copies : ById CopyView) (e : Extent) (h : LiesAlone co
       by false apart known = other apart x.1.extent (sym (followed_lies copies x.0 x.1 known))
 
   pub told_settled : (s : EvictionInfo) (order new : List (ObjectId × EvictionInfo)) → s ≡ info_at (facts_in copies) id
-      → Tells id order (info_with_resident (info_in id order) (record { extent = e; classes = s.classes }) order) new → InSyncBut (id ∷ []) copies order → InSync copies new
+      → Tells id order (info_with_resident (info_in id order) (record { extent = e; classes = s.classes }) order) new → InSyncExcept (id ∷ []) copies order → InSync copies new
   told_settled s order new is tells followed =
       tells (is_in_sync copies) (one_spared id copies order followed) (λ among. ap (λ b. is_in_sync copies id (if b then after else info_in id order)) (can among) ∙ placed)
     where
@@ -362,7 +362,7 @@ module _ (id : ObjectId) (copies : ById CopyView) (e : Extent) (h : LiesAlone co
       can : is_among (order_ids order) id ≡ true → can_insert (info_in id order) (record { extent = e; classes = s.classes }) order ≡ true
       can among =
           let after_eviction = unplaced_still (info_in id order).extent
-          (ap (λ b. cond (b || false) (is_none (info_in id order).extent) (is_in_sync copies id (info_in id order))) (sym (same_id-itself id)) ∙ known (is_in_sync_but (id ∷ []) copies) id order followed among) in
+          (ap (λ b. cond (b || false) (is_none (info_in id order).extent) (is_in_sync copies id (info_in id order))) (sym (same_id-itself id)) ∙ known (is_in_sync_except (id ∷ []) copies) id order followed among) in
           let low : nat_lt e.offset 536870912 ≡ true = grind (arith, nat_tests, h.small) in
           let short : nat_lt e.length 4294967296 ≡ true = grind (arith, nat_tests, h.small) in
           λ i. after_eviction i && (low i && (short i && not (clear order followed i)))

@@ -22,8 +22,8 @@ pub use Rattle.node_table.proofs.Handing.{work_is}
 pub use Rattle.node_table.proofs.MemoryLast.{borrow_late, delete_late, end_task_late, give_up_late, leave_late, list_late, read_late, seal_late, unpin_late}
 -- a sorted table has each id once
 pub use Rattle.node_table.proofs.Listed.{distinct_from_sorted}
--- other jobs' hands as steps of a row, or of a store that isn't live
-pub use Rattle.node_table.proofs.Notes.{bare_ends, bare_receives, ends_of, first_left, lengths, none_given, others_stand, received_is, rest_of_job, rest_of_other, rest_of_task, row_ends, row_has_hands, row_receives, same_given}
+-- other jobs' grants as steps of a row, or of a store that isn't live
+pub use Rattle.node_table.proofs.Notes.{bare_ends, bare_receives, ends_of, first_left, lengths, none_given, others_stand, received_is, rest_of_job, rest_of_other, rest_of_task, row_ends, row_has_grants, row_receives, same_given}
 -- checks that passed, one by one
 pub use Rattle.node_table.proofs.Passed.{not_not, past, there}
 -- Peek as a step of a row

@@ -391,8 +391,8 @@ module _ (node : ℕ) (row : Row) (beside : SharedTables) (contents : Contents) 
         sent = add_location id ∷ []
 
         module _ (right : has_digest (take k.copy.length (placed_bytes e wrote.window.placed)) digest ≡ true) (entry : Location) (posts : List Post) where
-          abbrev told : RowGiven
-          told = record { reply = reply.Ok; posts = posts; erased = [] }
+          abbrev response : RowGiven
+          response = record { reply = reply.Ok; posts = posts; erased = [] }
 
           abbrev c_now : Change
           c_now = c node row beside contents h x refl id k a.of.found after_last_chunk wrote.window.placed sent posts
@@ -403,7 +403,7 @@ module _ (node : ℕ) (row : Row) (beside : SharedTables) (contents : Contents) 
           change_now : change node row beside contents h x ≡ c_now
           change_now = last_change verdict.Whole is ∙ sending-is sent (done (set_copy s id (after_last_chunk k).copy))
 
-          m : TakesChange node row beside contents h x c_now told (with_copy after_last_chunk wrote id) beside
+          m : TakesChange node row beside contents h x c_now response (with_copy after_last_chunk wrote id) beside
           m =
               arrives node row beside contents h x refl id k a.of.found after_last_chunk wrote.window.placed sent posts refl refl
               (λ f there. shows_here _ (brings verdict.Whole is) (after_last_chunk k).copy f refl (some_value f e (sym there ∙ lies)))
@@ -414,9 +414,9 @@ module _ (node : ℕ) (row : Row) (beside : SharedTables) (contents : Contents) 
           there_now = ap (λ t. at t id) (changed-found after_last_chunk id row.copies k a.of.found) ∙ at-put_here row.copies id (after_last_chunk k)
 
           pub whole_done : entry ≡ record { node = node; length = k.copy.length; digest = digest } → posts ≡ to_directory (AddLocation id entry)
-              → RowStep node row beside contents x told (with_copy after_last_chunk wrote id) beside
+              → RowStep node row beside contents x response (with_copy after_last_chunk wrote id) beside
           whole_done entry_is said =
-              moved node row beside contents h x c_now change_now told (with_copy after_last_chunk wrote id) beside m
+              moved node row beside contents h x c_now change_now response (with_copy after_last_chunk wrote id) beside m
               (said ∙ ap (λ en. to_directory (AddLocation id en)) (entry_is
               ∙ ap (λ n. record { node = node; length = n; digest = digest }) (sym (ap (λ p. option_map_or (λ (copy : Copy). copy.length) p 0) (at-put_here (copies_of row.copies) id (after_last_chunk k).copy)))
-              ∙ ap (λ d. record { node = node; length = length_at c_now.shape id; digest = d }) (sym ((shown_now node row beside contents h x c_now change_now told (with_copy after_last_chunk wrote id) beside m).digests id (after_last_chunk k) there_now refl ∙ ap (λ o. unwrap_or o no_digest) has))))
+              ∙ ap (λ d. record { node = node; length = length_at c_now.shape id; digest = d }) (sym ((shown_now node row beside contents h x c_now change_now response (with_copy after_last_chunk wrote id) beside m).digests id (after_last_chunk k) there_now refl ∙ ap (λ o. unwrap_or o no_digest) has))))

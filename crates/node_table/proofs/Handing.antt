@@ -13,7 +13,8 @@ use Rattle.private_store.specs.rules.Events as events
 use Rattle.store_facts.proofs.Tests.{none_some}
 use Rattle.job_region.specs.Region.{region_bytes_at as placed_bytes}
 use Rattle.spill_work.specs.declared.queue.IoRequest.{IoRequest}
-use Rattle.spill_work.specs.Line.{shown, is_write_work}
+use Rattle.spill_work.specs.Line.{shown}
+use Rattle.obj_id.specs.Works.{is_write}
 use Rattle.node_table.specs.Handed.{row_work_given, row_work_of}
 use Rattle.node_table.specs.CopyViews.{CopyView}
 use Rattle.node_table.specs.Row.{Row, SharedTables, shape_of}
@@ -35,15 +36,15 @@ module _ (row : Row) (beside : SharedTables) (contents : Contents) (h : IsShown 
         ap (option_and_then (λ (w : WorkInFlight). option_map (row_work_given row.job view w) (at view.shape.copies w.id))) flying
         ∙ ap (option_map (row_work_given row.job view (shown asked))) (at-copies_found row.copies asked.id k found)
 
-    kind_is : (kind : WorkKind) → kind ≡ cond (is_write_work kind) Write Read
+    kind_is : (kind : WorkKind) → kind ≡ cond (is_write kind) Write Read
     kind_is Write = refl
     kind_is Read = refl
 
-    pub work_so : (key n : ℕ) (payload : Option (List ℕ)) → asked.job.0 ≡ row.job → key ≡ cond (is_write_work asked.kind) asked.number (unwrap_or k.copy.backed 0) → n ≡ k.copy.length
-        → ((k : CopyView) (e : Extent) → at row.copies asked.id ≡ Some k → extent_of k.copy ≡ Some e → payload ≡ cond (is_write_work asked.kind) (Some (take k.copy.length (placed_bytes e row.window.placed))) None)
+    pub work_so : (key n : ℕ) (payload : Option (List ℕ)) → asked.job.0 ≡ row.job → key ≡ cond (is_write asked.kind) asked.number (unwrap_or k.copy.backed 0) → n ≡ k.copy.length
+        → ((k : CopyView) (e : Extent) → at row.copies asked.id ≡ Some k → extent_of k.copy ≡ Some e → payload ≡ cond (is_write asked.kind) (Some (take k.copy.length (placed_bytes e row.window.placed))) None)
         → ◌≡◌ {A = Option (Work (List ℕ))} (Some (record { job = asked.job; number = asked.number; kind = asked.kind; key = record { job = asked.job; number = key }; length = n; payload = payload })) (row_work_of row.job asked.number view)
     work_so key n payload own of_key long bytes =
         let p = place_at_work row beside contents h asked.number (shown asked) flying k found in
-        let payload_is = bytes k p.0 found p.1 ∙ ap (λ bs. cond (is_write_work asked.kind) (Some bs) None) (sym (h.bytes asked.id k p.0 found p.1)) in
+        let payload_is = bytes k p.0 found p.1 ∙ ap (λ bs. cond (is_write asked.kind) (Some bs) None) (sym (h.bytes asked.id k p.0 found p.1)) in
         (λ i. Some (record { job = record { 0 = own i }; number = asked.number; kind = kind_is asked.kind i; key = record { job = record { 0 = own i }; number = of_key i }; length = long i; payload = payload_is i }))
         ∙ sym work_is

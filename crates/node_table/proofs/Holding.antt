@@ -24,8 +24,8 @@ module _ (session : ℕ) (id : ObjectId) (es : List (ObjectId × CopyView)) (now
   there : at now id ≡ Some x
   there = checked_there (λ (o : Option CopyView). o) id es now x seen found
 
-  pub held_at : (r : Result (Option Held) Refusal) → IfOk r (λ o. IfSome o (λ told. IsHeld x session told y)) → IfOk r (λ o. IfSome o (λ told. IsHeldAt now session id told (by_rising_id new)))
-  held_at (Ok (Some told)) h =
+  pub held_at : (r : Result (Option Held) Refusal) → IfOk r (λ o. IfSome o (λ response. IsHeld x session response y)) → IfOk r (λ o. IfSome o (λ response. IsHeldAt now session id response (by_rising_id new)))
+  held_at (Ok (Some response)) h =
       let copies = written (after_hold session) id es now seen new x y found h.copy set in
       let after : at (by_rising_id new) id ≡ Some y = ap (λ t. at t id) copies ∙ at-changed_here (after_hold session) id now x there ∙ ap Some (sym h.copy) in
       record { kept = x; found = there; ready = h.ready; passed = h.passed; length = h.length; eviction_info = h.eviction_info ∙ sym (standing_found (by_rising_id new) id y after); copies = copies }
@@ -33,7 +33,7 @@ module _ (session : ℕ) (id : ObjectId) (es : List (ObjectId × CopyView)) (now
   held_at (Err e) h = tt
 
   pub unready_at : (r : Result (Option Held) Refusal) → IfOk r (λ o. IfNone o (IsUnready x y)) → IfOk r (λ o. IfNone o (IsUnreadyAt now id (by_rising_id new)))
-  unready_at (Ok (Some told)) h = tt
+  unready_at (Ok (Some response)) h = tt
   unready_at (Ok None) h = record { unready = ap (λ (o : Option CopyView). option_map_or (λ k. is_ready k.copy) o false) there ∙ h.unready; same = unwritten (after_hold session) id es now seen new x y found h.same set }
   unready_at (Err e) h = tt
 
@@ -42,8 +42,8 @@ module _ (session : ℕ) (id : ObjectId) (es : List (ObjectId × CopyView)) (now
   refused_at (Err e) h = record { kept = x; found = there; ready = h.ready; refused = h.refused; late = h.late; same = unwritten (after_hold session) id es now seen new x y found h.same set }
 
 -- a hold takes no bytes
-pub taken-held : (session : ℕ) (x y : CopyView) (r : Result (Option Held) Refusal) → IfOk r (λ o. IfSome o (λ told. IsHeld x session told y)) → IfOk r (λ o. IfNone o (IsUnready x y)) → IfErr r (λ refusal. IsHoldRefused x refusal y) → footprint_by y ≡ footprint_by x
-taken-held session x y (Ok (Some told)) some none refused = ap footprint_by some.copy
+pub taken-held : (session : ℕ) (x y : CopyView) (r : Result (Option Held) Refusal) → IfOk r (λ o. IfSome o (λ response. IsHeld x session response y)) → IfOk r (λ o. IfNone o (IsUnready x y)) → IfErr r (λ refusal. IsHoldRefused x refusal y) → footprint_by y ≡ footprint_by x
+taken-held session x y (Ok (Some response)) some none refused = ap footprint_by some.copy
 taken-held session x y (Ok None) some none refused = ap footprint_by none.same
 taken-held session x y (Err e) some none refused = ap footprint_by refused.same
 

@@ -21,7 +21,7 @@ use Rattle.private_store.specs.rules.Room.{set_copy, drop_copy}
 use Rattle.private_store.specs.rules.Change.{done, sending, erasing, settled, keys_gone}
 use Rattle.private_store.specs.rules.Commands.{leave_one, at_each, with_holds}
 use Rattle.private_store.specs.rules.Contents.{Contents, judge, keeps_digest, no_digest}
-use Rattle.private_store.specs.laws.Invariants.{has_hand}
+use Rattle.private_store.specs.laws.Invariants.{has_grant}
 use Rattle.private_store.specs.rules.Private.{key_of}
 use Rattle.private_store.specs.rules.Step.{step, reordered}
 use Rattle.store_facts.proofs.Filling.{filled, below_none}
@@ -124,7 +124,7 @@ module _ (node : ℕ) (row : Row) (beside : SharedTables) (contents : Contents) 
             carried (λ z. keeps_digest z.copy ≡ true → unwrap_or (at (digests_now node row beside contents h x (so_far s)) q) no_digest ≡ unwrap_or z.digest no_digest) (λ z p. p) q y found
             (λ z there keeps. m.digests q z there keeps) keeps;
         working = λ q y found. carried (λ z. z.working ≡ work_on beside.works q) (λ z p. p) q y found (λ z there. m.working q z there);
-        granted = λ q y found. carried (λ z. z.granted ≡ has_hand beside.given q) (λ z p. p) q y found (λ z there. m.granted q z there);
+        granted = λ q y found. carried (λ z. z.granted ≡ has_grant beside.given q) (λ z p. p) q y found (λ z there. m.granted q z there);
         received = m.received;
         reply = m.reply;
         erased = m.erased;

@@ -21,7 +21,7 @@ use Rattle.private_store.specs.rules.Limits.{most_holds, most_works, has_numbers
 use Rattle.private_store.specs.rules.Tables.{ById, at, ids_of}
 use Rattle.private_store.specs.rules.Shape.{Copy, Shape, Change, Fetch, Phase, locating, sized, pulling, failed, add_location, locate, pull}
 use Rattle.private_store.specs.rules.Copies.{is_sealed}
-use Rattle.private_store.specs.rules.Hands.{Hand}
+use Rattle.private_store.specs.rules.Grants.{StandingGrant}
 use Rattle.private_store.specs.laws.Invariants.{is_remembered}
 use Rattle.private_store.specs.rules.Room.{Room, set_copy, works_left, make_room}
 use Rattle.private_store.specs.rules.Change.{refused, replied, done, sending, in_room, erasing}
@@ -291,8 +291,8 @@ module _ (node : ℕ) (row : Row) (beside : SharedTables) (contents : Contents) 
 
 module _ (node : ℕ) (row : Row) (line : WorkLine) where
   pub create_due : (id : ObjectId) (kind : Kind) (n : ℕ) → create_check row id n ≡ None → IsPlannedFor row line n → (id.job.0 == row.job) ≡ true → IsDueMore node row line (command.Create id kind n)
-  create_due id kind n passed may mine session hands bytes contents h =
-      create_late node row (beside_of line hands bytes row.job) contents session h id kind n mine passed (may hands bytes contents h)
+  create_due id kind n passed may mine session grants bytes contents h =
+      create_late node row (beside_of line grants bytes row.job) contents session h id kind n mine passed (may grants bytes contents h)
 
   module _ (id : ObjectId) (alive : is_remembered row.ended_tasks id.task ≡ false) where
     abbrev IsGetDue : Type 0
@@ -300,28 +300,28 @@ module _ (node : ℕ) (row : Row) (line : WorkLine) where
 
     -- a hold that was out of memory
     pub held_due : (r : Refusal) → r ≡ NoMemory → (new : ById CopyView) → IsHoldRefusedAt row.copies id r new → IsGetDue
-    held_due r is new refused mine session hands bytes contents h =
-        held_late node row (beside_of line hands bytes row.job) contents session h id mine alive refused.kept refused.found
+    held_due r is new refused mine session grants bytes contents h =
+        held_late node row (beside_of line grants bytes row.job) contents session h id mine alive refused.kept refused.found
         (not_true refused.kept.copy.doomed (both_right (is_sealed refused.kept.copy.state) _ refused.ready)) (sealed_is refused.kept.copy.state (both_left _ (not refused.kept.copy.doomed) refused.ready)) (refused.late is)
 
     pub fetch_due : at row.copies id ≡ None → fetch_check row.copies row.fetches_begun ≡ None → IsGetDue
-    fetch_due none passed mine session hands bytes contents h = fetch_late node row (beside_of line hands bytes row.job) contents session h id mine alive none passed
+    fetch_due none passed mine session grants bytes contents h = fetch_late node row (beside_of line grants bytes row.job) contents session h id mine alive none passed
 
     module _ (k : CopyView) (found : at row.copies id ≡ Some k) (unmarked : k.copy.doomed ≡ false) where
       pub again_due : k.copy.state ≡ Fetching → (f : Fetch) → k.copy.fetch ≡ Some f → (phase : Phase) → f.phase ≡ phase → is_asked phase ≡ true → IsGetDue
-      again_due is f fetched phase at_phase asked mine session hands bytes contents h =
-          again_late node row (beside_of line hands bytes row.job) contents session h id mine alive k found unmarked is f fetched phase at_phase asked
+      again_due is f fetched phase at_phase asked mine session grants bytes contents h =
+          again_late node row (beside_of line grants bytes row.job) contents session h id mine alive k found unmarked is f fetched phase at_phase asked
 
       pub pull_due : k.copy.state ≡ Fetching → IsSized row.window.quota k.copy → IsPlannedFor row line k.copy.length → IsGetDue
-      pull_due is z may mine session hands bytes contents h =
-          pull_late node row (beside_of line hands bytes row.job) contents session h id mine alive k found unmarked is z (may hands bytes contents h)
+      pull_due is z may mine session grants bytes contents h =
+          pull_late node row (beside_of line grants bytes row.job) contents session h id mine alive k found unmarked is z (may grants bytes contents h)
 
       pub restore_due : k.copy.state ≡ Away → k.copy.fault ≡ None → in_flight line id.job < most_works → (n : ℕ) → n ≡ k.copy.length → (plan : RoomPlan)
-          → ((hands : List Hand) (bytes : ObjectId → List ℕ) (contents : Contents) → IsShown row (beside_of line hands bytes row.job) contents → plan ≡ planned_by row.order (shape_of row (beside_of line hands bytes row.job)) n)
+          → ((grants : List StandingGrant) (bytes : ObjectId → List ℕ) (contents : Contents) → IsShown row (beside_of line grants bytes row.job) contents → plan ≡ planned_by row.order (shape_of row (beside_of line grants bytes row.job)) n)
           → (makes_place plan ≡ true → has_numbers (used_by line id.job) 1 ≡ true) → refuses plan ≡ false → IsGetDue
-      restore_due is sound idle n long plan is_plan numbered may mine session hands bytes contents h =
-          let beside = beside_of line hands bytes row.job in
+      restore_due is sound idle n long plan is_plan numbered may mine session grants bytes contents h =
+          let beside = beside_of line grants bytes row.job in
           let own = own_job id.job row.job mine in
-          let same = is_plan hands bytes contents h ∙ ap (planned_by row.order (shape_of row beside)) long in
+          let same = is_plan grants bytes contents h ∙ ap (planned_by row.order (shape_of row beside)) long in
           restore_late node row beside contents session h id k (fault_is node row beside contents session id mine alive h k found unmarked is None sound) (few_works line id.job row.job own idle)
           (λ placed. ap (λ j. has_numbers (used_by line j) 1) (sym own) ∙ numbered (ap makes_place same ∙ placed)) (sym (ap refuses same) ∙ may)

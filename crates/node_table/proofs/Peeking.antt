@@ -16,7 +16,7 @@ use Rattle.private_store.specs.rules.Shape.{Shape, Change, Seen}
 use Rattle.private_store.specs.rules.Change.{replied, refused, checked, erasing}
 use Rattle.private_store.specs.rules.Commands.{peek}
 use Rattle.private_store.specs.rules.Contents.{Contents, bytes_at, whole_reply}
-use Rattle.private_store.specs.rules.Hands.{Hand}
+use Rattle.private_store.specs.rules.Grants.{StandingGrant}
 use Rattle.store_facts.proofs.Checks.{checked-nil}
 use Rattle.store_facts.proofs.Tests.{true_false}
 use Rattle.grants.specs.Table.{shows}
@@ -26,34 +26,34 @@ use Rattle.node_table.specs.Granting.{peek_check, peek_reply}
 use Rattle.node_table.specs.Row.{Row, SharedTables, beside_of, shape_of}
 use Rattle.node_table.specs.Shown.{seen, IsShown, only, RowStep}
 use Rattle.node_table.proofs.ByChecks.{unless_refused, first-check, needing-by, called}
-use Rattle.node_table.proofs.Notes.{row_has_hands}
+use Rattle.node_table.proofs.Notes.{row_has_grants}
 use Rattle.node_table.proofs.Passed.{past, not_not}
 use Rattle.node_table.proofs.Received.{filled_at}
 use Rattle.node_table.proofs.Stepping.{change, stays}
 
--- what is done with an object that is seen, by whether there is a hand of it
-seen_if : (s : Shape) (n : ℕ) (f : Seen → Change) (rest : Option Refusal) (d : Change) → ((seen : Seen) → seen.length ≡ n → f seen ≡ unless_refused s rest d) → (test : Hand → Bool) (hands : List Hand)
-    → option_map_or f (seen_by n (map as_taken (filter test hands))) (refused s NotGranted) ≡ unless_refused s (cond (not (list_any test hands)) (Some NotGranted) rest) d
+-- what is done with an object that is seen, by whether there is a grant of it
+seen_if : (s : Shape) (n : ℕ) (f : Seen → Change) (rest : Option Refusal) (d : Change) → ((seen : Seen) → seen.length ≡ n → f seen ≡ unless_refused s rest d) → (test : StandingGrant → Bool) (grants : List StandingGrant)
+    → option_map_or f (seen_by n (map as_taken (filter test grants))) (refused s NotGranted) ≡ unless_refused s (cond (not (list_any test grants)) (Some NotGranted) rest) d
 seen_if s n f rest d each test [] = refl
-seen_if s n f rest d each test (hand ∷ hands) =
-    elim (test hand) as (λ b. option_map_or f (seen_by n (map as_taken (cond b (hand ∷ filter test hands) (filter test hands)))) (refused s NotGranted)
-    ≡ unless_refused s (cond (not (b || list_any test hands)) (Some NotGranted) rest) d) [
-      | true ↦ each (record { length = n; hands = as_taken hand ∷ map as_taken (filter test hands) }) refl
-      | false ↦ seen_if s n f rest d each test hands
+seen_if s n f rest d each test (grant ∷ grants) =
+    elim (test grant) as (λ b. option_map_or f (seen_by n (map as_taken (cond b (grant ∷ filter test grants) (filter test grants)))) (refused s NotGranted)
+    ≡ unless_refused s (cond (not (b || list_any test grants)) (Some NotGranted) rest) d) [
+      | true ↦ each (record { length = n; grants = as_taken grant ∷ map as_taken (filter test grants) }) refl
+      | false ↦ seen_if s n f rest d each test grants
     ]
 
-some_seen : (n : ℕ) (test : Hand → Bool) (hands : List Hand) → list_any test hands ≡ true → is_some (seen_by n (map as_taken (filter test hands))) ≡ true
+some_seen : (n : ℕ) (test : StandingGrant → Bool) (grants : List StandingGrant) → list_any test grants ≡ true → is_some (seen_by n (map as_taken (filter test grants))) ≡ true
 some_seen n test [] = λ e. true_false e
-some_seen n test (hand ∷ hands) =
-    elim (test hand) as (λ b. (b || list_any test hands) ≡ true → is_some (seen_by n (map as_taken (cond b (hand ∷ filter test hands) (filter test hands)))) ≡ true) [
+some_seen n test (grant ∷ grants) =
+    elim (test grant) as (λ b. (b || list_any test grants) ≡ true → is_some (seen_by n (map as_taken (cond b (grant ∷ filter test grants) (filter test grants)))) ≡ true) [
       | true ↦ λ e. refl
-      | false ↦ λ e. some_seen n test hands e
+      | false ↦ λ e. some_seen n test grants e
     ]
 
-module _ (node : ℕ) (line : WorkLine) (hands : List Hand) (bytes : ObjectId → List ℕ) (row : Row) (contents : Contents) (session : ℕ) (id : ObjectId) (offset n : ℕ)
-    (h : IsShown row (beside_of line hands bytes row.job) contents) where
+module _ (node : ℕ) (line : WorkLine) (grants : List StandingGrant) (bytes : ObjectId → List ℕ) (row : Row) (contents : Contents) (session : ℕ) (id : ObjectId) (offset n : ℕ)
+    (h : IsShown row (beside_of line grants bytes row.job) contents) where
   abbrev beside : SharedTables
-  beside = beside_of line hands bytes row.job
+  beside = beside_of line grants bytes row.job
 
   abbrev s : Shape
   s = shape_of row beside
@@ -62,7 +62,7 @@ module _ (node : ℕ) (line : WorkLine) (hands : List Hand) (bytes : ObjectId �
   x = input.Call session (command.Peek id offset n)
 
   abbrev check : Option Refusal
-  check = peek_check hands row.job id (length (bytes id)) offset n
+  check = peek_check grants row.job id (length (bytes id)) offset n
 
   abbrev whole : Option Refusal
   whole = cond (nat_lt most_bytes n) (Some BadSize) (cond (nat_lt (length (bytes id)) (offset + n)) (Some OutOfBounds) None)
@@ -80,31 +80,31 @@ module _ (node : ℕ) (line : WorkLine) (hands : List Hand) (bytes : ObjectId �
   peek-by =
       first-check s (id.job.0 == row.job) NotGranted [] _ _ (replied s (reply.Bytes n))
       (checked-nil s _ ∙ needing-by s (at s.received id) NotGranted looked
-      ∙ ap (λ o. option_map_or looked o (refused s NotGranted)) ((row_has_hands line hands bytes row).taken id)
-      ∙ seen_if s (length (bytes id)) looked whole (replied s (reply.Bytes n)) looked-by (shows id row.job) hands)
+      ∙ ap (λ o. option_map_or looked o (refused s NotGranted)) ((row_has_grants line grants bytes row).taken id)
+      ∙ seen_if s (length (bytes id)) looked whole (replied s (reply.Bytes n)) looked-by (shows id row.job) grants)
 
-  abbrev brief : Option Refusal → Reply ℕ
-  brief o = option_map_or reply.Refused o (reply.Bytes n)
+  abbrev replay_state : Option Refusal → Reply ℕ
+  replay_state o = option_map_or reply.Refused o (reply.Bytes n)
 
-  as_replied : (o : Option Refusal) → unless_refused s o (replied s (reply.Bytes n)) ≡ replied s (brief o)
+  as_replied : (o : Option Refusal) → unless_refused s o (replied s (reply.Bytes n)) ≡ replied s (replay_state o)
   as_replied None = refl
   as_replied (Some r) = refl
 
-  peek-is : change node row beside contents h x ≡ erasing s (replied s (brief check))
+  peek-is : change node row beside contents h x ≡ erasing s (replied s (replay_state check))
   peek-is = called row beside session (command.Peek id offset n) ∙ ap (erasing s) (peek-by ∙ as_replied check)
 
   -- what is seen has its bytes
-  bytes_seen : list_any (shows id row.job) hands ≡ true → bytes_at contents.received id ≡ bytes id
+  bytes_seen : list_any (shows id row.job) grants ≡ true → bytes_at contents.received id ≡ bytes id
   bytes_seen sees =
       ap (λ t. bytes_at t id) h.received
-      ∙ ap (λ o. unwrap_or o []) (filled_at bytes beside.received id (ap is_some ((row_has_hands line hands bytes row).taken id) ∙ some_seen (length (bytes id)) (shows id row.job) hands sees))
+      ∙ ap (λ o. unwrap_or o []) (filled_at bytes beside.received id (ap is_some ((row_has_grants line grants bytes row).taken id) ∙ some_seen (length (bytes id)) (shows id row.job) grants sees))
 
-  told : (o : Option Refusal) → check ≡ o → whole_reply (seen row beside contents) x (brief o) ≡ option_map_or reply.Refused o (reply.Bytes (take n (drop offset (bytes id))))
-  told (Some r) e = refl
-  told None e =
+  response : (o : Option Refusal) → check ≡ o → whole_reply (seen row beside contents) x (replay_state o) ≡ option_map_or reply.Refused o (reply.Bytes (take n (drop offset (bytes id))))
+  response (Some r) e = refl
+  response None e =
       let foreign = past (id.job.0 == row.job) NotGranted _ e in
-      let sees = past (not (list_any (shows id row.job) hands)) NotGranted whole foreign.1 in
-      ap (λ bs. reply.Bytes (take n (drop offset bs))) (bytes_seen (not_not (list_any (shows id row.job) hands) sees.0))
+      let sees = past (not (list_any (shows id row.job) grants)) NotGranted whole foreign.1 in
+      ap (λ bs. reply.Bytes (take n (drop offset bs))) (bytes_seen (not_not (list_any (shows id row.job) grants) sees.0))
 
-  pub peeks : RowStep node row beside contents x (only (peek_reply hands row.job id (bytes id) offset n)) row beside
-  peeks = subst (λ r. RowStep node row beside contents x (only r) row beside) (told check refl) (stays node row beside contents h x (brief check) peek-is refl refl refl)
+  pub peeks : RowStep node row beside contents x (only (peek_reply grants row.job id (bytes id) offset n)) row beside
+  peeks = subst (λ r. RowStep node row beside contents x (only r) row beside) (response check refl) (stays node row beside contents h x (replay_state check) peek-is refl refl refl)

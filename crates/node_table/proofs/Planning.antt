@@ -282,6 +282,6 @@ module _ (row : Row) (beside : SharedTables) (contents : Contents) (h : IsShown 
           (walked ∙ ap (total device_bytes) same ∙ device_is row beside contents h) (counted ∙ ap (in_flight line) own ∙ ap length (sym works_are))))
 
       pub plan_exit : (p : Kind) → ((store : Shape) → IsDescribed store window device (facts_at copies) → p ≡ plan_kind_of (plan row.order store n))
-          → (asked : ℕ) → asked ≡ used_by line job → (failed : Bool) → failed ≡ row.spill_failed → (told : RoomPlan) → ((offset : ℕ) → told ≡ by_kind asked failed offset p) → told ≡ planned_by row.order s n
-      plan_exit p is_plan asked is_asked failed is_failed told is =
+          → (asked : ℕ) → asked ≡ used_by line job → (failed : Bool) → failed ≡ row.spill_failed → (response : RoomPlan) → ((offset : ℕ) → response ≡ by_kind asked failed offset p) → response ≡ planned_by row.order s n
+      plan_exit p is_plan asked is_asked failed is_failed response is =
           is (place_as_it_is s n) ∙ (λ i. by_kind ((is_asked ∙ ap (used_by line) own ∙ sym used_is) i) (is_failed i) (place_as_it_is s n) (is_plan s as_described i))

@@ -219,15 +219,15 @@ module _ (node : ℕ) (row : Row) (beside : SharedTables) (contents : Contents) 
     abbrev pub new : Row
     new = replaced row None id now n offset victims
 
-    abbrev pub told : RowGiven
-    told = record { reply = reply.Refused Pending; posts = removals node row.copies victims ++ message ∷ []; erased = [] }
+    abbrev pub response : RowGiven
+    response = record { reply = reply.Refused Pending; posts = removals node row.copies victims ++ message ∷ []; erased = [] }
 
     abbrev after : View
     after = view_after node (seen row beside contents) x (judge node (seen row beside contents) x) change
 
     shown : IsShown new beside after.contents
     shown = shown_now node row beside contents h x change (change_is node row beside contents h x quiet n f by_room victims makes placed id now nowhere stays offset lies refl least free
-        beside.works beside.used None shape_is refl (λ u none. none_some u none) (λ _. h.listed id k found) of_digest (h.working id k found) (λ q differs. refl) (h.granted id k found)) told new beside
+        beside.works beside.used None shape_is refl (λ u none. none_some u none) (λ _. h.listed id k found) of_digest (h.working id k found) (λ q differs. refl) (h.granted id k found)) response new beside
         (m node row beside contents h x quiet n f by_room victims makes placed id now nowhere stays offset lies refl least free
         beside.works beside.used None shape_is refl (λ u none. none_some u none) (λ _. h.listed id k found) of_digest (h.working id k found) (λ q differs. refl) (h.granted id k found) (message ∷ []))
 
@@ -239,7 +239,7 @@ module _ (node : ℕ) (row : Row) (beside : SharedTables) (contents : Contents) 
         ∙ ap (λ d. to_peer source (Pull id fetch.number n d missing) ∷ []) (shown.digests id now (here node row beside contents h x quiet n f by_room victims makes placed id now nowhere stays offset lies refl least free
         beside.works beside.used None shape_is refl (λ u none. none_some u none) (λ _. h.listed id k found) of_digest (h.working id k found) (λ q differs. refl) (h.granted id k found)) keeps_now)
 
-    pub pull_done : RowStep node row beside contents x told new beside
+    pub pull_done : RowStep node row beside contents x response new beside
     pull_done =
         placed_done node row beside contents h x quiet n f by_room victims makes placed id now nowhere stays offset lies refl least free
         beside.works beside.used None shape_is refl (λ u none. none_some u none) (λ _. h.listed id k found) of_digest (h.working id k found) (λ q differs. refl) (h.granted id k found) (message ∷ [])

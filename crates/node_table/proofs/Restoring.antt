@@ -21,7 +21,7 @@ use Rattle.private_store.specs.rules.Commands.{restore, restoring as restored}
 use Rattle.private_store.specs.rules.Contents.{Contents, judge, keeps_digest, is_sized}
 use Rattle.private_store.specs.rules.Copies.{was_sealed, is_sealed}
 use Rattle.private_store.specs.rules.Extents.{first}
-use Rattle.private_store.specs.rules.Hands.{Hand}
+use Rattle.private_store.specs.rules.Grants.{StandingGrant}
 use Rattle.private_store.specs.laws.Invariants.{is_remembered, is_restoring, is_fetching, has_write, has_read}
 use Rattle.private_store.specs.rules.Limits.{most_works, longest_object, has_numbers}
 use Rattle.private_store.specs.rules.Room.{make_room, offset_without, works_left}
@@ -153,11 +153,11 @@ module _ (node : ℕ) (row : Row) (beside : SharedTables) (contents : Contents) 
             (sym (work_before beside.works (work ∷ []) id no_work ∙ one_work work id refl refl)) (λ q differs. work_after beside.works (work ∷ []) q (no_other work q differs)) (h.granted id k found) [] refl)
 
 -- what a job sees once a read was asked for
-pub asked_beside : (old new : WorkLine) (job number : ℕ) (id : ObjectId) (hands : List Hand) (bytes : ObjectId → List ℕ) → AsksWork old (record { job = record { 0 = job }; number = number; id = id; kind = Read }) new
-    → beside_of new hands bytes job ≡ record (beside_of old hands bytes job) { works = (beside_of old hands bytes job).works ++ record { number = used_by old (record { 0 = job }) + 1; id = id; writes = false } ∷ []; used = used_by old (record { 0 = job }) + 1 }
-asked_beside old new job number id hands bytes asks =
-    (λ i. record (beside_of old hands bytes job) { works = asks.own_works i; used = asks.own_used i })
-    ∙ ap (λ m. record (beside_of old hands bytes job) { works = (beside_of old hands bytes job).works ++ record { number = m; id = id; writes = false } ∷ []; used = m }) asks.number
+pub asked_beside : (old new : WorkLine) (job number : ℕ) (id : ObjectId) (grants : List StandingGrant) (bytes : ObjectId → List ℕ) → AsksWork old (record { job = record { 0 = job }; number = number; id = id; kind = Read }) new
+    → beside_of new grants bytes job ≡ record (beside_of old grants bytes job) { works = (beside_of old grants bytes job).works ++ record { number = used_by old (record { 0 = job }) + 1; id = id; writes = false } ∷ []; used = used_by old (record { 0 = job }) + 1 }
+asked_beside old new job number id grants bytes asks =
+    (λ i. record (beside_of old grants bytes job) { works = asks.own_works i; used = asks.own_used i })
+    ∙ ap (λ m. record (beside_of old grants bytes job) { works = (beside_of old grants bytes job).works ++ record { number = m; id = id; writes = false } ∷ []; used = m }) asks.number
 
 -- ---- works and numbers of the line
 

@@ -29,7 +29,7 @@ use Rattle.private_store.specs.rules.Shape.{Copy, Shape, Change, Sending, WorkIn
 use Rattle.private_store.specs.rules.Copies.{extent_of, is_sealed, was_sealed, is_evictable, is_idle, device_used}
 use Rattle.private_store.specs.rules.Room.{Room, make_room, offset_without, no_room, evict_room, evicted}
 use Rattle.private_store.specs.rules.Change.{refused, sending, erasing, in_room}
-use Rattle.private_store.specs.laws.Invariants.{IsOrderOfUse, has_hand}
+use Rattle.private_store.specs.laws.Invariants.{IsOrderOfUse, has_grant}
 use Rattle.private_store.specs.rules.Contents.{Contents, View, judge, keeps_digest, no_digest, whole_reply, brought, is_sized}
 use Rattle.private_store.specs.rules.Private.{Post, key_of, posts_of, to_directory, view_after}
 use Rattle.private_store.specs.rules.Step.{step, reordered, is_used}
@@ -48,7 +48,7 @@ use Rattle.node_table.specs.Entries.{changed}
 use Rattle.node_table.specs.Evicting.{has_secondary, evicted_one, all_evicted, removals, placed_without, MayGo, replaced}
 use Rattle.node_table.specs.CopyViews.{CopyView, after_eviction, is_sealed_at}
 use Rattle.node_table.specs.MadeRooms.{BringsNothing, TellsRoom}
-use Rattle.node_table.specs.RoomPlans.{MakesPlace, row_facts_of, is_idle as is_idle_here}
+use Rattle.node_table.specs.RoomPlans.{MakesPlace, row_facts_of, is_idle_view}
 use Rattle.node_table.specs.Row.{Row, SharedTables, copies_of, shape_of, place_of, ArePlaced}
 use Rattle.node_table.specs.Shown.{seen, work_on, IsShown, RowGiven, only, RowStep}
 use Rattle.node_table.proofs.ByChecks.{sending-is}
@@ -166,7 +166,7 @@ module _ (copies : ById CopyView) where
     where
       by : (o : Option CopyView) → option_map_or (λ (f : CopyFacts). f.evictable) (option_map row_facts_of o) false ≡ true → option_map_or (λ (k : CopyView). is_sealed k.copy.state) o false ≡ true
       by None t = t
-      by (Some k) t = both_left (is_sealed k.copy.state) (is_idle_here k) (both_left (is_sealed k.copy.state && is_idle_here k) _ t)
+      by (Some k) t = both_left (is_sealed k.copy.state) (is_idle_view k) (both_left (is_sealed k.copy.state && is_idle_view k) _ t)
 
   is_there : (q : ObjectId) → option_map_or (λ (f : CopyFacts). f.evictable) (option_map row_facts_of (at copies q)) false ≡ true → is_some (at copies q) ≡ true
   is_there q = by (at copies q)
@@ -259,8 +259,8 @@ module _ (node : ℕ) (row : Row) (beside : SharedTables) (contents : Contents) 
   -- that a spill failed is answered, and then forgotten
   pub failed_told : make_room row.order s n ≡ no_room (record s { spill_failed = false }) DeviceFailed → RowStep node row beside contents x (only (reply.Refused DeviceFailed)) (record row { spill_failed = false }) beside
   failed_told is =
-      let told : Shape = record s { spill_failed = false } in
-      moved node row beside contents h x (erasing s (refused told DeviceFailed)) (room_is (no_room told DeviceFailed) is ∙ ap (erasing s) (sending-is [] (refused told DeviceFailed)))
+      let response : Shape = record s { spill_failed = false } in
+      moved node row beside contents h x (erasing s (refused response DeviceFailed)) (room_is (no_room response DeviceFailed) is ∙ ap (erasing s) (sending-is [] (refused response DeviceFailed)))
       (only (reply.Refused DeviceFailed)) (record row { spill_failed = false }) beside (record {
         shape = refl;
         order = sym (reordered-unused row.order (copies_of row.copies) h.there);
@@ -288,7 +288,7 @@ module _ (node : ℕ) (row : Row) (beside : SharedTables) (contents : Contents) 
           (used_is : (u : ObjectId) → used ≡ Some u → u ≡ id) (in_order : used ≡ None → is_among row.order id ≡ true)
           (of_digest : keeps_digest k.copy ≡ true → unwrap_or (at contents.digests id) no_digest ≡ unwrap_or k.digest no_digest)
           (of_work : k.working ≡ work_on works id) (same_works : (q : ObjectId) → same_id q id ≡ false → work_on works q ≡ work_on beside.works q)
-          (of_hand : k.granted ≡ has_hand beside.given id) where
+          (of_grant : k.granted ≡ has_grant beside.given id) where
         abbrev d : Change
         d = f (record s { copies = copies_of (all_evicted victims row.copies) }) offset
 
@@ -447,9 +447,9 @@ module _ (node : ℕ) (row : Row) (beside : SharedTables) (contents : Contents) 
           ]
         ]
 
-        granted_now : (q : ObjectId) (y : CopyView) → at new.copies q ≡ Some y → y.granted ≡ has_hand beside.given q
+        granted_now : (q : ObjectId) (y : CopyView) → at new.copies q ≡ Some y → y.granted ≡ has_grant beside.given q
         granted_now q y found = elim (stands_at q y found) [
-          | inl t ↦ ap (λ (z : CopyView). z.granted) (sym t.1) ∙ of_hand ∙ ap (has_hand beside.given) (sym (same_id-equal q id t.0))
+          | inl t ↦ ap (λ (z : CopyView). z.granted) (sym t.1) ∙ of_grant ∙ ap (has_grant beside.given) (sym (same_id-equal q id t.0))
           | inr w ↦ elim w.is [
             | inl t ↦ ap (λ (z : CopyView). z.granted) (sym t.1) ∙ h.granted q w.was w.found
             | inr t ↦ ap (λ (z : CopyView). z.granted) (sym t.2) ∙ h.granted q w.was w.found
@@ -480,10 +480,10 @@ module _ (node : ℕ) (row : Row) (beside : SharedTables) (contents : Contents) 
         now_is = ap (λ (t : Shape). t.copies) d_shape ∙ copies_is
 
         module _ (posts : List Post) where
-          abbrev pub told : RowGiven
-          told = record { reply = whole_reply bf x d.reply; posts = removals node row.copies victims ++ posts; erased = [] }
+          abbrev pub response : RowGiven
+          response = record { reply = whole_reply bf x d.reply; posts = removals node row.copies victims ++ posts; erased = [] }
 
-          pub m : TakesChange node row beside contents h x c told new after
+          pub m : TakesChange node row beside contents h x c response new after
           m = record {
             shape = d_shape ∙ ap (λ t. record s { copies = t; works = works; works_asked = numbers }) copies_is;
             order = ap (reordered row.order (copies_of new.copies)) d_used ∙ order_is;
@@ -502,9 +502,9 @@ module _ (node : ℕ) (row : Row) (beside : SharedTables) (contents : Contents) 
           posts_are [] o more = refl
           posts_are (q ∷ ids) o more = ap (λ ps. to_directory (RemoveLocation q node) ++ ps) (posts_are ids o more)
 
-          pub placed_done : posts ≡ flat_map (posts_of node (view_after node bf x (judge node bf x) c) x) d.sent → RowStep node row beside contents x told new after
+          pub placed_done : posts ≡ flat_map (posts_of node (view_after node bf x (judge node bf x) c) x) d.sent → RowStep node row beside contents x response new after
           placed_done posts_is =
-              moved node row beside contents h x c change_is told new after m
+              moved node row beside contents h x c change_is response new after m
               (ap (λ ps. removals node row.copies victims ++ ps) posts_is ∙ posts_are (filter (has_secondary row.copies) victims) (view_after node bf x (judge node bf x) c) d.sent)
 
 -- whatever waited for the room

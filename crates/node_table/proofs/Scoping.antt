@@ -42,7 +42,7 @@ use Rattle.node_table.proofs.CopyTables.{at-copies_found}
 use Rattle.node_table.proofs.Passed.{past, there}
 use Rattle.node_table.proofs.Settling.{IsMinor, BringsNothing, settled-stays, stays_so, settles}
 use Rattle.node_table.proofs.Stepping.{change, stays}
-use Rattle.node_table.specs.RoomPlans.{is_idle}
+use Rattle.node_table.specs.RoomPlans.{is_idle_view}
 
 -- ---- what the changes leave as it was
 
@@ -144,9 +144,9 @@ scoped-copy k = by (in_scope k.copy)
 -- ---- messages
 
 module _ (node : ℕ) (id : ObjectId) (o : View) (x : Input) where
-  told-is : (k : CopyView) (a : Copy) → a.state ≡ k.copy.state → a.kind ≡ k.copy.kind → a.doomed ≡ false
+  response-is : (k : CopyView) (a : Copy) → a.state ≡ k.copy.state → a.kind ≡ k.copy.kind → a.doomed ≡ false
       → notice_posts (removal_notice node id k) ≡ flat_map (posts_of node o x) (option_to_list (notice_of id a))
-  told-is k a state kind sound =
+  response-is k a state kind sound =
       by (was_sealed k.copy.state) (is_primary k.copy.kind)
       ∙ sym (λ i. flat_map (posts_of node o x) (option_to_list (cond (was_sealed (state i) && not (sound i)) (cond (is_primary (kind i)) (Some (free id)) (Some (remove_location id))) None)))
     where
@@ -162,7 +162,7 @@ module _ (node : ℕ) (id : ObjectId) (o : View) (x : Input) where
     where
       by : (b : Bool) → notice_posts (removal_notice_at node copies id (not b)) ≡ flat_map (posts_of node o x) (cond b [] (option_to_list (notice_of id a)))
       by true = refl
-      by false = ap (λ o. notice_posts (option_and_then (removal_notice node id) o)) found ∙ told-is k a state kind sound
+      by false = ap (λ o. notice_posts (option_and_then (removal_notice node id) o)) found ∙ response-is k a state kind sound
 
 -- ---- the commands
 
@@ -190,11 +190,11 @@ module _ (node : ℕ) (row : Row) (beside : SharedTables) (contents : Contents) 
         → (stays : Bool) → stays ≡ in_scope (g k).copy → (posts : List Post) → posts ≡ notice_posts (removal_notice_at node row.copies id (not stays))
         → ArePlaced row_scoped.window.placed (place_of row_scoped.copies)
         → RowStep node row beside contents (input.Call session c) (record { reply = reply.Ok; posts = posts; erased = keys_settled row_scoped id }) (settled_row row_scoped id) beside
-    scoped_so is stays keeps posts told placed =
+    scoped_so is stays keeps posts response placed =
         settles node row beside contents h (input.Call session c) quiet id k found (λ z. view_in_scope (g z)) (scoped-minor g k minor) (scoped_notice id (g k).copy) posts
         (is ∙ ap (erasing s) (scoped-is s id (g k).copy sorted sound
         ∙ ap (λ a. record (done (settled (set_copy s id a) id)) { sent = scoped_notice id (g k).copy }) (sym (scoped-copy (g k)))))
-        (λ o. told ∙ ap (λ b. notice_posts (removal_notice_at node row.copies id (not b))) keeps
+        (λ o. response ∙ ap (λ b. notice_posts (removal_notice_at node row.copies id (not b))) keeps
         ∙ scoped_told node id o (input.Call session c) k (g k).copy same.0 same.1 sound row.copies found) placed
 
   -- ---- Unpin
@@ -223,13 +223,13 @@ module _ (node : ℕ) (row : Row) (beside : SharedTables) (contents : Contents) 
     pub unpin_done_so : unpin_check row.copies id task ≡ None → (keeps : Bool) → keeps ≡ option_map_or (λ (k : CopyView). in_scope (record k.copy { pinned = false })) (at row.copies id) false
         → (posts : List Post) → posts ≡ notice_posts (removal_notice_at node row.copies id (not keeps)) → ArePlaced row_unpinned.window.placed (place_of row_unpinned.copies)
         → RowStep node row beside contents (input.Call session (command.Unpin id task)) (record { reply = reply.Ok; posts = posts; erased = keys_settled row_unpinned id }) (settled_row row_unpinned id) beside
-    unpin_done_so passed keeps is posts told placed =
+    unpin_done_so passed keeps is posts response placed =
         let k = there (λ k. cond k.copy.doomed (Some Absent) (unpin_check_of k (same_task task id.task))) Absent (at row.copies id) passed in
         scoped_so (command.Unpin id task) (record { bytes = refl; digest = refl; received = refl }) (λ z. record z { copy = record z.copy { pinned = false } }) k.0 k.1
         (record { lies = λ z. (refl, refl); digest = refl; keeps = λ keep. keep; working = refl; granted = refl; backed = refl })
         (refl, refl) (past k.0.copy.doomed Absent _ k.2).0
         (unpin-is None passed ∙ ap (erasing s) (it (λ copy. commands.scoped s id (record copy { pinned = false })) k.0 k.1))
-        keeps (is ∙ ap (λ o. option_map_or (λ (k : CopyView). in_scope (record k.copy { pinned = false })) o false) k.1) posts told placed
+        keeps (is ∙ ap (λ o. option_map_or (λ (k : CopyView). in_scope (record k.copy { pinned = false })) o false) k.1) posts response placed
 
     pub unpin_ok : unpin_check row.copies id task ≡ None → (change node row beside contents h (input.Call session (command.Unpin id task))).reply ≡ reply.Ok
     unpin_ok passed =
@@ -263,13 +263,13 @@ module _ (node : ℕ) (row : Row) (beside : SharedTables) (contents : Contents) 
     pub give_up_done_so : give_up_check row.copies id task ≡ None → (keeps : Bool) → keeps ≡ option_map_or (λ (k : CopyView). in_scope (without_borrower k.copy task)) (at row.copies id) false
         → (posts : List Post) → posts ≡ notice_posts (removal_notice_at node row.copies id (not keeps)) → ArePlaced row_given_up.window.placed (place_of row_given_up.copies)
         → RowStep node row beside contents (input.Call session (command.GiveUp id task)) (record { reply = reply.Ok; posts = posts; erased = keys_settled row_given_up id }) (settled_row row_given_up id) beside
-    give_up_done_so passed keeps is posts told placed =
+    give_up_done_so passed keeps is posts response placed =
         let k = there (λ k. cond k.copy.doomed (Some Absent) (give_up_check_of k task)) Absent (at row.copies id) passed in
         scoped_so (command.GiveUp id task) (record { bytes = refl; digest = refl; received = refl }) (λ z. record z { copy = without_borrower z.copy task }) k.0 k.1
         (record { lies = λ z. (refl, refl); digest = refl; keeps = λ keep. keep; working = refl; granted = refl; backed = refl })
         (refl, refl) (past k.0.copy.doomed Absent _ k.2).0
         (give_up-is None passed ∙ ap (erasing s) (it (λ copy. commands.scoped s id (without_borrower copy task)) k.0 k.1))
-        keeps (is ∙ ap (λ o. option_map_or (λ (k : CopyView). in_scope (without_borrower k.copy task)) o false) k.1) posts told placed
+        keeps (is ∙ ap (λ o. option_map_or (λ (k : CopyView). in_scope (without_borrower k.copy task)) o false) k.1) posts response placed
 
     pub give_up_ok : give_up_check row.copies id task ≡ None → (change node row beside contents h (input.Call session (command.GiveUp id task))).reply ≡ reply.Ok
     give_up_ok passed =
@@ -300,12 +300,12 @@ module _ (node : ℕ) (row : Row) (beside : SharedTables) (contents : Contents) 
 
   pub delete_done_so : delete_check row.copies id ≡ None → (posts : List Post) → posts ≡ notice_posts (removal_notice_at node row.copies id true) → ArePlaced row_doomed.window.placed (place_of row_doomed.copies)
       → RowStep node row beside contents (input.Call session (command.Delete id)) (record { reply = reply.Ok; posts = posts; erased = keys_settled row_doomed id }) (settled_row row_doomed id) beside
-  delete_done_so passed posts told placed =
+  delete_done_so passed posts response placed =
       let k = there (λ k. cond k.copy.doomed (Some Absent) (cond k.granted (Some Granted) None)) Absent (at row.copies id) passed in
       settles node row beside contents h (input.Call session (command.Delete id)) (record { bytes = refl; digest = refl; received = refl }) id k.0 k.1 after_doom (doomed-minor k.0) (option_to_list (notice_of id k.0.copy)) posts
       (delete-is None passed ∙ ap (erasing s) (it (λ copy. doom s id) k.0 k.1 ∙ doom-is s id k.0.copy (at-copies_found row.copies id k.0 k.1)))
-      (λ o. told ∙ ap (λ o. notice_posts (option_and_then (removal_notice node id) o)) k.1
-      ∙ told-is node id o (input.Call session (command.Delete id)) k.0 k.0.copy refl refl (past k.0.copy.doomed Absent _ k.2).0) placed
+      (λ o. response ∙ ap (λ o. notice_posts (option_and_then (removal_notice node id) o)) k.1
+      ∙ response-is node id o (input.Call session (command.Delete id)) k.0 k.0.copy refl refl (past k.0.copy.doomed Absent _ k.2).0) placed
 
   pub delete_ok : delete_check row.copies id ≡ None → (change node row beside contents h (input.Call session (command.Delete id))).reply ≡ reply.Ok
   delete_ok passed =
@@ -350,7 +350,7 @@ module _ (node : ℕ) (row : Row) (beside : SharedTables) (contents : Contents) 
         [] []
         (borrow-is None passed ∙ ap (erasing s) (it (λ copy. done (set_copy s id (borrowed_copy copy))) k.0 k.1
         ∙ ap done (sym (settled-stays (set_copy s id (borrowed_copy k.0.copy)) id (borrowed_copy k.0.copy) (at-put_here s.copies id (borrowed_copy k.0.copy)) sound))))
-        (λ o. refl) (ap (λ b. b && is_idle (after_borrow task k.0)) sound)
+        (λ o. refl) (ap (λ b. b && is_idle_view (after_borrow task k.0)) sound)
 
     pub borrow_ok : row_borrow_check row id task ≡ None → (change node row beside contents h (input.Call session (command.Borrow id task))).reply ≡ reply.Ok
     borrow_ok passed =

@@ -75,8 +75,8 @@ module _ (node : ℕ) (row : Row) (beside : SharedTables) (contents : Contents) 
     found = w.found
 
     module _ (is : digest ≡ digest_of (bytes_at contents.bytes id)) (messages : List Post) where
-      abbrev pub told : RowGiven
-      told = record { reply = reply.Ok; posts = messages; erased = [] }
+      abbrev pub response : RowGiven
+      response = record { reply = reply.Ok; posts = messages; erased = [] }
 
       abbrev post_of : Location → List Post
       post_of e = (Directory, ToDirectory (AddLocation id e)) ∷ []
@@ -96,7 +96,7 @@ module _ (node : ℕ) (row : Row) (beside : SharedTables) (contents : Contents) 
       copies_is : with_entry (copies_of row.copies) id now ≡ copies_of row_sealed.copies
       copies_is = sym (copies-changed (after_seal digest) row.copies id k found)
 
-      m : TakesChange node row beside contents h x c told row_sealed beside
+      m : TakesChange node row beside contents h x c response row_sealed beside
       m = record {
         shape = ap (λ t. record s { copies = t }) copies_is;
         order = sym (reordered-unused row.order (copies_of row_sealed.copies) (there_still node row beside contents h x id k found (after_seal digest) keeps row.order h.there));
@@ -122,13 +122,13 @@ module _ (node : ℕ) (row : Row) (beside : SharedTables) (contents : Contents) 
       there_now = ap (λ t. at t id) (changed-found (after_seal digest) id row.copies k found) ∙ at-put_here row.copies id (after_seal digest k)
 
       pub seal_done_so : (entry : Location) → entry.node ≡ node → ((z : CopyView) → at row.copies id ≡ Some z → entry.length ≡ z.copy.length) → entry.digest ≡ digest
-          → messages ≡ post_of entry → RowStep node row beside contents x told row_sealed beside
+          → messages ≡ post_of entry → RowStep node row beside contents x response row_sealed beside
       seal_done_so entry at_node long its posts =
-          moved node row beside contents h x c step_is told row_sealed beside m
+          moved node row beside contents h x c step_is response row_sealed beside m
           (posts ∙ ap post_of (
           ap (λ n. record { node = n; length = entry.length; digest = entry.digest }) at_node
           ∙ ap (λ n. record { node = node; length = n; digest = entry.digest }) (long k found ∙ sym (ap (λ p. option_map_or (λ copy. copy.length) p 0) (at-put_here (copies_of row.copies) id now)))
-          ∙ ap (λ d. record { node = node; length = length_at c.shape id; digest = d }) (its ∙ sym ((shown_now node row beside contents h x c step_is told row_sealed beside m).digests id (after_seal digest k) there_now refl))))
+          ∙ ap (λ d. record { node = node; length = length_at c.shape id; digest = d }) (its ∙ sym ((shown_now node row beside contents h x c step_is response row_sealed beside m).digests id (after_seal digest k) there_now refl))))
 
     pub seal_digest : (result : Digest) → result ≡ digest → ((k : CopyView) (e : Extent) → at row.copies id ≡ Some k → extent_of k.copy ≡ Some e → result ≡ digest_of (take k.copy.length (placed_bytes e row.window.placed))) → digest ≡ digest_of (bytes_at contents.bytes id)
     seal_digest result same its =

@@ -288,8 +288,8 @@ module _ (node : ℕ) (row : Row) (beside : SharedTables) (contents : Contents) 
         ∙ eqb-true k.copy.length n (both_right (was_sealed k.copy.state) _ (both_left (was_sealed k.copy.state && k.copy.length == n) _ a.matches)) in
         let is = found_is k found ∙ ap (λ a. by_answer a k.copy) e ∙ sent_is (chunks id ∷ []) in
         let c = telling node row beside contents h x reply.Ok (chunks id ∷ []) in
-        let told : RowGiven = record { reply = reply.Ok; posts = posts; erased = [] } in
-        let shown = shown_now node row beside contents h x c is told row beside (same_moves node row beside contents h x reply.Ok (chunks id ∷ []) posts refl refl refl) in
+        let response : RowGiven = record { reply = reply.Ok; posts = posts; erased = [] } in
+        let shown = shown_now node row beside contents h x c is response row beside (same_moves node row beside contents h x reply.Ok (chunks id ∷ []) posts refl refl refl) in
         tells node row beside contents h x reply.Ok (chunks id ∷ []) posts refl refl refl is
         (asked k lies.0 found lies.1
         ∙ ap (λ m. map (to_peer from) (chunks_asked bytes id number m indexes)) long
@@ -319,7 +319,7 @@ module _ (node : ℕ) (row : Row) (beside : SharedTables) (contents : Contents) 
     pub alive_restored : is_remembered row.ended_tasks id.task ≡ false
     alive_restored = (h.kept.kept.shape.each id copy (at-copies_found row.copies id read.k read.found)).of_live_task read.asked.unmarked
 
-    module _ (session : ℕ) (told : RowGiven) (new : Row) (after : SharedTables) (t : RowStep node row beside contents (input.Call session (command.Get id)) told new after) where
+    module _ (session : ℕ) (response : RowGiven) (new : Row) (after : SharedTables) (t : RowStep node row beside contents (input.Call session (command.Get id)) response new after) where
       abbrev y : Input
       y = input.Call session (command.Get id)
 
@@ -374,7 +374,7 @@ module _ (node : ℕ) (row : Row) (beside : SharedTables) (contents : Contents) 
             received = u.received;
           }
 
-      posts_are : told.posts ≡ (view_step node before x).posts
+      posts_are : response.posts ≡ (view_step node before x).posts
       posts_are =
           let vy = view_after node before y (judge node before y) (erasing s c) in
           let vx = view_after node before x (judge node before x) (quiet s c) in
@@ -385,7 +385,7 @@ module _ (node : ℕ) (row : Row) (beside : SharedTables) (contents : Contents) 
           ∙ sym (ap (flat_map (posts_of node vx x)) removes.sent)
           ∙ sym (ap (λ d. flat_map (posts_of node (view_after node before x (judge node before x) d) x) d.sent) by_pull)
 
-      pub restored_done : RowStep node row beside contents x (record { reply = reply.Ok; posts = told.posts; erased = [] }) quieted after
+      pub restored_done : RowStep node row beside contents x (record { reply = reply.Ok; posts = response.posts; erased = [] }) quieted after
       restored_done = record {
         shape = shape_is;
         order = order_is;

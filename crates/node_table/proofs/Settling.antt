@@ -95,10 +95,10 @@ module _ (node : ℕ) (row : Row) (beside : SharedTables) (contents : Contents) 
     settled_so placed false is = moved_stays is
     settled_so placed true is =
         let keys = keys_gone (copies_of row.copies) (drop_copy store id).copies in
-        let told : RowGiven = record { reply = reply.Ok; posts = posts; erased = [] } in
-        let gone = change_left node row beside contents h x (done_if false) told r after m refl placed id keys in
+        let response : RowGiven = record { reply = reply.Ok; posts = posts; erased = [] } in
+        let gone = change_left node row beside contents h x (done_if false) response r after m refl placed id keys in
         moved node row beside contents h x gone (step_is ∙ settled_is ∙ ap done_if is) (gives true) (dropped r id) after
-        (moves_left node row beside contents h x (done_if false) told r after m refl placed id keys (gives true) refl (one_key row.job k.copy.backed ∙ ap (map (key_of row.job)) (sym key)))
+        (moves_left node row beside contents h x (done_if false) response r after m refl placed id keys (gives true) refl (one_key row.job k.copy.backed ∙ ap (map (key_of row.job)) (sym key)))
         (posted (shows gone))
 
     pub moved_settles : r.job ≡ row.job → ArePlaced r.window.placed (place_of r.copies) → RowStep node row beside contents x (record { reply = reply.Ok; posts = posts; erased = keys_settled r id }) (settled_row r id) after
@@ -120,10 +120,10 @@ module _ (node : ℕ) (row : Row) (beside : SharedTables) (contents : Contents) 
   abbrev c : Change
   c = erasing s (record (done (set_copy s id now)) { sent = sent })
 
-  abbrev told : RowGiven
-  told = record { reply = reply.Ok; posts = posts; erased = [] }
+  abbrev response : RowGiven
+  response = record { reply = reply.Ok; posts = posts; erased = [] }
 
-  m : TakesChange node row beside contents h x c told row_now beside
+  m : TakesChange node row beside contents h x c response row_now beside
   m = record {
     shape = ap (λ t. record s { copies = t }) (sym (copies-changed f row.copies id k found));
     order = sym (reordered-unused row.order (copies_of row_now.copies) (there_still node row beside contents h x id k found f minor.lies row.order h.there));
@@ -153,7 +153,7 @@ module _ (node : ℕ) (row : Row) (beside : SharedTables) (contents : Contents) 
   module _ (step_is : change node row beside contents h x ≡ erasing s (record (done (settled (set_copy s id now) id)) { sent = sent }))
       (posted : (o : View) → posts ≡ flat_map (posts_of node o x) sent) where
     -- a copy that something keeps, or that isn't doomed, stays
-    pub stays_so : is_over (f k) ≡ false → RowStep node row beside contents x told row_now beside
+    pub stays_so : is_over (f k) ≡ false → RowStep node row beside contents x response row_now beside
     stays_so is = moved_stays node row beside contents h x row_now beside (set_copy s id now) sent posts m id (f k) found_now (at-put_here (copies_of row.copies) id now) over_is key_is step_is posted is
 
     pub settles : ArePlaced row_now.window.placed (place_of row_now.copies) → RowStep node row beside contents x (record { reply = reply.Ok; posts = posts; erased = keys_settled row_now id }) (settled_row row_now id) beside

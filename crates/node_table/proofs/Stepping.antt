@@ -14,7 +14,7 @@ use Rattle.private_store.specs.rules.Change.{replied, erasing}
 use Rattle.private_store.specs.rules.Step.{step, reordered}
 use Rattle.private_store.specs.rules.Contents.{Contents, View, judge, bytes_at, keeps_digest, no_digest, bytes_brought, digest_brought, bytes_received, brought, kept, whole_reply}
 use Rattle.private_store.specs.rules.Private.{Post, posts_of, key_of, view_step, view_after}
-use Rattle.private_store.specs.laws.Invariants.{IsViewKept, has_hand}
+use Rattle.private_store.specs.laws.Invariants.{IsViewKept, has_grant}
 use Rattle.store_facts.proofs.Filling.{at-kept, kept_row, filled}
 use Rattle.store_facts.proofs.RowContents.{default_same}
 use Rattle.store_facts.proofs.ErasedKeys.{keys_none, all_found}
@@ -43,7 +43,7 @@ module _ (node : ℕ) (row : Row) (beside : SharedTables) (contents : Contents) 
   digests_now c = brought contents.digests (digest_brought node before x c.reply)
 
   -- what has to be shown of the row after a step whose change this is
-  pub record TakesChange (c : Change) (told : RowGiven) (new : Row) (after : SharedTables) : Type 0 where
+  pub record TakesChange (c : Change) (response : RowGiven) (new : Row) (after : SharedTables) : Type 0 where
     pub shape : c.shape ≡ shape_of new after
     pub order : reordered row.order (copies_of new.copies) c.used ≡ new.order
     pub there : AreThere (copies_of new.copies) new.order
@@ -51,12 +51,12 @@ module _ (node : ℕ) (row : Row) (beside : SharedTables) (contents : Contents) 
     pub bytes : (id : ObjectId) (k : CopyView) (e : Extent) → at new.copies id ≡ Some k → extent_of k.copy ≡ Some e → filled (at (bytes_now c) id) k.copy ≡ take k.copy.length (placed_bytes e new.window.placed)
     pub digests : (id : ObjectId) (k : CopyView) → at new.copies id ≡ Some k → keeps_digest k.copy ≡ true → unwrap_or (at (digests_now c) id) no_digest ≡ unwrap_or k.digest no_digest
     pub working : (id : ObjectId) (k : CopyView) → at new.copies id ≡ Some k → k.working ≡ work_on after.works id
-    pub granted : (id : ObjectId) (k : CopyView) → at new.copies id ≡ Some k → k.granted ≡ has_hand after.given id
+    pub granted : (id : ObjectId) (k : CopyView) → at new.copies id ≡ Some k → k.granted ≡ has_grant after.given id
     pub received : kept (λ seen. true) (λ seen. []) (brought contents.received (bytes_received x)) after.received ≡ received_bytes after
-    pub reply : told.reply ≡ whole_reply before x c.reply
-    pub erased : told.erased ≡ map (key_of row.job) c.erased
+    pub reply : response.reply ≡ whole_reply before x c.reply
+    pub erased : response.erased ≡ map (key_of row.job) c.erased
 
-  module _ (c : Change) (is : change ≡ c) (told : RowGiven) (new : Row) (after : SharedTables) (m : TakesChange c told new after) where
+  module _ (c : Change) (is : change ≡ c) (response : RowGiven) (new : Row) (after : SharedTables) (m : TakesChange c response new after) where
     abbrev pub o : View
     o = view_after node before x (judge node before x) c
 
@@ -105,7 +105,7 @@ module _ (node : ℕ) (row : Row) (beside : SharedTables) (contents : Contents) 
       received = ap (λ s. kept (λ seen. true) (λ seen. []) (brought contents.received (bytes_received x)) s.received) m.shape ∙ m.received;
     }
 
-    pub moved : told.posts ≡ flat_map (posts_of node o x) c.sent → RowStep node row beside contents x told new after
+    pub moved : response.posts ≡ flat_map (posts_of node o x) c.sent → RowStep node row beside contents x response new after
     moved posts = record {
       shape = ap (λ v. v.shape) same_view ∙ m.shape;
       order = ap (λ v. v.order) same_view ∙ order_is;

@@ -116,8 +116,8 @@ module _ (bytes : CopyView → ℕ) where
       omega (arith, rest, all, plain)
 
   -- what is told of the sum
-  pub told : (es : List (ObjectId × CopyView)) (now : ById CopyView) → by_rising_id es ≡ now → IsDistinct id_eq (keys_of es) → capped (capped_sum bytes es) ≡ total bytes now
-  told es now seen distinct =
+  pub response : (es : List (ObjectId × CopyView)) (now : ById CopyView) → by_rising_id es ≡ now → IsDistinct id_eq (keys_of es) → capped (capped_sum bytes es) ≡ total bytes now
+  response es now seen distinct =
       sum-capped es ∙ ap capped (sym (total-rising (λ (e : ObjectId × CopyView). bytes e.1) es distinct)) ∙ ap (total bytes) seen
 
 -- ---- exchanges

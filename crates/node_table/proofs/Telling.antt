@@ -20,14 +20,15 @@ use Rattle.private_store.specs.declared.inputs.Input.TheVariants as input
 use Rattle.private_store.specs.rules.Limits.{is_quota, is_window, greatest_device_quota}
 use Rattle.private_store.specs.rules.Extents.{rounded, end_of}
 use Rattle.private_store.specs.rules.Tables.{ById, at}
-use Rattle.private_store.specs.rules.Hands.{Hand}
+use Rattle.private_store.specs.rules.Grants.{StandingGrant}
 use Rattle.private_store.specs.rules.Shape.{Copy, Shape, WorkInFlight}
 use Rattle.private_store.specs.rules.Copies.{extent_of, is_writing, window_used, device_used}
 use Rattle.private_store.specs.rules.Commands.{own_items, granted_items, usage_of}
 use Rattle.private_store.specs.rules.Contents.{Contents}
 use Rattle.private_store.specs.laws.Invariants.{is_placed}
 use Rattle.store_facts.proofs.Tests.{and_right, both_left, both_right, T_true, or_false}
-use Rattle.spill_work.specs.Line.{WorkLine, is_write_work}
+use Rattle.spill_work.specs.Line.{WorkLine}
+use Rattle.obj_id.specs.Works.{is_write}
 use Rattle.node_table.specs.CopyViews.{CopyView}
 use Rattle.node_table.specs.Row.{Row, SharedTables, beside_of, copies_of, shape_of}
 use Rattle.node_table.specs.Shown.{work_on, IsShown, only, RowStep}
@@ -46,14 +47,14 @@ module _ (node : ℕ) (row : Row) (beside : SharedTables) (contents : Contents) 
   abbrev s : Shape
   s = shape_of row beside
 
-  pub list_done : (told : List OwnItem) (granted : List GrantedItem) → told ≡ map own_item_of row.copies → granted ≡ granted_items s → RowStep node row beside contents (input.Call session command.List) (only (reply.List told granted)) row beside
-  list_done told granted is given =
-      subst (λ g. RowStep node row beside contents (input.Call session command.List) (only (reply.List told g)) row beside) (sym given)
+  pub list_done : (response : List OwnItem) (granted : List GrantedItem) → response ≡ map own_item_of row.copies → granted ≡ granted_items s → RowStep node row beside contents (input.Call session command.List) (only (reply.List response granted)) row beside
+  list_done response granted is given =
+      subst (λ g. RowStep node row beside contents (input.Call session command.List) (only (reply.List response g)) row beside) (sym given)
       (subst (λ t. RowStep node row beside contents (input.Call session command.List) (only (reply.List t (granted_items s))) row beside) (sym (is ∙ items-own row.copies))
       (stays node row beside contents h (input.Call session command.List) (reply.List (own_items s) (granted_items s)) (called row beside session command.List) refl refl refl))
 
-  pub usage_done : (told : Usage) → told ≡ usage_of s → RowStep node row beside contents (input.Call session command.Usage) (only (reply.Usage told)) row beside
-  usage_done told is =
+  pub usage_done : (response : Usage) → response ≡ usage_of s → RowStep node row beside contents (input.Call session command.Usage) (only (reply.Usage response)) row beside
+  usage_done response is =
       subst (λ t. RowStep node row beside contents (input.Call session command.Usage) (only (reply.Usage t)) row beside) (sym is)
       (stays node row beside contents h (input.Call session command.Usage) (reply.Usage (usage_of s)) (called row beside session command.Usage) refl refl refl)
 
@@ -91,18 +92,18 @@ none_writes id (w ∷ works) few =
     by false few rest = rest (omega (arith, few))
 
 -- of one work at most, the first is the one that writes
-first_writes : (id : ObjectId) (works : List WorkInFlight) → count_by (λ work. same_id id work.id) works ≤ 1 → option_map_or is_write_work (work_on works id) false ≡ list_any (λ work. same_id id work.id && work.writes) works
+first_writes : (id : ObjectId) (works : List WorkInFlight) → count_by (λ work. same_id id work.id) works ≤ 1 → option_map_or is_write (work_on works id) false ≡ list_any (λ work. same_id id work.id && work.writes) works
 first_writes id [] few = refl
 first_writes id (w ∷ works) few =
     by (same_id id w.id) (let c = sum_by-cons (λ (work : WorkInFlight). cond (same_id id work.id) 1 0) w works in omega (arith, c, few)) (first_writes id works)
   where
-    kind : (b : Bool) → is_write_work (cond b Write Read) ≡ b
+    kind : (b : Bool) → is_write (cond b Write Read) ≡ b
     kind true = refl
     kind false = refl
 
     by : (b : Bool) → cond b 1 0 + count_by (λ work. same_id id work.id) works ≤ 1
-        → (count_by (λ work. same_id id work.id) works ≤ 1 → option_map_or is_write_work (work_on works id) false ≡ list_any (λ work. same_id id work.id && work.writes) works)
-        → option_map_or is_write_work (option_map (λ w. cond w.writes Write Read) (cond b (Some w) (find (λ w. same_id id w.id) works))) false ≡ (b && w.writes) || list_any (λ work. same_id id work.id && work.writes) works
+        → (count_by (λ work. same_id id work.id) works ≤ 1 → option_map_or is_write (work_on works id) false ≡ list_any (λ work. same_id id work.id && work.writes) works)
+        → option_map_or is_write (option_map (λ w. cond w.writes Write Read) (cond b (Some w) (find (λ w. same_id id w.id) works))) false ≡ (b && w.writes) || list_any (λ work. same_id id work.id && work.writes) works
     by true few rest = kind w.writes ∙ sym (ap (λ b. w.writes || b) (none_writes id works (omega (arith, few))) ∙ or_false w.writes)
     by false few rest = rest (omega (arith, few))
 
@@ -163,7 +164,7 @@ module _ (row : Row) (beside : SharedTables) (contents : Contents) (h : IsShown 
       small (sum_by (λ e. window_bytes e.1) row.copies) (omega (arith, b, n, l)) ∙ window-sum row.copies
 
   spills : (q : ObjectId) (k : CopyView) → at row.copies q ≡ Some k → is_spilling k ≡ is_writing store q
-  spills q k found = ap (λ o. option_map_or is_write_work o false) (h.working q k found) ∙ first_writes q store.works (h.kept.kept.shape.one_work q)
+  spills q k found = ap (λ o. option_map_or is_write o false) (h.working q k found) ∙ first_writes q store.works (h.kept.kept.shape.one_work q)
 
   pub device_is : total device_bytes row.copies ≡ device_used store
   device_is =
@@ -172,9 +173,9 @@ module _ (row : Row) (beside : SharedTables) (contents : Contents) (h : IsShown 
       let q = device_most in
       small (sum_by (λ e. device_bytes e.1) row.copies) (omega (arith, is, d, q)) ∙ is
 
-module _ (row : Row) (line : WorkLine) (hands : List Hand) (bytes : ObjectId → List ℕ) (contents : Contents) (h : IsShown row (beside_of line hands bytes row.job) contents) where
+module _ (row : Row) (line : WorkLine) (grants : List StandingGrant) (bytes : ObjectId → List ℕ) (contents : Contents) (h : IsShown row (beside_of line grants bytes row.job) contents) where
   abbrev beside : SharedTables
-  beside = beside_of line hands bytes row.job
+  beside = beside_of line grants bytes row.job
 
   pub used-is : used row line ≡ usage_of (shape_of row beside)
   used-is =

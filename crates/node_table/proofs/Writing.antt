@@ -123,8 +123,8 @@ module _ (node : ℕ) (row : Row) (beside : SharedTables) (contents : Contents) 
       abbrev got : IsRead row.copies session id offset n
       got = read_passed row.copies session id offset n passed
 
-      pub read_done : (told : List ℕ) → told ≡ take n (drop offset (bytes_at contents.bytes id)) → RowStep node row beside contents y (only (reply.Bytes told)) row beside
-      read_done told is = subst (λ bs. RowStep node row beside contents y (only (reply.Bytes bs)) row beside) (sym is)
+      pub read_done : (response : List ℕ) → response ≡ take n (drop offset (bytes_at contents.bytes id)) → RowStep node row beside contents y (only (reply.Bytes response)) row beside
+      read_done response is = subst (λ bs. RowStep node row beside contents y (only (reply.Bytes bs)) row beside) (sym is)
           (stays node row beside contents h y (reply.Bytes n)
           (called row beside session (command.Read id offset n) ∙ ap (erasing s) (own row beside id _ mine ∙ read-by row beside id session offset n ∙ ap (λ o. unless_refused s o (replied s (reply.Bytes n))) passed)) refl refl refl)
 

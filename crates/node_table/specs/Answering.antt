@@ -1,5 +1,5 @@
 -- A work of a copy that ended, as the copy's row has it.
-use Rattle.std.specs.Prelude.{ℕ, ◌==◌, nat_eq, Bool, true, false, ◌&&◌, ◌||◌, if◌then◌else◌, List, length, unwrap_or, option_to_list}
+use Rattle.std.specs.Prelude.{ℕ, ◌==◌, nat_eq, Bool, ◌&&◌, ◌||◌, if◌then◌else◌, List, length, unwrap_or, option_to_list}
 use Rattle.std.specs.Map.{set_value}
 use Rattle.obj_id.specs.declared.ids.ObjectId.{ObjectId}
 use Rattle.obj_id.specs.declared.works.DeviceAnswer.{DeviceAnswer}
@@ -14,6 +14,7 @@ use Rattle.private_store.specs.declared.inputs.WorkVerdict.TheVariants as work
 use Rattle.private_store.specs.rules.Contents.{has_digest, no_digest, overwritten, write_verdict}
 use Rattle.private_store.specs.laws.Invariants.{is_restoring}
 use Rattle.job_region.specs.Region.{without, region_bytes_at as placed_bytes}
+use Rattle.object_state.specs.Laws.{has_failed}
 use Rattle.spill_work.specs.declared.queue.IoRequest.{IoRequest}
 use Rattle.node_table.specs.Entries.{changed}
 use Rattle.node_table.specs.CopyViews.{CopyView, after_write, after_restore, after_failed_restore}
@@ -43,10 +44,6 @@ work_verdict_of Write kept answer = write_verdict answer
 work_verdict_of Read kept answer = view_read_verdict kept answer
 
 -- ---- the row
-
-abbrev pub has_failed : WorkVerdict → Bool
-has_failed work.Failed = true
-has_failed _ = false
 
 -- the write of the copy under this number ended
 abbrev pub written_row : ℕ → Bool → Row → ObjectId → Row

@@ -28,7 +28,7 @@ pub record CopyView : Type 0 where
   pub digest : Option Digest
   -- the work in flight that writes it or reads it back
   pub working : Option WorkKind
-  -- whether a hand of it stands that the job gave
+  -- whether a grant of it stands that the job gave
   pub granted : Bool
 
 -- a fetch, without the length and the digest that stand in the copy as well
@@ -117,8 +117,8 @@ abbrev pub after_seal : Digest → CopyView → CopyView
 after_seal digest kept = record kept { copy = record kept.copy { state = Sealed }; digest = Some digest }
 
 -- its fault was answered
-abbrev pub after_fault_told : CopyView → CopyView
-after_fault_told kept = record kept { copy = record kept.copy { fault = None } }
+abbrev pub after_fault_reported : CopyView → CopyView
+after_fault_reported kept = record kept { copy = record kept.copy { fault = None } }
 
 abbrev pub after_spill_begun : CopyView → CopyView
 after_spill_begun kept = record kept { working = Some Write }
@@ -127,11 +127,11 @@ after_spill_begun kept = record kept { working = Some Write }
 abbrev pub after_doom : CopyView → CopyView
 after_doom kept = record kept { copy = record kept.copy { doomed = true } }
 
--- hands of it stand that the job gave, or none
+-- grants of it stand that the job gave, or none
 abbrev pub with_granted : Bool → CopyView → CopyView
 with_granted granted kept = record kept { granted = granted }
 
--- no hand of it stands any more
+-- no grant of it stands any more
 abbrev pub after_grants_ended : CopyView → CopyView
 after_grants_ended kept = with_granted false kept
 

@@ -11,7 +11,7 @@ use Rattle.lru_evictor.specs.Orders.{without_id}
 use Rattle.node_table.specs.declared.copy.AfterChange.{AfterChange}
 use Rattle.node_table.specs.Entries.{changed}
 use Rattle.node_table.specs.CopyViews.{CopyView, after_leave}
-use Rattle.node_table.specs.RoomPlans.{is_idle, row_facts_of}
+use Rattle.node_table.specs.RoomPlans.{is_idle_view, row_facts_of}
 use Rattle.node_table.specs.Row.{Row, place_of}
 
 -- the copy is removed, and its place is free
@@ -25,7 +25,7 @@ dropped row id =
 
 -- whether a copy is removed as soon as it is looked at: it is doomed, and nothing keeps it
 abbrev pub is_over : CopyView → Bool
-is_over kept = kept.copy.doomed && is_idle kept
+is_over kept = kept.copy.doomed && is_idle_view kept
 
 -- whether the copy of an id is; not if there is none
 abbrev pub is_over_at : ById CopyView → ObjectId → Bool

@@ -16,18 +16,18 @@ use Rattle.node_table.specs.CopyViews.{CopyView, after_doom, after_give_up, afte
 use Rattle.node_table.specs.Row.{Row, SharedTables}
 use Rattle.node_table.specs.Scope.{removal_notice_at, notice_posts, with_copy}
 
--- ---- the hands
+-- ---- the grants
 
--- no hand stands any more of the copies of the task's objects
+-- no grant stands any more of the copies of the task's objects
 abbrev pub copies_ungranted : TaskNo → ById CopyView → ById CopyView
 copies_ungranted task table = map (λ e. (e.0, if same_task task e.0.task then after_grants_ended e.1 else e.1)) table
 
--- beside the row the hands that the job gave of the task's own objects are gone
+-- beside the row the grants that the job gave of the task's own objects are gone
 abbrev pub beside_ended : ℕ → TaskNo → SharedTables → SharedTables
 beside_ended job task beside =
-    record beside { given = filter (λ hand. not (hand.id.job.0 == job && same_task task hand.id.task)) beside.given }
+    record beside { given = filter (λ grant. not (grant.id.job.0 == job && same_task task grant.id.task)) beside.given }
 
--- the task is remembered, and its objects' hands have ended
+-- the task is remembered, and its objects' grants have ended
 abbrev pub task_row : TaskNo → Row → Row
 task_row task row = record row { copies = copies_ungranted task row.copies; ended_tasks = row.ended_tasks ++ task ∷ [] }
 
@@ -51,7 +51,7 @@ stays_at task copies id = option_map_or (λ kept. in_scope (without_borrower kep
 abbrev pub doomed_row : TaskNo → Row → ObjectId → Row
 doomed_row task row id = if same_task task id.task then settled_row (with_copy after_doom row id) id else row
 
--- what the directory is told of it then
+-- what the directory is sent of it then
 abbrev pub doom_posts : ℕ → TaskNo → Row → ObjectId → List Post
 doom_posts node task row id = notice_posts (removal_notice_at node row.copies id (same_task task id.task && not (is_doomed_at row.copies id)))
 
@@ -68,9 +68,9 @@ give_up_posts node task row id =
 -- ---- one after another
 
 -- what is told in such a walk
-abbrev pub told_each : (Row → ObjectId → Row) → (Row → ObjectId → List Post) → Row → List ObjectId → List Post
-told_each after says row [] = []
-told_each after says row (id ∷ ids) = says row id ++ told_each after says (after row id) ids
+abbrev pub posts_of_each : (Row → ObjectId → Row) → (Row → ObjectId → List Post) → Row → List ObjectId → List Post
+posts_of_each after says row [] = []
+posts_of_each after says row (id ∷ ids) = says row id ++ posts_of_each after says (after row id) ids
 
 -- ---- device keys
 

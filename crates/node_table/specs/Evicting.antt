@@ -33,7 +33,7 @@ evicted_one table id = if has_secondary table id then without_entry table id els
 abbrev pub all_evicted : List ObjectId → ById CopyView → ById CopyView
 all_evicted ids table = fold evicted_one table ids
 
--- what the directory is told of evictions: a primary can be pulled still
+-- what the directory is sent of evictions: a primary can be pulled still
 abbrev pub removals : ℕ → ById CopyView → List ObjectId → List Post
 removals node table ids = flat_map (λ id. to_directory (RemoveLocation id node)) (filter (has_secondary table) ids)
 

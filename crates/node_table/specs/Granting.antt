@@ -1,4 +1,4 @@
--- The commands of hands: why a Grant and a Peek are refused, and what they give.
+-- The commands of grants: why a Grant and a Peek are refused, and what they give.
 use Rattle.std.specs.Prelude.{ℕ, ◌+◌, ◌==◌, nat_lt, not, List, [], length, take, drop, if◌then◌else◌, Option, Some, None}
 use Rattle.std.specs.Option.{option_map_or}
 use Rattle.std.specs.List.{list_any}
@@ -11,14 +11,14 @@ use Rattle.private_store.specs.rules.Limits.{most_bytes}
 use Rattle.private_store.specs.rules.Tables.{at}
 use Rattle.private_store.specs.rules.Copies.{extent_of}
 use Rattle.private_store.specs.rules.Commands.{is_sealed_primary}
-use Rattle.private_store.specs.rules.Hands.{Hand, with_hand}
+use Rattle.private_store.specs.rules.Grants.{StandingGrant, with_grant}
 use Rattle.private_store.specs.laws.Invariants.{is_remembered}
 use Rattle.grants.specs.Table.{shows, is_no_grantee}
 use Rattle.job_region.specs.Region.{region_bytes_at as placed_bytes}
 use Rattle.node_table.specs.CopyViews.{CopyView}
 use Rattle.node_table.specs.Row.{Row}
 
--- of a copy that is there, where this is what the table of hands says
+-- of a copy that is there, where this is what the table of grants says
 abbrev pub grant_check_of : CopyView → Option Refusal → Option Refusal
 grant_check_of kept table =
     if kept.copy.doomed then Some Absent else
@@ -31,22 +31,22 @@ row_grant_check row id target table =
     (if is_remembered row.ended_tasks id.task then Some Gone else
     elim (at row.copies id) [ None ↦ Some Absent | Some kept ↦ grant_check_of kept table ])
 
--- the standing hands after a grant that is refused, or isn't
-abbrev pub hands_granted : Option Refusal → List Hand → ObjectId → ℕ → ℕ → List Hand
-hands_granted check hands id grantor grantee = option_map_or (λ refusal. hands) check (with_hand hands id grantor grantee)
+-- the standing grants after a Grant that is refused, or isn't
+abbrev pub grants_made : Option Refusal → List StandingGrant → ObjectId → ℕ → ℕ → List StandingGrant
+grants_made check grants id grantor grantee = option_map_or (λ refusal. grants) check (with_grant grants id grantor grantee)
 
 -- why the job can't peek at so many bytes of an object of this length
-abbrev pub peek_check : List Hand → ℕ → ObjectId → ℕ → ℕ → ℕ → Option Refusal
-peek_check hands job id whole offset n =
+abbrev pub peek_check : List StandingGrant → ℕ → ObjectId → ℕ → ℕ → ℕ → Option Refusal
+peek_check grants job id whole offset n =
     if id.job.0 == job then Some NotGranted else
-    (if not (list_any (shows id job) hands) then Some NotGranted else
+    (if not (list_any (shows id job) grants) then Some NotGranted else
     (if nat_lt most_bytes n then Some BadSize else
     (if nat_lt whole (offset + n) then Some OutOfBounds else None)))
 
--- what it is told, where these are the object's bytes
-abbrev pub peek_reply : List Hand → ℕ → ObjectId → List ℕ → ℕ → ℕ → Reply (List ℕ)
-peek_reply hands job id bytes offset n =
-    option_map_or reply.Refused (peek_check hands job id (length bytes) offset n) (reply.Bytes (take n (drop offset bytes)))
+-- what it is answered, where these are the object's bytes
+abbrev pub peek_reply : List StandingGrant → ℕ → ObjectId → List ℕ → ℕ → ℕ → Reply (List ℕ)
+peek_reply grants job id bytes offset n =
+    option_map_or reply.Refused (peek_check grants job id (length bytes) offset n) (reply.Bytes (take n (drop offset bytes)))
 
 -- ---- what is lent to those who were granted it
 

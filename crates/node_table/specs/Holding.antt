@@ -18,11 +18,11 @@ use Rattle.node_table.specs.Row.{Row}
 -- ---- of one copy
 
 -- the copy is ready, and has one more hold: this is told of it
-pub record IsHeld (old : CopyView) (session : ℕ) (told : Held) (new : CopyView) : Type 0 where
+pub record IsHeld (old : CopyView) (session : ℕ) (response : Held) (new : CopyView) : Type 0 where
   pub ready : is_ready old.copy ≡ true
   pub passed : hold_check_of old ≡ None
-  pub length : told.length ≡ old.copy.length
-  pub eviction_info : told.eviction_info ≡ info_of (row_facts_of new)
+  pub length : response.length ≡ old.copy.length
+  pub eviction_info : response.eviction_info ≡ info_of (row_facts_of new)
   pub copy : new ≡ after_hold session old
 
 -- it isn't ready
@@ -39,13 +39,13 @@ pub record IsHoldRefused (old : CopyView) (r : Refusal) (new : CopyView) : Type 
 
 -- ---- of the copies of a job, where the one of an id is meant
 
-pub record IsHeldAt (old : ById CopyView) (session : ℕ) (id : ObjectId) (told : Held) (new : ById CopyView) : Type 0 where
+pub record IsHeldAt (old : ById CopyView) (session : ℕ) (id : ObjectId) (response : Held) (new : ById CopyView) : Type 0 where
   pub kept : CopyView
   pub found : at old id ≡ Some kept
   pub ready : is_ready kept.copy ≡ true
   pub passed : hold_check_of kept ≡ None
-  pub length : told.length ≡ kept.copy.length
-  pub eviction_info : told.eviction_info ≡ info_at (facts_in new) id
+  pub length : response.length ≡ kept.copy.length
+  pub eviction_info : response.eviction_info ≡ info_at (facts_in new) id
   pub copies : new ≡ changed (after_hold session) old id
 
 -- it isn't there, or isn't ready

@@ -20,12 +20,12 @@ abbrev pub facts_in : ById CopyView → ObjectId → Option CopyFacts
 facts_in copies id = option_map row_facts_of (at copies id)
 
 -- all but one entry are the same
-abbrev pub SameBut : ObjectId → ById CopyView → ById CopyView → Type 0
-SameBut id before after = (x : ObjectId) → same_id x id ≡ false → at after x ≡ at before x
+abbrev pub SameExcept : ObjectId → ById CopyView → ById CopyView → Type 0
+SameExcept id before after = (x : ObjectId) → same_id x id ≡ false → at after x ≡ at before x
 
 -- all but these are
-abbrev pub SameButThese : List ObjectId → ById CopyView → ById CopyView → Type 0
-SameButThese ids before after = (x : ObjectId) → is_among ids x ≡ false → at after x ≡ at before x
+abbrev pub SameExceptThese : List ObjectId → ById CopyView → ById CopyView → Type 0
+SameExceptThese ids before after = (x : ObjectId) → is_among ids x ≡ false → at after x ≡ at before x
 
 -- no copy is gone
 abbrev pub NoneIsGone : ById CopyView → ById CopyView → Type 0
@@ -56,9 +56,9 @@ abbrev pub InSync : ById CopyView → List (ObjectId × EvictionInfo) → Type 0
 InSync copies order = AllPass (is_in_sync copies) order
 
 -- whether the copy of an id stands so, or lies nowhere as far as the order knows if it is one of these
-abbrev pub is_in_sync_but : List ObjectId → ById CopyView → ObjectId → EvictionInfo → Bool
-is_in_sync_but ids copies id s = if is_among ids id then is_none s.extent else is_in_sync copies id s
+abbrev pub is_in_sync_except : List ObjectId → ById CopyView → ObjectId → EvictionInfo → Bool
+is_in_sync_except ids copies id s = if is_among ids id then is_none s.extent else is_in_sync copies id s
 
 -- that of each copy but these, which lie nowhere as far as the order knows
-abbrev pub InSyncBut : List ObjectId → ById CopyView → List (ObjectId × EvictionInfo) → Type 0
-InSyncBut ids copies order = AllPass (is_in_sync_but ids copies) order
+abbrev pub InSyncExcept : List ObjectId → ById CopyView → List (ObjectId × EvictionInfo) → Type 0
+InSyncExcept ids copies order = AllPass (is_in_sync_except ids copies) order

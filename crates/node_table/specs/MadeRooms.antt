@@ -7,7 +7,7 @@ use Rattle.obj_id.specs.declared.refusals.Refusal.{Refusal}
 use Rattle.private_store.specs.declared.inputs.Input.{Input}
 use Rattle.private_store.specs.rules.Shape.{Shape, Change}
 use Rattle.private_store.specs.rules.Contents.{Contents, View, judge, bytes_brought, digest_brought, bytes_received}
-use Rattle.private_store.specs.rules.Hands.{Hand}
+use Rattle.private_store.specs.rules.Grants.{StandingGrant}
 use Rattle.private_store.specs.rules.Room.{make_room}
 use Rattle.private_store.specs.rules.Change.{erasing, in_room}
 use Rattle.private_store.specs.rules.Step.{step}
@@ -17,7 +17,7 @@ use Rattle.node_table.specs.Row.{Row, SharedTables, beside_of, shape_of}
 use Rattle.node_table.specs.RoomPlans.{MakesPlace, planned_by, refuses}
 use Rattle.node_table.specs.Shown.{seen, only, IsShown, RowStep}
 use Rattle.node_table.specs.declared.room.MadeRoom.{MadeRoom}
-use Rattle.node_table.specs.declared.room.MadeRoom.TheVariants.{Place, Told}
+use Rattle.node_table.specs.declared.room.MadeRoom.TheVariants.{Place, Refused}
 
 -- an input that brings no contents, as a Create or a Get
 pub record BringsNothing (node : ℕ) (before : View) (x : Input) : Type 0 where
@@ -35,20 +35,20 @@ pub record TellsRoom (old : Row) (before : SharedTables) (contents : Contents) (
 -- what was made is what room for n bytes does
 abbrev pub IsRoomMade : MadeRoom → Row → SharedTables → Contents → ℕ → Row → SharedTables → Type 0
 IsRoomMade (Place placement) old before contents n new after = MakesPlace (make_room old.order (shape_of old before) n) (shape_of old before) n placement.victims
-IsRoomMade (Told refusal) old before contents n new after = TellsRoom old before contents n refusal new after
+IsRoomMade (Refused refusal) old before contents n new after = TellsRoom old before contents n refusal new after
 
 -- where there is a place once copies are evicted these may go, and nothing has changed yet
 abbrev pub WaitsForPlace : MadeRoom → Row → WorkLine → ℕ → Row → WorkLine → Type 0
 WaitsForPlace (Place placement) old before n new after = (new ≡ old) × (after ≡ before) × MayGo old.copies placement.victims × IsPlacement old n placement
-WaitsForPlace (Told refusal) old before n new after = Unit {0}
+WaitsForPlace (Refused refusal) old before n new after = Unit {0}
 
 -- the plan for room for n bytes in this row, beside this line of works, is no refusal
 abbrev pub IsPlannedFor : Row → WorkLine → ℕ → Type 0
 IsPlannedFor row line n =
-    (hands : List Hand) (bytes : ObjectId → List ℕ) (contents : Contents) → IsShown row (beside_of line hands bytes row.job) contents
-    → refuses (planned_by row.order (shape_of row (beside_of line hands bytes row.job)) n) ≡ false
+    (grants : List StandingGrant) (bytes : ObjectId → List ℕ) (contents : Contents) → IsShown row (beside_of line grants bytes row.job) contents
+    → refuses (planned_by row.order (shape_of row (beside_of line grants bytes row.job)) n) ≡ false
 
 -- whether there is none
 abbrev pub tells_refusal : MadeRoom → Bool
 tells_refusal (Place placement) = false
-tells_refusal (Told refusal) = true
+tells_refusal (Refused refusal) = true

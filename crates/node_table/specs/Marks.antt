@@ -5,7 +5,7 @@ use Rattle.private_store.specs.laws.Invariants.{is_fetching, is_restoring}
 use Rattle.node_table.specs.declared.marks.Mark.{Mark}
 use Rattle.node_table.specs.declared.marks.Mark.TheVariants as mark
 use Rattle.node_table.specs.Arriving.{after_chunk, after_last_chunk, after_failed_fetch}
-use Rattle.node_table.specs.CopyViews.{CopyView, after_leave, after_seal, after_unpin, after_give_up, after_doom, with_granted, after_fault_told, spill_begun_if, after_write, after_restore, after_failed_restore, after_placing, CanAwait, after_eviction}
+use Rattle.node_table.specs.CopyViews.{CopyView, after_leave, after_seal, after_unpin, after_give_up, after_doom, with_granted, after_fault_reported, spill_begun_if, after_write, after_restore, after_failed_restore, after_placing, CanAwait, after_eviction}
 use Rattle.node_table.specs.Usages.{is_spilling}
 
 -- what it makes of the copy
@@ -16,7 +16,7 @@ marked_by mark.Unpinned = after_unpin
 marked_by (mark.GivenUp task) = after_give_up task
 marked_by mark.Doomed = after_doom
 marked_by (mark.Granted granted) = with_granted granted
-marked_by mark.FaultTold = after_fault_told
+marked_by mark.FaultTold = after_fault_reported
 marked_by mark.SpillBegun = spill_begun_if
 marked_by (mark.Written number failed) = after_write number failed
 marked_by mark.Restored = after_restore

@@ -8,7 +8,7 @@ use Rattle.obj_id.specs.declared.refusals.Refusal.{Refusal}
 use Rattle.obj_id.specs.declared.refusals.Refusal.TheVariants.{Pending}
 use Rattle.private_store.specs.declared.inputs.Input.TheVariants as input
 use Rattle.private_store.specs.rules.Contents.{Contents, View}
-use Rattle.private_store.specs.rules.Hands.{Hand}
+use Rattle.private_store.specs.rules.Grants.{StandingGrant}
 use Rattle.private_store.specs.rules.Private.{Outcome, view_step}
 use Rattle.spill_work.specs.Line.{WorkLine}
 use Rattle.node_table.specs.Row.{Row, beside_of}
@@ -34,5 +34,5 @@ may_grow before after = is_more (work_has_begun before after) after.reply
 -- the command is due more than a refusal on this row beside this line of works, whatever else stands beside it
 abbrev pub IsDueMore : ℕ → Row → WorkLine → Command (List ℕ) → Type 0
 IsDueMore node row line c =
-    (session : ℕ) (hands : List Hand) (bytes : ObjectId → List ℕ) (contents : Contents) → IsShown row (beside_of line hands bytes row.job) contents
-    → may_grow (seen row (beside_of line hands bytes row.job) contents) (view_step node (seen row (beside_of line hands bytes row.job) contents) (input.Call session c)) ≡ true
+    (session : ℕ) (grants : List StandingGrant) (bytes : ObjectId → List ℕ) (contents : Contents) → IsShown row (beside_of line grants bytes row.job) contents
+    → may_grow (seen row (beside_of line grants bytes row.job) contents) (view_step node (seen row (beside_of line grants bytes row.job) contents) (input.Call session c)) ≡ true

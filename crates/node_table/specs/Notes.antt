@@ -1,4 +1,4 @@
--- What other jobs' hands are to a job: the notes of a step, and what stands beside its row, or is left of its store,
+-- What other jobs' grants are to a job: the notes of a step, and what stands beside its row, or is left of its store,
 -- after them.
 use Rattle.std.specs.Prelude.{◌≡◌, ℕ, ◌==◌, Bool, not, List, [], map, filter}
 use Rattle.obj_id.specs.declared.ids.ObjectId.{ObjectId}
@@ -7,8 +7,8 @@ use Rattle.private_store.specs.declared.inputs.Input.TheVariants as input
 use Rattle.private_store.specs.rules.Tables.{ById}
 use Rattle.private_store.specs.rules.Shape.{Life, Shape, Seen, unbegun}
 use Rattle.private_store.specs.rules.Contents.{View}
-use Rattle.private_store.specs.rules.Hands.{Hand}
-use Rattle.grants.specs.Table.{given_by as hands_given}
+use Rattle.private_store.specs.rules.Grants.{StandingGrant}
+use Rattle.grants.specs.Table.{given_by as grants_given}
 use Rattle.grants.specs.Private.{as_given}
 use Rattle.spill_work.specs.Line.{WorkLine}
 use Rattle.node_table.specs.Row.{Row, SharedTables, beside_of, shape_of}
@@ -20,19 +20,19 @@ pub record IsSeen (row : Row) (beside : SharedTables) (view : View) : Type 0 whe
   pub order : view.order ≡ row.order
   pub shown : IsShown row beside view.contents
 
--- the end of a hand, as its grantee is told of it
-abbrev pub end_of_hand : Hand → Input
-end_of_hand hand = input.Withdrawn hand.id (record { 0 = hand.grantor }) hand.depth
+-- the end of a grant, as its grantee is notified of it
+abbrev pub end_of_grant : StandingGrant → Input
+end_of_grant grant = input.Withdrawn grant.id (record { 0 = grant.grantor }) grant.depth
 
--- of the hands that ended those to the job, as it is told of them
-abbrev pub ends_to : ℕ → List Hand → List Input
-ends_to job ended = map end_of_hand (filter (λ hand. hand.grantee == job) ended)
+-- of the grants that ended those to the job, as it is notified of them
+abbrev pub ends_to : ℕ → List StandingGrant → List Input
+ends_to job ended = map end_of_grant (filter (λ grant. grant.grantee == job) ended)
 
--- beside the row of a job after the own step of the one that ends hands: of what it gave, those that don't end by
+-- beside the row of a job after the own step of the one that ends grants: of what it gave, those that don't end by
 -- themselves
-abbrev pub beside_rest : WorkLine → (Hand → Bool) → List Hand → (ObjectId → List ℕ) → ℕ → SharedTables
-beside_rest line test hands bytes job =
-    record (beside_of line hands bytes job) { given = map as_given (filter (λ hand. not (test hand)) (hands_given job hands)) }
+abbrev pub beside_rest : WorkLine → (StandingGrant → Bool) → List StandingGrant → (ObjectId → List ℕ) → ℕ → SharedTables
+beside_rest line test grants bytes job =
+    record (beside_of line grants bytes job) { given = map as_given (filter (λ grant. not (test grant)) (grants_given job grants)) }
 
 -- a store that isn't live: nothing but what it was granted, where objects have these bytes
 abbrev pub received_shape : ℕ → Life → ById Seen → Shape

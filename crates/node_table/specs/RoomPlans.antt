@@ -22,17 +22,17 @@ use Rattle.node_table.specs.declared.room.RoomPlan.TheVariants.{Fits, Evict, Ask
 -- ---- what a plan reads
 
 -- neither held nor granted nor working
-abbrev pub is_idle : CopyView → Bool
-is_idle kept = not (is_held kept.copy) && not kept.granted && is_none kept.working
+abbrev pub is_idle_view : CopyView → Bool
+is_idle_view kept = not (is_held kept.copy) && not kept.granted && is_none kept.working
 
 abbrev pub row_facts_of : CopyView → CopyFacts
 row_facts_of kept =
     record {
       extent = extent_of kept.copy;
       bytes = rounded kept.copy.length;
-      evictable = may_evict kept.copy.state kept.copy.kind kept.copy.backed (is_idle kept);
+      evictable = may_evict kept.copy.state kept.copy.kind kept.copy.backed (is_idle_view kept);
       draining = may_drain (is_some kept.working) (is_some kept.copy.offset) (is_held kept.copy) kept.granted;
-      spillable = may_spill kept.copy.state kept.copy.kind kept.copy.backed kept.copy.doomed (is_idle kept);
+      spillable = may_spill kept.copy.state kept.copy.kind kept.copy.backed kept.copy.doomed (is_idle_view kept);
     }
 
 -- ---- what is to be done

@@ -6,10 +6,10 @@ use Rattle.obj_id.specs.declared.ids.ObjectId.{ObjectId}
 use Rattle.obj_id.specs.declared.works.Extent.{Extent}
 use Rattle.obj_id.specs.declared.works.Quota.{Quota}
 use Rattle.private_store.specs.rules.Tables.{ById, at}
-use Rattle.private_store.specs.rules.Shape.{Copy, Shape, WorkInFlight, HandGiven, Seen, live}
+use Rattle.private_store.specs.rules.Shape.{Copy, Shape, WorkInFlight, GrantGiven, Seen, live}
 use Rattle.private_store.specs.rules.Copies.{extent_of}
-use Rattle.private_store.specs.rules.Hands.{Hand}
-use Rattle.grants.specs.Table.{given_by as hands_given}
+use Rattle.private_store.specs.rules.Grants.{StandingGrant}
+use Rattle.grants.specs.Table.{given_by as grants_given}
 use Rattle.grants.specs.Private.{as_given, taken_by}
 use Rattle.job_region.specs.Region.{Region, extents_of, IsAt}
 use Rattle.spill_work.specs.Line.{WorkLine, works_of, used_by}
@@ -36,8 +36,8 @@ pub record SharedTables : Type 0 where
   pub works : List WorkInFlight
   -- the last number that a work had
   pub used : ℕ
-  -- the hands that it gave, in the order given
-  pub given : List HandGiven
+  -- the grants that it gave, in the order given
+  pub given : List GrantGiven
   -- what others granted, and the bytes of it
   pub received : ById Seen
   pub bytes : ObjectId → List ℕ
@@ -58,23 +58,23 @@ new_row job quota =
 
 -- ---- of the node's tables
 
--- the hands that the job gave
-abbrev pub row_given_by : List Hand → ℕ → List HandGiven
-row_given_by hands job = map as_given (hands_given job hands)
+-- the grants that the job gave
+abbrev pub row_given_by : List StandingGrant → ℕ → List GrantGiven
+row_given_by grants job = map as_given (grants_given job grants)
 
 -- what the job was granted, where objects have these bytes
-abbrev pub received_by : (ObjectId → List ℕ) → List Hand → ℕ → ById Seen
-received_by bytes hands job = taken_by (λ id. length (bytes id)) job hands
+abbrev pub received_by : (ObjectId → List ℕ) → List StandingGrant → ℕ → ById Seen
+received_by bytes grants job = taken_by (λ id. length (bytes id)) job grants
 
--- of one job: its works in the line of all jobs, and what it gave and received by the hands that stand, where objects
+-- of one job: its works in the line of all jobs, and what it gave and received by the grants that stand, where objects
 -- have these bytes
-abbrev pub beside_of : WorkLine → List Hand → (ObjectId → List ℕ) → ℕ → SharedTables
-beside_of line hands bytes job =
+abbrev pub beside_of : WorkLine → List StandingGrant → (ObjectId → List ℕ) → ℕ → SharedTables
+beside_of line grants bytes job =
     record {
       works = works_of line (record { 0 = job });
       used = used_by line (record { 0 = job });
-      given = row_given_by hands job;
-      received = received_by bytes hands job;
+      given = row_given_by grants job;
+      received = received_by bytes grants job;
       bytes = bytes;
     }
 

@@ -1,4 +1,4 @@
--- A copy that goes out of scope: what the directory is told of it.
+-- A copy that goes out of scope: what the directory is sent of it.
 use Rattle.std.specs.Prelude.{ℕ, Bool, false, if◌then◌else◌, List, [], Option, Some, None}
 use Rattle.std.specs.Option.{option_map_or, option_and_then}
 use Rattle.obj_id.specs.declared.ids.ObjectId.{ObjectId}
@@ -12,7 +12,7 @@ use Rattle.node_table.specs.Entries.{changed}
 use Rattle.node_table.specs.CopyViews.{CopyView}
 use Rattle.node_table.specs.Row.{Row}
 
--- what the directory is told of a copy once it is doomed: nothing, unless it was sealed
+-- what the directory is sent of a copy once it is doomed: nothing, unless it was sealed
 abbrev pub removal_notice : ℕ → ObjectId → CopyView → Option DirectoryMessage
 removal_notice node id kept =
     if was_sealed kept.copy.state then Some (if is_primary kept.copy.kind then Free id else RemoveLocation id node) else None

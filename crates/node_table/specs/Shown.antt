@@ -13,7 +13,7 @@ use Rattle.private_store.specs.rules.Shape.{Copy, WorkInFlight}
 use Rattle.private_store.specs.rules.Copies.{extent_of}
 use Rattle.private_store.specs.rules.Contents.{Contents, View, bytes_at, digest_at, keeps_digest, no_digest}
 use Rattle.private_store.specs.rules.Private.{Post, view_step}
-use Rattle.private_store.specs.laws.Invariants.{IsViewKept, has_hand}
+use Rattle.private_store.specs.laws.Invariants.{IsViewKept, has_grant}
 use Rattle.job_region.specs.Region.{region_bytes_at as placed_bytes}
 use Rattle.lru_evictor.specs.Orders.{AreThere}
 use Rattle.node_table.specs.CopyViews.{CopyView}
@@ -40,7 +40,7 @@ pub record IsShown (row : Row) (beside : SharedTables) (contents : Contents) : T
       → digest_at contents.digests id ≡ unwrap_or k.digest no_digest
   pub working : (id : ObjectId) (k : CopyView) → at row.copies id ≡ Some k
       → k.working ≡ work_on beside.works id
-  pub granted : (id : ObjectId) (k : CopyView) → at row.copies id ≡ Some k → k.granted ≡ has_hand beside.given id
+  pub granted : (id : ObjectId) (k : CopyView) → at row.copies id ≡ Some k → k.granted ≡ has_grant beside.given id
   pub received : contents.received ≡ received_bytes beside
 
 -- what a step gives: the reply, the messages to be sent, and the device keys to be erased
@@ -51,16 +51,16 @@ pub record RowGiven : Type 0 where
 
 -- a reply, and nothing else
 abbrev pub only : Reply (List ℕ) → RowGiven
-only told = record { reply = told; posts = []; erased = [] }
+only response = record { reply = response; posts = []; erased = [] }
 
 -- the row takes the private step at its node on this input, whatever contents it shows
-pub record RowStep (node : ℕ) (old : Row) (before : SharedTables) (contents : Contents) (x : Input) (told : RowGiven) (new : Row) (after : SharedTables) : Type 0 where
+pub record RowStep (node : ℕ) (old : Row) (before : SharedTables) (contents : Contents) (x : Input) (response : RowGiven) (new : Row) (after : SharedTables) : Type 0 where
   pub shape : (view_step node (seen old before contents) x).view.shape ≡ shape_of new after
   pub order : (view_step node (seen old before contents) x).view.order ≡ new.order
   pub shown : IsShown new after (view_step node (seen old before contents) x).view.contents
-  pub reply : told.reply ≡ (view_step node (seen old before contents) x).reply
-  pub posts : told.posts ≡ (view_step node (seen old before contents) x).posts
-  pub erased : told.erased ≡ (view_step node (seen old before contents) x).erased
+  pub reply : response.reply ≡ (view_step node (seen old before contents) x).reply
+  pub posts : response.posts ≡ (view_step node (seen old before contents) x).posts
+  pub erased : response.erased ≡ (view_step node (seen old before contents) x).erased
 
 -- what is lent to a session is the object's bytes, and all of them
 pub record IsLent (copies : ById Copy) (contents : Contents) (session : ℕ) (id : ObjectId) (lent : List ℕ) : Type 0 where

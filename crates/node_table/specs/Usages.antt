@@ -7,7 +7,8 @@ use Rattle.obj_id.specs.declared.commands.Usage.{Usage}
 use Rattle.private_store.specs.rules.Tables.{ById}
 use Rattle.private_store.specs.rules.Extents.{rounded}
 use Rattle.private_store.specs.rules.Copies.{extent_of}
-use Rattle.spill_work.specs.Line.{WorkLine, is_write_work, in_flight}
+use Rattle.spill_work.specs.Line.{WorkLine, in_flight}
+use Rattle.obj_id.specs.Works.{is_write}
 use Rattle.node_table.specs.CopyViews.{CopyView}
 use Rattle.node_table.specs.Row.{Row}
 
@@ -17,7 +18,7 @@ own_item_of e = record { id = e.0; state = e.1.copy.state; kind = e.1.copy.kind;
 
 -- whether a write of it is in flight
 abbrev pub is_spilling : CopyView → Bool
-is_spilling kept = option_map_or is_write_work kept.working false
+is_spilling kept = option_map_or is_write kept.working false
 
 -- the bytes that it takes in the window
 abbrev pub window_bytes : CopyView → ℕ

@@ -26,7 +26,7 @@ impl JobRow {
     }
 
     /// A node says that it has no such copy: if a fetch of this number asks that node, it has failed, its place is given
-    /// back, and the directory is told to forget the node; otherwise nothing changes. The error is out of memory, and then
+    /// back, and the directory is asked to forget the node; otherwise nothing changes. The error is out of memory, and then
     /// nothing has changed.
     pub fn not_here(
         &mut self,
@@ -37,7 +37,7 @@ impl JobRow {
     ) -> Result<RowOutcome, AllocError>
         ensures ok { IfOk result (λ o. (node : ℕ) (beside : SharedTables) (contents : Contents) → IsShown self.old beside contents
             → RowStep node self.old beside contents (input.Arrive (arrival.FromPeer from (peer.NotHere id.now number))) (row_given_of o) self.new beside) }
-        ensures told { IfOk result (λ o. o.reply ≡ reply.Ok) }
+        ensures response { IfOk result (λ o. o.reply ≡ reply.Ok) }
         ensures bounded { IfOk result (λ o. length o.messages ≤ 1) }
         ensures err { OnErr result (self.new ≡ self.old) }
     {

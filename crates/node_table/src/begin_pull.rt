@@ -6,7 +6,7 @@ ghost use Rattle.obj_id.specs.declared.commands.Command.TheVariants as command;
 ghost use Rattle.private_store.specs.declared.inputs.Input.TheVariants as input;
 ghost use Rattle.private_store.specs.rules.Tables.{at};
 ghost use Rattle.private_store.specs.laws.Invariants.{is_remembered};
-ghost use Rattle.private_store.specs.rules.Hands.{Hand};
+ghost use Rattle.private_store.specs.rules.Grants.{StandingGrant};
 ghost use Rattle.private_store.specs.rules.Contents.{Contents};
 ghost use Rattle.spill_work.specs.Line.{same_work_job, IsSameFor};
 ghost use Rattle.node_table.specs.Asked.{HasAsked};
@@ -34,7 +34,7 @@ use crate::outcome::RowOutcome;
 use crate::room::{MadeRoom, Placement};
 use crate::row::JobRow;
 use fetch_core::{Stage, all_chunks};
-use obj_id::{Endpoint, Items, Message, ObjectId, PeerMessage};
+use obj_id::{Endpoint, ItemList, Message, ObjectId, PeerMessage};
 use spill_work::Works;
 use std::alloc::{AllocError, Global};
 
@@ -53,8 +53,8 @@ impl JobRow {
         requires alive { is_remembered self.old.ended_tasks id.now.task ≡ false }
         requires visible { visible_state (at self.old.copies id.now) ≡ Ok (Some Fetching) }
         requires sized { can_pull_at self.old id.now ≡ true }
-        ensures ok { IfOk result (λ o. (session : ℕ) (hands : List Hand) (bytes : ObjectId → List ℕ) (contents : Contents) → (id.now.job.0 == self.old.job) ≡ true → IsShown self.old (beside_of works.old hands bytes self.old.job) contents
-            → RowStep node self.old (beside_of works.old hands bytes self.old.job) contents (input.Call session (command.Get id.now)) (row_given_of o) self.new (beside_of works.new hands bytes self.old.job)) }
+        ensures ok { IfOk result (λ o. (session : ℕ) (grants : List StandingGrant) (bytes : ObjectId → List ℕ) (contents : Contents) → (id.now.job.0 == self.old.job) ≡ true → IsShown self.old (beside_of works.old grants bytes self.old.job) contents
+            → RowStep node self.old (beside_of works.old grants bytes self.old.job) contents (input.Call session (command.Get id.now)) (row_given_of o) self.new (beside_of works.new grants bytes self.old.job)) }
         ensures bounded { IfOk result (λ o. length o.messages ≤ length self.old.copies + 1) }
         ensures line { OnOk result (HasAsked works.old id.now.job works.new) }
         ensures memory_last { OnErr result ((id.now.job.0 == self.old.job) ≡ true → IsDueMore node self.old works.old (command.Get id.now)) }
@@ -70,11 +70,11 @@ impl JobRow {
         let len = copy.length();
         match self.room_for(alloc, works, id.job(), len)? {
             MadeRoom::Place(placement) => self.pull_in_place(alloc, node, id, len, &placement),
-            MadeRoom::Told(refusal) => refuse(alloc, refusal),
+            MadeRoom::Refused(refusal) => refuse(alloc, refusal),
         }
     }
 
-    /// The place is taken, the directory is told of the victims, and the bytes are asked for.
+    /// The place is taken, the directory is notified of the victims, and the bytes are asked for.
     fn pull_in_place(
         &mut self,
         alloc: Global,
@@ -143,7 +143,7 @@ fn question_of(
         number: fetch.number(),
         length: copy.length(),
         digest,
-        indexes: Items::from_vec(indexes),
+        indexes: ItemList::from_vec(indexes),
     });
     Ok((Endpoint::Node(source), message))
 }

@@ -35,7 +35,7 @@ impl JobRow {
         Reply::Ok
     }
 
-    /// Seal: the copy is immutable from now on, and its node is told to the directory. `Absent`,
+    /// Seal: the copy is immutable from now on, and the directory is notified of its node. `Absent`,
     /// `AlreadySealed`; a refusal changes nothing. The error is out of memory, and then nothing has
     /// changed.
     pub fn seal(
@@ -76,8 +76,8 @@ impl JobRow {
         offset: u32,
         len: u32,
     ) -> Result<Reply<Bytes>, AllocError>
-        ensures ok { IfOk result (λ told. (node : ℕ) (beside : SharedTables) (contents : Contents) → (id.now.job.0 == self.now.job) ≡ true → IsShown self.now beside contents
-            → RowStep node self.now beside contents (input.Call session (command.Read id.now offset len)) (only told) self.now beside) }
+        ensures ok { IfOk result (λ response. (node : ℕ) (beside : SharedTables) (contents : Contents) → (id.now.job.0 == self.now.job) ≡ true → IsShown self.now beside contents
+            → RowStep node self.now beside contents (input.Call session (command.Read id.now offset len)) (only response) self.now beside) }
         ensures memory_last { OnErr result (read_check_lem self.now.copies session id.now offset len ≡ None) }
     {
         if let Some(refusal) = self.copies().read_check(session, id, offset, len) {

@@ -78,7 +78,7 @@ impl RowCopy {
         None
     }
 
-    /// Why it can't be granted, if this is what the table of hands says: `Absent`, `NotResident` unless it is a
+    /// Why it can't be granted, if this is what the table of grants says: `Absent`, `NotResident` unless it is a
     /// sealed primary, or that.
     pub fn grant_check(&self, table: Option<Refusal>) -> Option<Refusal>
         ensures { result ≡ grant_check_of self.now table }
@@ -134,7 +134,7 @@ impl Copies {
         }
     }
 
-    /// What the directory is told if the task unpins the copy: nothing if it stays in scope then, or wasn't sealed. `Absent`,
+    /// What the directory is sent if the task unpins the copy: nothing if it stays in scope then, or wasn't sealed. `Absent`,
     /// `NotOwner`, `NotHeld` if the task can't.
     pub fn unpin_farewell(
         &self,
@@ -155,7 +155,7 @@ impl Copies {
         Ok(copy.removal_notice(node, *id, !copy.in_scope_unpinned()))
     }
 
-    /// What the directory is told if the task gives the copy up: nothing if it stays in scope then, or wasn't sealed.
+    /// What the directory is sent if the task gives the copy up: nothing if it stays in scope then, or wasn't sealed.
     /// `Absent`, also if the task doesn't borrow it, `NotOwner` if it can't.
     pub fn give_up_farewell(
         &self,
@@ -176,7 +176,7 @@ impl Copies {
         Ok(copy.removal_notice(node, *id, !copy.in_scope_without(task)))
     }
 
-    /// What the directory is told if the copy is deleted: nothing unless it was sealed. `Absent`, `Granted` if it can't be.
+    /// What the directory is sent if the copy is deleted: nothing unless it was sealed. `Absent`, `Granted` if it can't be.
     pub fn delete_farewell(
         &self,
         node: u32,

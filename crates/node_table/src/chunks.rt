@@ -52,13 +52,13 @@ impl JobRow {
             → RowStep node self.old beside contents (input.Arrive (arrival.FromPeer from (peer.Chunk id.now number index bytes.now))) (row_given_of t.outcome) self.new beside) }
         ensures verdict { IfOk result (λ t. (beside : SharedTables) (contents : Contents) → IsShown self.old beside contents
             → t.verdict ≡ chunk_verdict (seen self.old beside contents) id.now number index bytes.now from) }
-        ensures told { IfOk result (λ t. t.outcome.reply ≡ reply.Ok) }
+        ensures response { IfOk result (λ t. t.outcome.reply ≡ reply.Ok) }
         ensures bounded { IfOk result (λ t. length t.outcome.messages ≤ 1) }
         ensures err { OnErr result (self.new ≡ self.old) }
     {
         let fit = self
             .copies()
-            .chunk_fit(id, number, from, index, bytes.len());
+            .chunk_fit(id, number, index, from, bytes.len());
         if !fit.fills {
             return Ok(ChunkTaken {
                 outcome: RowOutcome::only(alloc, Reply::Ok),
@@ -101,7 +101,7 @@ impl JobRow {
             → RowStep node self.old beside contents (input.Arrive (arrival.FromPeer from (peer.Chunk id.now number index bytes.now))) (row_given_of t.outcome) self.new beside) }
         ensures verdict { IfOk result (λ t. (beside : SharedTables) (contents : Contents) → IsShown self.old beside contents
             → t.verdict ≡ chunk_verdict (seen self.old beside contents) id.now number index bytes.now from) }
-        ensures told { IfOk result (λ t. t.outcome.reply ≡ reply.Ok) }
+        ensures response { IfOk result (λ t. t.outcome.reply ≡ reply.Ok) }
         ensures bounded { IfOk result (λ t. length t.outcome.messages ≤ 1) }
         ensures err { OnErr result (self.new ≡ self.old) }
     {

@@ -29,7 +29,7 @@ use crate::footprint::{Footprint, to_u64};
 use crate::marks::Mark;
 use indexmap::IndexMap;
 use lru_evictor::{EvictionInfo, UseOrder};
-use obj_id::{DirectoryMessage, Items, Location, ObjectId, OwnItem, Refusal, TaskNo};
+use obj_id::{DirectoryMessage, ItemList, Location, ObjectId, OwnItem, Refusal, TaskNo};
 use std::alloc::{AllocError, Global};
 use std::marker::Model;
 
@@ -83,7 +83,7 @@ impl Copies {
     }
 
     /// The copies as List shows them, by rising id. Takes a walk over them, a sort, and memory for each.
-    pub fn items(&self, alloc: Global) -> Result<Items<OwnItem>, AllocError>
+    pub fn items(&self, alloc: Global) -> Result<ItemList<OwnItem>, AllocError>
         ensures items { IfOk result (λ items. items ≡ map own_item_of self.now) }
         ensures rising { IfOk result (λ _. IsTrue (is_sorted id_cmp self.now)) }
     {
@@ -92,7 +92,7 @@ impl Copies {
             items.push(copy.item(id))?;
         }
         items.sort_unstable_by_key(|item| item.id);
-        Ok(Items::from_vec(items))
+        Ok(ItemList::from_vec(items))
     }
 
     /// The bytes that they take in the window, or `u64::MAX` if they are more. Takes no walk over them.
@@ -199,9 +199,9 @@ impl Copies {
         let before = Footprint::by(copy);
         change(copy);
         let after = Footprint::by(copy);
-        let told = copy.after_change();
+        let response = copy.after_change();
         self.taken = self.taken.exchanged(before, after);
-        told
+        response
     }
 
     /// This happens to the copy, if it is there. Answers what the copy is then. Takes no memory.
@@ -315,8 +315,8 @@ impl Copies {
         &self,
         id: &ObjectId,
         number: u64,
-        from: u32,
         index: u32,
+        from: u32,
         len: usize,
     ) -> ChunkFit
         ensures fills { result.fills ≡ option_map_or (fills number from index len) (at self.now id.now) false }
@@ -329,7 +329,7 @@ impl Copies {
             };
         };
         ChunkFit {
-            fills: copy.is_filled_by(number, from, index, len),
+            fills: copy.is_filled_by(number, index, from, len),
             last: copy.lacks_only(index),
         }
     }
@@ -370,12 +370,12 @@ impl Copies {
         copy.borrow(task)
     }
 
-    /// No hand stands any more of the copies of the task's objects. Takes a walk over the copies, and no memory.
-    pub fn end_hands(&mut self, task: TaskNo)
+    /// No grant stands any more of the copies of the task's objects. Takes a walk over the copies, and no memory.
+    pub fn end_grants(&mut self, task: TaskNo)
         ensures { self.new ≡ copies_ungranted task self.old }
     {
         self.by_id.retain(|id, copy| {
-            copy.end_hands(id, task);
+            copy.end_grants(id, task);
             true
         });
     }
@@ -410,7 +410,7 @@ impl Copies {
         copy.in_scope_without(task)
     }
 
-    /// What the directory is told of the copy if it is doomed now: nothing, unless it was sealed.
+    /// What the directory is sent of the copy if it is doomed now: nothing, unless it was sealed.
     pub fn removal_notice(&self, node: u32, id: &ObjectId, dooms: bool) -> Option<DirectoryMessage>
         ensures { result ≡ removal_notice_at node self.now id.now dooms }
     {

@@ -57,7 +57,7 @@ pub struct RowCopy {
     // in the window, in bytes, while it is resident
     offset: Option<u64>,
     fetch: Option<FetchIn>,
-    // whether a hand of it stands that the job gave
+    // whether a grant of it stands that the job gave
     granted: bool,
 }
 
@@ -253,7 +253,7 @@ impl RowCopy {
         rounded(self.length())
     }
 
-    /// Whether a hand of it stands that the job gave.
+    /// Whether a grant of it stands that the job gave.
     pub fn is_granted(&self) -> bool
         ensures { result ≡ self.now.granted }
     {
@@ -359,8 +359,8 @@ impl RowCopy {
         Ok(self.after_change())
     }
 
-    /// No hand stands any more of the copy of this id, if it is of the task.
-    pub fn end_hands(&mut self, id: &ObjectId, task: TaskNo)
+    /// No grant stands any more of the copy of this id, if it is of the task.
+    pub fn end_grants(&mut self, id: &ObjectId, task: TaskNo)
         ensures { self.new ≡ if same_task task id.now.task then after_grants_ended self.old else self.old }
     {
         let own = task == id.task();
@@ -369,7 +369,7 @@ impl RowCopy {
         }
     }
 
-    /// What the directory is told of it if it is doomed now: nothing, unless it was sealed.
+    /// What the directory is sent of it if it is doomed now: nothing, unless it was sealed.
     pub fn removal_notice(&self, node: u32, id: ObjectId, dooms: bool) -> Option<DirectoryMessage>
         ensures { result ≡ if dooms then farewell_of node id self.now else None }
     {
@@ -457,13 +457,13 @@ impl RowCopy {
 
     /// Whether a chunk of `len` bytes fills a gap: it is of its fetch, from its source, missing, and as long as that chunk
     /// is. Then the digest of all bytes is known.
-    pub fn is_filled_by(&self, number: u64, from: u32, index: u32, len: usize) -> bool
+    pub fn is_filled_by(&self, number: u64, index: u32, from: u32, len: usize) -> bool
         ensures { result ≡ fills number from index len self.now }
     {
         let Some(fetch) = self.fetch.as_ref() else {
             return false;
         };
-        self.is_fetching() && fetch.fills_one(number, from, index, len)
+        self.is_fetching() && fetch.fills_one(number, index, from, len)
     }
 
     /// Whether no chunk but this one is missing.
@@ -511,7 +511,7 @@ impl RowCopy {
                 from,
                 index,
                 len,
-            } => self.take_chunk(number, from, index, len),
+            } => self.take_chunk(number, index, from, len),
             Mark::Brought => self.bring(),
             Mark::FetchFailed(fault) => self.fail_fetch(fault),
         }
@@ -606,11 +606,11 @@ impl RowCopy {
     }
 
     /// A chunk of `len` bytes came: the gap that it fills is closed.
-    fn take_chunk(&mut self, number: u64, from: u32, index: u32, len: usize)
+    fn take_chunk(&mut self, number: u64, index: u32, from: u32, len: usize)
         ensures { self.new ≡ after_chunk number from index len self.old }
     {
         if let Some(fetch) = self.fetch.as_mut() {
-            fetch.take_chunk(number, from, index, len);
+            fetch.take_chunk(number, index, from, len);
         }
     }
 

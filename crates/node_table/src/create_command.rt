@@ -5,7 +5,7 @@ ghost use Rattle.obj_id.specs.declared.commands.Command.TheVariants as command;
 ghost use Rattle.private_store.specs.declared.inputs.Input.TheVariants as input;
 ghost use Rattle.private_store.specs.rules.Contents.{Contents};
 ghost use Rattle.private_store.specs.rules.Room.{make_room};
-ghost use Rattle.private_store.specs.rules.Hands.{Hand};
+ghost use Rattle.private_store.specs.rules.Grants.{StandingGrant};
 ghost use Rattle.spill_work.specs.Line.{same_work_job, IsSameFor};
 ghost use Rattle.node_table.specs.Asked.{HasAsked};
 ghost use Rattle.node_table.specs.Checks.{create_check as create_check_lem};
@@ -21,7 +21,7 @@ use crate::get_command::refuse;
 use crate::outcome::{Erase, RowOutcome};
 use crate::room::{MadeRoom, Placement};
 use crate::row::JobRow;
-use obj_id::{DirectoryMessage, Endpoint, Items, Kind, Message, ObjectId, Reply};
+use obj_id::{DirectoryMessage, Endpoint, ItemList, Kind, Message, ObjectId, Reply};
 use spill_work::Works;
 use std::alloc::{AllocError, Global};
 
@@ -42,8 +42,8 @@ impl JobRow {
         kind: Kind,
         len: u32,
     ) -> Result<RowOutcome, AllocError>
-        ensures ok { IfOk result (λ o. (session : ℕ) (hands : List Hand) (bytes : ObjectId → List ℕ) (contents : Contents) → (id.now.job.0 == self.old.job) ≡ true → IsShown self.old (beside_of works.old hands bytes self.old.job) contents
-            → RowStep node self.old (beside_of works.old hands bytes self.old.job) contents (input.Call session (command.Create id.now kind len)) (row_given_of o) self.new (beside_of works.new hands bytes self.old.job)) }
+        ensures ok { IfOk result (λ o. (session : ℕ) (grants : List StandingGrant) (bytes : ObjectId → List ℕ) (contents : Contents) → (id.now.job.0 == self.old.job) ≡ true → IsShown self.old (beside_of works.old grants bytes self.old.job) contents
+            → RowStep node self.old (beside_of works.old grants bytes self.old.job) contents (input.Call session (command.Create id.now kind len)) (row_given_of o) self.new (beside_of works.new grants bytes self.old.job)) }
         ensures bounded { IfOk result (λ o. length o.messages ≤ length self.old.copies) }
         ensures line { OnOk result (HasAsked works.old id.now.job works.new) }
         ensures memory_last { OnErr result ((id.now.job.0 == self.old.job) ≡ true → IsDueMore node self.old works.old (command.Create id.now kind len)) }
@@ -58,11 +58,11 @@ impl JobRow {
             MadeRoom::Place(placement) => {
                 self.create_in_place(alloc, node, id, kind, len, &placement)
             }
-            MadeRoom::Told(refusal) => refuse(alloc, refusal),
+            MadeRoom::Refused(refusal) => refuse(alloc, refusal),
         }
     }
 
-    /// The new copy in its place. The directory is told of the victims.
+    /// The new copy in its place. The directory is notified of the victims.
     fn create_in_place(
         &mut self,
         alloc: Global,
@@ -92,16 +92,16 @@ impl JobRow {
     }
 }
 
-/// What the directory is told of evictions: that a secondary is no longer at the node.
+/// What the directory is sent of evictions: that a secondary is no longer at the node.
 pub(crate) fn removals(
     alloc: Global,
     node: u32,
     copies: &Copies,
     ids: &[ObjectId],
-) -> Result<Items<(Endpoint, Message)>, AllocError>
+) -> Result<ItemList<(Endpoint, Message)>, AllocError>
     ensures { IfOk result (λ messages. messages ≡ removals_lem node copies.now ids.now) }
 {
-    let mut messages = Items::new(alloc);
+    let mut messages = ItemList::new(alloc);
     for id in ids {
         if copies.has_secondary(id) {
             let message = Message::ToDirectory(DirectoryMessage::RemoveLocation(*id, node));

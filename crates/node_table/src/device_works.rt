@@ -11,9 +11,11 @@ ghost use Rattle.private_store.specs.rules.Tables.{at};
 ghost use Rattle.private_store.specs.rules.Copies.{extent_of};
 ghost use Rattle.private_store.specs.laws.Invariants.{is_restoring};
 ghost use Rattle.private_store.specs.rules.Contents.{Contents, work_verdict, write_verdict};
-ghost use Rattle.private_store.specs.rules.Hands.{Hand};
-ghost use Rattle.spill_work.specs.Line.{same_work_job, is_at, IsSameFor, is_write_work, shown, finish_check};
-ghost use Rattle.node_table.specs.Answering.{is_in_work, work_verdict_of, view_read_verdict, has_failed, written_row, read_row, ended_row};
+ghost use Rattle.private_store.specs.rules.Grants.{StandingGrant};
+ghost use Rattle.spill_work.specs.Line.{same_work_job, is_at, IsSameFor, shown, finish_check};
+ghost use Rattle.obj_id.specs.Works.{is_write};
+ghost use Rattle.node_table.specs.Answering.{is_in_work, work_verdict_of, view_read_verdict, written_row, read_row, ended_row};
+ghost use Rattle.object_state.specs.Laws.{has_failed};
 ghost use Rattle.job_region.specs.Region.{region_bytes_at as placed_bytes};
 ghost use Rattle.node_table.specs.Handed.{row_work_of};
 ghost use Rattle.node_table.specs.CopyViews.{CopyView};
@@ -26,7 +28,9 @@ use crate::copy::RowCopy;
 use crate::outcome::{Erase, RowOutcome};
 use crate::row::JobRow;
 use bytes::Bytes;
-use obj_id::{CopyState, DeviceAnswer, DeviceKey, Items, ObjectId, Refusal, Reply, Work, WorkKind};
+use obj_id::{
+    CopyState, DeviceAnswer, DeviceKey, ItemList, ObjectId, Refusal, Reply, Work, WorkKind,
+};
 use private_store::{Fault, WorkVerdict};
 use spill_work::{IoRequest, Works};
 use std::alloc::{AllocError, Global};
@@ -40,7 +44,7 @@ pub struct Answered {
 
 impl JobRow {
     /// Finish: a device answered the work of this number. The write of a copy backs it, unless it failed, which the next
-    /// one that waits for room is told; the read of a copy seals it again, if it gave the sealed bytes, and otherwise the copy
+    /// one that waits for room is answered; the read of a copy seals it again, if it gave the sealed bytes, and otherwise the copy
     /// is away with a fault to tell of. A doomed copy that nothing else keeps is then removed. `Stale` if nobody has taken
     /// such a work, and then nothing changes. Takes no memory; hashes the bytes once, if
     /// their digest isn't known.
@@ -51,10 +55,10 @@ impl JobRow {
         number: u64,
         answer: &DeviceAnswer,
     ) -> Answered
-        ensures step { finish_check works.old (record { 0 = self.old.job }) number ≡ None → (node : ℕ) (hands : List Hand) (bytes : ObjectId → List ℕ) (contents : Contents) → IsShown self.old (beside_of works.old hands bytes self.old.job) contents
-            → RowStep node self.old (beside_of works.old hands bytes self.old.job) contents (input.Answer number answer.now) (row_given_of result.outcome) self.new (beside_of works.new hands bytes self.old.job) }
-        ensures verdict { finish_check works.old (record { 0 = self.old.job }) number ≡ None → (hands : List Hand) (bytes : ObjectId → List ℕ) (contents : Contents) → IsShown self.old (beside_of works.old hands bytes self.old.job) contents
-            → result.verdict ≡ work_verdict (seen self.old (beside_of works.old hands bytes self.old.job) contents) number answer.now }
+        ensures step { finish_check works.old (record { 0 = self.old.job }) number ≡ None → (node : ℕ) (grants : List StandingGrant) (bytes : ObjectId → List ℕ) (contents : Contents) → IsShown self.old (beside_of works.old grants bytes self.old.job) contents
+            → RowStep node self.old (beside_of works.old grants bytes self.old.job) contents (input.Answer number answer.now) (row_given_of result.outcome) self.new (beside_of works.new grants bytes self.old.job) }
+        ensures verdict { finish_check works.old (record { 0 = self.old.job }) number ≡ None → (grants : List StandingGrant) (bytes : ObjectId → List ℕ) (contents : Contents) → IsShown self.old (beside_of works.old grants bytes self.old.job) contents
+            → result.verdict ≡ work_verdict (seen self.old (beside_of works.old grants bytes self.old.job) contents) number answer.now }
         ensures line { finish_check works.old (record { 0 = self.old.job }) number ≡ None → works.new ≡ record works.old { works = filter (λ work. not (is_at (record { 0 = self.old.job }) number work)) works.old.works } }
         ensures others { (other : JobNo) → same_work_job (record { 0 = self.old.job }) other ≡ false → IsSameFor other works.old works.new }
         ensures stale { (r : Refusal) → finish_check works.old (record { 0 = self.old.job }) number ≡ Some r → row_given_of result.outcome ≡ only (reply.Refused Stale) }
@@ -70,7 +74,7 @@ impl JobRow {
             Ok(asked) => {
                 let verdict = self.end_work(&asked, answer);
                 let over = self.copies().is_over(&asked.id);
-                let outcome = self.settle_after(&asked.id, over, Items::new(alloc));
+                let outcome = self.settle_after(&asked.id, over, ItemList::new(alloc));
                 Answered { outcome, verdict }
             }
         }
@@ -104,7 +108,7 @@ impl JobRow {
     /// A write's bytes, and nothing for a read, which takes no memory.
     fn payload(&self, alloc: Global, asked: &IoRequest) -> Result<Option<Bytes>, AllocError>
         ensures ok { IfOk result (λ payload. (k : CopyView) (e : Extent) → at self.now.copies asked.now.id ≡ Some k → extent_of k.copy ≡ Some e
-            → payload ≡ (if is_write_work asked.now.kind then Some (take k.copy.length (placed_bytes e self.now.window.placed)) else None)) }
+            → payload ≡ (if is_write asked.now.kind then Some (take k.copy.length (placed_bytes e self.now.window.placed)) else None)) }
         ensures without_memory { asked.now.kind ≡ Read → IsOk result }
     {
         match asked.kind {
@@ -180,7 +184,7 @@ impl JobRow {
 
 /// The number of the write whose key the work has: its own, or that of the write that backed the copy.
 fn key_number(copy: &RowCopy, asked: &IoRequest) -> u64
-    ensures { result ≡ (if is_write_work asked.now.kind then asked.now.number else unwrap_or copy.now.copy.backed 0) }
+    ensures { result ≡ (if is_write asked.now.kind then asked.now.number else unwrap_or copy.now.copy.backed 0) }
 {
     match asked.kind {
         WorkKind::Write => asked.number,

@@ -6,7 +6,7 @@ ghost use Rattle.obj_id.specs.declared.commands.Reply.TheVariants as reply;
 ghost use Rattle.private_store.specs.declared.inputs.Input.TheVariants as input;
 ghost use Rattle.private_store.specs.rules.Contents.{Contents};
 ghost use Rattle.node_table.specs.Checks.{end_task_check as end_task_check_lem};
-ghost use Rattle.node_table.specs.EndingTasks.{beside_after, doomed_row, doom_posts, given_up_row, give_up_posts, told_each, keys_of_copies, gone_key, gone_keys as gone_keys_lem};
+ghost use Rattle.node_table.specs.EndingTasks.{beside_after, doomed_row, doom_posts, given_up_row, give_up_posts, posts_of_each, keys_of_copies, gone_key, gone_keys as gone_keys_lem};
 ghost use Rattle.node_table.specs.Ending.{key_at};
 ghost use Rattle.node_table.specs.Outcomes.{row_given_of};
 ghost use Rattle.node_table.specs.Row.{SharedTables};
@@ -18,12 +18,12 @@ use crate::marks::Mark;
 use crate::outcome::{Erase, RowOutcome};
 use crate::row::JobRow;
 use obj_id::{
-    DeviceKey, DirectoryMessage, Endpoint, Items, Message, ObjectId, OwnItem, Reply, TaskNo,
+    DeviceKey, DirectoryMessage, Endpoint, ItemList, Message, ObjectId, OwnItem, Reply, TaskNo,
 };
 use std::alloc::{AllocError, Global};
 
 impl JobRow {
-    /// EndTask: the task is remembered, the hands of its own objects end, its copies are doomed, and its borrows given
+    /// EndTask: the task is remembered, the grants of its own objects end, its copies are doomed, and its borrows given
     /// up. `Gone` if it has ended already, `TooMany` at 1,024 ended tasks. Takes walks over the job's copies, a sort,
     /// and memory for each copy. The error is out of memory, and then nothing has changed.
     pub fn end_task(
@@ -53,8 +53,8 @@ impl JobRow {
         self.push_gone(keys.as_slice(), &mut erased);
         Ok(RowOutcome {
             reply: Reply::Ok,
-            messages: Items::from_vec(messages),
-            erase: Erase::Many(Items::from_vec(erased)),
+            messages: ItemList::from_vec(messages),
+            erase: Erase::Many(ItemList::from_vec(erased)),
         })
     }
 
@@ -63,14 +63,14 @@ impl JobRow {
         &self,
         alloc: Global,
         items: &[OwnItem],
-    ) -> Result<Items<(ObjectId, DeviceKey)>, AllocError>
+    ) -> Result<ItemList<(ObjectId, DeviceKey)>, AllocError>
         ensures { IfOk result (λ keys. keys ≡ keys_of_copies self.now (map (λ item. item.id) items.now)) }
     {
         let mut keys = Vec::with_capacity(alloc, items.len())?;
         for item in items {
             push_last(&mut keys, self.key_with_id(&item.id));
         }
-        Ok(Items::from_vec(keys))
+        Ok(ItemList::from_vec(keys))
     }
 
     /// The id and the device key of the copy, if it is backed.
@@ -102,7 +102,7 @@ impl JobRow {
         }
     }
 
-    /// Those of these copies that are the task's are doomed, one after another, and what the directory is told of them
+    /// Those of these copies that are the task's are doomed, one after another, and what the directory is sent of them
     /// comes last. There is room for a message of each.
     fn doom_each(
         &mut self,
@@ -113,7 +113,7 @@ impl JobRow {
     )
         requires { vec_len messages.old + length items.now ≤ vec_capacity messages.old }
         ensures row { self.new ≡ fold (doomed_row task) self.old (map (λ item. item.id) items.now) }
-        ensures told { messages.new.items ≡ messages.old.items ++ told_each (doomed_row task) (doom_posts node task) self.old (map (λ item. item.id) items.now) }
+        ensures response { messages.new.items ≡ messages.old.items ++ posts_of_each (doomed_row task) (doom_posts node task) self.old (map (λ item. item.id) items.now) }
         ensures len { vec_len messages.new ≤ vec_len messages.old + length items.now }
         ensures capacity { vec_capacity messages.old ≤ vec_capacity messages.new }
     {
@@ -122,7 +122,7 @@ impl JobRow {
         }
     }
 
-    /// The task's borrows of these copies are given up, one after another, and what the directory is told of those that
+    /// The task's borrows of these copies are given up, one after another, and what the directory is sent of those that
     /// are doomed by it comes last. There is room for a message of each.
     fn give_up_each(
         &mut self,
@@ -133,7 +133,7 @@ impl JobRow {
     )
         requires { vec_len messages.old + length items.now ≤ vec_capacity messages.old }
         ensures row { self.new ≡ fold (given_up_row task) self.old (map (λ item. item.id) items.now) }
-        ensures told { messages.new.items ≡ messages.old.items ++ told_each (given_up_row task) (give_up_posts node task) self.old (map (λ item. item.id) items.now) }
+        ensures response { messages.new.items ≡ messages.old.items ++ posts_of_each (given_up_row task) (give_up_posts node task) self.old (map (λ item. item.id) items.now) }
         ensures len { vec_len messages.new ≤ vec_len messages.old + length items.now }
         ensures capacity { vec_capacity messages.old ≤ vec_capacity messages.new }
     {
@@ -152,7 +152,7 @@ impl JobRow {
     )
         requires { vec_len messages.old < vec_capacity messages.old }
         ensures row { self.new ≡ doomed_row task self.old id.now }
-        ensures told { messages.new.items ≡ messages.old.items ++ doom_posts node task self.old id.now }
+        ensures response { messages.new.items ≡ messages.old.items ++ doom_posts node task self.old id.now }
         ensures len { vec_len messages.new ≤ vec_len messages.old + 1 }
         ensures capacity { vec_capacity messages.old ≤ vec_capacity messages.new }
     {
@@ -180,7 +180,7 @@ impl JobRow {
     )
         requires { vec_len messages.old < vec_capacity messages.old }
         ensures row { self.new ≡ given_up_row task self.old id.now }
-        ensures told { messages.new.items ≡ messages.old.items ++ give_up_posts node task self.old id.now }
+        ensures response { messages.new.items ≡ messages.old.items ++ give_up_posts node task self.old id.now }
         ensures len { vec_len messages.new ≤ vec_len messages.old + 1 }
         ensures capacity { vec_capacity messages.old ≤ vec_capacity messages.new }
     {

@@ -7,7 +7,7 @@ ghost use Rattle.node_table.specs.Erased.{keys_of};
 use crate::hold_commands::push_key;
 use crate::outcome::Erase;
 use crate::row::JobRow;
-use obj_id::{DeviceKey, Items, ObjectId, OwnItem};
+use obj_id::{DeviceKey, ItemList, ObjectId, OwnItem};
 use std::alloc::{AllocError, Global};
 
 impl JobRow {
@@ -21,14 +21,14 @@ impl JobRow {
     }
 
     /// The device keys of those of these copies that are backed.
-    fn keys_each(&self, alloc: Global, items: &[OwnItem]) -> Result<Items<DeviceKey>, AllocError>
+    fn keys_each(&self, alloc: Global, items: &[OwnItem]) -> Result<ItemList<DeviceKey>, AllocError>
         ensures { IfOk result (λ keys. keys ≡ keys_backed self.now (map (λ item. item.id) items.now)) }
     {
         let mut keys = Vec::with_capacity(alloc, items.len())?;
         for item in items {
             push_key(&mut keys, self.device_key(&item.id));
         }
-        Ok(Items::from_vec(keys))
+        Ok(ItemList::from_vec(keys))
     }
 
     /// The device key of the copy, if it is backed.

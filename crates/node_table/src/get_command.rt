@@ -11,7 +11,7 @@ ghost use Rattle.private_store.specs.laws.Invariants.{is_remembered};
 ghost use Rattle.private_store.specs.rules.Contents.{Contents};
 ghost use Rattle.private_store.specs.rules.Private.{to_directory};
 ghost use Rattle.obj_id.specs.declared.messages.DirectoryMessage.TheVariants.{Locate};
-ghost use Rattle.private_store.specs.rules.Hands.{Hand};
+ghost use Rattle.private_store.specs.rules.Grants.{StandingGrant};
 ghost use Rattle.spill_work.specs.Line.{WorkLine, same_work_job, IsSameFor};
 ghost use Rattle.node_table.specs.Asked.{HasAsked};
 ghost use Rattle.node_table.specs.Row.{SharedTables, beside_of};
@@ -23,7 +23,7 @@ ghost use Rattle.node_table.specs.Shown.{IsShown, RowStep, only};
 use crate::outcome::{Erase, RowOutcome};
 use crate::row::JobRow;
 use bytes::Bytes;
-use obj_id::{CopyState, DirectoryMessage, Endpoint, Items, Message, ObjectId, Refusal, Reply};
+use obj_id::{CopyState, DirectoryMessage, Endpoint, ItemList, Message, ObjectId, Refusal, Reply};
 use spill_work::Works;
 use std::alloc::{AllocError, Global};
 
@@ -91,8 +91,8 @@ impl JobRow {
     ) -> Result<RowOutcome, AllocError>
         requires alive { is_remembered self.old.ended_tasks id.now.task ≡ false }
         requires unready { option_map_or (λ k. is_ready k.copy) (at self.old.copies id.now) false ≡ false }
-        ensures ok { IfOk result (λ o. (session : ℕ) (hands : List Hand) (bytes : ObjectId → List ℕ) (contents : Contents) → (id.now.job.0 == self.old.job) ≡ true → IsShown self.old (beside_of works.old hands bytes self.old.job) contents
-            → RowStep node self.old (beside_of works.old hands bytes self.old.job) contents (input.Call session (command.Get id.now)) (row_given_of o) self.new (beside_of works.new hands bytes self.old.job)) }
+        ensures ok { IfOk result (λ o. (session : ℕ) (grants : List StandingGrant) (bytes : ObjectId → List ℕ) (contents : Contents) → (id.now.job.0 == self.old.job) ≡ true → IsShown self.old (beside_of works.old grants bytes self.old.job) contents
+            → RowStep node self.old (beside_of works.old grants bytes self.old.job) contents (input.Call session (command.Get id.now)) (row_given_of o) self.new (beside_of works.new grants bytes self.old.job)) }
         ensures bounded { IfOk result (λ o. length o.messages ≤ length self.old.copies + 1) }
         ensures line { OnOk result (HasAsked works.old id.now.job works.new) }
         ensures memory_last { OnErr result ((id.now.job.0 == self.old.job) ≡ true → IsDueMore node self.old works.old (command.Get id.now)) }
@@ -128,8 +128,8 @@ impl JobRow {
         session: u32,
         id: &ObjectId,
     ) -> Result<RowOutcome, AllocError>
-        ensures ok { IfOk result (λ o. (hands : List Hand) (bytes : ObjectId → List ℕ) (contents : Contents) → (id.now.job.0 == self.old.job) ≡ true → IsShown self.old (beside_of works.old hands bytes self.old.job) contents
-            → RowStep node self.old (beside_of works.old hands bytes self.old.job) contents (input.Call session (command.Get id.now)) (row_given_of o) self.new (beside_of works.new hands bytes self.old.job)) }
+        ensures ok { IfOk result (λ o. (grants : List StandingGrant) (bytes : ObjectId → List ℕ) (contents : Contents) → (id.now.job.0 == self.old.job) ≡ true → IsShown self.old (beside_of works.old grants bytes self.old.job) contents
+            → RowStep node self.old (beside_of works.old grants bytes self.old.job) contents (input.Call session (command.Get id.now)) (row_given_of o) self.new (beside_of works.new grants bytes self.old.job)) }
         ensures bounded { IfOk result (λ o. length o.messages ≤ length self.old.copies + 1) }
         ensures line { OnOk result (HasAsked works.old id.now.job works.new) }
         ensures memory_last { OnErr result ((id.now.job.0 == self.old.job) ≡ true → IsDueMore node self.old works.old (command.Get id.now)) }
@@ -150,13 +150,13 @@ impl JobRow {
 /// A refusal, and nothing else.
 pub(crate) fn refuse(alloc: Global, refusal: Refusal) -> Result<RowOutcome, AllocError>
     ensures ok { IfOk result (λ o. row_given_of o ≡ only (reply.Refused refusal)) }
-    ensures told { IsOk result }
+    ensures response { IsOk result }
 {
     Ok(RowOutcome::only(alloc, Reply::Refused(refusal)))
 }
 
 /// The answer `Pending`, and these messages.
-pub(crate) fn pending(messages: Items<(Endpoint, Message)>) -> RowOutcome
+pub(crate) fn pending(messages: ItemList<(Endpoint, Message)>) -> RowOutcome
     ensures { row_given_of result ≡ record { reply = reply.Refused Pending; posts = messages; erased = [] } }
 {
     RowOutcome {
@@ -172,7 +172,7 @@ pub(crate) fn locate(
     node: u32,
     id: ObjectId,
     number: u64,
-) -> Result<Items<(Endpoint, Message)>, AllocError>
+) -> Result<ItemList<(Endpoint, Message)>, AllocError>
     ensures { IfOk result (λ messages. messages ≡ to_directory (Locate id node number)) }
 {
     let message = Message::ToDirectory(DirectoryMessage::Locate { id, node, number });

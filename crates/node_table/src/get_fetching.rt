@@ -6,7 +6,7 @@ ghost use Rattle.obj_id.specs.declared.commands.Command.TheVariants as command;
 ghost use Rattle.private_store.specs.declared.inputs.Input.TheVariants as input;
 ghost use Rattle.private_store.specs.rules.Tables.{at};
 ghost use Rattle.private_store.specs.laws.Invariants.{is_remembered};
-ghost use Rattle.private_store.specs.rules.Hands.{Hand};
+ghost use Rattle.private_store.specs.rules.Grants.{StandingGrant};
 ghost use Rattle.private_store.specs.rules.Contents.{Contents};
 ghost use Rattle.spill_work.specs.Line.{same_work_job, IsSameFor};
 ghost use Rattle.node_table.specs.Asked.{HasAsked};
@@ -27,7 +27,7 @@ use crate::get_command::{locate, pending, refuse};
 use crate::outcome::RowOutcome;
 use crate::row::JobRow;
 use fetch_core::{FetchIn, Stage};
-use obj_id::{Endpoint, Items, Message, ObjectId, PeerMessage, Refusal, Reply};
+use obj_id::{Endpoint, ItemList, Message, ObjectId, PeerMessage, Refusal, Reply};
 use private_store::FetchFault;
 use spill_work::Works;
 use std::alloc::{AllocError, Global};
@@ -44,8 +44,8 @@ impl JobRow {
     ) -> Result<RowOutcome, AllocError>
         requires alive { is_remembered self.old.ended_tasks id.now.task ≡ false }
         requires visible { visible_state (at self.old.copies id.now) ≡ Ok (Some Fetching) }
-        ensures ok { IfOk result (λ o. (session : ℕ) (hands : List Hand) (bytes : ObjectId → List ℕ) (contents : Contents) → (id.now.job.0 == self.old.job) ≡ true → IsShown self.old (beside_of works.old hands bytes self.old.job) contents
-            → RowStep node self.old (beside_of works.old hands bytes self.old.job) contents (input.Call session (command.Get id.now)) (row_given_of o) self.new (beside_of works.new hands bytes self.old.job)) }
+        ensures ok { IfOk result (λ o. (session : ℕ) (grants : List StandingGrant) (bytes : ObjectId → List ℕ) (contents : Contents) → (id.now.job.0 == self.old.job) ≡ true → IsShown self.old (beside_of works.old grants bytes self.old.job) contents
+            → RowStep node self.old (beside_of works.old grants bytes self.old.job) contents (input.Call session (command.Get id.now)) (row_given_of o) self.new (beside_of works.new grants bytes self.old.job)) }
         ensures bounded { IfOk result (λ o. length o.messages ≤ length self.old.copies + 1) }
         ensures line { OnOk result (HasAsked works.old id.now.job works.new) }
         ensures memory_last { OnErr result ((id.now.job.0 == self.old.job) ≡ true → IsDueMore node self.old works.old (command.Get id.now)) }
@@ -82,8 +82,8 @@ impl JobRow {
         requires visible { visible_state (at self.old.copies id.now) ≡ Ok (Some Fetching) }
         requires sized { (k : CopyView) → at self.old.copies id.now ≡ Some k → (source : ℕ) × IsInPhase k.copy (sized source) }
         requires length { (k : CopyView) → at self.old.copies id.now ≡ Some k → len ≡ k.copy.length }
-        ensures ok { IfOk result (λ o. (session : ℕ) (hands : List Hand) (bytes : ObjectId → List ℕ) (contents : Contents) → (id.now.job.0 == self.old.job) ≡ true → IsShown self.old (beside_of works.old hands bytes self.old.job) contents
-            → RowStep node self.old (beside_of works.old hands bytes self.old.job) contents (input.Call session (command.Get id.now)) (row_given_of o) self.new (beside_of works.new hands bytes self.old.job)) }
+        ensures ok { IfOk result (λ o. (session : ℕ) (grants : List StandingGrant) (bytes : ObjectId → List ℕ) (contents : Contents) → (id.now.job.0 == self.old.job) ≡ true → IsShown self.old (beside_of works.old grants bytes self.old.job) contents
+            → RowStep node self.old (beside_of works.old grants bytes self.old.job) contents (input.Call session (command.Get id.now)) (row_given_of o) self.new (beside_of works.new grants bytes self.old.job)) }
         ensures bounded { IfOk result (λ o. length o.messages ≤ length self.old.copies + 1) }
         ensures line { OnOk result (HasAsked works.old id.now.job works.new) }
         ensures memory_last { OnErr result ((id.now.job.0 == self.old.job) ≡ true → IsDueMore node self.old works.old (command.Get id.now)) }
@@ -118,7 +118,7 @@ fn pull(
     copy: &RowCopy,
     fetch: &FetchIn,
     source: u32,
-) -> Result<Items<(Endpoint, Message)>, AllocError>
+) -> Result<ItemList<(Endpoint, Message)>, AllocError>
     requires own { copy.now.copy.fetch ≡ Some (store_fetch_of fetch.now) }
     requires pulled { fetch.now.phase ≡ pulling source (missing_of fetch.now.phase) }
     ensures { IfOk result (λ messages. messages ≡ to_peer source (Pull id fetch.now.number copy.now.copy.length (unwrap_or copy.now.digest no_digest) (missing_of fetch.now.phase)) ∷ []) }
@@ -133,7 +133,7 @@ fn pull(
         number: fetch.number(),
         length: copy.length(),
         digest,
-        indexes: Items::from_vec(indexes),
+        indexes: ItemList::from_vec(indexes),
     });
     RowOutcome::one_message(alloc, Endpoint::Node(source), message)
 }

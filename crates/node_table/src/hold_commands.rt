@@ -12,7 +12,7 @@ ghost use Rattle.node_table.specs.Shown.{IsShown, RowStep};
 use crate::marks::Mark;
 use crate::outcome::{Erase, RowOutcome};
 use crate::row::JobRow;
-use obj_id::{DeviceKey, Items, ObjectId, OwnItem, Reply};
+use obj_id::{DeviceKey, ItemList, ObjectId, OwnItem, Reply};
 use std::alloc::{AllocError, Global};
 
 impl JobRow {
@@ -24,7 +24,7 @@ impl JobRow {
         ensures silent { result.messages ≡ [] }
     {
         match self.release_copy(id, session) {
-            Ok(over) => self.settle_after(id, over, Items::new(alloc)),
+            Ok(over) => self.settle_after(id, over, ItemList::new(alloc)),
             Err(refusal) => RowOutcome::only(alloc, Reply::Refused(refusal)),
         }
     }
@@ -47,7 +47,7 @@ impl JobRow {
         let keys = self.leave_each(alloc, session, items.as_slice())?;
         Ok(RowOutcome {
             reply: Reply::Ok,
-            messages: Items::new(alloc),
+            messages: ItemList::new(alloc),
             erase: Erase::Many(keys),
         })
     }
@@ -59,7 +59,7 @@ impl JobRow {
         alloc: Global,
         session: u32,
         items: &[OwnItem],
-    ) -> Result<Items<DeviceKey>, AllocError>
+    ) -> Result<ItemList<DeviceKey>, AllocError>
         ensures keys { IfOk result (λ keys. keys ≡ keys_left session self.old (map (λ item. item.id) items.now)) }
         ensures row { OnOk result (self.new ≡ fold (left_row session) self.old (map (λ item. item.id) items.now)) }
         ensures err { OnErr result (self.new ≡ self.old) }
@@ -69,7 +69,7 @@ impl JobRow {
             let after = self.apply(&item.id, Mark::Left(session));
             push_key(&mut keys, self.settle(&item.id, after.over));
         }
-        Ok(Items::from_vec(keys))
+        Ok(ItemList::from_vec(keys))
     }
 }
 

@@ -17,7 +17,7 @@ mod footprint;
 mod get_away;
 mod get_command;
 mod get_fetching;
-mod hand_commands;
+mod grant_commands;
 mod hold_commands;
 pub mod laws;
 mod lent;

@@ -5,7 +5,7 @@ ghost use Rattle.obj_id.specs.declared.commands.Command.TheVariants as command;
 ghost use Rattle.private_store.specs.declared.inputs.Input.TheVariants as input;
 ghost use Rattle.private_store.specs.rules.Commands.{usage_of, granted_items};
 ghost use Rattle.private_store.specs.rules.Contents.{Contents};
-ghost use Rattle.private_store.specs.rules.Hands.{Hand};
+ghost use Rattle.private_store.specs.rules.Grants.{StandingGrant};
 ghost use Rattle.node_table.specs.Row.{SharedTables, beside_of, shape_of};
 ghost use Rattle.node_table.specs.Shown.{IsShown, RowStep, only};
 ghost use Rattle.node_table.specs.Usages.{own_item_of, window_bytes as window_bytes_lem, device_bytes as device_bytes_lem, doomed_one as doomed_one_lem, used};
@@ -13,7 +13,7 @@ ghost use Rattle.node_table.specs.Usages.{own_item_of, window_bytes as window_by
 use crate::copy::RowCopy;
 use crate::row::JobRow;
 use bytes::Bytes;
-use obj_id::{GrantedItem, Items, ObjectId, OwnItem, Reply, Usage};
+use obj_id::{GrantedItem, ItemList, ObjectId, OwnItem, Reply, Usage};
 use spill_work::Works;
 use std::alloc::{AllocError, Global};
 
@@ -65,11 +65,11 @@ impl JobRow {
     pub fn list(
         &self,
         alloc: Global,
-        granted: Items<GrantedItem>,
+        granted: ItemList<GrantedItem>,
     ) -> Result<Reply<Bytes>, AllocError>
-        ensures { IfOk result (λ told. (node session : ℕ) (beside : SharedTables) (contents : Contents) → IsShown self.now beside contents
+        ensures { IfOk result (λ response. (node session : ℕ) (beside : SharedTables) (contents : Contents) → IsShown self.now beside contents
             → granted ≡ granted_items (shape_of self.now beside)
-            → RowStep node self.now beside contents (input.Call session command.List) (only told) self.now beside) }
+            → RowStep node self.now beside contents (input.Call session command.List) (only response) self.now beside) }
     {
         let own = self.copies().items(alloc)?;
         Ok(Reply::List(own, granted))
@@ -79,9 +79,9 @@ impl JobRow {
     /// one look-up of the job among the works, and no memory. A sum that passes `u64::MAX` is shown as that,
     /// which no row of a node has.
     pub fn usage(&self, works: &Works) -> Usage
-        ensures told { result ≡ used self.now works.now }
-        ensures shown { (hands : List Hand) (bytes : ObjectId → List ℕ) (contents : Contents) → IsShown self.now (beside_of works.now hands bytes self.now.job) contents
-            → result ≡ usage_of (shape_of self.now (beside_of works.now hands bytes self.now.job)) }
+        ensures response { result ≡ used self.now works.now }
+        ensures shown { (grants : List StandingGrant) (bytes : ObjectId → List ℕ) (contents : Contents) → IsShown self.now (beside_of works.now grants bytes self.now.job) contents
+            → result ≡ usage_of (shape_of self.now (beside_of works.now grants bytes self.now.job)) }
     {
         let quota = self.quota();
         Usage {
@@ -96,8 +96,8 @@ impl JobRow {
 
     /// Usage: what `usage` says. Changes nothing, and takes no memory.
     pub fn tell_usage(&self, works: &Works) -> Reply<Bytes>
-        ensures { (node session : ℕ) (hands : List Hand) (bytes : ObjectId → List ℕ) (contents : Contents) → IsShown self.now (beside_of works.now hands bytes self.now.job) contents
-            → RowStep node self.now (beside_of works.now hands bytes self.now.job) contents (input.Call session command.Usage) (only result) self.now (beside_of works.now hands bytes self.now.job) }
+        ensures { (node session : ℕ) (grants : List StandingGrant) (bytes : ObjectId → List ℕ) (contents : Contents) → IsShown self.now (beside_of works.now grants bytes self.now.job) contents
+            → RowStep node self.now (beside_of works.now grants bytes self.now.job) contents (input.Call session command.Usage) (only result) self.now (beside_of works.now grants bytes self.now.job) }
     {
         Reply::Usage(self.usage(works))
     }

@@ -16,7 +16,7 @@ pub(crate) enum Mark {
     GivenUp(TaskNo),
     /// It is removed as soon as nothing keeps it.
     Doomed,
-    /// Hands of it stand that the job gave, or none.
+    /// Grants of it stand that the job gave, or none.
     Granted(bool),
     /// A Get answered the fault of its last restore.
     FaultTold,

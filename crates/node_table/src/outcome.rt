@@ -6,7 +6,7 @@ ghost use Rattle.node_table.specs.Outcomes.{row_given_of};
 ghost use Rattle.node_table.specs.Scope.{notice_posts};
 
 use bytes::Bytes;
-use obj_id::{DeviceKey, DirectoryMessage, Endpoint, Items, Message, Reply};
+use obj_id::{DeviceKey, DirectoryMessage, Endpoint, ItemList, Message, Reply};
 use std::alloc::{AllocError, Global};
 
 /// What an event gave: the answer, the messages that are to be sent, in their order and each with its
@@ -14,7 +14,7 @@ use std::alloc::{AllocError, Global};
 #[derive(Drop)]
 pub struct RowOutcome {
     pub reply: Reply<Bytes>,
-    pub messages: Items<(Endpoint, Message)>,
+    pub messages: ItemList<(Endpoint, Message)>,
     pub erase: Erase,
 }
 
@@ -23,7 +23,7 @@ pub struct RowOutcome {
 pub enum Erase {
     NoKey,
     One(DeviceKey),
-    Many(Items<DeviceKey>),
+    Many(ItemList<DeviceKey>),
 }
 
 impl Erase {
@@ -45,7 +45,7 @@ impl RowOutcome {
     {
         RowOutcome {
             reply,
-            messages: Items::new(alloc),
+            messages: ItemList::new(alloc),
             erase: Erase::NoKey,
         }
     }
@@ -54,11 +54,11 @@ impl RowOutcome {
     pub fn to_directory(
         alloc: Global,
         message: Option<DirectoryMessage>,
-    ) -> Result<Items<(Endpoint, Message)>, AllocError>
+    ) -> Result<ItemList<(Endpoint, Message)>, AllocError>
         ensures { IfOk result (λ messages. messages ≡ notice_posts message) }
     {
         match message {
-            None => Ok(Items::new(alloc)),
+            None => Ok(ItemList::new(alloc)),
             Some(message) => {
                 RowOutcome::one_message(alloc, Endpoint::Directory, Message::ToDirectory(message))
             }
@@ -70,11 +70,11 @@ impl RowOutcome {
         alloc: Global,
         to: Endpoint,
         message: Message,
-    ) -> Result<Items<(Endpoint, Message)>, AllocError>
+    ) -> Result<ItemList<(Endpoint, Message)>, AllocError>
         ensures { IfOk result (λ messages. messages ≡ (to, message) ∷ []) }
     {
         let mut messages = Vec::with_capacity(alloc, 1)?;
         messages.push((to, message))?;
-        Ok(Items::from_vec(messages))
+        Ok(ItemList::from_vec(messages))
     }
 }

@@ -78,7 +78,7 @@ impl JobRow {
         len: usize,
     ) -> Option<u32> {
         let copy = self.copies().get(id)?;
-        if !copy.is_filled_by(number, from, index, len) || !copy.lacks_only(index) {
+        if !copy.is_filled_by(number, index, from, len) || !copy.lacks_only(index) {
             return None;
         }
         Some(copy.length())

@@ -6,7 +6,7 @@ ghost use Rattle.obj_id.specs.declared.commands.Command.TheVariants as command;
 ghost use Rattle.private_store.specs.declared.inputs.Input.TheVariants as input;
 ghost use Rattle.private_store.specs.rules.Tables.{at};
 ghost use Rattle.private_store.specs.laws.Invariants.{is_remembered};
-ghost use Rattle.private_store.specs.rules.Hands.{Hand};
+ghost use Rattle.private_store.specs.rules.Grants.{StandingGrant};
 ghost use Rattle.private_store.specs.rules.Contents.{Contents};
 ghost use Rattle.spill_work.specs.Line.{AsksWork, ask_check, same_work_job, in_flight, used_by, room_for, IsSameFor};
 ghost use Rattle.obj_id.specs.declared.works.WorkKind.TheVariants.{Read};
@@ -52,9 +52,9 @@ impl JobRow {
     ) -> Result<RowOutcome, AllocError>
         requires visible { visible_state (at self.old.copies id.now) ≡ Ok (Some Away) }
         requires sound { fault_at self.old.copies id.now ≡ None }
-        ensures ok { IfOk result (λ o. (session : ℕ) (hands : List Hand) (bytes : ObjectId → List ℕ) (contents : Contents) → job ≡ record { 0 = self.old.job } → (id.now.job.0 == self.old.job) ≡ true
-            → is_remembered self.old.ended_tasks id.now.task ≡ false → IsShown self.old (beside_of works.old hands bytes self.old.job) contents
-            → RowStep node self.old (beside_of works.old hands bytes self.old.job) contents (input.Call session (command.Get id.now)) (row_given_of o) self.new (beside_of works.new hands bytes self.old.job)) }
+        ensures ok { IfOk result (λ o. (session : ℕ) (grants : List StandingGrant) (bytes : ObjectId → List ℕ) (contents : Contents) → job ≡ record { 0 = self.old.job } → (id.now.job.0 == self.old.job) ≡ true
+            → is_remembered self.old.ended_tasks id.now.task ≡ false → IsShown self.old (beside_of works.old grants bytes self.old.job) contents
+            → RowStep node self.old (beside_of works.old grants bytes self.old.job) contents (input.Call session (command.Get id.now)) (row_given_of o) self.new (beside_of works.new grants bytes self.old.job)) }
         ensures bounded { IfOk result (λ o. length o.messages ≤ length self.old.copies + 1) }
         ensures line { OnOk result (HasAsked works.old job works.new) }
         ensures memory_last { OnErr result (job ≡ record { 0 = self.old.job } → (id.now.job.0 == self.old.job) ≡ true → is_remembered self.old.ended_tasks id.now.task ≡ false → IsDueMore node self.old works.old (command.Get id.now)) }
@@ -99,10 +99,10 @@ impl JobRow {
         requires asks { (count : ℕ) → plan ≡ Ask count → room_for works.old job count ≡ true }
         requires numbered { makes_place plan ≡ true → has_numbers (used_by works.old job) 1 ≡ true }
         requires fresh { used_by works.old job ≡ 0 → lookup (same_work_job job) works.old.used ≡ None }
-        ensures ok { IfOk result (λ o. (session : ℕ) (hands : List Hand) (bytes : ObjectId → List ℕ) (contents : Contents) → job ≡ record { 0 = self.old.job } → (id.now.job.0 == self.old.job) ≡ true
-            → is_remembered self.old.ended_tasks id.now.task ≡ false → IsShown self.old (beside_of works.old hands bytes self.old.job) contents
-            → plan ≡ planned_by self.old.order (shape_of self.old (beside_of works.old hands bytes self.old.job)) len
-            → RowStep node self.old (beside_of works.old hands bytes self.old.job) contents (input.Call session (command.Get id.now)) (row_given_of o) self.new (beside_of works.new hands bytes self.old.job)) }
+        ensures ok { IfOk result (λ o. (session : ℕ) (grants : List StandingGrant) (bytes : ObjectId → List ℕ) (contents : Contents) → job ≡ record { 0 = self.old.job } → (id.now.job.0 == self.old.job) ≡ true
+            → is_remembered self.old.ended_tasks id.now.task ≡ false → IsShown self.old (beside_of works.old grants bytes self.old.job) contents
+            → plan ≡ planned_by self.old.order (shape_of self.old (beside_of works.old grants bytes self.old.job)) len
+            → RowStep node self.old (beside_of works.old grants bytes self.old.job) contents (input.Call session (command.Get id.now)) (row_given_of o) self.new (beside_of works.new grants bytes self.old.job)) }
         ensures bounded { IfOk result (λ o. length o.messages ≤ length self.old.copies + 1) }
         ensures line { OnOk result (HasAsked works.old job works.new) }
         ensures memory_last { OnErr result (refuses plan ≡ false) }
@@ -114,11 +114,11 @@ impl JobRow {
             MadeRoom::Place(placement) => {
                 self.restore_in_place(alloc, node, works, job, id, len, &placement)
             }
-            MadeRoom::Told(refusal) => refuse(alloc, refusal),
+            MadeRoom::Refused(refusal) => refuse(alloc, refusal),
         }
     }
 
-    /// The place is taken, the directory is told of the victims, and the read is asked for.
+    /// The place is taken, the directory is notified of the victims, and the read is asked for.
     fn restore_in_place(
         &mut self,
         alloc: Global,
@@ -137,10 +137,10 @@ impl JobRow {
         requires place { IsPlacement self.old len placement.now }
         requires numbered { has_numbers (used_by works.old job) 1 ≡ true }
         requires fresh { used_by works.old job ≡ 0 → lookup (same_work_job job) works.old.used ≡ None }
-        ensures ok { IfOk result (λ o. (session : ℕ) (hands : List Hand) (bytes : ObjectId → List ℕ) (contents : Contents) → job ≡ record { 0 = self.old.job } → (id.now.job.0 == self.old.job) ≡ true
-            → is_remembered self.old.ended_tasks id.now.task ≡ false → IsShown self.old (beside_of works.old hands bytes self.old.job) contents
-            → MakesPlace (make_room self.old.order (shape_of self.old (beside_of works.old hands bytes self.old.job)) len) (shape_of self.old (beside_of works.old hands bytes self.old.job)) len placement.now.victims
-            → RowStep node self.old (beside_of works.old hands bytes self.old.job) contents (input.Call session (command.Get id.now)) (row_given_of o) self.new (beside_of works.new hands bytes self.old.job)) }
+        ensures ok { IfOk result (λ o. (session : ℕ) (grants : List StandingGrant) (bytes : ObjectId → List ℕ) (contents : Contents) → job ≡ record { 0 = self.old.job } → (id.now.job.0 == self.old.job) ≡ true
+            → is_remembered self.old.ended_tasks id.now.task ≡ false → IsShown self.old (beside_of works.old grants bytes self.old.job) contents
+            → MakesPlace (make_room self.old.order (shape_of self.old (beside_of works.old grants bytes self.old.job)) len) (shape_of self.old (beside_of works.old grants bytes self.old.job)) len placement.now.victims
+            → RowStep node self.old (beside_of works.old grants bytes self.old.job) contents (input.Call session (command.Get id.now)) (row_given_of o) self.new (beside_of works.new grants bytes self.old.job)) }
         ensures bounded { IfOk result (λ o. length o.messages ≤ length self.old.copies + 1) }
         ensures line { OnOk result (HasAsked works.old job works.new) }
         ensures others { (other : JobNo) → same_work_job job other ≡ false → IsSameFor other works.old works.new }

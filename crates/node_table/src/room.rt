@@ -7,7 +7,7 @@ ghost use Rattle.node_table.specs.MadeRooms.{IsRoomMade, IsPlannedFor, WaitsForP
 ghost use Rattle.node_table.specs.Evicting.{MayGo};
 ghost use Rattle.obj_id.specs.declared.ids.ObjectId.{ObjectId};
 ghost use Rattle.private_store.specs.rules.Room.{make_room, plan};
-ghost use Rattle.private_store.specs.rules.Hands.{Hand};
+ghost use Rattle.private_store.specs.rules.Grants.{StandingGrant};
 ghost use Rattle.private_store.specs.rules.Contents.{Contents};
 ghost use Rattle.node_table.specs.Row.{SharedTables, beside_of, shape_of};
 ghost use Rattle.node_table.specs.Shown.{IsShown};
@@ -21,7 +21,7 @@ ghost use Rattle.spill_work.specs.Line.{WorkLine};
 use crate::copies::Copies;
 use crate::row::JobRow;
 use lru_evictor::{CopyFacts, CopyLookup, DeviceRoom, Plan, extents_by_offset};
-use obj_id::{Extent, Items, JobNo, ObjectId, Refusal, WorkKind};
+use obj_id::{Extent, ItemList, JobNo, ObjectId, Refusal, WorkKind};
 use spill_work::Works;
 use std::alloc::{AllocError, Global};
 
@@ -46,7 +46,7 @@ pub(crate) enum RoomPlan {
 #[derive(Drop)]
 pub(crate) struct Placement {
     /// The copies that are to be evicted for it, in this order and perhaps none.
-    pub(crate) victims: Items<ObjectId>,
+    pub(crate) victims: ItemList<ObjectId>,
     /// Their extents, by rising offset.
     pub(crate) gone: Vec<Extent>,
     /// Where it fits first once they are evicted.
@@ -59,7 +59,7 @@ pub(crate) enum MadeRoom {
     /// There is this place. Nothing has changed yet.
     Place(Placement),
     /// There is none: this is to be answered, and nothing else is to be done.
-    Told(Refusal),
+    Refused(Refusal),
 }
 
 impl RoomPlan {
@@ -92,13 +92,13 @@ impl JobRow {
     /// takes what `UseOrder::plan` does; what the copies take of the device is counted.
     pub(crate) fn plan_room(&mut self, works: &Works, job: JobNo, len: u32) -> RoomPlan
         ensures fits { (offset : ℕ) → result ≡ Fits offset → place_for self.old.window len ≡ Some offset }
-        ensures plan { (hands : List Hand) (bytes : ObjectId → List ℕ) (contents : Contents) → job ≡ record { 0 = self.old.job } → IsShown self.old (beside_of works.now hands bytes self.old.job) contents
-            → result ≡ planned_by self.old.order (shape_of self.old (beside_of works.now hands bytes self.old.job)) len }
+        ensures plan { (grants : List StandingGrant) (bytes : ObjectId → List ℕ) (contents : Contents) → job ≡ record { 0 = self.old.job } → IsShown self.old (beside_of works.now grants bytes self.old.job) contents
+            → result ≡ planned_by self.old.order (shape_of self.old (beside_of works.now grants bytes self.old.job)) len }
         ensures asks { (count : ℕ) → result ≡ Ask count → room_for_lem works.now job count ≡ true }
         ensures same { self.new ≡ self.old }
     {
         let device = DeviceRoom {
-            quota: self.device(),
+            quota: self.device_quota(),
             used: self.copies().device_bytes(),
             works: works.in_flight(job),
         };
@@ -111,9 +111,9 @@ impl JobRow {
     }
 
     /// The copies that are to be evicted for an object of `len` bytes, in this order, if that is the plan.
-    fn victims(&self, alloc: Global, len: u32) -> Result<Items<ObjectId>, AllocError>
-        ensures victims { IfOk result (λ victims. (line : WorkLine) (hands : List Hand) (bytes : ObjectId → List ℕ) (contents : Contents) → IsShown self.now (beside_of line hands bytes self.now.job) contents
-            → planned_by self.now.order (shape_of self.now (beside_of line hands bytes self.now.job)) len ≡ Evict → victims ≡ listed (plan self.now.order (shape_of self.now (beside_of line hands bytes self.now.job)) len)) }
+    fn victims(&self, alloc: Global, len: u32) -> Result<ItemList<ObjectId>, AllocError>
+        ensures victims { IfOk result (λ victims. (line : WorkLine) (grants : List StandingGrant) (bytes : ObjectId → List ℕ) (contents : Contents) → IsShown self.now (beside_of line grants bytes self.now.job) contents
+            → planned_by self.now.order (shape_of self.now (beside_of line grants bytes self.now.job)) len ≡ Evict → victims ≡ listed (plan self.now.order (shape_of self.now (beside_of line grants bytes self.now.job)) len)) }
         ensures may_go { IfOk result (λ victims. MayGo self.now.copies victims) }
     {
         let order = self.use_order();
@@ -121,9 +121,9 @@ impl JobRow {
     }
 
     /// The first so many copies that may be spilled, the least recently used first.
-    fn spillable(&self, alloc: Global, count: usize) -> Result<Items<ObjectId>, AllocError>
-        ensures spillable { IfOk result (λ written. (line : WorkLine) (hands : List Hand) (bytes : ObjectId → List ℕ) (contents : Contents) (n : ℕ) → IsShown self.now (beside_of line hands bytes self.now.job) contents
-            → planned_by self.now.order (shape_of self.now (beside_of line hands bytes self.now.job)) n ≡ Ask count → written ≡ listed (plan self.now.order (shape_of self.now (beside_of line hands bytes self.now.job)) n)) }
+    fn spillable(&self, alloc: Global, count: usize) -> Result<ItemList<ObjectId>, AllocError>
+        ensures spillable { IfOk result (λ written. (line : WorkLine) (grants : List StandingGrant) (bytes : ObjectId → List ℕ) (contents : Contents) (n : ℕ) → IsShown self.now (beside_of line grants bytes self.now.job) contents
+            → planned_by self.now.order (shape_of self.now (beside_of line grants bytes self.now.job)) n ≡ Ask count → written ≡ listed (plan self.now.order (shape_of self.now (beside_of line grants bytes self.now.job)) n)) }
         ensures bounded { IfOk result (λ written. length written ≤ count) }
     {
         self.use_order().spillable(alloc, count)
@@ -142,8 +142,8 @@ impl JobRow {
         job: JobNo,
         len: u32,
     ) -> Result<MadeRoom, AllocError>
-        ensures ok { IfOk result (λ made. (hands : List Hand) (bytes : ObjectId → List ℕ) (contents : Contents) → job ≡ record { 0 = self.old.job } → IsShown self.old (beside_of works.old hands bytes self.old.job) contents
-            → IsRoomMade made self.old (beside_of works.old hands bytes self.old.job) contents len self.new (beside_of works.new hands bytes self.old.job)) }
+        ensures ok { IfOk result (λ made. (grants : List StandingGrant) (bytes : ObjectId → List ℕ) (contents : Contents) → job ≡ record { 0 = self.old.job } → IsShown self.old (beside_of works.old grants bytes self.old.job) contents
+            → IsRoomMade made self.old (beside_of works.old grants bytes self.old.job) contents len self.new (beside_of works.new grants bytes self.old.job)) }
         ensures place { IfOk result (λ made. WaitsForPlace made self.old works.old len self.new works.new) }
         ensures made { IfOk result (λ made. tells_refusal made ≡ false → job ≡ record { 0 = self.old.job } → IsPlannedFor self.old works.old len) }
         ensures line { OnOk result (HasAsked works.old job works.new) }
@@ -167,9 +167,9 @@ impl JobRow {
     ) -> Result<MadeRoom, AllocError>
         requires fits { (offset : ℕ) → plan ≡ Fits offset → place_for self.old.window len ≡ Some offset }
         requires asks { (count : ℕ) → plan ≡ Ask count → room_for_lem works.old job count ≡ true }
-        ensures ok { IfOk result (λ made. (hands : List Hand) (bytes : ObjectId → List ℕ) (contents : Contents) → job ≡ record { 0 = self.old.job } → IsShown self.old (beside_of works.old hands bytes self.old.job) contents
-            → plan ≡ planned_by self.old.order (shape_of self.old (beside_of works.old hands bytes self.old.job)) len
-            → IsRoomMade made self.old (beside_of works.old hands bytes self.old.job) contents len self.new (beside_of works.new hands bytes self.old.job)) }
+        ensures ok { IfOk result (λ made. (grants : List StandingGrant) (bytes : ObjectId → List ℕ) (contents : Contents) → job ≡ record { 0 = self.old.job } → IsShown self.old (beside_of works.old grants bytes self.old.job) contents
+            → plan ≡ planned_by self.old.order (shape_of self.old (beside_of works.old grants bytes self.old.job)) len
+            → IsRoomMade made self.old (beside_of works.old grants bytes self.old.job) contents len self.new (beside_of works.new grants bytes self.old.job)) }
         ensures place { IfOk result (λ made. WaitsForPlace made self.old works.old len self.new works.new) }
         ensures made { IfOk result (λ made. tells_refusal made ≡ false → makes_place_lem plan ≡ true) }
         ensures line { OnOk result (HasAsked works.old job works.new) }
@@ -180,7 +180,7 @@ impl JobRow {
     {
         match plan {
             RoomPlan::Fits(offset) => Ok(MadeRoom::Place(Placement {
-                victims: Items::new(alloc),
+                victims: ItemList::new(alloc),
                 gone: Vec::new(alloc),
                 offset,
             })),
@@ -194,9 +194,9 @@ impl JobRow {
             }
             RoomPlan::TellFailedSpill => {
                 self.forget_failed_spill();
-                Ok(MadeRoom::Told(Refusal::DeviceFailed))
+                Ok(MadeRoom::Refused(Refusal::DeviceFailed))
             }
-            RoomPlan::Refuse(refusal) => Ok(MadeRoom::Told(refusal)),
+            RoomPlan::Refuse(refusal) => Ok(MadeRoom::Refused(refusal)),
         }
     }
 
@@ -205,7 +205,7 @@ impl JobRow {
         &self,
         alloc: Global,
         len: u32,
-        victims: Items<ObjectId>,
+        victims: ItemList<ObjectId>,
     ) -> Result<MadeRoom, AllocError>
         requires { MayGo self.now.copies victims }
         ensures place { IfOk result (λ made. (line : WorkLine) → WaitsForPlace made self.now line len self.now line) }
@@ -215,7 +215,7 @@ impl JobRow {
     {
         let gone = extents_by_offset(alloc, self.copies(), victims.as_slice())?;
         let Some(offset) = self.window().fits_without(&gone, len) else {
-            return Ok(MadeRoom::Told(Refusal::Full));
+            return Ok(MadeRoom::Refused(Refusal::Full));
         };
         Ok(MadeRoom::Place(Placement {
             victims,
@@ -233,10 +233,10 @@ impl JobRow {
         ids: &[ObjectId],
     ) -> Result<MadeRoom, AllocError>
         requires { room_for_lem works.old job (length ids.now) ≡ true }
-        ensures ok { IfOk result (λ made. (hands : List Hand) (bytes : ObjectId → List ℕ) (contents : Contents) (n : ℕ) → job ≡ record { 0 = self.old.job } → IsShown self.old (beside_of works.old hands bytes self.old.job) contents
-            → AsksWrites (make_room self.old.order (shape_of self.old (beside_of works.old hands bytes self.old.job)) n) (shape_of self.old (beside_of works.old hands bytes self.old.job)) ids.now
-            → IsRoomMade made self.old (beside_of works.old hands bytes self.old.job) contents n self.new (beside_of works.new hands bytes self.old.job)) }
-        ensures told { IfOk result (λ made. tells_refusal made ≡ true) }
+        ensures ok { IfOk result (λ made. (grants : List StandingGrant) (bytes : ObjectId → List ℕ) (contents : Contents) (n : ℕ) → job ≡ record { 0 = self.old.job } → IsShown self.old (beside_of works.old grants bytes self.old.job) contents
+            → AsksWrites (make_room self.old.order (shape_of self.old (beside_of works.old grants bytes self.old.job)) n) (shape_of self.old (beside_of works.old grants bytes self.old.job)) ids.now
+            → IsRoomMade made self.old (beside_of works.old grants bytes self.old.job) contents n self.new (beside_of works.new grants bytes self.old.job)) }
+        ensures response { IfOk result (λ made. tells_refusal made ≡ true) }
         ensures line { OnOk result (HasAsked works.old job works.new) }
         ensures others { (other : JobNo) → same_work_job job other ≡ false → IsSameFor other works.old works.new }
         ensures err { OnErr result (self.new ≡ self.old) }
@@ -244,7 +244,7 @@ impl JobRow {
     {
         works.ask_all(alloc, job, ids, WorkKind::Write)?;
         self.spill_copies(ids);
-        Ok(MadeRoom::Told(Refusal::Pending))
+        Ok(MadeRoom::Refused(Refusal::Pending))
     }
 }
 

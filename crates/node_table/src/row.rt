@@ -47,7 +47,7 @@ use indexmap::IndexSet;
 use job_region::Window;
 use lru_evictor::{DeviceRoom, Plan, UseOrder};
 use obj_id::{
-    DeviceKey, Digest, Extent, Items, JobNo, Kind, Location, ObjectId, Quota, Refusal, TaskNo,
+    DeviceKey, Digest, Extent, ItemList, JobNo, Kind, Location, ObjectId, Quota, Refusal, TaskNo,
 };
 use private_store::{Fault, FetchFault};
 use std::alloc::{AllocError, Global};
@@ -60,7 +60,7 @@ pub struct JobRow {
     job: JobNo,
     window: Window,
     // what the job may have on the device, in bytes
-    device: u64,
+    device_quota: u64,
     copies: Copies,
     order: UseOrder,
     // the last number that a fetch had
@@ -81,7 +81,7 @@ impl Drop for JobRow {
         let JobRow {
             job: _job,
             window: _window,
-            device: _device,
+            device_quota: _device_quota,
             copies: _copies,
             order: _order,
             fetches_begun: _fetches_begun,
@@ -100,7 +100,7 @@ impl Model for JobRow {
 
     ghost Value = { Row };
 
-    ghost view = { λ r. record { job = r.job.0; window = r.window; device = r.device; copies = r.copies; order = order_ids r.order; fetches_begun = r.fetches_begun; spill_failed = r.spill_failed; ended_tasks = r.ended_tasks.keys } };
+    ghost view = { λ r. record { job = r.job.0; window = r.window; device = r.device_quota; copies = r.copies; order = order_ids r.order; fetches_begun = r.fetches_begun; spill_failed = r.spill_failed; ended_tasks = r.ended_tasks.keys } };
 
     ghost invariant = { λ r. ArePlaced r.window.placed (place_of r.copies) × InSync r.copies r.order };
 }
@@ -117,7 +117,7 @@ impl JobRow {
         Ok(JobRow {
             job,
             window,
-            device: quota.device,
+            device_quota: quota.device,
             copies: Copies::new(alloc),
             order: UseOrder::new(alloc),
             fetches_begun: 0,
@@ -141,7 +141,7 @@ impl JobRow {
     {
         Quota {
             window: self.window.quota(),
-            device: self.device,
+            device: self.device_quota,
         }
     }
 
@@ -156,7 +156,7 @@ impl JobRow {
         match self.window.resize(quota.window) {
             Err(_) => Err(AllocError),
             Ok(()) => {
-                self.device = quota.device;
+                self.device_quota = quota.device;
                 Ok(())
             }
         }
@@ -186,10 +186,10 @@ impl JobRow {
     }
 
     /// What the job may have on the device, in bytes.
-    pub(crate) fn device(&self) -> u64
+    pub(crate) fn device_quota(&self) -> u64
         ensures { result ≡ self.now.device }
     {
-        self.device
+        self.device_quota
     }
 
     /// The order of use of its copies, with where each lies and the classes of victims that it is in.
@@ -373,7 +373,7 @@ impl JobRow {
         self.spill_failed
     }
 
-    /// That a spill failed has been told.
+    /// That a spill failed has been answered.
     pub(crate) fn forget_failed_spill(&mut self)
         ensures { self.new ≡ record self.old { spill_failed = false } }
     {
@@ -395,14 +395,14 @@ impl JobRow {
     }
 
     /// The tasks that have ended here, in the order in which they ended. Takes a walk over them, and memory for each.
-    pub fn ended_tasks(&self, alloc: Global) -> Result<Items<TaskNo>, AllocError>
+    pub fn ended_tasks(&self, alloc: Global) -> Result<ItemList<TaskNo>, AllocError>
         ensures { IfOk result (λ tasks. tasks ≡ self.now.ended_tasks) }
     {
         let mut tasks = Vec::new(alloc);
         for task in &self.ended_tasks {
             tasks.push(*task)?;
         }
-        Ok(Items::from_vec(tasks))
+        Ok(ItemList::from_vec(tasks))
     }
 
     /// How many tasks have ended here.
@@ -412,7 +412,7 @@ impl JobRow {
         self.ended_tasks.len()
     }
 
-    /// The task is remembered as the last one that ended, and no hand of its objects stands any more. The error is
+    /// The task is remembered as the last one that ended, and no grant of its objects stands any more. The error is
     /// out of memory, and then nothing has changed.
     pub(crate) fn remember_end(&mut self, task: TaskNo) -> Result<(), AllocError>
         requires { is_remembered self.old.ended_tasks task ≡ false }
@@ -421,7 +421,7 @@ impl JobRow {
         ensures err { OnErr result (self.new ≡ self.old) }
     {
         self.ended_tasks.insert(task)?;
-        self.copies.end_hands(task);
+        self.copies.end_grants(task);
         self.copies.sync_all(&mut self.order);
         Ok(())
     }

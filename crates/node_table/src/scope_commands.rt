@@ -14,7 +14,7 @@ ghost use Rattle.node_table.specs.Shown.{IsShown, RowStep};
 use crate::marks::Mark;
 use crate::outcome::{Erase, RowOutcome};
 use crate::row::JobRow;
-use obj_id::{Endpoint, Items, Message, ObjectId, Refusal, Reply, TaskNo};
+use obj_id::{Endpoint, ItemList, Message, ObjectId, Refusal, Reply, TaskNo};
 use std::alloc::{AllocError, Global};
 
 impl JobRow {
@@ -97,7 +97,7 @@ impl JobRow {
     }
 
     /// Delete: the copy is doomed, whoever refers to it, and removed once nothing keeps it. `Absent`, `Granted` if a
-    /// hand of it stands that the job gave. The error is out of memory, and then nothing has changed.
+    /// grant of it stands that the job gave. The error is out of memory, and then nothing has changed.
     pub fn delete(
         &mut self,
         alloc: Global,
@@ -132,7 +132,7 @@ impl JobRow {
         &mut self,
         id: &ObjectId,
         over: bool,
-        messages: Items<(Endpoint, Message)>,
+        messages: ItemList<(Endpoint, Message)>,
     ) -> RowOutcome
         requires { over ≡ is_over_at self.old.copies id.now }
         ensures row { self.new ≡ settled_row self.old id.now }

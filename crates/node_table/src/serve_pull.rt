@@ -12,7 +12,7 @@ ghost use Rattle.private_store.specs.declared.inputs.Input.TheVariants as input;
 ghost use Rattle.private_store.specs.rules.Tables.{at};
 ghost use Rattle.private_store.specs.rules.Contents.{Contents, pull_matches};
 ghost use Rattle.private_store.specs.rules.Copies.{extent_of};
-ghost use Rattle.private_store.specs.rules.Hands.{Hand};
+ghost use Rattle.private_store.specs.rules.Grants.{StandingGrant};
 ghost use Rattle.private_store.specs.rules.Private.{to_peer};
 ghost use Rattle.job_region.specs.Region.{region_bytes_at as placed_bytes};
 ghost use Rattle.spill_work.specs.Line.{same_work_job, IsSameFor};
@@ -30,14 +30,14 @@ use crate::copy::RowCopy;
 use crate::outcome::{Erase, RowOutcome};
 use crate::row::JobRow;
 use fetch_core::chunks_asked;
-use obj_id::{CopyState, Digest, Endpoint, Items, Message, ObjectId, PeerMessage, Reply};
+use obj_id::{CopyState, Digest, Endpoint, ItemList, Message, ObjectId, PeerMessage, Reply};
 use spill_work::Works;
 use std::alloc::{AllocError, Global};
 
 /// What a Pull comes to.
 #[derive(Clone, Copy, Drop)]
 pub enum PullAnswer {
-    /// There is no such copy, which the asker is told.
+    /// There is no such copy, and the asker is answered so.
     NotHere,
     /// The chunks that were asked for are sent.
     Chunks,
@@ -114,9 +114,9 @@ impl JobRow {
         digest: &Digest,
         indexes: &[u32],
     ) -> Result<RowOutcome, AllocError>
-        ensures ok { IfOk result (λ o. (hands : List Hand) (bytes : ObjectId → List ℕ) (contents : Contents) → IsShown self.old (beside_of works.old hands bytes self.old.job) contents
-            → RowStep node self.old (beside_of works.old hands bytes self.old.job) contents (input.Arrive (arrival.FromPeer from (peer.Pull id.now number len digest.now indexes.now))) (row_given_of o) self.new (beside_of works.new hands bytes self.old.job)) }
-        ensures told { IfOk result (λ o. o.reply ≡ reply.Ok) }
+        ensures ok { IfOk result (λ o. (grants : List StandingGrant) (bytes : ObjectId → List ℕ) (contents : Contents) → IsShown self.old (beside_of works.old grants bytes self.old.job) contents
+            → RowStep node self.old (beside_of works.old grants bytes self.old.job) contents (input.Arrive (arrival.FromPeer from (peer.Pull id.now number len digest.now indexes.now))) (row_given_of o) self.new (beside_of works.new grants bytes self.old.job)) }
+        ensures response { IfOk result (λ o. o.reply ≡ reply.Ok) }
         ensures bounded { IfOk result (λ o. length o.messages ≤ length self.old.copies + length indexes.now + 1) }
         ensures line { OnOk result (HasAsked works.old (record { 0 = self.old.job }) works.new) }
         ensures others { (other : JobNo) → same_work_job (record { 0 = self.old.job }) other ≡ false → IsSameFor other works.old works.new }
@@ -141,7 +141,7 @@ impl JobRow {
         id: &ObjectId,
         number: u64,
         indexes: &[u32],
-    ) -> Result<Items<(Endpoint, Message)>, AllocError>
+    ) -> Result<ItemList<(Endpoint, Message)>, AllocError>
         ensures ok { IfOk result (λ messages. (k : CopyView) (e : Extent) → at self.now.copies id.now ≡ Some k → extent_of k.copy ≡ Some e
             → messages ≡ chunks_to (take k.copy.length (placed_bytes e self.now.window.placed)) from id.now number indexes.now) }
         ensures bounded { IfOk result (λ messages. length messages ≤ length indexes.now) }
@@ -151,7 +151,7 @@ impl JobRow {
         Ok(all_to_peer(alloc, from, chunks)?)
     }
 
-    /// The copy, which is away, is read back as by Get. Nobody is told of a spill that failed: the next one that waits for
+    /// The copy, which is away, is read back as by Get. Nobody is answered that a spill failed: the next one that waits for
     /// room by spilling still is. The error is out of memory, and then nothing has changed.
     fn restore_quietly(
         &mut self,
@@ -162,10 +162,10 @@ impl JobRow {
     ) -> Result<RowOutcome, AllocError>
         requires visible { visible_state (at self.old.copies id.now) ≡ Ok (Some Away) }
         requires sound { fault_at self.old.copies id.now ≡ None }
-        ensures ok { IfOk result (λ o. (from number n : ℕ) (digest : Digest) (indexes : List ℕ) (hands : List Hand) (bytes : ObjectId → List ℕ) (contents : Contents)
-            → pull_answer_lem n digest (at self.old.copies id.now) ≡ pull.Restore → IsShown self.old (beside_of works.old hands bytes self.old.job) contents
-            → RowStep node self.old (beside_of works.old hands bytes self.old.job) contents (input.Arrive (arrival.FromPeer from (peer.Pull id.now number n digest indexes))) (row_given_of o) self.new (beside_of works.new hands bytes self.old.job)) }
-        ensures told { IfOk result (λ o. o.reply ≡ reply.Ok) }
+        ensures ok { IfOk result (λ o. (from number n : ℕ) (digest : Digest) (indexes : List ℕ) (grants : List StandingGrant) (bytes : ObjectId → List ℕ) (contents : Contents)
+            → pull_answer_lem n digest (at self.old.copies id.now) ≡ pull.Restore → IsShown self.old (beside_of works.old grants bytes self.old.job) contents
+            → RowStep node self.old (beside_of works.old grants bytes self.old.job) contents (input.Arrive (arrival.FromPeer from (peer.Pull id.now number n digest indexes))) (row_given_of o) self.new (beside_of works.new grants bytes self.old.job)) }
+        ensures response { IfOk result (λ o. o.reply ≡ reply.Ok) }
         ensures bounded { IfOk result (λ o. length o.messages ≤ length self.old.copies + 1) }
         ensures line { OnOk result (HasAsked works.old (record { 0 = self.old.job }) works.new) }
         ensures others { (other : JobNo) → same_work_job (record { 0 = self.old.job }) other ≡ false → IsSameFor other works.old works.new }
@@ -181,7 +181,7 @@ impl JobRow {
 }
 
 /// Ok, and these messages.
-fn answered(messages: Items<(Endpoint, Message)>) -> RowOutcome
+fn answered(messages: ItemList<(Endpoint, Message)>) -> RowOutcome
     ensures { row_given_of result ≡ record { reply = reply.Ok; posts = messages; erased = [] } }
 {
     RowOutcome {
@@ -197,7 +197,7 @@ fn tell_not_here(
     from: u32,
     id: &ObjectId,
     number: u64,
-) -> Result<Items<(Endpoint, Message)>, AllocError>
+) -> Result<ItemList<(Endpoint, Message)>, AllocError>
     ensures { IfOk result (λ messages. messages ≡ to_peer from (peer.NotHere id.now number) ∷ []) }
 {
     let message = Message::ToPeer(PeerMessage::NotHere(*id, number));
@@ -209,12 +209,12 @@ fn all_to_peer(
     alloc: Global,
     node: u32,
     messages: Vec<PeerMessage>,
-) -> Result<Items<(Endpoint, Message)>, AllocError>
+) -> Result<ItemList<(Endpoint, Message)>, AllocError>
     ensures { IfOk result (λ posts. posts ≡ map (to_peer node) messages.items) }
 {
     let mut posts = Vec::with_capacity(alloc, messages.len())?;
     for message in messages {
         posts.push((Endpoint::Node(node), Message::ToPeer(message)))?;
     }
-    Ok(Items::from_vec(posts))
+    Ok(ItemList::from_vec(posts))
 }

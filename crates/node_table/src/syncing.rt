@@ -5,7 +5,7 @@ ghost use Rattle.private_store.specs.rules.Tables.{ById};
 ghost use Rattle.lru_evictor.specs.Orders.{order_ids};
 ghost use Rattle.node_table.specs.Evicting.{all_evicted, without_missing};
 ghost use Rattle.node_table.specs.CopyViews.{CopyView};
-ghost use Rattle.node_table.specs.InSync.{InSync, InSyncBut, SameButThese, KeepPlaces, LiesAlone};
+ghost use Rattle.node_table.specs.InSync.{InSync, InSyncExcept, SameExceptThese, KeepPlaces, LiesAlone};
 
 use crate::copies::Copies;
 use extent_tree::{Resident, SpareNode};
@@ -16,7 +16,7 @@ use obj_id::{Extent, ObjectId};
 /// the order knows may be spared. Takes no memory.
 pub(crate) fn sync_each(order: &mut UseOrder, copies: &Copies, ids: &[ObjectId])
     ensures ids { order_ids order.new ≡ order_ids order.old }
-    ensures infos { (spared : List ObjectId) (before : ById CopyView) → SameButThese ids.now before copies.now → KeepPlaces before copies.now → InSyncBut spared before order.old → InSyncBut spared copies.now order.new }
+    ensures infos { (spared : List ObjectId) (before : ById CopyView) → SameExceptThese ids.now before copies.now → KeepPlaces before copies.now → InSyncExcept spared before order.old → InSyncExcept spared copies.now order.new }
 {
     for id in ids {
         order.set_info(id, copies.eviction_info(id));
@@ -26,7 +26,7 @@ pub(crate) fn sync_each(order: &mut UseOrder, copies: &Copies, ids: &[ObjectId])
 /// Those of these ids that have no copy leave the order of use. Takes no memory.
 pub(crate) fn forget_missing(order: &mut UseOrder, copies: &Copies, ids: &[ObjectId])
     ensures ids { order_ids order.new ≡ without_missing copies.now ids.now (order_ids order.old) }
-    ensures infos { (spared : List ObjectId) → InSyncBut spared copies.now order.old → InSyncBut spared copies.now order.new }
+    ensures infos { (spared : List ObjectId) → InSyncExcept spared copies.now order.old → InSyncExcept spared copies.now order.new }
 {
     for id in ids {
         if !copies.has(id) {
@@ -47,7 +47,7 @@ pub(crate) fn evict_for(
 )
     ensures copies { copies.new ≡ all_evicted victims.now copies.old }
     ensures ids { order_ids order.new ≡ without_missing copies.new victims.now (order_ids order.old) }
-    ensures infos { LiesAlone copies.new id.now extent → InSyncBut (id.now ∷ []) copies.old order.old → InSync copies.new order.new }
+    ensures infos { LiesAlone copies.new id.now extent → InSyncExcept (id.now ∷ []) copies.old order.old → InSync copies.new order.new }
 {
     copies.evict_all(victims);
     sync_each(order, copies, victims);

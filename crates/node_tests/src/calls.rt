@@ -107,7 +107,7 @@ fn enter_all(rt: &impl Abort, alloc: Global, node: &mut Node) -> Result<(), Fail
     let mut nearly = KEY;
     nearly.0[31] = 6;
     let refused = Err(Refusal::NotAdmitted);
-    let told = [
+    let response = [
         enter(node, 1, &ZEROS),
         enter(node, 1, &KEY),
         enter(node, 2, &nearly),
@@ -116,7 +116,7 @@ fn enter_all(rt: &impl Abort, alloc: Global, node: &mut Node) -> Result<(), Fail
         enter(node, 2, &KEY),
         enter(node, 1, &ZEROS),
     ];
-    same!(rt; told, [Ok(1), refused, refused, refused, Ok(2), Ok(1), Ok(3)]);
+    same!(rt; response, [Ok(1), refused, refused, refused, Ok(2), Ok(1), Ok(3)]);
     carry_out(rt, alloc, node, "end 0 1")?;
     same!(rt; [enter(node, 1, &ZEROS), enter(node, 2, &KEY)], [refused, Ok(2)]);
     Ok(())

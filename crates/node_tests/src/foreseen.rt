@@ -62,12 +62,12 @@ fn reply_word(reply: &Reply<Bytes>) -> &'static str {
 /// its job, and what it counts: bytes of the window, the copy, or what is written or read.
 fn described(alloc: Global, most: usize, outcome: &NodeOutcome) -> Result<String, AllocError> {
     let sent = outcome.messages.as_slice().len();
-    let told = reply_word(&outcome.reply);
+    let response = reply_word(&outcome.reply);
     let judged = word_of(&outcome.judged);
     let bytes = bytes_of(&outcome.judged);
-    match format!(in alloc; "{most} {sent} {told} {judged} {bytes}") {
+    match format!(in alloc; "{most} {sent} {response} {judged} {bytes}") {
         Ok(text) => Ok(text),
-        Err(_) => format!(in alloc; "{most} {sent} {told} {judged} {bytes}"),
+        Err(_) => format!(in alloc; "{most} {sent} {response} {judged} {bytes}"),
     }
 }
 

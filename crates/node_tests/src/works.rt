@@ -23,7 +23,7 @@ fn ask(rt: &impl Abort, works: &mut Works, job: JobNo, index: u32) -> Result<u64
             same!(rt; (works.asked(job), works.in_flight(job)), before);
             works.ask(job, id, WorkKind::Write)
         }
-        told => told,
+        response => response,
     }
 }
 

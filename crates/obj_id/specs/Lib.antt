@@ -3,3 +3,4 @@ pub mod Ids
 pub mod Refusals
 pub mod Texts
 pub mod Kinds
+pub mod Works

@@ -2,7 +2,7 @@
 ghost use Rattle.std.specs.Prelude.{◌≡◌};
 ghost use Rattle.obj_id.specs.Kinds.{is_primary};
 
-use crate::{Items, JobNo, ObjectId, Refusal, TaskNo, Work};
+use crate::{ItemList, JobNo, ObjectId, Refusal, TaskNo, Work};
 
 /// What a copy is: the first copy of an object, or one made by a transfer.
 #[derive(Clone, Copy, Debug, PartialEq, Eq)]
@@ -102,7 +102,7 @@ pub struct OwnItem {
     pub length: u32,
 }
 
-/// An object granted to the job, as `List` shows it, with the depth of its oldest standing hand.
+/// An object granted to the job, as `List` shows it, with the depth of its oldest standing grant.
 #[derive(Clone, Copy, Debug, PartialEq, Eq)]
 pub struct GrantedItem {
     pub id: ObjectId,
@@ -131,7 +131,7 @@ pub enum Reply<P> {
     Got(u32),
     Bytes(P),
     /// The own copies by rising id, and then the granted objects by rising id.
-    List(Items<OwnItem>, Items<GrantedItem>),
+    List(ItemList<OwnItem>, ItemList<GrantedItem>),
     Usage(Usage),
     /// A work for a device worker.
     Work(Work<P>),

@@ -7,11 +7,11 @@ use std::marker::Model;
 
 /// A list that a reply or a message carries. A contract sees its items.
 #[derive(Debug, Drop)]
-pub struct Items<T> {
+pub struct ItemList<T> {
     items: Vec<T>,
 }
 
-impl<T> Model for Items<T> {
+impl<T> Model for ItemList<T> {
     ghost use Rattle.std.specs.Prelude.{List};
 
     ghost Value = { List T };
@@ -19,21 +19,21 @@ impl<T> Model for Items<T> {
     ghost view = { λ a. a.items.items };
 }
 
-impl<T> Items<T> {
+impl<T> ItemList<T> {
     /// No items. Takes no memory.
-    pub fn new(alloc: Global) -> Items<T>
+    pub fn new(alloc: Global) -> ItemList<T>
         ensures { result ≡ [] }
     {
-        Items {
+        ItemList {
             items: Vec::new(alloc),
         }
     }
 
     /// The items of a list, in its order. Takes no memory.
-    pub fn from_vec(items: Vec<T>) -> Items<T>
+    pub fn from_vec(items: Vec<T>) -> ItemList<T>
         ensures { result ≡ items.items }
     {
-        Items { items }
+        ItemList { items }
     }
 
     /// Adds an item at the end. If memory runs out, the list is as it was.
@@ -62,16 +62,16 @@ impl<T> Items<T> {
     }
 }
 
-impl<T: PartialEq> PartialEq for Items<T> {
+impl<T: PartialEq> PartialEq for ItemList<T> {
     ghost eq = { λ x y. pointwise T.eq x y };
 
     ghost laws = { lists_per T.laws };
 
-    fn eq(&self, other: &Items<T>) -> bool {
+    fn eq(&self, other: &ItemList<T>) -> bool {
         self.as_slice() == other.as_slice()
     }
 }
 
-impl<T: Eq> Eq for Items<T> {
+impl<T: Eq> Eq for ItemList<T> {
     ghost laws = { lists_equiv T.Eq.laws };
 }

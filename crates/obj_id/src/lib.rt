@@ -16,7 +16,7 @@ mod works;
 
 pub use commands::{Command, CopyState, GrantedItem, Kind, OwnItem, Reply, Usage};
 pub use ids::{JobNo, ObjectId, TaskNo};
-pub use items::Items;
+pub use items::ItemList;
 pub use laws::{a_text_names_one, ids_are_ordered_as_their_bytes};
 pub use messages::{Arrival, Digest, DirectoryMessage, Endpoint, Location, Message, PeerMessage};
 pub use refusals::Refusal;

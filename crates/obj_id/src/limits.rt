@@ -31,10 +31,10 @@ pub const MOST_HOLDS: u32 = 64;
 /// Borrowers of a copy.
 pub const MOST_BORROWERS: usize = 64;
 
-/// Hands that a job has given at a node and that stand.
-pub const MOST_HANDS: usize = 64;
+/// Grants that a job has given at a node and that stand.
+pub const MOST_GRANTS: usize = 64;
 
-/// The depth of the deepest hand: an object's own job gives hands of depth 1, and each that hangs on one is one deeper.
+/// The depth of the deepest grant: an object's own job gives grants of depth 1, and each that hangs on one is one deeper.
 pub const GREATEST_DEPTH: u32 = 3;
 
 /// Ended tasks of a job that a node remembers.

@@ -1,5 +1,5 @@
 //! What nodes and the directory of owners send one another for a job.
-use crate::{Items, ObjectId};
+use crate::{ItemList, ObjectId};
 use bytes::Bytes;
 
 /// The SHA-256 digest of an object's bytes.
@@ -42,7 +42,7 @@ pub enum PeerMessage {
         number: u64,
         length: u32,
         digest: Digest,
-        indexes: Items<u32>,
+        indexes: ItemList<u32>,
     },
     /// One chunk, for the fetch of this number.
     Chunk {
@@ -64,7 +64,7 @@ pub enum Message {
     Located {
         id: ObjectId,
         number: u64,
-        entries: Items<Location>,
+        entries: ItemList<Location>,
     },
     /// From a node to another.
     ToPeer(PeerMessage),
@@ -77,7 +77,7 @@ pub enum Arrival {
     Located {
         id: ObjectId,
         number: u64,
-        entries: Items<Location>,
+        entries: ItemList<Location>,
     },
     /// From the node of this number.
     FromPeer(u32, PeerMessage),

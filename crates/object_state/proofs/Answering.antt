@@ -21,7 +21,7 @@ use Rattle.store_facts.proofs.Checks.{needing-some}
 use Rattle.store_facts.proofs.Rows.{at-put_here, at-drop}
 use Rattle.store_facts.proofs.Tests.{some_value, none_some}
 use Rattle.object_state.specs.Marks.{marks_are_evictable, marks_are_draining, marks_are_spillable, marks_written, marks_read_back}
-use Rattle.object_state.specs.Laws.{marks_of, marks_have_failed, marks_answered}
+use Rattle.object_state.specs.Laws.{marks_of, has_failed, marks_answered}
 
 -- what stays of it is as it was
 settled_stays : (store : Shape) (id : ObjectId) (copy after : Copy) → at store.copies id ≡ Some copy → at (settled store id).copies id ≡ Some after → copy ≡ after
@@ -39,14 +39,14 @@ read_marks copy digest work.Damaged = refl
 
 module _ (store : Shape) (w : WorkInFlight) (copy after : Copy) (digest : Option Digest) (e : at store.copies w.id ≡ Some copy) where
   written_marks : (verdict : WorkVerdict) → at (events.written store w copy verdict).shape.copies w.id ≡ Some after
-      → marks_of after digest None ≡ marks_written (marks_of copy digest (Some Write)) w.number (marks_have_failed verdict)
+      → marks_of after digest None ≡ marks_written (marks_of copy digest (Some Write)) w.number (has_failed verdict)
   written_marks work.Failed now = ap (λ c. marks_of c digest None) (sym (settled_stays (record store { spill_failed = true }) w.id copy after e now))
   written_marks work.Fine now = ap (λ c. marks_of c digest None) (sym (settled_stays (set_copy store w.id (record copy { backed = Some w.number })) w.id (record copy { backed = Some w.number }) after (at-put_here store.copies w.id (record copy { backed = Some w.number })) now))
   written_marks work.Damaged now = ap (λ c. marks_of c digest None) (sym (settled_stays (set_copy store w.id (record copy { backed = Some w.number })) w.id (record copy { backed = Some w.number }) after (at-put_here store.copies w.id (record copy { backed = Some w.number })) now))
 
   answered_marks : (verdict : WorkVerdict) (writes : Bool)
       → at (cond writes (events.written store w copy verdict) (erasing store (done (settled (set_copy store w.id (events.read_back copy verdict)) w.id)))).shape.copies w.id ≡ Some after
-      → marks_of after digest None ≡ cond writes (marks_written (marks_of copy digest (Some Write)) w.number (marks_have_failed verdict)) (marks_read_back (marks_of copy digest (Some Read)) verdict)
+      → marks_of after digest None ≡ cond writes (marks_written (marks_of copy digest (Some Write)) w.number (has_failed verdict)) (marks_read_back (marks_of copy digest (Some Read)) verdict)
   answered_marks verdict true now = written_marks verdict now
   answered_marks verdict false now =
       ap (λ c. marks_of c digest None) (sym (settled_stays (set_copy store w.id (events.read_back copy verdict)) w.id (events.read_back copy verdict) after (at-put_here store.copies w.id (events.read_back copy verdict)) now))

@@ -23,13 +23,13 @@ marks_of copy digest working =
     }
 
 -- whether the answer is that the call failed
-abbrev pub marks_have_failed : WorkVerdict → Bool
-marks_have_failed work.Failed = true
-marks_have_failed _ = false
+abbrev pub has_failed : WorkVerdict → Bool
+has_failed work.Failed = true
+has_failed _ = false
 
 -- the marks of a copy once the work that was in flight for it is answered
 abbrev pub marks_answered : Copy → Option Digest → WorkInFlight → WorkVerdict → Marks
 marks_answered copy digest w verdict =
     if w.writes
-    then marks_written (marks_of copy digest (Some Write)) w.number (marks_have_failed verdict)
+    then marks_written (marks_of copy digest (Some Write)) w.number (has_failed verdict)
     else marks_read_back (marks_of copy digest (Some Read)) verdict

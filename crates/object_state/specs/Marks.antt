@@ -7,7 +7,6 @@ use Rattle.obj_id.specs.declared.commands.CopyState.{CopyState}
 use Rattle.obj_id.specs.declared.commands.CopyState.TheVariants.{Created, Sealed, Fetching, Away}
 use Rattle.obj_id.specs.declared.messages.Digest.{Digest}
 use Rattle.obj_id.specs.declared.works.WorkKind.{WorkKind}
-use Rattle.obj_id.specs.declared.works.WorkKind.TheVariants.{Write, Read}
 use Rattle.obj_id.specs.declared.refusals.Refusal.{Refusal}
 use Rattle.obj_id.specs.declared.refusals.Refusal.TheVariants.{AlreadySealed}
 use Rattle.private_store.specs.declared.faults.Fault.{Fault}
@@ -15,6 +14,7 @@ use Rattle.private_store.specs.declared.faults.Fault.TheVariants.{DeviceFailed, 
 use Rattle.private_store.specs.declared.inputs.WorkVerdict.{WorkVerdict}
 use Rattle.private_store.specs.declared.inputs.WorkVerdict.TheVariants as work
 use Rattle.obj_id.specs.Kinds.{is_primary}
+use Rattle.obj_id.specs.Works.{is_write}
 use Rattle.private_store.specs.rules.Copies.{is_created, is_sealed, is_away, was_sealed, may_evict, may_spill, may_drain}
 use Rattle.private_store.specs.laws.Invariants.{is_restoring, is_fetching}
 
@@ -36,10 +36,6 @@ pub record Marks : Type 0 where
   pub fault : Option Fault
 
 -- ---- what always holds of the marks
-
-abbrev pub is_write : WorkKind → Bool
-is_write Write = true
-is_write Read = false
 
 -- a write of it is in flight
 abbrev pub is_written : Marks → Bool

@@ -87,10 +87,10 @@ module _ {F : Type 0} (T : F → ObjectId → List Location → Bool → List Lo
       h.6 ∙ by h.0 h.1 (without_node node e.1) s.0 s.1 (retained es h.3 (subst (λ g. RetainsPairs T g es h.3) s.2 h.5))
     where
       by : (b : Bool) (w v : List Location) → w ≡ v → IsTrue b ↔ (w ≢ []) → h.3 ≡ without_entries_at node es → cond b ((e.0, w) ∷ h.3) h.3 ≡ cons_option (left_of e.0 v) (without_entries_at node es)
-      by true w [] same told later = absurd (told.0 refl same)
-      by false w [] same told later = later
-      by true w (x ∷ xs) same told later = ap (λ u. (e.0, u) ∷ h.3) same ∙ ap (λ t. (e.0, x ∷ xs) ∷ t) later
-      by false w (x ∷ xs) same told later = true_false (told.1 (λ none. absurd cc))
+      by true w [] same response later = absurd (response.0 refl same)
+      by false w [] same response later = later
+      by true w (x ∷ xs) same response later = ap (λ u. (e.0, u) ∷ h.3) same ∙ ap (λ t. (e.0, x ∷ xs) ∷ t) later
+      by false w (x ∷ xs) same response later = true_false (response.1 (λ none. absurd cc))
 
 -- a result that is what it should be
 pub ok_follows : (r : Result (List Location) AllocError) (xs ys : List Location) → IfOk r (λ items. items ≡ xs) → xs ≡ ys → IfOk r (λ items. items ≡ ys)
@@ -98,7 +98,7 @@ ok_follows r xs ys h e = subst (λ zs. IfOk r (λ items. items ≡ zs)) e h
 
 -- a test that fails denies what it stands for
 pub true_or_not : {P : Type 0} (b : Bool) → IsTrue b ↔ P → b ≡ false → P → ⊥
-true_or_not b told fails p = true_false (sym fails ∙ told.1 p)
+true_or_not b response fails p = true_false (sym fails ∙ response.1 p)
 
 -- what setting an entry among others leaves: with memory for it, and without
 pub set_ok : (id : ObjectId) (es t : Locations) (new : Location) (xs ys : List Location) (after : Locations) (r : Result (Unit {0}) AllocError)

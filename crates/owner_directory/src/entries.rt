@@ -3,7 +3,7 @@ ghost use Rattle.std.specs.Prelude.{◌≡◌, ◌↔◌, [], false, IfOk, OnOk,
 ghost use Rattle.owner_directory.specs.Locations.{is_longer};
 ghost use Rattle.private_store.specs.rules.Directory.{entry_placed, without_node};
 
-use obj_id::{Items, Location};
+use obj_id::{ItemList, Location};
 use std::alloc::{AllocError, Global};
 use std::marker::Model;
 
@@ -56,15 +56,15 @@ impl Entries {
     }
 
     /// A copy of the entries.
-    pub fn to_items(&self, alloc: Global) -> Result<Items<Location>, AllocError>
+    pub fn to_items(&self, alloc: Global) -> Result<ItemList<Location>, AllocError>
         ensures ok { IfOk result (λ items. items ≡ self.now) }
         ensures succeeds { self.now ≡ [] → IsOk result }
     {
         if self.is_empty() {
-            return Ok(Items::new(alloc));
+            return Ok(ItemList::new(alloc));
         }
         let items = Vec::from_slice(alloc, &self.items)?;
-        Ok(Items::from_vec(items))
+        Ok(ItemList::from_vec(items))
     }
 }
 

@@ -13,7 +13,7 @@ mod row;
 
 use crate::row::Row;
 use indexmap::IndexMap;
-use obj_id::{DirectoryMessage, Items, JobNo, Location, ObjectId};
+use obj_id::{DirectoryMessage, ItemList, JobNo, Location, ObjectId};
 use std::alloc::{AllocError, Global};
 use std::marker::Model;
 
@@ -27,7 +27,7 @@ pub enum DirectoryReply {
         to: u32,
         id: ObjectId,
         number: u64,
-        entries: Items<Location>,
+        entries: ItemList<Location>,
     },
 }
 
@@ -176,13 +176,13 @@ impl Directory {
     }
 
     /// A copy of the object's entries.
-    fn located(&self, job: JobNo, id: ObjectId) -> Result<Items<Location>, AllocError>
+    fn located(&self, job: JobNo, id: ObjectId) -> Result<ItemList<Location>, AllocError>
         ensures ok { IfOk result (λ entries. entries ≡ entries_at (locations_of self.now job) id) }
         ensures succeeds { entries_at (locations_of self.now job) id ≡ [] → IsOk result }
     {
         match self.rows.get(&job) {
             Some(row) => Ok(row.located(self.alloc, id)?),
-            None => Ok(Items::new(self.alloc)),
+            None => Ok(ItemList::new(self.alloc)),
         }
     }
 }

@@ -5,7 +5,7 @@ ghost use Rattle.private_store.specs.rules.Tables.{without_entry};
 ghost use Rattle.private_store.specs.rules.Directory.{entries_at, entry_placed, with_entries, without_entries_at, without_node};
 
 use crate::entries::Entries;
-use obj_id::{Items, Location, ObjectId};
+use obj_id::{ItemList, Location, ObjectId};
 use std::alloc::{AllocError, Global};
 use std::collections::BTreeMap;
 use std::marker::Model;
@@ -98,13 +98,13 @@ impl Row {
     }
 
     /// A copy of the object's entries.
-    pub fn located(&self, alloc: Global, id: ObjectId) -> Result<Items<Location>, AllocError>
+    pub fn located(&self, alloc: Global, id: ObjectId) -> Result<ItemList<Location>, AllocError>
         ensures ok { IfOk result (λ entries. entries ≡ entries_at self.now id) }
         ensures succeeds { entries_at self.now id ≡ [] → IsOk result }
     {
         match self.objects.get(&id) {
             Some(entries) => entries.to_items(alloc),
-            None => Ok(Items::new(alloc)),
+            None => Ok(ItemList::new(alloc)),
         }
     }
 }

@@ -5,7 +5,7 @@ ghost use Rattle.obj_id.specs.Ids.{same_task};
 ghost use Rattle.pins_holds.specs.Pinned.{are_borrowing};
 
 use indexmap::IndexSet;
-use obj_id::{Items, TaskNo};
+use obj_id::{ItemList, TaskNo};
 use std::alloc::{AllocError, Global};
 use std::marker::Model;
 
@@ -68,14 +68,14 @@ impl Borrowers {
     }
 
     /// The tasks, in the order in which they came. Takes a walk over them, and memory for each.
-    pub fn tasks(&self, alloc: Global) -> Result<Items<TaskNo>, AllocError>
+    pub fn tasks(&self, alloc: Global) -> Result<ItemList<TaskNo>, AllocError>
         ensures { IfOk result (λ tasks. tasks ≡ self.now) }
     {
         let mut tasks = Vec::new(alloc);
         for task in &self.tasks {
             tasks.push(*task)?;
         }
-        Ok(Items::from_vec(tasks))
+        Ok(ItemList::from_vec(tasks))
     }
 
     /// The task comes last. A failure changes nothing.

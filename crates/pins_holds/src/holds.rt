@@ -6,7 +6,7 @@ ghost use Rattle.private_store.specs.laws.Invariants.{are_held};
 ghost use Rattle.private_store.specs.rules.Commands.{without_session};
 ghost use Rattle.pins_holds.specs.Sessions.{AreHolds, count_of, with_count, sessions_total};
 
-use obj_id::Items;
+use obj_id::ItemList;
 use std::alloc::{AllocError, Global};
 use std::collections::BTreeMap;
 use std::marker::Model;
@@ -60,14 +60,14 @@ impl Holds {
     }
 
     /// How many each session has, by rising session. Takes a walk over them, and memory for each.
-    pub fn by_session(&self, alloc: Global) -> Result<Items<(u32, u32)>, AllocError>
+    pub fn by_session(&self, alloc: Global) -> Result<ItemList<(u32, u32)>, AllocError>
         ensures { IfOk result (λ held. held ≡ self.now) }
     {
         let mut held = Vec::new(alloc);
         for (session, count) in &self.by_session {
             held.push((*session, *count))?;
         }
-        Ok(Items::from_vec(held))
+        Ok(ItemList::from_vec(held))
     }
 
     /// Whether there are none.

@@ -15,7 +15,7 @@ mod holds;
 use borrowers::Borrowers;
 use holds::Holds;
 use obj_id::limits::{MOST_BORROWERS, MOST_HOLDS};
-use obj_id::{Items, Kind, Refusal, TaskNo};
+use obj_id::{ItemList, Kind, Refusal, TaskNo};
 use std::alloc::{AllocError, Global};
 use std::marker::Model;
 
@@ -108,14 +108,14 @@ impl Pins {
     }
 
     /// The tasks that borrow it, in the order in which they came. Takes a walk over them, and memory for each.
-    pub fn borrowers(&self, alloc: Global) -> Result<Items<TaskNo>, AllocError>
+    pub fn borrowers(&self, alloc: Global) -> Result<ItemList<TaskNo>, AllocError>
         ensures { IfOk result (λ tasks. tasks ≡ self.now.borrowers) }
     {
         self.borrowers.tasks(alloc)
     }
 
     /// How many holds each session has, by rising session. Takes a walk over them, and memory for each.
-    pub fn holds(&self, alloc: Global) -> Result<Items<(u32, u32)>, AllocError>
+    pub fn holds(&self, alloc: Global) -> Result<ItemList<(u32, u32)>, AllocError>
         ensures { IfOk result (λ held. held ≡ self.now.holds) }
     {
         self.holds.by_session(alloc)

@@ -5,22 +5,22 @@ use Rattle.private_store.specs.rules.Shape.{Shape, Change}
 use Rattle.private_store.specs.rules.Room.{Room}
 use Rattle.private_store.specs.rules.Change.{checked, refused, in_room, sending}
 use Rattle.store_facts.proofs.Tests.{none_some, some_value}
-use Rattle.plain_store.specs.Checks.{first_of}
+use Rattle.private_store.specs.rules.Shared.{first_refusal}
 
-pub checked-refused : (store : Shape) (checks : List (Bool × Refusal)) (rest : Change) (r : Refusal) → first_of checks ≡ Some r → checked store checks rest ≡ refused store r
+pub checked-refused : (store : Shape) (checks : List (Bool × Refusal)) (rest : Change) (r : Refusal) → first_refusal checks ≡ Some r → checked store checks rest ≡ refused store r
 unfolding checked
 checked-refused store [] rest r e = none_some r e
 checked-refused store (check ∷ checks) rest r e =
-    elim check.0 as (λ b. cond b (Some check.1) (first_of checks) ≡ Some r → cond b (refused store check.1) (checked store checks rest) ≡ refused store r) [
+    elim check.0 as (λ b. cond b (Some check.1) (first_refusal checks) ≡ Some r → cond b (refused store check.1) (checked store checks rest) ≡ refused store r) [
       | true ↦ λ f. ap (refused store) (some_value check.1 r f)
       | false ↦ λ f. checked-refused store checks rest r f
     ] e
 
-pub checked-passed : (store : Shape) (checks : List (Bool × Refusal)) (rest : Change) → first_of checks ≡ None → checked store checks rest ≡ rest
+pub checked-passed : (store : Shape) (checks : List (Bool × Refusal)) (rest : Change) → first_refusal checks ≡ None → checked store checks rest ≡ rest
 unfolding checked
 checked-passed store [] rest e = refl
 checked-passed store (check ∷ checks) rest e =
-    elim check.0 as (λ b. cond b (Some check.1) (first_of checks) ≡ None → cond b (refused store check.1) (checked store checks rest) ≡ rest) [
+    elim check.0 as (λ b. cond b (Some check.1) (first_refusal checks) ≡ None → cond b (refused store check.1) (checked store checks rest) ≡ rest) [
       | true ↦ λ f. none_some check.1 (sym f)
       | false ↦ λ f. checked-passed store checks rest f
     ] e

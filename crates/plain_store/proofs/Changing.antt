@@ -4,10 +4,10 @@ use Rattle.std.specs.Option.{ghost_name_of}
 use borrow.Follows.Closed.{read_of}
 use Rattle.private_store.specs.rules.Tables.{ById}
 use Rattle.private_store.specs.rules.Shape.{Copy}
-use Rattle.private_store.specs.rules.Replay.{Brief}
+use Rattle.private_store.specs.rules.Replay.{ReplayState}
 
-abbrev pub with_copies : Brief → ById Copy → Brief
-with_copies brief copies = record brief { shape = record brief.shape { copies = copies } }
+abbrev pub with_copies : ReplayState → ById Copy → ReplayState
+with_copies replay_state copies = record replay_state { shape = record replay_state.shape { copies = copies } }
 
 -- a lender that ends alike in both cases
 pub lent : {D E : Type 0} (o : Option (MutBor E)) (F G : E → D) (v u : D) → ((x : MutBor E) → o ≡ Some x → (w : E) → F w ≡ G w) → (o ≡ None → v ≡ u)

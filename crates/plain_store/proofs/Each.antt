@@ -5,7 +5,7 @@ use Rattle.obj_id.specs.declared.ids.TaskNo.{TaskNo}
 use Rattle.private_store.specs.rules.Tables.{at, ids_of}
 use Rattle.private_store.specs.rules.Copies.{in_scope}
 use Rattle.private_store.specs.rules.Room.{set_copy}
-use Rattle.private_store.specs.rules.Replay.{Brief}
+use Rattle.private_store.specs.rules.Replay.{ReplayState}
 use Rattle.plain_store.specs.Changing.{task_over}
 use Rattle.std.specs.List.{fold}
 use Rattle.obj_id.specs.declared.ids.ObjectId.{ObjectId}
@@ -122,5 +122,5 @@ over-used store task =
     at_each-used (give_up_one task) (ids_of store.copies) (at_each doom (of_task task (ids_of store.copies)) (done (task_ended store task))) (give_up_one-used task)
     (at_each-used doom (of_task task (ids_of store.copies)) (done (task_ended store task)) doom-used refl)
 
-abbrev pub with_shape : Brief → Shape → Brief
-with_shape brief shape = record brief { shape = shape }
+abbrev pub with_shape : ReplayState → Shape → ReplayState
+with_shape replay_state shape = record replay_state { shape = shape }

@@ -11,5 +11,5 @@ mod Using
 mod Keyed
 mod Sorting
 mod Each
-mod HandsEnd
+mod GrantsEnd
 mod Fields

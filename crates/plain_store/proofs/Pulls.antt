@@ -5,8 +5,8 @@ use Rattle.obj_id.specs.declared.ids.ObjectId.{ObjectId}
 use Rattle.obj_id.specs.declared.refusals.Refusal.TheVariants.{Absent, BadSize}
 use Rattle.private_store.specs.rules.Tables.{at}
 use Rattle.private_store.specs.rules.Shape.{Copy, Fetch, Shape, sized, pulling}
-use Rattle.private_store.specs.rules.Replay.{Brief}
-use Rattle.private_store.specs.laws.Listed.{IsBriefKept}
+use Rattle.private_store.specs.rules.Replay.{ReplayState}
+use Rattle.private_store.specs.laws.Listed.{IsReplayStateKept}
 use Rattle.private_store.specs.rules.Copies.{is_sealed}
 use Rattle.private_store.specs.rules.Events.{is_live}
 use Rattle.private_store.specs.rules.Room.{make_room, set_copy}
@@ -33,25 +33,25 @@ begin_pull-shape : (id : ObjectId) (copy : Copy) (fetch : Fetch) (source : ℕ) 
 unfolding sending
 begin_pull-shape id copy fetch source store offset = refl
 
-module _ (brief : Brief) (kept : IsBriefKept brief) (live : is_live brief.shape ≡ true) (id : ObjectId) (copy : Copy) (source offset : ℕ)
-    (there : at brief.shape.copies id ≡ Some copy) (unsealed : is_sealed copy.state ≡ false) (fits : is_length brief.shape copy.length ≡ true)
-    (room : (make_room brief.order brief.shape copy.length).offset ≡ Ok offset) where
+module _ (replay_state : ReplayState) (kept : IsReplayStateKept replay_state) (live : is_live replay_state.shape ≡ true) (id : ObjectId) (copy : Copy) (source offset : ℕ)
+    (there : at replay_state.shape.copies id ≡ Some copy) (unsealed : is_sealed copy.state ≡ false) (fits : is_length replay_state.shape copy.length ≡ true)
+    (room : (make_room replay_state.order replay_state.shape copy.length).offset ≡ Ok offset) where
   by_fetch : (fetch : Fetch) → copy.fetch ≡ Some fetch
-      → pulled (make_room brief.order brief.shape copy.length).shape id source offset ≡ (get_sized brief.order brief.shape id source copy).shape
+      → pulled (make_room replay_state.order replay_state.shape copy.length).shape id source offset ≡ (get_sized replay_state.order replay_state.shape id source copy).shape
   by_fetch fetch e =
-      let left = (make_room brief.order brief.shape copy.length).shape in
-      ap (λ o. option_map_or (λ c. set_copy left id (pulled_copy c source offset)) o left) (room_leaves brief kept live copy.length offset id copy room there unsealed)
+      let left = (make_room replay_state.order replay_state.shape copy.length).shape in
+      ap (λ o. option_map_or (λ c. set_copy left id (pulled_copy c source offset)) o left) (room_leaves replay_state kept live copy.length offset id copy room there unsealed)
       ∙ ap (λ o. set_copy left id (option_map_or (λ f. record copy { offset = Some offset; fetch = Some (record f { phase = pulling source (counted 0 (chunk_count copy.length)) }) }) o copy)) e
       ∙ sym (begin_pull-shape id copy fetch source left offset)
-      ∙ sym (in_room-ok (make_room brief.order brief.shape copy.length) (begin_pull id copy fetch source) offset room).shape
-      ∙ sym (ap (λ c. c.shape) (checked-passed brief.shape ((not (is_length brief.shape copy.length), BadSize) ∷ []) (in_room (make_room brief.order brief.shape copy.length) (begin_pull id copy fetch source))
+      ∙ sym (in_room-ok (make_room replay_state.order replay_state.shape copy.length) (begin_pull id copy fetch source) offset room).shape
+      ∙ sym (ap (λ c. c.shape) (checked-passed replay_state.shape ((not (is_length replay_state.shape copy.length), BadSize) ∷ []) (in_room (make_room replay_state.order replay_state.shape copy.length) (begin_pull id copy fetch source))
       (ap (λ b. cond (not b) (Some BadSize) None) fits)))
-      ∙ sym (ap (λ c. c.shape) (needing-some brief.shape copy.fetch fetch Absent (λ f. get_fetching brief.order brief.shape id copy f (sized source)) e))
+      ∙ sym (ap (λ c. c.shape) (needing-some replay_state.shape copy.fetch fetch Absent (λ f. get_fetching replay_state.order replay_state.shape id copy f (sized source)) e))
 
   pub sized-begun : is_none copy.fetch ≡ false
-      → pulled (make_room brief.order brief.shape copy.length).shape id source offset ≡ (needing brief.shape (at brief.shape.copies id) Absent (get_sized brief.order brief.shape id source)).shape
-  sized-begun some = by_cases copy.fetch refl some ∙ sym (ap (λ c. c.shape) (needing-some brief.shape (at brief.shape.copies id) copy Absent (get_sized brief.order brief.shape id source) there))
+      → pulled (make_room replay_state.order replay_state.shape copy.length).shape id source offset ≡ (needing replay_state.shape (at replay_state.shape.copies id) Absent (get_sized replay_state.order replay_state.shape id source)).shape
+  sized-begun some = by_cases copy.fetch refl some ∙ sym (ap (λ c. c.shape) (needing-some replay_state.shape (at replay_state.shape.copies id) copy Absent (get_sized replay_state.order replay_state.shape id source) there))
     where
-      by_cases : (o : Option Fetch) → copy.fetch ≡ o → is_none o ≡ false → pulled (make_room brief.order brief.shape copy.length).shape id source offset ≡ (get_sized brief.order brief.shape id source copy).shape
+      by_cases : (o : Option Fetch) → copy.fetch ≡ o → is_none o ≡ false → pulled (make_room replay_state.order replay_state.shape copy.length).shape id source offset ≡ (get_sized replay_state.order replay_state.shape id source copy).shape
       by_cases None e s = false_true s
       by_cases (Some fetch) e s = by_fetch fetch e

@@ -10,31 +10,31 @@ use Rattle.obj_id.specs.declared.ids.ObjectId.{ObjectId}
 use Rattle.private_store.specs.rules.Tables.{at}
 use Rattle.private_store.specs.rules.Limits.{is_quota, most_holds}
 use Rattle.private_store.specs.rules.Shape.{Copy}
-use Rattle.private_store.specs.rules.Replay.{Brief}
-use Rattle.private_store.specs.laws.Listed.{IsBriefKept}
+use Rattle.private_store.specs.rules.Replay.{ReplayState}
+use Rattle.private_store.specs.laws.Listed.{IsReplayStateKept}
 use Rattle.private_store.specs.rules.Copies.{is_sealed}
 use Rattle.private_store.specs.rules.Events.{is_live}
 use Rattle.private_store.specs.rules.Room.{make_room}
 use Rattle.private_store.specs.rules.Commands.{holds_of, all_holds}
-use Rattle.store_facts.proofs.BriefKept.{order_once}
+use Rattle.store_facts.proofs.ReplayStateKept.{order_once}
 use Rattle.store_facts.proofs.KeptRows.{to_live}
 use Rattle.store_facts.proofs.KeptRoom.{IsMade}
 use Rattle.store_facts.proofs.KeptPlan.{room_keeps}
 
-module _ (brief : Brief) (kept : IsBriefKept brief) (live : is_live brief.shape ≡ true) where
-  pub quota_kept : is_quota brief.shape.quota ≡ true
+module _ (replay_state : ReplayState) (kept : IsReplayStateKept replay_state) (live : is_live replay_state.shape ≡ true) where
+  pub quota_kept : is_quota replay_state.shape.quota ≡ true
   quota_kept = kept.shape.quota live
 
-  room_made : (n offset : ℕ) → (make_room brief.order brief.shape n).offset ≡ Ok offset → IsMade brief.shape (make_room brief.order brief.shape n).shape
-  room_made n offset e = (room_keeps brief.order (order_once brief.order brief.shape.copies kept.order) brief.shape (to_live brief.shape kept.shape live) n).made (ap is_ok e)
+  room_made : (n offset : ℕ) → (make_room replay_state.order replay_state.shape n).offset ≡ Ok offset → IsMade replay_state.shape (make_room replay_state.order replay_state.shape n).shape
+  room_made n offset e = (room_keeps replay_state.order (order_once replay_state.order replay_state.shape.copies kept.order) replay_state.shape (to_live replay_state.shape kept.shape live) n).made (ap is_ok e)
 
-  pub room_leaves : (n offset : ℕ) (id : ObjectId) (copy : Copy) → (make_room brief.order brief.shape n).offset ≡ Ok offset → at brief.shape.copies id ≡ Some copy → is_sealed copy.state ≡ false
-      → at (make_room brief.order brief.shape n).shape.copies id ≡ Some copy
+  pub room_leaves : (n offset : ℕ) (id : ObjectId) (copy : Copy) → (make_room replay_state.order replay_state.shape n).offset ≡ Ok offset → at replay_state.shape.copies id ≡ Some copy → is_sealed copy.state ≡ false
+      → at (make_room replay_state.order replay_state.shape n).shape.copies id ≡ Some copy
   room_leaves n offset id copy e there unsealed =
       let m = room_made n offset e in
       ap (λ s. at s.copies id) m.is ∙ m.others id copy there unsealed
 
-  pub room_numbers : (n offset : ℕ) → (make_room brief.order brief.shape n).offset ≡ Ok offset → (make_room brief.order brief.shape n).shape.works_asked ≡ brief.shape.works_asked
+  pub room_numbers : (n offset : ℕ) → (make_room replay_state.order replay_state.shape n).offset ≡ Ok offset → (make_room replay_state.order replay_state.shape n).shape.works_asked ≡ replay_state.shape.works_asked
   room_numbers n offset e = ap (λ s. s.works_asked) (room_made n offset e).is
 
 found-le : (session : ℕ) (holds : List (ℕ × ℕ)) → unwrap_or (find nat_cmp session holds) 0 ≤ sum_by (λ e. e.1) holds

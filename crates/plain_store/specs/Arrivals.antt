@@ -1,5 +1,5 @@
 -- What arrives for a fetch, and the copy after it.
-use Rattle.std.specs.Prelude.{ℕ, ◌==◌, Bool, true, false, not, ◌&&◌, if◌then◌else◌, List, [], ◌∷◌, filter, Option, Some, None}
+use Rattle.std.specs.Prelude.{ℕ, ◌==◌, Bool, false, not, ◌&&◌, if◌then◌else◌, List, [], ◌∷◌, filter, Option, Some, None}
 use Rattle.std.specs.Option.{option_map_or}
 use Rattle.obj_id.specs.declared.ids.ObjectId.{ObjectId}
 use Rattle.private_store.specs.declared.inputs.Source.{Source}
@@ -11,11 +11,8 @@ use Rattle.obj_id.specs.declared.commands.CopyState.TheVariants.{Sealed}
 use Rattle.private_store.specs.rules.Tables.{at}
 use Rattle.private_store.specs.rules.Shape.{Copy, Fetch, Phase, Shape, locating, pulling, failed}
 use Rattle.private_store.specs.rules.Room.{set_copy}
+use Rattle.private_store.specs.rules.Contents.{is_locating}
 use Rattle.private_store.specs.rules.Events.{is_missing, located_copy}
-
-abbrev pub is_locating_phase : Phase → Bool
-is_locating_phase locating = true
-is_locating_phase _ = false
 
 abbrev pub pulls_from : ℕ → Phase → Bool
 pulls_from from (pulling source missing) = from == source
@@ -31,7 +28,7 @@ is_fetched number test copy = option_map_or (λ fetch. fetch.number == number &&
 
 -- whether its source isn't known
 abbrev pub awaits_location : ℕ → Copy → Bool
-awaits_location number copy = is_fetched number is_locating_phase copy
+awaits_location number copy = is_fetched number is_locating copy
 
 -- whether it pulls from this node
 abbrev pub awaits_from : ℕ → ℕ → Copy → Bool

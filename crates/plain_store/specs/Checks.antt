@@ -1,5 +1,5 @@
 -- The checks of an input, in their order.
-use Rattle.std.specs.Prelude.{ℕ, ◌+◌, Bool, not, if◌then◌else◌, List, [], ◌∷◌, Option, Some, None, is_some, is_ok, ◌&&◌, ◌==◌}
+use Rattle.std.specs.Prelude.{ℕ, ◌+◌, Bool, not, List, [], ◌∷◌, None, is_some, is_ok, ◌&&◌, ◌==◌}
 use Rattle.obj_id.specs.declared.ids.ObjectId.{ObjectId}
 use Rattle.obj_id.specs.declared.refusals.Refusal.{Refusal}
 use Rattle.obj_id.specs.declared.refusals.Refusal.TheVariants.{BadSize, Gone, Exists, TooMany, Busy}
@@ -10,11 +10,6 @@ use Rattle.private_store.specs.rules.Room.{make_room, works_left, set_copy}
 use Rattle.private_store.specs.rules.Change.{has_ended}
 use Rattle.std.specs.Option.{option_map_or}
 use Rattle.private_store.specs.rules.Commands.{is_length, is_full_of_copies, restoring, holds_of, with_holds}
-
--- the refusal of the first test that holds
-abbrev pub first_of : List (Bool × Refusal) → Option Refusal
-first_of [] = None
-first_of (check ∷ checks) = if check.0 then Some check.1 else first_of checks
 
 abbrev pub create_checks : Shape → ObjectId → ℕ → List (Bool × Refusal)
 create_checks store id n =

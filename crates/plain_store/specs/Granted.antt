@@ -5,26 +5,26 @@ use Rattle.std.specs.Option.{option_map_or}
 use Rattle.obj_id.specs.declared.ids.ObjectId.{ObjectId}
 use Rattle.private_store.specs.rules.Tables.{at, with_entry, without_entry}
 use Rattle.private_store.specs.rules.Shape.{Seen}
-use Rattle.private_store.specs.rules.Replay.{Brief}
-use Rattle.private_store.specs.rules.Events.{is_child_of, is_hand}
+use Rattle.private_store.specs.rules.Replay.{ReplayState}
+use Rattle.private_store.specs.rules.Events.{is_child_of, is_the_grant}
 
-abbrev pub store_with_seen : Brief → ObjectId → Seen → Brief
-store_with_seen brief id seen = record brief { shape = record brief.shape { received = with_entry brief.shape.received id seen } }
+abbrev pub store_with_seen : ReplayState → ObjectId → Seen → ReplayState
+store_with_seen replay_state id seen = record replay_state { shape = record replay_state.shape { received = with_entry replay_state.shape.received id seen } }
 
-abbrev pub without_seen : Brief → ObjectId → Brief
-without_seen brief id = record brief { shape = record brief.shape { received = without_entry brief.shape.received id } }
+abbrev pub without_seen : ReplayState → ObjectId → ReplayState
+without_seen replay_state id = record replay_state { shape = record replay_state.shape { received = without_entry replay_state.shape.received id } }
 
--- what is seen by the other hands
-abbrev pub with_other_hands : Seen → ℕ → ℕ → Seen
-with_other_hands seen grantor depth = record seen { hands = filter (λ hand. not (is_hand grantor depth hand)) seen.hands }
+-- what is seen by the other grants
+abbrev pub with_other_grants : Seen → ℕ → ℕ → Seen
+with_other_grants seen grantor depth = record seen { grants = filter (λ grant. not (is_the_grant grantor depth grant)) seen.grants }
 
--- the grantor's hand at this depth is forgotten, and the object, if no other hand stands
-abbrev pub forgotten : Brief → ObjectId → ℕ → ℕ → Brief
-forgotten brief id grantor depth =
+-- the grantor's grant at this depth is forgotten, and the object, if no other grant stands
+abbrev pub forgotten : ReplayState → ObjectId → ℕ → ℕ → ReplayState
+forgotten replay_state id grantor depth =
     option_map_or (λ seen.
-    if list_any (λ hand. not (is_hand grantor depth hand)) seen.hands then store_with_seen brief id (with_other_hands seen grantor depth) else without_seen brief id)
-    (at brief.shape.received id) brief
+    if list_any (λ grant. not (is_the_grant grantor depth grant)) seen.grants then store_with_seen replay_state id (with_other_grants seen grantor depth) else without_seen replay_state id)
+    (at replay_state.shape.received id) replay_state
 
--- without the given hands that hang on the grantor's hand
-abbrev pub without_hanging : Brief → ObjectId → ℕ → Brief
-without_hanging brief id grantor = record brief { shape = record brief.shape { given = filter (λ hand. not (is_child_of id grantor hand)) brief.shape.given } }
+-- without the given grants that hang on the grantor's grant
+abbrev pub without_hanging : ReplayState → ObjectId → ℕ → ReplayState
+without_hanging replay_state id grantor = record replay_state { shape = record replay_state.shape { given = filter (λ grant. not (is_child_of id grantor grant)) replay_state.shape.given } }

@@ -4,12 +4,13 @@ ghost use Rattle.private_store.specs.rules.Tables.{at};
 ghost use Rattle.private_store.specs.rules.Limits.{is_quota};
 ghost use Rattle.private_store.specs.rules.Change.{has_ended};
 ghost use Rattle.private_store.specs.rules.Commands.{is_length, is_full_of_copies, new_copy as new_copy_lem, create};
-ghost use Rattle.plain_store.specs.Checks.{first_of, create_checks};
+ghost use Rattle.plain_store.specs.Checks.{create_checks};
+ghost use Rattle.private_store.specs.rules.Shared.{first_refusal};
 
 use crate::copies::PlainCopy;
 use crate::marks::same_task;
+use crate::response::Response;
 use crate::store::PlainStore;
-use crate::told::Told;
 use obj_id::limits::{LONGEST_OBJECT, MOST_COPIES};
 use obj_id::{CopyState, Kind, ObjectId, Refusal, Reply, TaskNo};
 use private_store::rounded;
@@ -32,7 +33,7 @@ impl PlainStore {
 
     /// Why the object can't be created, before there is room for it.
     fn create_check(&self, id: ObjectId, length: u32) -> Option<Refusal>
-        ensures { result ≡ first_of (create_checks self.now.shape id length) }
+        ensures { result ≡ first_refusal (create_checks self.now.shape id length) }
     {
         if !self.is_length(length) {
             return Some(Refusal::BadSize);
@@ -58,21 +59,21 @@ impl PlainStore {
         id: ObjectId,
         kind: Kind,
         length: u32,
-    ) -> Result<Told, AllocError>
+    ) -> Result<Response, AllocError>
         requires { is_quota self.old.shape.quota ≡ true }
-        ensures reply { IfOk result (λ told. told.reply ≡ (create self.old.order self.old.shape id kind length).reply) }
-        ensures used { IfOk result (λ told. told.used ≡ (create self.old.order self.old.shape id kind length).used) }
+        ensures reply { IfOk result (λ response. response.reply ≡ (create self.old.order self.old.shape id kind length).reply) }
+        ensures used { IfOk result (λ response. response.used ≡ (create self.old.order self.old.shape id kind length).used) }
         ensures store { OnOk result (self.new ≡ record self.old { shape = (create self.old.order self.old.shape id kind length).shape }) }
     {
         if let Some(refusal) = self.create_check(id, length) {
-            return Ok(Told::refused(refusal));
+            return Ok(Response::refused(refusal));
         }
         let offset = match self.make_room(alloc, length)? {
             Ok(offset) => offset,
-            Err(refusal) => return Ok(Told::refused(refusal)),
+            Err(refusal) => return Ok(Response::refused(refusal)),
         };
         self.insert(id, new_copy(alloc, kind, length, offset))?;
-        Ok(Told {
+        Ok(Response {
             reply: Reply::Placed(offset, rounded(length) as u32),
             used: Some(id),
         })

@@ -2,7 +2,7 @@
 ghost use Rattle.std.specs.Prelude.{◌≡◌, true, false, Some, IfOk, OnOk};
 ghost use Rattle.obj_id.specs.declared.refusals.Refusal.TheVariants.{Absent};
 ghost use Rattle.private_store.specs.rules.Tables.{at};
-ghost use Rattle.private_store.specs.laws.Listed.{IsBriefKept};
+ghost use Rattle.private_store.specs.laws.Listed.{IsReplayStateKept};
 ghost use Rattle.private_store.specs.rules.Shape.{Copy};
 ghost use Rattle.private_store.specs.rules.Copies.{is_sealed};
 ghost use Rattle.private_store.specs.rules.Events.{is_live};
@@ -12,8 +12,8 @@ ghost use Rattle.plain_store.specs.Parts.{plain_phase_of};
 ghost use Rattle.plain_store.specs.Fetches.{next_step_of, get_fetch, get_sized, pulled, pulled_copy};
 
 use crate::copies::{FetchPhase, PlainCopy};
+use crate::response::Response;
 use crate::store::PlainStore;
-use crate::told::Told;
 use obj_id::limits::CHUNK_SIZE;
 use obj_id::{ObjectId, Refusal};
 use private_store::FetchFault;
@@ -62,55 +62,64 @@ impl PlainStore {
     /// answer is `Pending`. `BadSize` of an object that the window can't have, `Absent` if there is no copy, and as
     /// `make_room`. The error is out of memory.
     #[tactic(auto, using(crate::proofs::RoomLeaves::room_leaves, crate::proofs::RoomLeaves::quota_kept), unfolding(private_store::specs::rules::Change::checked, private_store::specs::rules::Change::needing, private_store::specs::rules::Change::in_room, private_store::specs::rules::Change::sending))]
-    fn get_sized(&mut self, alloc: Global, id: ObjectId, source: u32) -> Result<Told, AllocError>
-        requires kept { IsBriefKept self.old }
+    fn get_sized(
+        &mut self,
+        alloc: Global,
+        id: ObjectId,
+        source: u32,
+    ) -> Result<Response, AllocError>
+        requires kept { IsReplayStateKept self.old }
         requires live { is_live self.old.shape ≡ true }
         requires unsealed { (copy : Copy) → at self.old.shape.copies id ≡ Some copy → is_sealed copy.state ≡ false }
-        ensures reply { IfOk result (λ told. told.reply ≡ (needing self.old.shape (at self.old.shape.copies id) Absent (get_sized self.old.order self.old.shape id source)).reply) }
-        ensures used { IfOk result (λ told. told.used ≡ (needing self.old.shape (at self.old.shape.copies id) Absent (get_sized self.old.order self.old.shape id source)).used) }
+        ensures reply { IfOk result (λ response. response.reply ≡ (needing self.old.shape (at self.old.shape.copies id) Absent (get_sized self.old.order self.old.shape id source)).reply) }
+        ensures used { IfOk result (λ response. response.used ≡ (needing self.old.shape (at self.old.shape.copies id) Absent (get_sized self.old.order self.old.shape id source)).used) }
         ensures store { OnOk result (self.new ≡ record self.old { shape = (needing self.old.shape (at self.old.shape.copies id) Absent (get_sized self.old.order self.old.shape id source)).shape }) }
     {
         let Some(copy) = self.copy(id) else {
-            return Ok(Told::refused(Refusal::Absent));
+            return Ok(Response::refused(Refusal::Absent));
         };
         if copy.fetch.is_none() {
-            return Ok(Told::refused(Refusal::Absent));
+            return Ok(Response::refused(Refusal::Absent));
         }
         let length = copy.length;
         if !self.is_length(length) {
-            return Ok(Told::refused(Refusal::BadSize));
+            return Ok(Response::refused(Refusal::BadSize));
         }
         let offset = match self.make_room(alloc, length)? {
             Ok(offset) => offset,
-            Err(refusal) => return Ok(Told::refused(refusal)),
+            Err(refusal) => return Ok(Response::refused(refusal)),
         };
         self.pull_to(alloc, id, source, offset)?;
-        Ok(Told::refused(Refusal::Pending))
+        Ok(Response::refused(Refusal::Pending))
     }
 
     /// Get of a copy that is on its way: its fetch goes one step on, or what it came to is the answer, and then it is
     /// removed. `Pending`, `Absent`, `Damaged`, and as `get_sized`. The error is out of memory.
     #[tactic(auto, unfolding(private_store::specs::rules::Change::checked, private_store::specs::rules::Change::needing, private_store::specs::rules::Change::sending))]
-    pub(crate) fn get_fetching(&mut self, alloc: Global, id: ObjectId) -> Result<Told, AllocError>
-        requires kept { IsBriefKept self.old }
+    pub(crate) fn get_fetching(
+        &mut self,
+        alloc: Global,
+        id: ObjectId,
+    ) -> Result<Response, AllocError>
+        requires kept { IsReplayStateKept self.old }
         requires live { is_live self.old.shape ≡ true }
         requires unsealed { (copy : Copy) → at self.old.shape.copies id ≡ Some copy → is_sealed copy.state ≡ false }
-        ensures reply { IfOk result (λ told. told.reply ≡ (needing self.old.shape (at self.old.shape.copies id) Absent (get_fetch self.old.order self.old.shape id)).reply) }
-        ensures used { IfOk result (λ told. told.used ≡ (needing self.old.shape (at self.old.shape.copies id) Absent (get_fetch self.old.order self.old.shape id)).used) }
+        ensures reply { IfOk result (λ response. response.reply ≡ (needing self.old.shape (at self.old.shape.copies id) Absent (get_fetch self.old.order self.old.shape id)).reply) }
+        ensures used { IfOk result (λ response. response.used ≡ (needing self.old.shape (at self.old.shape.copies id) Absent (get_fetch self.old.order self.old.shape id)).used) }
         ensures store { OnOk result (self.new ≡ record self.old { shape = (needing self.old.shape (at self.old.shape.copies id) Absent (get_fetch self.old.order self.old.shape id)).shape }) }
     {
         let Some(copy) = self.copy(id) else {
-            return Ok(Told::refused(Refusal::Absent));
+            return Ok(Response::refused(Refusal::Absent));
         };
         let Some(fetch) = &copy.fetch else {
-            return Ok(Told::refused(Refusal::Absent));
+            return Ok(Response::refused(Refusal::Absent));
         };
         match next_step(&fetch.phase) {
-            NextStep::Wait => Ok(Told::refused(Refusal::Pending)),
+            NextStep::Wait => Ok(Response::refused(Refusal::Pending)),
             NextStep::Pull(source) => self.get_sized(alloc, id, source),
             NextStep::Tell(fault) => {
                 self.remove(id);
-                Ok(Told::refused(fetch_refusal(fault)))
+                Ok(Response::refused(fetch_refusal(fault)))
             }
         }
     }

@@ -3,7 +3,7 @@ ghost use Rattle.std.specs.Prelude.{◌≡◌, ◌+◌, ◌<◌, ◌^◌, true, 
 ghost use Rattle.obj_id.specs.declared.refusals.Refusal.TheVariants.{Absent};
 ghost use Rattle.private_store.specs.rules.Tables.{at};
 ghost use Rattle.private_store.specs.rules.Limits.{has_numbers};
-ghost use Rattle.private_store.specs.laws.Listed.{IsBriefKept};
+ghost use Rattle.private_store.specs.laws.Listed.{IsReplayStateKept};
 ghost use Rattle.private_store.specs.rules.Shape.{Copy};
 ghost use Rattle.private_store.specs.rules.Copies.{is_sealed};
 ghost use Rattle.private_store.specs.rules.Events.{is_live};
@@ -12,8 +12,8 @@ ghost use Rattle.private_store.specs.rules.Commands.{holds_of, fetched_copy as f
 ghost use Rattle.plain_store.specs.Checks.{fault_forgotten, held_more};
 
 use crate::copies::{FetchPhase, PlainCopy, PlainFetch};
+use crate::response::Response;
 use crate::store::PlainStore;
-use crate::told::Told;
 use obj_id::{CopyState, Kind, ObjectId, Refusal, Reply};
 use std::alloc::{AllocError, Global};
 
@@ -28,18 +28,18 @@ impl PlainStore {
     /// A copy that isn't here is fetched: the answer is `Pending`. `TooMany` at 1,024 copies, and if no number of a fetch is
     /// left. The error is out of memory.
     #[tactic(auto, unfolding(private_store::specs::rules::Change::checked, private_store::specs::rules::Change::sending))]
-    fn begin_fetch(&mut self, alloc: Global, id: ObjectId) -> Result<Told, AllocError>
-        ensures reply { IfOk result (λ told. told.reply ≡ (begin_fetch self.old.shape id).reply) }
-        ensures used { IfOk result (λ told. told.used ≡ (begin_fetch self.old.shape id).used) }
+    fn begin_fetch(&mut self, alloc: Global, id: ObjectId) -> Result<Response, AllocError>
+        ensures reply { IfOk result (λ response. response.reply ≡ (begin_fetch self.old.shape id).reply) }
+        ensures used { IfOk result (λ response. response.used ≡ (begin_fetch self.old.shape id).used) }
         ensures store { OnOk result (self.new ≡ record self.old { shape = (begin_fetch self.old.shape id).shape }) }
     {
         if self.is_full_of_copies() || !self.has_fetch_number() {
-            return Ok(Told::refused(Refusal::TooMany));
+            return Ok(Response::refused(Refusal::TooMany));
         }
         let number = self.fetches_begun + 1;
         self.insert(id, fetched_copy(alloc, number))?;
         self.fetches_begun = number;
-        Ok(Told {
+        Ok(Response {
             reply: Reply::Refused(Refusal::Pending),
             used: Some(id),
         })
@@ -59,20 +59,20 @@ impl PlainStore {
     /// Get of a sealed copy: one more hold of the session, and the copy is the most recently used one. `TooMany` at 64 holds,
     /// `Absent` if there is no copy. The error is out of memory.
     #[tactic(auto, using(crate::proofs::RoomLeaves::holds_fit), unfolding(private_store::specs::rules::Change::checked, private_store::specs::rules::Change::needing, private_store::specs::rules::Change::sending))]
-    fn get_sealed(&mut self, session: u32, id: ObjectId) -> Result<Told, AllocError>
-        ensures reply { IfOk result (λ told. told.reply ≡ (needing self.old.shape (at self.old.shape.copies id) Absent (get_sealed self.old.shape session id)).reply) }
-        ensures used { IfOk result (λ told. told.used ≡ (needing self.old.shape (at self.old.shape.copies id) Absent (get_sealed self.old.shape session id)).used) }
+    fn get_sealed(&mut self, session: u32, id: ObjectId) -> Result<Response, AllocError>
+        ensures reply { IfOk result (λ response. response.reply ≡ (needing self.old.shape (at self.old.shape.copies id) Absent (get_sealed self.old.shape session id)).reply) }
+        ensures used { IfOk result (λ response. response.used ≡ (needing self.old.shape (at self.old.shape.copies id) Absent (get_sealed self.old.shape session id)).used) }
         ensures store { OnOk result (self.new ≡ record self.old { shape = (needing self.old.shape (at self.old.shape.copies id) Absent (get_sealed self.old.shape session id)).shape }) }
     {
         let Some(copy) = self.copy(id) else {
-            return Ok(Told::refused(Refusal::Absent));
+            return Ok(Response::refused(Refusal::Absent));
         };
         if copy.has_most_holds() {
-            return Ok(Told::refused(Refusal::TooMany));
+            return Ok(Response::refused(Refusal::TooMany));
         }
         let length = copy.length;
         self.hold(id, session)?;
-        Ok(Told {
+        Ok(Response {
             reply: Reply::Got(length),
             used: Some(id),
         })
@@ -91,21 +91,21 @@ impl PlainStore {
     /// Get of a copy that is away: its fault is the answer, once; otherwise it is read back. `DeviceFailed`, `Damaged`, and as
     /// `restore`. The error is out of memory.
     #[tactic(auto, unfolding(private_store::specs::rules::Change::needing))]
-    fn get_away(&mut self, alloc: Global, id: ObjectId) -> Result<Told, AllocError>
-        requires kept { IsBriefKept self.old }
+    fn get_away(&mut self, alloc: Global, id: ObjectId) -> Result<Response, AllocError>
+        requires kept { IsReplayStateKept self.old }
         requires live { is_live self.old.shape ≡ true }
         requires unsealed { (copy : Copy) → at self.old.shape.copies id ≡ Some copy → is_sealed copy.state ≡ false }
-        ensures reply { IfOk result (λ told. told.reply ≡ (needing self.old.shape (at self.old.shape.copies id) Absent (get_away self.old.order self.old.shape id)).reply) }
-        ensures used { IfOk result (λ told. told.used ≡ (needing self.old.shape (at self.old.shape.copies id) Absent (get_away self.old.order self.old.shape id)).used) }
+        ensures reply { IfOk result (λ response. response.reply ≡ (needing self.old.shape (at self.old.shape.copies id) Absent (get_away self.old.order self.old.shape id)).reply) }
+        ensures used { IfOk result (λ response. response.used ≡ (needing self.old.shape (at self.old.shape.copies id) Absent (get_away self.old.order self.old.shape id)).used) }
         ensures store { OnOk result (self.new ≡ record self.old { shape = (needing self.old.shape (at self.old.shape.copies id) Absent (get_away self.old.order self.old.shape id)).shape }) }
     {
         let Some(copy) = self.copy(id) else {
-            return Ok(Told::refused(Refusal::Absent));
+            return Ok(Response::refused(Refusal::Absent));
         };
         match copy.fault {
             Some(fault) => {
                 self.forget_fault(id);
-                Ok(Told::refused(fault.refusal()))
+                Ok(Response::refused(fault.refusal()))
             }
             None => self.restore(alloc, id),
         }
@@ -119,26 +119,26 @@ impl PlainStore {
         alloc: Global,
         session: u32,
         id: ObjectId,
-    ) -> Result<Told, AllocError>
-        requires kept { IsBriefKept self.old }
+    ) -> Result<Response, AllocError>
+        requires kept { IsReplayStateKept self.old }
         requires live { is_live self.old.shape ≡ true }
-        ensures reply { IfOk result (λ told. told.reply ≡ (get self.old.order self.old.shape session id).reply) }
-        ensures used { IfOk result (λ told. told.used ≡ (get self.old.order self.old.shape session id).used) }
+        ensures reply { IfOk result (λ response. response.reply ≡ (get self.old.order self.old.shape session id).reply) }
+        ensures used { IfOk result (λ response. response.used ≡ (get self.old.order self.old.shape session id).used) }
         ensures store { OnOk result (self.new ≡ record self.old { shape = (get self.old.order self.old.shape session id).shape }) }
     {
         if self.has_ended(id.task()) {
-            return Ok(Told::refused(Refusal::Gone));
+            return Ok(Response::refused(Refusal::Gone));
         }
         let Some(copy) = self.copy(id) else {
             return self.begin_fetch(alloc, id);
         };
         if copy.doomed {
-            return Ok(Told::refused(Refusal::Absent));
+            return Ok(Response::refused(Refusal::Absent));
         }
         match copy.state {
-            CopyState::Created => Ok(Told::refused(Refusal::NotSealed)),
+            CopyState::Created => Ok(Response::refused(Refusal::NotSealed)),
             CopyState::Sealed => self.get_sealed(session, id),
-            CopyState::Restoring => Ok(Told::refused(Refusal::Pending)),
+            CopyState::Restoring => Ok(Response::refused(Refusal::Pending)),
             CopyState::Fetching => self.get_fetching(alloc, id),
             CopyState::Away => self.get_away(alloc, id),
         }

@@ -7,49 +7,54 @@ ghost use Rattle.std.specs.List.{list_any};
 ghost use Rattle.std.specs.Option.{option_copied, option_copied_mut};
 ghost use Rattle.private_store.specs.rules.Tables.{at};
 ghost use Rattle.private_store.specs.rules.Commands.{oldest};
-ghost use Rattle.private_store.specs.rules.Events.{is_child_of, is_hand, received, withdrawn, without_hand};
-ghost use Rattle.plain_store.specs.Granted.{store_with_seen, without_seen, with_other_hands, without_hanging, forgotten};
+ghost use Rattle.private_store.specs.rules.Events.{is_child_of, is_the_grant, received, withdrawn, without_grant};
+ghost use Rattle.plain_store.specs.Granted.{store_with_seen, without_seen, with_other_grants, without_hanging, forgotten};
 
-use crate::hands::{GivenHand, SeenObject, TakenHand};
+use crate::job_grants::{GivenGrant, SeenObject, TakenGrant};
 use crate::marks::same_id;
 use crate::store::PlainStore;
 use obj_id::{JobNo, ObjectId, Reply};
 use std::alloc::{AllocError, Global};
 
-impl TakenHand {
+impl TakenGrant {
     /// Whether the grantor gave it at this depth.
-    pub(crate) fn is_hand(&self, grantor: JobNo, depth: u32) -> bool
-        ensures { result ≡ is_hand grantor.0 depth self.now }
+    pub(crate) fn is_the_grant(&self, grantor: JobNo, depth: u32) -> bool
+        ensures { result ≡ is_the_grant grantor.0 depth self.now }
     {
         self.grantor.0 == grantor.0 && self.depth == depth
     }
 }
 
 impl SeenObject {
-    /// Whether the grantor's hand at this depth stands.
-    pub(crate) fn has_hand(&self, grantor: JobNo, depth: u32) -> bool
-        ensures { result ≡ list_any (is_hand grantor.0 depth) self.now.hands }
+    /// Whether the grantor's grant at this depth stands.
+    pub(crate) fn has_grant(&self, grantor: JobNo, depth: u32) -> bool
+        ensures { result ≡ list_any (is_the_grant grantor.0 depth) self.now.grants }
     {
-        self.hands.iter().any(|hand| hand.is_hand(grantor, depth))
+        self.grants
+            .iter()
+            .any(|grant| grant.is_the_grant(grantor, depth))
     }
 
-    /// Whether another hand stands.
-    pub(crate) fn has_other_hand(&self, grantor: JobNo, depth: u32) -> bool
-        ensures { result ≡ list_any (λ hand. not (is_hand grantor.0 depth hand)) self.now.hands }
+    /// Whether another grant stands.
+    pub(crate) fn has_other_grant(&self, grantor: JobNo, depth: u32) -> bool
+        ensures { result ≡ list_any (λ grant. not (is_the_grant grantor.0 depth grant)) self.now.grants }
     {
-        self.hands.iter().any(|hand| !hand.is_hand(grantor, depth))
+        self.grants
+            .iter()
+            .any(|grant| !grant.is_the_grant(grantor, depth))
     }
 
-    /// The grantor's hands at this depth end. Takes no memory.
-    pub(crate) fn remove_hand(&mut self, grantor: JobNo, depth: u32)
-        ensures { self.new ≡ with_other_hands self.old grantor.0 depth }
+    /// The grantor's grants at this depth end. Takes no memory.
+    pub(crate) fn remove_grant(&mut self, grantor: JobNo, depth: u32)
+        ensures { self.new ≡ with_other_grants self.old grantor.0 depth }
     {
-        self.hands.retain(|hand| !hand.is_hand(grantor, depth));
+        self.grants
+            .retain(|grant| !grant.is_the_grant(grantor, depth));
     }
 }
 
-impl GivenHand {
-    /// Whether it is a hand of the object that hangs on one by the grantor.
+impl GivenGrant {
+    /// Whether it is a grant of the object that hangs on one by the grantor.
     pub(crate) fn is_child_of(&self, id: ObjectId, grantor: JobNo) -> bool
         ensures { result ≡ is_child_of id grantor.0 self.now }
     {
@@ -71,11 +76,11 @@ impl PlainStore {
         self.received.get(&id)
     }
 
-    /// The oldest standing hand of the object that was given to the job.
-    pub(crate) fn oldest(&self, id: ObjectId) -> Option<&TakenHand>
+    /// The oldest standing grant of the object that was given to the job.
+    pub(crate) fn oldest(&self, id: ObjectId) -> Option<&TakenGrant>
         ensures { option_copied result ≡ oldest self.now.shape id }
     {
-        self.seen(id)?.hands.first()
+        self.seen(id)?.grants.first()
     }
 
     /// What others granted of the object, to be changed. Takes a look-up.
@@ -103,7 +108,7 @@ impl PlainStore {
         self.received.remove(&id);
     }
 
-    /// Received: another hand of the object, the youngest, and the object's length. The error is out of memory.
+    /// Received: another grant of the object, the youngest, and the object's length. The error is out of memory.
     pub(crate) fn received(
         &mut self,
         alloc: Global,
@@ -116,41 +121,41 @@ impl PlainStore {
         ensures store { OnOk result (self.new ≡ record self.old { shape = (received self.old.shape id length grantor.0 depth).shape }) }
         ensures used { (received self.old.shape id length grantor.0 depth).used ≡ None }
     {
-        let hand = TakenHand { grantor, depth };
+        let grant = TakenGrant { grantor, depth };
         if let Some(seen) = self.seen_mut(id) {
-            seen.add(hand, length)?;
+            seen.add(grant, length)?;
             return Ok(Reply::Ok);
         }
-        let mut hands = Vec::new(alloc);
-        hands.push(hand)?;
-        self.insert_seen(id, SeenObject { length, hands })?;
+        let mut grants = Vec::new(alloc);
+        grants.push(grant)?;
+        self.insert_seen(id, SeenObject { length, grants })?;
         Ok(Reply::Ok)
     }
 
-    /// The grantor's hand of the object at this depth ends, if it stands. Takes no memory.
-    fn forget_hand(&mut self, id: ObjectId, grantor: JobNo, depth: u32)
+    /// The grantor's grant of the object at this depth ends, if it stands. Takes no memory.
+    fn forget_grant(&mut self, id: ObjectId, grantor: JobNo, depth: u32)
         ensures { self.new ≡ forgotten self.old id grantor.0 depth }
     {
         let Some(seen) = self.seen(id) else {
             return;
         };
-        if !seen.has_other_hand(grantor, depth) {
+        if !seen.has_other_grant(grantor, depth) {
             self.remove_seen(id);
             return;
         }
         if let Some(seen) = self.seen_mut(id) {
-            seen.remove_hand(grantor, depth);
+            seen.remove_grant(grantor, depth);
         }
     }
 
-    /// The given hands end that hang on the grantor's hand of the object. Takes no memory.
+    /// The given grants end that hang on the grantor's grant of the object. Takes no memory.
     fn drop_hanging(&mut self, id: ObjectId, grantor: JobNo)
         ensures { self.new ≡ without_hanging self.old id grantor.0 }
     {
-        self.given.retain(|hand| !hand.is_child_of(id, grantor));
+        self.given.retain(|grant| !grant.is_child_of(id, grantor));
     }
 
-    /// Withdrawn: a hand that stands ends, and with it those given here that hang on it. Takes no memory.
+    /// Withdrawn: a grant that stands ends, and with it those given here that hang on it. Takes no memory.
     pub(crate) fn withdrawn(&mut self, id: ObjectId, grantor: JobNo, depth: u32) -> Reply<u64>
         ensures reply { result ≡ (withdrawn self.old.shape id grantor.0 depth).reply }
         ensures store { self.new ≡ record self.old { shape = (withdrawn self.old.shape id grantor.0 depth).shape } }
@@ -159,10 +164,10 @@ impl PlainStore {
         let Some(seen) = self.seen(id) else {
             return Reply::Ok;
         };
-        if !seen.has_hand(grantor, depth) {
+        if !seen.has_grant(grantor, depth) {
             return Reply::Ok;
         }
-        self.forget_hand(id, grantor, depth);
+        self.forget_grant(id, grantor, depth);
         self.drop_hanging(id, grantor);
         Reply::Ok
     }

@@ -1,4 +1,4 @@
-//! The hands that a job gives, and what others granted to it.
+//! The grants that a job gives, and what others granted to it.
 #![tactic(auto, unfolding(private_store::specs::rules::Change::checked, private_store::specs::rules::Change::needing, private_store::specs::rules::Change::sending))]
 
 ghost use Rattle.std.specs.Prelude.{◌≡◌, ◌++◌, ◌∷◌, [], filter, not, option_map, ◌&&◌, ◌==◌, IfOk, OnOk};
@@ -6,10 +6,10 @@ ghost use Rattle.obj_id.specs.Ids.{same_id as same_id_lem};
 ghost use Rattle.private_store.specs.rules.Commands.{grant, grant_foreign, grant_own, has_given, is_sealed_primary, peek, withdraw};
 
 use crate::copies::PlainCopy;
-use crate::hands::GivenHand;
+use crate::job_grants::GivenGrant;
 use crate::marks::{is_sealed, same_id};
 use crate::store::PlainStore;
-use obj_id::limits::{GREATEST_DEPTH, MOST_BYTES, MOST_HANDS};
+use obj_id::limits::{GREATEST_DEPTH, MOST_BYTES, MOST_GRANTS};
 use obj_id::{JobNo, ObjectId, Refusal, Reply};
 use std::alloc::AllocError;
 
@@ -27,16 +27,14 @@ impl PlainStore {
     pub(crate) fn has_given(&self, id: ObjectId, target: JobNo) -> bool
         ensures { result ≡ has_given self.now.shape id target.0 }
     {
-        self.given
-            .iter()
-            .any(|hand| same_id(&id, &hand.id) && hand.target.0 == target.0)
+        self.given.iter().any(|grant| same_id(&id, &grant.id) && grant.target.0 == target.0)
     }
 
-    /// The hand is given, as the youngest. The error is out of memory.
+    /// The grant is given, as the youngest. The error is out of memory.
     fn give(&mut self, id: ObjectId, target: JobNo, parent: Option<JobNo>) -> Result<(), AllocError>
         ensures { OnOk result (self.new ≡ record self.old { shape = record self.old.shape { given = self.old.shape.given ++ record { id = id; target = target.0; parent = option_map (λ grantor. grantor.0) parent } ∷ [] } }) }
     {
-        self.given.push(GivenHand { id, target, parent })?;
+        self.given.push(GivenGrant { id, target, parent })?;
         Ok(())
     }
 
@@ -65,7 +63,7 @@ impl PlainStore {
         if self.has_given(id, target) {
             return Ok(Reply::Refused(Refusal::Exists));
         }
-        if self.given.len() >= MOST_HANDS {
+        if self.given.len() >= MOST_GRANTS {
             return Ok(Reply::Refused(Refusal::TooMany));
         }
         self.give(id, target, None)?;
@@ -85,16 +83,16 @@ impl PlainStore {
         if target.0 == 0 || target.0 == self.job.0 || target.0 == id.job().0 {
             return Ok(Reply::Refused(Refusal::BadId));
         }
-        let Some(hand) = self.oldest(id) else {
+        let Some(grant) = self.oldest(id) else {
             return Ok(Reply::Refused(Refusal::NotGranted));
         };
         if self.has_given(id, target) {
             return Ok(Reply::Refused(Refusal::Exists));
         }
-        if hand.depth >= GREATEST_DEPTH || self.given.len() >= MOST_HANDS {
+        if grant.depth >= GREATEST_DEPTH || self.given.len() >= MOST_GRANTS {
             return Ok(Reply::Refused(Refusal::TooMany));
         }
-        let grantor = hand.grantor;
+        let grantor = grant.grantor;
         self.give(id, target, Some(grantor))?;
         Ok(Reply::Ok)
     }
@@ -112,14 +110,14 @@ impl PlainStore {
         }
     }
 
-    /// The hand ends that was given to the target. Takes no memory.
+    /// The grant ends that was given to the target. Takes no memory.
     fn take_back(&mut self, id: ObjectId, target: JobNo)
-        ensures { self.new ≡ record self.old { shape = record self.old.shape { given = filter (λ hand. not (same_id_lem id hand.id && hand.target == target.0)) self.old.shape.given } } }
+        ensures { self.new ≡ record self.old { shape = record self.old.shape { given = filter (λ grant. not (same_id_lem id grant.id && grant.target == target.0)) self.old.shape.given } } }
     {
-        self.given.retain(|hand| !(same_id(&id, &hand.id) && hand.target.0 == target.0));
+        self.given.retain(|grant| !(same_id(&id, &grant.id) && grant.target.0 == target.0));
     }
 
-    /// Withdraw: the hand ends. Takes no memory.
+    /// Withdraw: the grant ends. Takes no memory.
     pub(crate) fn withdraw(&mut self, id: ObjectId, target: JobNo) -> Reply<u64>
         ensures reply { result ≡ (withdraw self.old.shape id target.0).reply }
         ensures store { self.new ≡ record self.old { shape = (withdraw self.old.shape id target.0).shape } }

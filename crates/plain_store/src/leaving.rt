@@ -58,7 +58,8 @@ impl PlainStore {
     {
         self.ended_tasks.push(task)?;
         let job = self.job;
-        self.given.retain(|hand| !(hand.id.job().0 == job.0 && same_task(&task, &hand.id.task())));
+        self.given.retain(|grant| !(grant.id.job().0 == job.0
+            && same_task(&task, &grant.id.task())));
         Ok(())
     }
 

@@ -6,7 +6,7 @@ ghost use Rattle.private_store.specs.rules.Limits.{most_copies};
 ghost use Rattle.private_store.specs.rules.Commands.{granted_items, list, own_items, usage};
 
 use crate::store::PlainStore;
-use obj_id::{GrantedItem, Items, OwnItem, Reply, Usage};
+use obj_id::{GrantedItem, ItemList, OwnItem, Reply, Usage};
 use std::alloc::{AllocError, Global};
 
 impl PlainStore {
@@ -34,7 +34,7 @@ impl PlainStore {
             .map(|(id, seen)| GrantedItem {
                 id: *id,
                 length: seen.length,
-                depth: self.oldest(*id).map_or(0, |hand| hand.depth),
+                depth: self.oldest(*id).map_or(0, |grant| grant.depth),
             })
             .collect(alloc)
     }
@@ -47,7 +47,7 @@ impl PlainStore {
     {
         let own = self.own_items(alloc)?;
         let granted = self.granted_items(alloc)?;
-        Ok(Reply::List(Items::from_vec(own), Items::from_vec(granted)))
+        Ok(Reply::List(ItemList::from_vec(own), ItemList::from_vec(granted)))
     }
 
     /// Usage, which changes nothing.

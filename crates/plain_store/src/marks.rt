@@ -1,4 +1,4 @@
-//! What a copy is, by its marks and by the works, holds and hands that stand on it.
+//! What a copy is, by its marks and by the works, holds and grants that stand on it.
 ghost use Rattle.std.specs.Prelude.{◌≡◌};
 ghost use Rattle.std.specs.Option.{option_copied};
 ghost use Rattle.obj_id.specs.Ids.{same_id as same_id_lem, same_task as same_task_lem};
@@ -81,11 +81,11 @@ impl PlainStore {
             .any(|work| same_id(&id, &work.id) && work.writes)
     }
 
-    /// Whether a hand of the object stands that the job gave.
+    /// Whether a grant of the object stands that the job gave.
     pub(crate) fn is_granted(&self, id: ObjectId) -> bool
         ensures { result ≡ is_granted self.now.shape id }
     {
-        self.given.iter().any(|hand| same_id(&id, &hand.id))
+        self.given.iter().any(|grant| same_id(&id, &grant.id))
     }
 
     /// Whether the copy is neither held nor granted nor working.

@@ -35,7 +35,7 @@ pub(crate) enum Plan {
 }
 
 impl PlainStore {
-    /// Whether the copy of the id is chosen, if there is one. Takes a look-up, and a walk over the works and the hands given.
+    /// Whether the copy of the id is chosen, if there is one. Takes a look-up, and a walk over the works and the grants given.
     fn is_chosen(&self, choice: Choice, id: ObjectId) -> bool
         ensures { result ≡ option_map_or (chosen_by choice self.now.shape id) (at self.now.shape.copies id) false }
     {

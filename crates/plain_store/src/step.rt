@@ -1,14 +1,14 @@
 //! One input of a job's store.
 ghost use Rattle.std.specs.Prelude.{◌≡◌, None, true, IfOk, OnOk};
-ghost use Rattle.private_store.specs.laws.Listed.{IsBriefKept};
-ghost use Rattle.private_store.specs.rules.Replay.{brief_step, brief_after};
+ghost use Rattle.private_store.specs.laws.Listed.{IsReplayStateKept};
+ghost use Rattle.private_store.specs.rules.Replay.{replay_step, replay_after};
 ghost use Rattle.private_store.specs.rules.Copies.{is_away as is_away_lem};
 ghost use Rattle.private_store.specs.rules.Events.{is_live as is_live_lem, over, pull_arrived};
 ghost use Rattle.private_store.specs.rules.Step.{commanded, step};
 ghost use Rattle.plain_store.specs.Steps.{is_foreign as is_foreign_lem, is_timely, own_command, own_id as own_id_lem, uses_none};
 
+use crate::response::Response;
 use crate::store::PlainStore;
-use crate::told::Told;
 use obj_id::{Command, CopyState, ObjectId, Refusal, Reply};
 use private_store::Judged;
 use std::alloc::{AllocError, Global};
@@ -21,36 +21,36 @@ impl PlainStore {
     /// Takes a walk over the order of use; room costs at most the square of the copies. The error is out of memory, and then the
     /// store is gone.
     pub fn step(self, alloc: Global, input: &Judged) -> Result<(PlainStore, Reply<u64>), AllocError>
-        requires kept { IsBriefKept self }
-        ensures reply { IfOk result (λ r. r.1 ≡ (brief_step self input.now).reply) }
-        ensures store { IfOk result (λ r. r.0 ≡ brief_after self input.now) }
+        requires kept { IsReplayStateKept self }
+        ensures reply { IfOk result (λ r. r.1 ≡ (replay_step self input.now).reply) }
+        ensures store { IfOk result (λ r. r.0 ≡ replay_after self input.now) }
     {
         let mut store = self;
-        let told = store.take(alloc, input)?;
-        store.use_order(told.used)?;
-        Ok((store, told.reply))
+        let response = store.take(alloc, input)?;
+        store.use_order(response.used)?;
+        Ok((store, response.reply))
     }
 
     /// The same, but for the order of use.
     #[tactic(auto, unfolding(private_store::specs::rules::Change::checked, private_store::specs::rules::Change::needing, private_store::specs::rules::Change::sending))]
-    fn take(&mut self, alloc: Global, input: &Judged) -> Result<Told, AllocError>
-        requires kept { IsBriefKept self.old }
-        ensures reply { IfOk result (λ told. told.reply ≡ (step self.old.order self.old.shape input.now).reply) }
-        ensures used { IfOk result (λ told. told.used ≡ (step self.old.order self.old.shape input.now).used) }
+    fn take(&mut self, alloc: Global, input: &Judged) -> Result<Response, AllocError>
+        requires kept { IsReplayStateKept self.old }
+        ensures reply { IfOk result (λ response. response.reply ≡ (step self.old.order self.old.shape input.now).reply) }
+        ensures used { IfOk result (λ response. response.used ≡ (step self.old.order self.old.shape input.now).used) }
         ensures store { OnOk result (self.new ≡ record self.old { shape = (step self.old.order self.old.shape input.now).shape }) }
     {
         match input {
-            Judged::Begin(quota) => Ok(Told::only(self.begin(*quota))),
+            Judged::Begin(quota) => Ok(Response::only(self.begin(*quota))),
             Judged::Call(session, command) => self.call(alloc, *session, command),
-            Judged::Answer(number, verdict) => Ok(Told::only(self.answer(*number, *verdict))),
+            Judged::Answer(number, verdict) => Ok(Response::only(self.answer(*number, *verdict))),
             Judged::Received {
                 id,
                 length,
                 grantor,
                 depth,
-            } => Ok(Told::only(self.received(alloc, *id, *length, *grantor, *depth)?)),
+            } => Ok(Response::only(self.received(alloc, *id, *length, *grantor, *depth)?)),
             Judged::Withdrawn { id, grantor, depth } => {
-                Ok(Told::only(self.withdrawn(*id, *grantor, *depth)))
+                Ok(Response::only(self.withdrawn(*id, *grantor, *depth)))
             }
             Judged::Requota(_)
             | Judged::Located { .. }
@@ -63,20 +63,20 @@ impl PlainStore {
 
     /// A change of quota, the end, or a message: `Stale` unless the job is live.
     #[tactic(auto, unfolding(private_store::specs::rules::Change::checked, private_store::specs::rules::Change::needing, private_store::specs::rules::Change::sending))]
-    fn take_if_live(&mut self, alloc: Global, input: &Judged) -> Result<Told, AllocError>
-        requires kept { IsBriefKept self.old }
+    fn take_if_live(&mut self, alloc: Global, input: &Judged) -> Result<Response, AllocError>
+        requires kept { IsReplayStateKept self.old }
         requires timely { is_timely input.now ≡ true }
-        ensures reply { IfOk result (λ told. told.reply ≡ (step self.old.order self.old.shape input.now).reply) }
-        ensures used { IfOk result (λ told. told.used ≡ (step self.old.order self.old.shape input.now).used) }
+        ensures reply { IfOk result (λ response. response.reply ≡ (step self.old.order self.old.shape input.now).reply) }
+        ensures used { IfOk result (λ response. response.used ≡ (step self.old.order self.old.shape input.now).used) }
         ensures store { OnOk result (self.new ≡ record self.old { shape = (step self.old.order self.old.shape input.now).shape }) }
     {
         if !self.is_live() {
-            return Ok(Told::refused(Refusal::Stale));
+            return Ok(Response::refused(Refusal::Stale));
         }
         match input {
-            Judged::Requota(quota) => Ok(Told::only(self.requota(*quota))),
+            Judged::Requota(quota) => Ok(Response::only(self.requota(*quota))),
             Judged::Located { id, number, source } => {
-                Ok(Told::only(self.located(*id, *number, *source)))
+                Ok(Response::only(self.located(*id, *number, *source)))
             }
             Judged::Chunk {
                 id,
@@ -84,14 +84,14 @@ impl PlainStore {
                 index,
                 from,
                 verdict,
-            } => Ok(Told::only(self.chunk_arrived(*id, *number, *index, *from, *verdict))),
+            } => Ok(Response::only(self.chunk_arrived(*id, *number, *index, *from, *verdict))),
             Judged::Pull { id, matches, .. } => self.pull_arrived(alloc, *id, *matches),
             Judged::NotHere { id, number, from } => {
-                Ok(Told::only(self.not_here_arrived(*id, *number, *from)))
+                Ok(Response::only(self.not_here_arrived(*id, *number, *from)))
             }
             _ => {
                 self.end(alloc);
-                Ok(Told::only(Reply::Ok))
+                Ok(Response::only(Reply::Ok))
             }
         }
     }
@@ -103,17 +103,17 @@ impl PlainStore {
         alloc: Global,
         session: u32,
         command: &Command<u64>,
-    ) -> Result<Told, AllocError>
-        requires kept { IsBriefKept self.old }
-        ensures reply { IfOk result (λ told. told.reply ≡ (step self.old.order self.old.shape (Judged.Call session command.now)).reply) }
-        ensures used { IfOk result (λ told. told.used ≡ (step self.old.order self.old.shape (Judged.Call session command.now)).used) }
+    ) -> Result<Response, AllocError>
+        requires kept { IsReplayStateKept self.old }
+        ensures reply { IfOk result (λ response. response.reply ≡ (step self.old.order self.old.shape (Judged.Call session command.now)).reply) }
+        ensures used { IfOk result (λ response. response.used ≡ (step self.old.order self.old.shape (Judged.Call session command.now)).used) }
         ensures store { OnOk result (self.new ≡ record self.old { shape = (step self.old.order self.old.shape (Judged.Call session command.now)).shape }) }
     {
         if !self.is_live() {
-            return Ok(Told::refused(Refusal::NotAdmitted));
+            return Ok(Response::refused(Refusal::NotAdmitted));
         }
         if self.is_foreign(command) {
-            return Ok(Told::refused(Refusal::NotGranted));
+            return Ok(Response::refused(Refusal::NotGranted));
         }
         self.own_call(alloc, session, command)
     }
@@ -134,17 +134,17 @@ impl PlainStore {
         alloc: Global,
         session: u32,
         command: &Command<u64>,
-    ) -> Result<Told, AllocError>
-        requires kept { IsBriefKept self.old }
+    ) -> Result<Response, AllocError>
+        requires kept { IsReplayStateKept self.old }
         requires live { is_live_lem self.old.shape ≡ true }
-        ensures reply { IfOk result (λ told. told.reply ≡ (own_command self.old.order self.old.shape session command.now).reply) }
-        ensures used { IfOk result (λ told. told.used ≡ (own_command self.old.order self.old.shape session command.now).used) }
+        ensures reply { IfOk result (λ response. response.reply ≡ (own_command self.old.order self.old.shape session command.now).reply) }
+        ensures used { IfOk result (λ response. response.used ≡ (own_command self.old.order self.old.shape session command.now).used) }
         ensures store { OnOk result (self.new ≡ record self.old { shape = (own_command self.old.order self.old.shape session command.now).shape }) }
     {
         match command {
             Command::Create { id, kind, length } => self.create(alloc, *id, *kind, *length),
             Command::Get(id) => self.get(alloc, session, *id),
-            _ => Ok(Told::only(self.plain_call(alloc, session, command)?)),
+            _ => Ok(Response::only(self.plain_call(alloc, session, command)?)),
         }
     }
 
@@ -155,7 +155,7 @@ impl PlainStore {
         session: u32,
         command: &Command<u64>,
     ) -> Result<Reply<u64>, AllocError>
-        requires kept { IsBriefKept self.old }
+        requires kept { IsReplayStateKept self.old }
         requires plain { uses_none command.now ≡ true }
         ensures reply { IfOk result (λ reply. reply ≡ (own_command self.old.order self.old.shape session command.now).reply) }
         ensures used { OnOk result ((own_command self.old.order self.old.shape session command.now).used ≡ None) }
@@ -186,32 +186,32 @@ impl PlainStore {
     }
 
     /// A Pull of another node, if the copy had the length and the digest: a copy that is away is read back, without an answer, and a
-    /// spill that failed is still to be told of. The error is out of memory.
+    /// spill that failed is still to be answered. The error is out of memory.
     #[tactic(auto, unfolding(private_store::specs::rules::Change::checked, private_store::specs::rules::Change::needing, private_store::specs::rules::Change::sending))]
     fn pull_arrived(
         &mut self,
         alloc: Global,
         id: ObjectId,
         matches: bool,
-    ) -> Result<Told, AllocError>
-        requires kept { IsBriefKept self.old }
+    ) -> Result<Response, AllocError>
+        requires kept { IsReplayStateKept self.old }
         requires live { is_live_lem self.old.shape ≡ true }
-        ensures reply { IfOk result (λ told. told.reply ≡ (pull_arrived self.old.order self.old.shape id matches).reply) }
-        ensures used { IfOk result (λ told. told.used ≡ (pull_arrived self.old.order self.old.shape id matches).used) }
+        ensures reply { IfOk result (λ response. response.reply ≡ (pull_arrived self.old.order self.old.shape id matches).reply) }
+        ensures used { IfOk result (λ response. response.used ≡ (pull_arrived self.old.order self.old.shape id matches).used) }
         ensures store { OnOk result (self.new ≡ record self.old { shape = (pull_arrived self.old.order self.old.shape id matches).shape }) }
     {
         let Some(copy) = self.visible(id) else {
-            return Ok(Told::only(Reply::Ok));
+            return Ok(Response::only(Reply::Ok));
         };
         if !matches || !is_away(copy.state) || copy.fault.is_some() {
-            return Ok(Told::only(Reply::Ok));
+            return Ok(Response::only(Reply::Ok));
         }
         let failed = self.spill_failed;
-        let told = self.restore(alloc, id)?;
+        let response = self.restore(alloc, id)?;
         self.spill_failed = failed;
-        Ok(Told {
+        Ok(Response {
             reply: Reply::Ok,
-            used: told.used,
+            used: response.used,
         })
     }
 

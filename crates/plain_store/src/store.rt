@@ -1,10 +1,10 @@
 //! A job's store without contents.
 ghost use Rattle.std.specs.Prelude.{◌≡◌};
-ghost use Rattle.private_store.specs.rules.Replay.{unbegun_brief};
+ghost use Rattle.private_store.specs.rules.Replay.{unbegun_replay};
 ghost use Rattle.plain_store.specs.Parts.{has_begun as has_begun_lem};
 
 use crate::copies::{PlainCopy, PlainWork};
-use crate::hands::{GivenHand, SeenObject};
+use crate::job_grants::{GivenGrant, SeenObject};
 use obj_id::{JobNo, ObjectId, Quota, TaskNo};
 use std::alloc::Global;
 use std::collections::BTreeMap;
@@ -39,15 +39,15 @@ pub struct PlainStore {
     /// In the order in which they ended.
     pub ended_tasks: Vec<TaskNo>,
     /// In the order given.
-    pub given: Vec<GivenHand>,
+    pub given: Vec<GivenGrant>,
     /// What others granted.
     pub received: BTreeMap<ObjectId, SeenObject>,
 }
 
 impl Model for PlainStore {
-    ghost use Rattle.private_store.specs.rules.Replay.{Brief};
+    ghost use Rattle.private_store.specs.rules.Replay.{ReplayState};
 
-    ghost Value = { Brief };
+    ghost Value = { ReplayState };
 
     ghost use Rattle.plain_store.specs.Parts.{life_of};
 
@@ -57,7 +57,7 @@ impl Model for PlainStore {
 impl PlainStore {
     /// The store of a job that was never admitted, with nothing granted to it. Takes no memory.
     pub fn new(alloc: Global, job: JobNo) -> PlainStore
-        ensures { result ≡ unbegun_brief job.0 }
+        ensures { result ≡ unbegun_replay job.0 }
     {
         PlainStore {
             job,

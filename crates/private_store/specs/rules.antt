@@ -14,7 +14,7 @@ pub mod Contents
 pub mod Private
 pub mod Directory
 pub mod Cluster
-pub mod Hands
+pub mod Grants
 pub mod Trace
 pub mod Shared
 pub mod Replay

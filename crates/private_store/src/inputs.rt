@@ -15,14 +15,14 @@ pub enum Input {
     Answer(u64, DeviceAnswer),
     /// A message of the job arrived here.
     Arrive(Arrival),
-    /// Another job granted an object: its bytes, the grantor, and the depth of the hand.
+    /// Another job granted an object: its bytes, the grantor, and the depth of the grant.
     Received {
         id: ObjectId,
         bytes: Bytes,
         grantor: JobNo,
         depth: u32,
     },
-    /// A hand to this job ended.
+    /// A grant to this job ended.
     Withdrawn {
         id: ObjectId,
         grantor: JobNo,

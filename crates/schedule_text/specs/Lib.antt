@@ -3,3 +3,4 @@ pub mod Printing
 pub mod Fields
 pub mod Words
 pub mod Reading
+pub mod Lines

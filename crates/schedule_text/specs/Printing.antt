@@ -86,7 +86,7 @@ reply_text job (reply.Refused refusal) = refusal_text refusal
 
 -- the answer to a step: the reply, and of a delivery whether there was a message
 abbrev pub answer_text : ℕ → StepAnswer → List ℕ
-answer_text job (answer.Told reply) = reply_text job reply
+answer_text job (answer.Response reply) = reply_text job reply
 answer_text job (answer.HandedOver message) = codes "ok"
 answer_text job answer.NoMessage = codes "none"
 

@@ -11,7 +11,7 @@ use private_store::StepAnswer;
 use std::alloc::{AllocError, Global};
 
 /// The line of an answered step, with its line feed. A step that found no memory is printed as the
-/// refusal `NoMemory`, told.
+/// refusal `NoMemory`, as a response.
 pub fn answer_line(alloc: Global, prefix: Prefix, answer: &StepAnswer) -> Result<String, AllocError>
     ensures { IfOk result (λ line. string_bytes line ≡ line_text prefix answer.now) }
 {
@@ -25,7 +25,7 @@ pub fn answer_text(alloc: Global, job: JobNo, answer: &StepAnswer) -> Result<Str
     ensures { IfOk result (λ text. string_bytes text ≡ answer_text_lem job.0 answer.now) }
 {
     match answer {
-        StepAnswer::Told(reply) => reply_text(alloc, job, reply),
+        StepAnswer::Response(reply) => reply_text(alloc, job, reply),
         StepAnswer::HandedOver(_) => String::from_str(alloc, "ok"),
         StepAnswer::NoMessage => String::from_str(alloc, "none"),
     }

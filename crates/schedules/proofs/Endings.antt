@@ -11,9 +11,9 @@ use Rattle.schedules.specs.Transcripts.{IsJournalEnding, run_ending}
 
 pub folded_ending : (journal : Option Saved) (fault : Fault) (text : List ℕ) → fault ≡ Folded → is_some journal ≡ true → ((marks : List JournalItem) → IsSavedStep true journal marks → is_folded marks ≡ true)
     → text ≡ run_ending fault → IsJournalEnding journal text
-folded_ending None fault text is asked full told = true_false asked
-folded_ending (Some saved) fault text is asked full told =
-    λ marks h. told ∙ ap run_ending is ∙ sym (ap (λ b. if b then run_ending Folded else saved_text marks) (full marks h))
+folded_ending None fault text is asked full response = true_false asked
+folded_ending (Some saved) fault text is asked full response =
+    λ marks h. response ∙ ap run_ending is ∙ sym (ap (λ b. if b then run_ending Folded else saved_text marks) (full marks h))
 
 pub if_ok : {A E : Type 0} {P Q : A → Type 0} (r : Result A E) → IfOk r P → ((x : A) → P x → Q x) → IfOk r Q
 if_ok (Ok x) h k = k x h

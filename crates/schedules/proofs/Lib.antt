@@ -1,4 +1,4 @@
 mod Endings
 mod Lists
 mod Spoken
-mod Told
+mod OneMore

@@ -8,11 +8,9 @@ use Rattle.obj_id.specs.declared.commands.Command.TheVariants as command
 use Rattle.obj_id.specs.declared.commands.Reply.{Reply}
 use Rattle.private_store.specs.declared.schedules.Event.TheVariants as event
 use Rattle.private_store.specs.declared.schedules.Step.TheVariants as «step»
-use Rattle.private_store.specs.declared.frames.Awaited.{Awaited}
-use Rattle.private_store.specs.declared.frames.Awaited.TheVariants as awaited
 use Rattle.private_store.specs.declared.frames.Item.{Item}
 use Rattle.private_store.specs.declared.frames.Item.TheVariants as item
-use Rattle.private_store.specs.rules.Frames.{item_frame, reply_frame}
+use Rattle.private_store.specs.rules.Frames.{item_frame, reply_frame, tried}
 use Rattle.schedule_text.specs.declared.line.Line.{Line}
 use Rattle.schedule_text.specs.declared.line.Line.TheVariants as line
 use Rattle.schedule_text.specs.Fields.{IsJob, fields_of}
@@ -41,11 +39,6 @@ abbrev pub IsHello : List (List ℕ) → JobNo × JobKey → Type 0
 IsHello (word ∷ number ∷ digits ∷ []) x = (word ≡ codes "hello") × IsJobAndKey number digits x
 IsHello _ x = ⊥
 
--- the command that is tried again
-abbrev pub command_awaited : Awaited → Command (List ℕ)
-command_awaited (awaited.Get id) = command.Get id
-command_awaited (awaited.Create id kind n) = command.Create id kind n
-
 -- the text of that command, with `wait` after its word
 pub record IsAwaitedVector (text : List ℕ) (c : Command (List ℕ)) : Type 0 where
   pub word : List ℕ
@@ -57,7 +50,7 @@ pub record IsAwaitedVector (text : List ℕ) (c : Command (List ℕ)) : Type 0 w
 abbrev pub VectorSays : List ℕ → Item → Type 0
 VectorSays text (item.Hello job key) = IsHello (fields_of text) (job, key)
 VectorSays text (item.Command c) = VectorCalls text c
-VectorSays text (item.Wait a) = IsAwaitedVector text (command_awaited a)
+VectorSays text (item.Wait a) = IsAwaitedVector text (tried a)
 VectorSays text item.BadId = ⊥
 
 -- there is one item, and the bytes are its frame

@@ -2,10 +2,10 @@
 ghost use Rattle.std.specs.Prelude.{◌≡◌, ◌+◌, ◌++◌, codes, length, map, None, IfOk, IfSome, IsTrue};
 ghost use Rattle.std.specs.String.{string_bytes};
 ghost use Rattle.hex.specs.Hex.{encode_lower};
-ghost use Rattle.private_store.specs.rules.Frames.{command_body, is_command_length};
+ghost use Rattle.private_store.specs.rules.Frames.{command_body, is_command_length, tried};
 ghost use Rattle.schedule_text.specs.Fields.{fields_of as fields_of_lem};
 ghost use Rattle.wire_frames.specs.Writing.{has_command_frame};
-ghost use Rattle.schedules.specs.Vectors.{VectorCalls, IsCommandFrame, IsFrameAlone, IsFrameOf, IsHello, IsJobAndKey, IsReadBack, VectorSays, command_awaited, line_calling};
+ghost use Rattle.schedules.specs.Vectors.{VectorCalls, IsCommandFrame, IsFrameAlone, IsFrameOf, IsHello, IsJobAndKey, IsReadBack, VectorSays, line_calling};
 
 use crate::digits::{are_digits_of, cut_at};
 use crate::vectors::Fault;
@@ -126,7 +126,7 @@ fn key(alloc: Global, digits: &str) -> Result<Option<JobKey>, AllocError>
 /// The command that is tried again, if it is one that can be, by its word and what stands after that.
 fn awaited(alloc: Global, word: &str, rest: &str) -> Result<Option<Awaited>, AllocError>
     ensures { IfOk result (λ awaited. IfSome awaited
-        (λ awaited. VectorCalls (word.now ++ codes " " ++ rest.now) (command_awaited awaited))) }
+        (λ awaited. VectorCalls (word.now ++ codes " " ++ rest.now) (tried awaited))) }
 {
     let text = format!(in alloc; "{word} {rest}")?;
     match command_of(alloc, text.as_str())? {
@@ -137,7 +137,7 @@ fn awaited(alloc: Global, word: &str, rest: &str) -> Result<Option<Awaited>, All
 
 /// The command, if it can be tried again.
 fn awaiting(command: &Command<Bytes>) -> Option<Awaited>
-    ensures { IfSome result (λ awaited. command_awaited awaited ≡ command.now) }
+    ensures { IfSome result (λ awaited. tried awaited ≡ command.now) }
 {
     match command {
         Command::Get(id) => Some(Awaited::Get(*id)),

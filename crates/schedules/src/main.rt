@@ -26,7 +26,7 @@ use files::{Case, FrameLine, frames_in, schedules_in};
 use std::alloc::Global;
 use std::process::ExitCode;
 use std::{env, io};
-use transcript::told;
+use transcript::transcript_of;
 use vectors::fault_of;
 
 fn main(rt: HostRuntime) -> io::Result<ExitCode> {
@@ -65,7 +65,7 @@ fn run_all(rt: &HostRuntime, names: &[String]) -> io::Result<Tally>
 /// Runs one schedule, and prints the first line that isn't as expected, if there is one.
 fn difference_of(rt: &HostRuntime, name: &str) -> io::Result<Option<u64>> {
     let case = Case::read(rt, name)?;
-    let printed = told(rt.alloc(), case.words.as_slice(), case.text.as_slice())?;
+    let printed = transcript_of(rt.alloc(), case.words.as_slice(), case.text.as_slice())?;
     let Some(line) = first_difference(case.expected.as_slice(), printed.as_slice()) else {
         return Ok(None);
     };

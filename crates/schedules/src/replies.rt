@@ -29,7 +29,7 @@ pub(crate) fn reply_fault(
     let Some(reply) = reply_of(alloc, text)? else {
         return Ok(Some(Fault::Text))
     };
-    told_fault(alloc, digits, text, &StepAnswer::Told(reply))
+    told_fault(alloc, digits, text, &StepAnswer::Response(reply))
 }
 
 /// The same, of the answer that the text is to be.
@@ -41,7 +41,7 @@ fn told_fault(
 ) -> Result<Option<Fault>, AllocError>
     ensures { IfOk result (λ fault. fault ≡ None → IsReplyFrame digits.now text.now) }
 {
-    let StepAnswer::Told(reply) = answer else {
+    let StepAnswer::Response(reply) = answer else {
         return Ok(Some(Fault::Text))
     };
     if answer_text(alloc, JobNo(1), answer)?.as_str() != text || !is_framed(reply) {

@@ -16,7 +16,7 @@ use world_core::ClusterSize;
 
 /// What a process with these words prints when it is given the schedule, or of a replay the journal, and what it says at
 /// its end.
-pub fn told(alloc: Global, words: &[String], text: &[u8]) -> Result<Vec<u8>, AllocError> {
+pub fn transcript_of(alloc: Global, words: &[String], text: &[u8]) -> Result<Vec<u8>, AllocError> {
     match read_task(alloc, words) {
         Ok(Task::Run(running)) => transcript(alloc, running.shape, kept_by(running.journal), text),
         Ok(Task::Replay(_)) => replayed(alloc, text),

@@ -10,7 +10,7 @@ use Rattle.private_store.specs.rules.Frames.{End, clean, malformed, reply_frame,
 use Rattle.session_engine.specs.declared.session.SessionId.{SessionId}
 use Rattle.session_engine.specs.declared.ending.SessionFault.{SessionFault}
 use Rattle.session_engine.specs.declared.ending.SessionFault.TheVariants.{Read, Write, Memory}
-use Rattle.session_engine.specs.Calls.{Asked, Answered}
+use Rattle.session_engine.specs.Calls.{GateCall, GateAnswer}
 use Rattle.session_engine.specs.Sessions.{SessionState, session_state, AnswersItem, Run}
 use Rattle.session_engine.specs.Serving.{AppendsPart, IsSent, due_frame, not_a_frame, AnswersAll, StopsWithin}
 use Rattle.session_engine.specs.Hearing.{Sends, Flushes, StopsAnswering, Answering}
@@ -60,7 +60,7 @@ pub passed_on : {T : Type 0} (result : Result T SessionFault) (fault : SessionFa
 passed_on (Ok x) fault h = absurd h
 passed_on (Err e) fault h = ap Err h
 
-module _ {G : Type 0} (gives : G → Asked → Answered → G → Type 0) where
+module _ {G : Type 0} (gives : G → GateCall → GateAnswer → G → Type 0) where
   -- ---- runs
 
   pub Run-then : (xs : List Item) (p : List (Reply (List ℕ))) (ys : List Item) (q : List (Reply (List ℕ))) (g g1 g2 : G) (s s1 s2 : Option SessionId)

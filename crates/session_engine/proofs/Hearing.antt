@@ -6,10 +6,10 @@ use Rattle.obj_id.specs.declared.refusals.Refusal.TheVariants.{Malformed as NotA
 use Rattle.private_store.specs.declared.frames.Item.{Item}
 use Rattle.private_store.specs.rules.Frames.{End, clean, mid_frame, malformed}
 use Rattle.store_facts.proofs.KnownBytes.{Appends-kept}
-use Rattle.wire_frames.specs.Reading.{Reading, continued, answer_at, fed, is_fault, reading_told}
+use Rattle.wire_frames.specs.Reading.{Reading, continued, answer_at, fed, is_fault, reading_fed}
 use Rattle.wire_frames.proofs.ForCallers.{fault_met}
 use Rattle.session_engine.specs.declared.ending.SessionFault.{SessionFault}
-use Rattle.session_engine.specs.Calls.{Asked, Answered}
+use Rattle.session_engine.specs.Calls.{GateCall, GateAnswer}
 use Rattle.session_engine.specs.Sessions.{SessionState, session_state}
 use Rattle.session_engine.specs.Serving.{AnswersAll, not_a_frame}
 use Rattle.session_engine.specs.Hearing.{Sends, Flushes, StopsAnswering, Answering, AnswersPiece, HearsNoFrame}
@@ -28,10 +28,10 @@ answer_at-fault mid_frame xs h = absurd (let f : ⊥ = cc in f)
 answer_at-fault malformed [] h = refl
 answer_at-fault malformed (x ∷ xs) h = absurd (let f : ⊥ = cc in f)
 
-module _ {G : Type 0} (gives : G → Asked → Answered → G → Type 0) (reading : Reading) (piece : List ℕ) where
+module _ {G : Type 0} (gives : G → GateCall → GateAnswer → G → Type 0) (reading : Reading) (piece : List ℕ) where
   module _ (a b : SessionState G) (new : Reading) where
     -- the items that are told are those that the stream goes on with
-    pub items_answered : (items : List Item) (result : Result ⊤ SessionFault) → fed reading piece ≡ reading_told (Ok items) new → Answering gives items a b result → AnswersPiece gives reading piece a b new result
+    pub items_answered : (items : List Item) (result : Result ⊤ SessionFault) → fed reading piece ≡ reading_fed (Ok items) new → Answering gives items a b result → AnswersPiece gives reading piece a b new result
     items_answered items (Ok u) is h =
         let now = continued reading piece in
         (sym (ap (λ f. f.reader) is), subst (λ l. AnswersAll gives l a b) (sym (answer_at-ok now.end now.items items (ap (λ f. f.answer) is))) h)
@@ -39,7 +39,7 @@ module _ {G : Type 0} (gives : G → Asked → Answered → G → Type 0) (readi
         let now = continued reading piece in
         subst (λ l. Answering gives l a b (Err fault)) (sym (answer_at-ok now.end now.items items (ap (λ f. f.answer) is))) h
 
-  pub no_items_answered : (a : SessionState G) (new : Reading) → fed reading piece ≡ reading_told (Err NotAFrame) new → AnswersPiece gives reading piece a a new (Ok tt)
+  pub no_items_answered : (a : SessionState G) (new : Reading) → fed reading piece ≡ reading_fed (Err NotAFrame) new → AnswersPiece gives reading piece a a new (Ok tt)
   no_items_answered a new is =
       let now = continued reading piece in
       (sym (ap (λ f. f.reader) is), subst (λ l. AnswersAll gives l a a) (sym (answer_at-fault now.end now.items (ap (λ f. f.answer) is))) (answered_none gives a))

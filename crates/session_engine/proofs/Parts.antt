@@ -6,7 +6,7 @@ use Rattle.private_store.specs.rules.Frames.{End, clean, mid_frame, malformed, S
 use Rattle.wire_frames.specs.Reading.{Reading, unfinished, failed, continued, reading_at, reading_after}
 use Rattle.wire_frames.proofs.ForCallers.{onward_at, stream_of-append}
 use Rattle.session_engine.specs.declared.ending.SessionFault.{SessionFault}
-use Rattle.session_engine.specs.Calls.{Asked, Answered}
+use Rattle.session_engine.specs.Calls.{GateCall, GateAnswer}
 use Rattle.session_engine.specs.Sessions.{SessionState}
 use Rattle.session_engine.specs.Serving.{AnswersAll}
 use Rattle.session_engine.specs.Hearing.{StopsAnswering, AnswersPiece}
@@ -34,7 +34,7 @@ continued_on (unfinished bytes) part others =
     subst (λ l. GoesOn (stream_of l) s.items (continued (reading_after s) others)) (append_assoc bytes part others) (stream_on (bytes ++ part) others)
 continued_on failed part others = record { items_on = refl; end_on = refl; kept_on = refl }
 
-module _ {G : Type 0} (gives : G → Asked → Answered → G → Type 0) (reading : Reading) (piece : List ℕ) (a : SessionState G) where
+module _ {G : Type 0} (gives : G → GateCall → GateAnswer → G → Type 0) (reading : Reading) (piece : List ℕ) (a : SessionState G) where
   -- a piece so far: the items before what is left of it are answered
   pub record InPiece (now : Reading) (rest : List ℕ) (b : SessionState G) : Type 0 where
     pub before : List Item

@@ -11,7 +11,7 @@ use Rattle.session_engine.specs.declared.ending.SessionFault.{SessionFault}
 use Rattle.session_engine.specs.declared.ending.SessionFault.TheVariants.{Read, Write, Memory}
 use Rattle.session_engine.specs.declared.serving.PieceEnd.{PieceEnd}
 use Rattle.session_engine.specs.declared.serving.PieceEnd.TheVariants.{Items, NoFrame}
-use Rattle.session_engine.specs.Calls.{Asked, Answered}
+use Rattle.session_engine.specs.Calls.{GateCall, GateAnswer}
 use Rattle.session_engine.specs.Sessions.{SessionState}
 use Rattle.session_engine.specs.Serving.{AnswersAll, Concludes, EndsIn, AnswersInput, not_a_frame}
 use Rattle.session_engine.specs.Hearing.{StopsAnswering, Hears, HearsNoFrame, HearsPiece}
@@ -30,12 +30,12 @@ ended_in mid_frame (x ∷ xs) input bytes e r no_fault fits all = (e, subst (λ 
 ended_in malformed rest input bytes e r no_fault fits all = absurd (no_fault refl)
 
 -- all is answered, and nothing is added where the stream has no fault
-concluded : {G : Type 0} (gives : G → Asked → Answered → G → Type 0) (xs : List Item) (a b : SessionState G) (in_mid_frame : Bool) → AnswersAll gives xs a b → Concludes gives (if in_mid_frame then MidFrame else Clean) xs a b
+concluded : {G : Type 0} (gives : G → GateCall → GateAnswer → G → Type 0) (xs : List Item) (a b : SessionState G) (in_mid_frame : Bool) → AnswersAll gives xs a b → Concludes gives (if in_mid_frame then MidFrame else Clean) xs a b
 concluded gives xs a b true h = record { replies = h.replies; run = h.run; written = h.written }
 concluded gives xs a b false h = record { replies = h.replies; run = h.run; written = h.written }
 
 -- more is answered, and then a fault of the stream
-concluded_then : {G : Type 0} (gives : G → Asked → Answered → G → Type 0) (xs ys : List Item) (a b c : SessionState G) → AnswersAll gives xs a b → Concludes gives Malformed ys b c → Concludes gives Malformed (xs ++ ys) a c
+concluded_then : {G : Type 0} (gives : G → GateCall → GateAnswer → G → Type 0) (xs ys : List Item) (a b c : SessionState G) → AnswersAll gives xs a b → Concludes gives Malformed ys b c → Concludes gives Malformed (xs ++ ys) a c
 concluded_then gives xs ys a b c h k =
     record {
       replies = h.replies ++ k.replies;
@@ -47,7 +47,7 @@ concluded_then gives xs ys a b c h k =
 
 -- ---- a session so far
 
-module _ {G : Type 0} (gives : G → Asked → Answered → G → Type 0) (r : Option (List ℕ)) (a : SessionState G) where
+module _ {G : Type 0} (gives : G → GateCall → GateAnswer → G → Type 0) (r : Option (List ℕ)) (a : SessionState G) where
   pub record Progress (frames : Reading) (r1 : Option (List ℕ)) (b : SessionState G) : Type 0 where
     pub bytes : List ℕ
     pub consumed : Consumes r r1 bytes

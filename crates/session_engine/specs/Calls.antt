@@ -10,20 +10,20 @@ use Rattle.obj_id.specs.declared.commands.Reply.TheVariants as reply
 use Rattle.private_store.specs.declared.frames.Awaited.{Awaited}
 
 -- to enter a job; a command of a job's session; a command that is tried until it isn't Pending; a session's last Leave
-pub data Asked : Type 0 where
-  to_enter : JobNo → JobKey → Asked
-  to_call : JobNo → ℕ → Command (List ℕ) → Asked
-  to_wait : JobNo → ℕ → Awaited → Asked
-  to_leave : JobNo → ℕ → Asked
+pub data GateCall : Type 0 where
+  to_enter : JobNo → JobKey → GateCall
+  to_call : JobNo → ℕ → Command (List ℕ) → GateCall
+  to_wait : JobNo → ℕ → Awaited → GateCall
+  to_leave : JobNo → ℕ → GateCall
 
 -- the number of the session that entered; a reply; the end of a session, to which nothing is said
-pub data Answered : Type 0 where
-  entered : ℕ → Answered
-  replied : Reply (List ℕ) → Answered
-  left : Answered
+pub data GateAnswer : Type 0 where
+  entered : ℕ → GateAnswer
+  replied : Reply (List ℕ) → GateAnswer
+  left : GateAnswer
 
 -- who isn't let in is refused
-abbrev pub entry_answer : Result ℕ Refusal → Answered
+abbrev pub entry_answer : Result ℕ Refusal → GateAnswer
 entry_answer (Ok number) = entered number
 entry_answer (Err refusal) = replied (reply.Refused refusal)
 

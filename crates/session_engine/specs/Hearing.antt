@@ -10,7 +10,7 @@ use Rattle.session_engine.specs.declared.ending.SessionFault.{SessionFault}
 use Rattle.session_engine.specs.declared.ending.SessionFault.TheVariants.{Read, Write, Memory}
 use Rattle.session_engine.specs.declared.serving.PieceEnd.{PieceEnd}
 use Rattle.session_engine.specs.declared.serving.PieceEnd.TheVariants.{Items, NoFrame}
-use Rattle.session_engine.specs.Calls.{Asked, Answered}
+use Rattle.session_engine.specs.Calls.{GateCall, GateAnswer}
 use Rattle.session_engine.specs.Sessions.{SessionState}
 use Rattle.session_engine.specs.Serving.{AppendsPart, AnswersAll, Concludes, StopsWithin}
 
@@ -35,7 +35,7 @@ Flushes written_old written_new (Err Read) = ⊥
 Flushes written_old written_new (Err Write) = Keeps written_old written_new
 Flushes written_old written_new (Err Memory) = ⊥
 
-module _ {G : Type 0} (gives : G → Asked → Answered → G → Type 0) where
+module _ {G : Type 0} (gives : G → GateCall → GateAnswer → G → Type 0) where
   -- a fault in the midst of answers is one of writing or of memory
   abbrev pub StopsAnswering : SessionFault → End → List Item → SessionState G → SessionState G → Type 0
   StopsAnswering Read end items old new = ⊥

@@ -11,7 +11,7 @@ use Rattle.session_engine.specs.declared.ending.Ended.{Ended}
 use Rattle.session_engine.specs.declared.ending.Ended.TheVariants.{Clean, MidFrame, Malformed}
 use Rattle.session_engine.specs.declared.ending.SessionFault.{SessionFault}
 use Rattle.session_engine.specs.declared.ending.SessionFault.TheVariants.{Read, Write, Memory}
-use Rattle.session_engine.specs.Calls.{Asked, Answered}
+use Rattle.session_engine.specs.Calls.{GateCall, GateAnswer}
 use Rattle.session_engine.specs.Sessions.{SessionState, session_state, Run, Leaves}
 
 -- the refusal of what isn't a frame
@@ -46,7 +46,7 @@ due_frame (Some reply) waiting end = reply_frame reply
 due_frame None [] malformed = reply_frame not_a_frame
 due_frame None _ _ = []
 
-module _ {G : Type 0} (gives : G → Asked → Answered → G → Type 0) where
+module _ {G : Type 0} (gives : G → GateCall → GateAnswer → G → Type 0) where
   -- all items are answered, and the session ends so
   pub record Concludes (ended : Ended) (items : List Item) (old new : SessionState G) : Type 0 where
     pub replies : List (Reply (List ℕ))

@@ -10,7 +10,7 @@ use Rattle.obj_id.specs.declared.commands.Reply.TheVariants as reply
 use Rattle.private_store.specs.declared.frames.Item.{Item}
 use Rattle.private_store.specs.declared.frames.Item.TheVariants as item
 use Rattle.session_engine.specs.declared.session.SessionId.{SessionId}
-use Rattle.session_engine.specs.Calls.{Asked, to_enter, to_call, to_wait, to_leave, Answered, replied, left, entry_answer}
+use Rattle.session_engine.specs.Calls.{GateCall, to_enter, to_call, to_wait, to_leave, GateAnswer, replied, left, entry_answer}
 
 -- what is written to a Hello
 abbrev pub greeting : Result ℕ Refusal → Reply (List ℕ)
@@ -31,7 +31,7 @@ pub record SessionState (G : Type 0) : Type 0 where
 abbrev pub session_state : {G : Type 0} → G → Option SessionId → Option (List ℕ) → SessionState G
 session_state gate session_id written = record { gate = gate; session_id = session_id; written = written }
 
-module _ {G : Type 0} (gives : G → Asked → Answered → G → Type 0) where
+module _ {G : Type 0} (gives : G → GateCall → GateAnswer → G → Type 0) where
   -- the session answers by itself; neither its seat nor the gate changes
   pub record RefusesAlone (refusal : Refusal) (before : G) (session_id : Option SessionId) (answer : Reply (List ℕ)) (after : G) (session_id_after : Option SessionId) : Type 0 where
     pub answered : answer ≡ reply.Refused refusal
@@ -39,7 +39,7 @@ module _ {G : Type 0} (gives : G → Asked → Answered → G → Type 0) where
     pub same : session_id_after ≡ session_id
 
   -- the answer is the gate's
-  pub record Passes (asked : Asked) (before : G) (session_id : Option SessionId) (answer : Reply (List ℕ)) (after : G) (session_id_after : Option SessionId) : Type 0 where
+  pub record Passes (asked : GateCall) (before : G) (session_id : Option SessionId) (answer : Reply (List ℕ)) (after : G) (session_id_after : Option SessionId) : Type 0 where
     pub answered : gives before asked (replied answer) after
     pub same : session_id_after ≡ session_id
 

@@ -7,10 +7,10 @@ use private_store::Awaited;
 pub trait Gate {
     ghost use Rattle.std.specs.Prelude.{IsTrue, IfErr};
     ghost use Rattle.wire_frames.specs.Writing.{has_reply_frame};
-    ghost use Rattle.session_engine.specs.Calls.{Asked, to_enter, to_call, to_wait, to_leave, Answered, replied, left, entry_answer, IsEntryRefusal};
+    ghost use Rattle.session_engine.specs.Calls.{GateCall, to_enter, to_call, to_wait, to_leave, GateAnswer, replied, left, entry_answer, IsEntryRefusal};
 
     // the gate before, what it is asked, what it answers, and the gate after
-    ghost gives: { Self → Asked → Answered → Self → Type 0 };
+    ghost gives: { Self → GateCall → GateAnswer → Self → Type 0 };
 
     /// Lets a session into the job, whose key it shows, and gives its number. `NotAdmitted` if
     /// the job isn't live here or has another key, `TooMany` if its numbers are used up, and

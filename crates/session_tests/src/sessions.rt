@@ -513,11 +513,11 @@ fn faults_are_told_in_words(rt: HostRuntime) -> Result<(), Fail> {
         (SessionFault::Memory, "no memory for the session"),
     ];
     for (fault, text) in texts {
-        let told = match format!(in alloc; "{fault}") {
-            Ok(told) => told,
+        let response = match format!(in alloc; "{fault}") {
+            Ok(response) => response,
             Err(_) => format!(in alloc; "{fault}")?,
         };
-        same!(rt; told.as_str(), text);
+        same!(rt; response.as_str(), text);
     }
     Ok(())
 }

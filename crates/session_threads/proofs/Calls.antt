@@ -14,9 +14,9 @@ use Rattle.node_journal.specs.declared.entries.Entry.{Entry}
 use Rattle.node_journal.specs.Journals.{entry_for, event_name, is_call}
 use Rattle.session_threads.specs.Witnesses.{IsCalledBy, Witness}
 
-pub called_by : (works : List Queued) (e : Event) (told : Reply (List ℕ)) (w : Witness) (number : ℕ) (was : Option Judged) → w.job.0 ≡ job_at works (Own e) → w.entry ≡ entry_for number (event_name (Own e)) was told
-    → IsCallJudged e was → (is_call e ≡ true → wants_memory told ≡ false) → IsCalledBy e told w
-called_by works (event.Call job session c) told w number was of_job entry judged answered =
+pub called_by : (works : List Queued) (e : Event) (response : Reply (List ℕ)) (w : Witness) (number : ℕ) (was : Option Judged) → w.job.0 ≡ job_at works (Own e) → w.entry ≡ entry_for number (event_name (Own e)) was response
+    → IsCallJudged e was → (is_call e ≡ true → wants_memory response ≡ false) → IsCalledBy e response w
+called_by works (event.Call job session c) response w number was of_job entry judged answered =
     let numbered : ℕ → JobNo = λ n. record { 0 = n } in (
       answered refl,
       record {
@@ -26,16 +26,16 @@ called_by works (event.Call job session c) told w number was of_job entry judged
         answer = ap (λ (e : Entry). e.reply) entry;
       },
     )
-called_by works (event.Admit job quota key) told w number was of_job entry judged answered = tt
-called_by works (event.Requota job quota) told w number was of_job entry judged answered = tt
-called_by works (event.JobEnd job) told w number was of_job entry judged answered = tt
-called_by works event.Take told w number was of_job entry judged answered = tt
-called_by works (event.Finish job number' a) told w number was of_job entry judged answered = tt
+called_by works (event.Admit job quota key) response w number was of_job entry judged answered = tt
+called_by works (event.Requota job quota) response w number was of_job entry judged answered = tt
+called_by works (event.JobEnd job) response w number was of_job entry judged answered = tt
+called_by works event.Take response w number was of_job entry judged answered = tt
+called_by works (event.Finish job number' a) response w number was of_job entry judged answered = tt
 
-pub small_call : (e : Event) (told : Reply (List ℕ)) → (is_call e ≡ true → is_small_reply told ≡ true) → IsSmallCall e told
-small_call (event.Call job session c) told small = small refl
-small_call (event.Admit job quota key) told small = refl
-small_call (event.Requota job quota) told small = refl
-small_call (event.JobEnd job) told small = refl
-small_call event.Take told small = refl
-small_call (event.Finish job number a) told small = refl
+pub small_call : (e : Event) (response : Reply (List ℕ)) → (is_call e ≡ true → is_small_reply response ≡ true) → IsSmallCall e response
+small_call (event.Call job session c) response small = small refl
+small_call (event.Admit job quota key) response small = refl
+small_call (event.Requota job quota) response small = refl
+small_call (event.JobEnd job) response small = refl
+small_call event.Take response small = refl
+small_call (event.Finish job number a) response small = refl

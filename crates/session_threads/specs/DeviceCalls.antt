@@ -30,14 +30,14 @@ after_read (Err fault) = answer.Failed
 
 -- a work with bytes is a write of them, and another one a read; each device says of its own calls what they may give
 abbrev pub IsWorkAsked : {D : Type 0} → (D → DeviceKey → List ℕ → Result (Unit {0}) DeviceFault → D → Type 0) → (D → DeviceKey → ℕ → Result (List ℕ) DeviceFault → D → Type 0) → D → DeviceKey → ℕ → Option (List ℕ) → DeviceAnswer → D → Type 0
-IsWorkAsked writes reads old key n (Some bytes) told new = (went : Result (Unit {0}) DeviceFault) × (told ≡ device_after_write went) × writes old key bytes went new
-IsWorkAsked writes reads old key n None told new = (went : Result (List ℕ) DeviceFault) × (told ≡ after_read went) × reads old key n went new
+IsWorkAsked writes reads old key n (Some bytes) response new = (went : Result (Unit {0}) DeviceFault) × (response ≡ device_after_write went) × writes old key bytes went new
+IsWorkAsked writes reads old key n None response new = (went : Result (List ℕ) DeviceFault) × (response ≡ after_read went) × reads old key n went new
 
 -- the device was called for the work, and the event hands in its answer
 pub record IsCarriedOut {D : Type 0} (writes : D → DeviceKey → List ℕ → Result (Unit {0}) DeviceFault → D → Type 0) (reads : D → DeviceKey → ℕ → Result (List ℕ) DeviceFault → D → Type 0) (old : D) (work : Work (List ℕ)) (made : Event) (new : D) : Type 0 where
-  pub told : DeviceAnswer
-  pub is_finish : made ≡ event.Finish work.job work.number told
-  pub asked : IsWorkAsked writes reads old work.key work.length work.payload told new
+  pub response : DeviceAnswer
+  pub is_finish : made ≡ event.Finish work.job work.number response
+  pub asked : IsWorkAsked writes reads old work.key work.length work.payload response new
 
 -- the key under which a work of this kind writes
 abbrev pub written_key : WorkKind → DeviceKey → Option DeviceKey
@@ -55,7 +55,7 @@ AreErased {D} erases old (key ∷ keys) new = (between : D) × (went : Result (U
 abbrev pub done_after : Reply (List ℕ) → WorkDone
 done_after (reply.Refused refusal.NoMemory) = done.NoMemory
 done_after (reply.Refused r) = done.Stale
-done_after told = done.Done
+done_after response = done.Done
 
 -- what was written is erased if the Finish came too late; otherwise nothing is asked of the device
 abbrev pub IsErasedIf : {D : Type 0} → (D → DeviceKey → Result (Unit {0}) DeviceFault → D → Type 0) → WorkDone → D → Option DeviceKey → D → Type 0
@@ -65,21 +65,21 @@ IsErasedIf erases went old written new = new ≡ old
 -- the reply is the work that a Take gave, and its receipt is the last
 abbrev pub IsWorkTaken : {L : Type 0} → Reply (List ℕ) → Option (Receipt L) → Type 0
 IsWorkTaken (reply.Work work) last = IsSomeAnd last (λ r. IsReceiptOf event.Take (reply.Work work) (witness_of r))
-IsWorkTaken told last = ⊤
+IsWorkTaken response last = ⊤
 
 -- the event was answered so, and its receipt comes after this one; without memory there is none
-pub record IsHandedIn {L : Type 0} (made : Event) (told : Reply (List ℕ)) (last : Option (Receipt L)) (receipts : List (Receipt L)) : Type 0 where
+pub record IsHandedIn {L : Type 0} (made : Event) (response : Reply (List ℕ)) (last : Option (Receipt L)) (receipts : List (Receipt L)) : Type 0 where
   pub earlier : List (Receipt L)
   pub given : Option (Receipt L)
   pub are : receipts ≡ receipts_in_order earlier last ++ option_to_list given
-  pub is_given : MatchOption given (told ≡ reply.Refused refusal.NoMemory) (λ r. IsReceiptOf made told (witness_of r))
+  pub is_given : MatchOption given (response ≡ reply.Refused refusal.NoMemory) (λ r. IsReceiptOf made response (witness_of r))
 
 -- the event is handed in, and with its answer the round ends
 pub record EndsRound {D L : Type 0} (erases : D → DeviceKey → Result (Unit {0}) DeviceFault → D → Type 0) (made : Event) (written : Option DeviceKey) (old : D) (went : WorkDone) (new : D) (last : Option (Receipt L)) (receipts : List (Receipt L)) : Type 0 where
-  pub told : Reply (List ℕ)
-  pub is_done : went ≡ done_after told
+  pub response : Reply (List ℕ)
+  pub is_done : went ≡ done_after response
   pub erased : IsErasedIf erases went old written new
-  pub handed : IsHandedIn made told last receipts
+  pub handed : IsHandedIn made response last receipts
 
 -- the device was called for a work that the node gave, and its answer handed in; the receipts of both are the last
 pub record HasWorked {D L : Type 0} (writes : D → DeviceKey → List ℕ → Result (Unit {0}) DeviceFault → D → Type 0) (reads : D → DeviceKey → ℕ → Result (List ℕ) DeviceFault → D → Type 0)

@@ -16,7 +16,7 @@ is_live_now node job = is_some (live_at node.admissions job)
 
 -- its quotas, and what it uses of them
 pub record IsUsageShown (node : Hosted) (live : LiveJob) : Type 0 where
-  pub told : (view : View) → Shows node live.job.0 view → live.usage ≡ usage_of view.shape
+  pub response : (view : View) → Shows node live.job.0 view → live.usage ≡ usage_of view.shape
 
 -- the live jobs among those of which the journal has something, each once and by rising number
 pub record AreLive (node : Hosted) (logs : List (JobNo × JobLog)) (live : List LiveJob) : Type 0 where

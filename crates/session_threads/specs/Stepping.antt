@@ -32,21 +32,21 @@ pub record IsUntouched (old new : Locked) : Type 0 where
   pub journals : (job : ℕ) → journal_of new.logs job ≡ journal_of old.logs job
 
 -- one step was made, of this event, and no other: with this answer, these messages and this entry
-pub record IsOneStep (e : NodeEvent) (told : Reply (List ℕ)) (sent : List Post) (witness : Witness) (old new : Locked) : Type 0 where
+pub record IsOneStep (e : NodeEvent) (response : Reply (List ℕ)) (sent : List Post) (witness : Witness) (old new : Locked) : Type 0 where
   pub given : NodeGiven
   pub was : Option Judged
-  pub answer : given.reply ≡ told
+  pub answer : given.reply ≡ response
   pub posts : given.posts ≡ sent
   pub node : NodeStep old.node e given new.node
   pub count : new.count ≡ old.count + 1
   pub journals : (job : ℕ) → journal_of new.logs job ≡ journal_after old.node (old.count + 1) e was given job (journal_of old.logs job)
   pub of_job : witness.job.0 ≡ job_at old.node.works.works e
-  pub entry : witness.entry ≡ entry_for (old.count + 1) (event_name e) was told
+  pub entry : witness.entry ≡ entry_for (old.count + 1) (event_name e) was response
 
 -- one step was made, and then the journal of the job of this number was folded, or not
-pub record IsOneStepFolded (e : NodeEvent) (job : ℕ) (told : Reply (List ℕ)) (sent : List Post) (witness : Witness) (old new : Locked) : Type 0 where
+pub record IsOneStepFolded (e : NodeEvent) (job : ℕ) (response : Reply (List ℕ)) (sent : List Post) (witness : Witness) (old new : Locked) : Type 0 where
   pub between : Locked
-  pub step : IsOneStep e told sent witness old between
+  pub step : IsOneStep e response sent witness old between
   pub node : new.node ≡ between.node
   pub count : new.count ≡ between.count
   pub journals : (other : ℕ) → (journal_of new.logs other ≡ folded_if (job == other) (journal_of between.logs other)) ⊎ (journal_of new.logs other ≡ journal_of between.logs other)
@@ -55,18 +55,18 @@ pub record IsOneStepFolded (e : NodeEvent) (job : ℕ) (told : Reply (List ℕ))
 pub record IsOneLeave (sent : List Post) (old new : Locked) : Type 0 where
   pub job : JobNo
   pub session : ℕ
-  pub told : Reply (List ℕ)
+  pub response : Reply (List ℕ)
   pub witness : Witness
-  pub step : IsOneStep (node_event.Own (event.Call job session command.Leave)) told sent witness old new
+  pub step : IsOneStep (node_event.Own (event.Call job session command.Leave)) response sent witness old new
 
 -- a message arrived, and its entry is of it
-pub record IsOneArrival (job : JobNo) (a : Arrival) (told : Reply (List ℕ)) (sent : List Post) (witness : Witness) (old new : Locked) : Type 0 where
-  pub step : IsOneStep (node_event.Arrive job a) told sent witness old new
-  pub entered : is_entered a told witness.entry.input ≡ true
+pub record IsOneArrival (job : JobNo) (a : Arrival) (response : Reply (List ℕ)) (sent : List Post) (witness : Witness) (old new : Locked) : Type 0 where
+  pub step : IsOneStep (node_event.Arrive job a) response sent witness old new
+  pub entered : is_entered a response witness.entry.input ≡ true
 
 -- a message arrived, whatever was answered and sent
 pub record HasArrived (job : JobNo) (a : Arrival) (old new : Locked) : Type 0 where
-  pub told : Reply (List ℕ)
+  pub response : Reply (List ℕ)
   pub sent : List Post
   pub witness : Witness
-  pub arrival : IsOneArrival job a told sent witness old new
+  pub arrival : IsOneArrival job a response sent witness old new

@@ -8,14 +8,13 @@ use Rattle.obj_id.specs.declared.commands.Reply.TheVariants as reply
 use Rattle.obj_id.specs.declared.messages.Arrival.{Arrival}
 use Rattle.obj_id.specs.declared.refusals.Refusal.TheVariants.{NoMemory}
 use Rattle.obj_id.specs.declared.works.JobKey.{JobKey}
-use Rattle.private_store.specs.declared.frames.Awaited.{Awaited}
-use Rattle.private_store.specs.declared.frames.Awaited.TheVariants as awaited
 use Rattle.private_store.specs.declared.inputs.Judged.TheVariants as judged
 use Rattle.private_store.specs.declared.schedules.Event.{Event}
 use Rattle.private_store.specs.declared.schedules.Event.TheVariants as event
 use Rattle.private_store.specs.declared.schedules.NodeEvent.TheVariants.{Own, Arrive}
 use Rattle.private_store.specs.laws.Answers.{wants_memory}
 use Rattle.private_store.specs.rules.Contents.{without_payload}
+use Rattle.private_store.specs.rules.Frames.{tried}
 use Rattle.node_core.specs.Steps.{job_of_event}
 use Rattle.node_journal.specs.declared.entries.Entry.{Entry}
 use Rattle.node_journal.specs.declared.entries.EventName.TheVariants as name
@@ -23,7 +22,7 @@ use Rattle.node_journal.specs.declared.entries.Receipt.{Receipt}
 use Rattle.node_journal.specs.Journals.{event_name}
 use Rattle.node_journal.specs.Posts.{is_entered}
 use Rattle.node_journal.specs.Replies.{kept_reply}
-use Rattle.session_engine.specs.Calls.{Asked, to_enter, to_call, to_wait, to_leave, Answered, entered, replied, left}
+use Rattle.session_engine.specs.Calls.{GateCall, to_enter, to_call, to_wait, to_leave, GateAnswer, entered, replied, left}
 
 -- what a receipt tells of its entry: the job under which it is kept, and the entry
 pub record Witness : Type 0 where
@@ -39,44 +38,39 @@ IsUnder job event.Take = ⊤
 IsUnder job e = job ≡ job_of_event e
 
 -- the entry is of this job, session and command, and has this answer
-pub record IsCalled (job : JobNo) (session : ℕ) (c : Command (List ℕ)) (told : Reply (List ℕ)) (witness : Witness) : Type 0 where
+pub record IsCalled (job : JobNo) (session : ℕ) (c : Command (List ℕ)) (response : Reply (List ℕ)) (witness : Witness) : Type 0 where
   pub of_job : witness.job ≡ job
   pub named : witness.entry.event ≡ name.Call session
   pub input : witness.entry.input ≡ Some (judged.Call session (without_payload c))
-  pub answer : witness.entry.reply ≡ kept_reply told
+  pub answer : witness.entry.reply ≡ kept_reply response
 
 -- the entry is of this event, and has this answer: it stands under the event's job, or under that whose work a Take gives
-pub record IsReceiptOf (e : Event) (told : Reply (List ℕ)) (witness : Witness) : Type 0 where
+pub record IsReceiptOf (e : Event) (response : Reply (List ℕ)) (witness : Witness) : Type 0 where
   pub of_job : IsUnder witness.job.0 e
   pub named : witness.entry.event ≡ event_name (Own e)
-  pub answer : witness.entry.reply ≡ kept_reply told
+  pub answer : witness.entry.reply ≡ kept_reply response
 
 -- of a session's command more is said: of its session and the command, and that the answer isn't out of memory
 abbrev pub IsCalledBy : Event → Reply (List ℕ) → Witness → Type 0
-IsCalledBy (event.Call job session c) told witness = (wants_memory told ≡ false) × IsCalled job session c told witness
-IsCalledBy e told witness = ⊤
+IsCalledBy (event.Call job session c) response witness = (wants_memory response ≡ false) × IsCalled job session c response witness
+IsCalledBy e response witness = ⊤
 
 -- the entry is of this message of the job
 pub record IsArrived (job : JobNo) (a : Arrival) (witness : Witness) : Type 0 where
   pub of_job : witness.job ≡ job
   pub named : witness.entry.event ≡ event_name (Arrive job a)
-  pub told : Reply (List ℕ)
-  pub answer : witness.entry.reply ≡ kept_reply told
-  pub input : is_entered a told witness.entry.input ≡ true
-
--- the command that is tried again
-abbrev pub tried : Awaited → Command (List ℕ)
-tried (awaited.Get id) = command.Get id
-tried (awaited.Create id kind n) = command.Create id kind n
+  pub response : Reply (List ℕ)
+  pub answer : witness.entry.reply ≡ kept_reply response
+  pub input : is_entered a response witness.entry.input ≡ true
 
 -- the last receipt is of this job, session, command and answer, or there was no memory
 abbrev pub IsStepped : JobNo → ℕ → Command (List ℕ) → Reply (List ℕ) → Option Witness → Type 0
-IsStepped job session c told last = IsSomeAnd last (IsCalled job session c told) ⊎ (told ≡ reply.Refused NoMemory)
+IsStepped job session c response last = IsSomeAnd last (IsCalled job session c response) ⊎ (response ≡ reply.Refused NoMemory)
 
 -- the entry is of the session's last Leave
 pub record IsLast (job : JobNo) (session : ℕ) (witness : Witness) : Type 0 where
-  pub told : Reply (List ℕ)
-  pub is_called : IsCalled job session command.Leave told witness
+  pub response : Reply (List ℕ)
+  pub is_called : IsCalled job session command.Leave response witness
 
 -- the last receipt is of the Leave, or the session is left later and it is the one from before
 abbrev pub IsLeaveOf : JobNo → ℕ → Option Witness → Option Witness → Type 0
@@ -89,12 +83,12 @@ pub record Pass : Type 0 where
   pub session : ℕ
 
 -- the session that entered is the last that was let in, with this job, key and number
-abbrev pub IsLetIn : Asked → Answered → Option Pass → Type 0
+abbrev pub IsLetIn : GateCall → GateAnswer → Option Pass → Type 0
 IsLetIn (to_enter job key) (entered number) pass = pass ≡ Some (record { job = job; key = key; session = number })
 IsLetIn _ _ pass = ⊤
 
-abbrev pub IsWitnessed : Asked → Answered → Option Witness → Option Witness → Type 0
-IsWitnessed (to_call job session c) (replied told) before last = IsStepped job session c told last
-IsWitnessed (to_wait job session a) (replied told) before last = IsStepped job session (tried a) told last
+abbrev pub IsWitnessed : GateCall → GateAnswer → Option Witness → Option Witness → Type 0
+IsWitnessed (to_call job session c) (replied response) before last = IsStepped job session c response last
+IsWitnessed (to_wait job session a) (replied response) before last = IsStepped job session (tried a) response last
 IsWitnessed (to_leave job session) left before last = IsLeaveOf job session before last
 IsWitnessed _ _ before last = ⊤

@@ -86,11 +86,11 @@ impl<P: Pause> Housekeeping<P> {
     }
 
     /// Ends a round whose Take was answered so, and took no work.
-    pub(crate) fn end_take<R: Wait>(&self, rt: &R, told: &Reply<Bytes>) -> WorkDone
+    pub(crate) fn end_take<R: Wait>(&self, rt: &R, response: &Reply<Bytes>) -> WorkDone
         ensures { (result ≡ Nothing) ⊎ (result ≡ NoMemory) }
     {
         self.place.leave(rt, PendingAnswer::Free);
-        match told {
+        match response {
             Reply::Refused(Refusal::NoMemory) => WorkDone::NoMemory,
             _ => WorkDone::Nothing,
         }

@@ -10,7 +10,8 @@ ghost use Rattle.obj_id.specs.declared.messages.Arrival.{Arrival};
 ghost use Rattle.private_store.specs.rules.Cluster.{arrival_of};
 ghost use Rattle.session_threads.specs.DeviceCalls.{IsHandedIn, IsWorkTaken};
 ghost use Rattle.session_threads.specs.Gathering.{receipts_in_order};
-ghost use Rattle.session_threads.specs.Witnesses.{IsCalled, IsArrived, IsReceiptOf, tried, witness_of};
+ghost use Rattle.session_threads.specs.Witnesses.{IsCalled, IsArrived, IsReceiptOf, witness_of};
+ghost use Rattle.private_store.specs.rules.Frames.{tried};
 
 use crate::client::is_gone;
 use crate::housekeeping::Housekeeping;

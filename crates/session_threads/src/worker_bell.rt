@@ -3,7 +3,7 @@ use std::sync::{Condvar, Mutex, Wait};
 
 /// What a worker is asked for.
 #[derive(Drop)]
-struct Asked {
+struct BellState {
     /// A round: a work waits, or a key, or an answer that found no memory.
     round: bool,
     /// Its end.
@@ -13,7 +13,7 @@ struct Asked {
 /// Wakes a worker for a round, or for its end.
 #[derive(Drop)]
 pub(crate) struct WorkerBell {
-    asked: Mutex<Asked>,
+    asked: Mutex<BellState>,
     rung: Condvar,
 }
 
@@ -21,7 +21,7 @@ impl WorkerBell {
     /// Nothing was asked for.
     pub(crate) fn new() -> WorkerBell {
         WorkerBell {
-            asked: Mutex::new(Asked {
+            asked: Mutex::new(BellState {
                 round: false,
                 end: false,
             }),

@@ -10,7 +10,8 @@ use Rattle.obj_id.specs.declared.works.WorkKind.{WorkKind}
 use Rattle.private_store.specs.rules.Shape.{WorkInFlight}
 use Rattle.store_facts.proofs.Tests.{both, some_value}
 use Rattle.spill_work.specs.declared.queue.Queued.{Queued}
-use Rattle.spill_work.specs.Line.{WorkLine, same_work_job, is_of, is_at, shown, marked_taken, used_by, is_write_work, numbered, numbered_works, TakesBack, AsksAll, MarksTaken, Finishes, Drops}
+use Rattle.spill_work.specs.Line.{WorkLine, same_work_job, is_of, is_at, shown, marked_taken, used_by, numbered, numbered_works, TakesBack, AsksAll, MarksTaken, Finishes, Drops}
+use Rattle.obj_id.specs.Works.{is_write}
 use Rattle.spill_work.proofs.Filters.{filter_append, all_stay, append_nothing}
 
 -- the job's part of the line
@@ -139,7 +140,7 @@ module _ (job : JobNo) (kind : WorkKind) where
       alone last [] = refl
       alone last (id ∷ ids) =
           ap (λ b. map (λ (q : Queued). shown q.asked) (cond b (record { asked = record { job = job; number = last + 1; id = id; kind = kind }; taken = false } ∷ filter (is_of job) (numbered job kind (last + 1) ids)) (filter (is_of job) (numbered job kind (last + 1) ids)))) (itself job.0)
-          ∙ ap (λ r. record { number = last + 1; id = id; writes = is_write_work kind } ∷ r) (alone (last + 1) ids)
+          ∙ ap (λ r. record { number = last + 1; id = id; writes = is_write kind } ∷ r) (alone (last + 1) ids)
   part-numbered last ids (x ∷ xs) =
       let rest = part-numbered last ids xs in
       elim (is_of job x) as (λ b. map (λ (q : Queued). shown q.asked) (cond b (x ∷ filter (is_of job) (xs ++ numbered job kind last ids)) (filter (is_of job) (xs ++ numbered job kind last ids)))

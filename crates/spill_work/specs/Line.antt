@@ -6,9 +6,9 @@ use Rattle.indexmap.specs.IndexMap.{insert_entry}
 use Rattle.obj_id.specs.declared.ids.JobNo.{JobNo}
 use Rattle.obj_id.specs.declared.ids.ObjectId.{ObjectId}
 use Rattle.obj_id.specs.declared.works.WorkKind.{WorkKind}
-use Rattle.obj_id.specs.declared.works.WorkKind.TheVariants.{Write, Read}
 use Rattle.obj_id.specs.declared.refusals.Refusal.{Refusal}
 use Rattle.obj_id.specs.declared.refusals.Refusal.TheVariants.{Busy, TooMany, Stale}
+use Rattle.obj_id.specs.Works.{is_write}
 use Rattle.private_store.specs.rules.Limits.{most_works, has_numbers}
 use Rattle.private_store.specs.rules.Shape.{WorkInFlight}
 use Rattle.spill_work.specs.declared.queue.IoRequest.{IoRequest}
@@ -32,13 +32,9 @@ is_of job work = same_work_job job work.asked.job
 abbrev pub is_at : JobNo → ℕ → Queued → Bool
 is_at job number work = is_of job work && work.asked.number == number
 
-abbrev pub is_write_work : WorkKind → Bool
-is_write_work Write = true
-is_write_work Read = false
-
 -- a work as the job's own store has it
 abbrev pub shown : IoRequest → WorkInFlight
-shown asked = record { number = asked.number; id = asked.id; writes = is_write_work asked.kind }
+shown asked = record { number = asked.number; id = asked.id; writes = is_write asked.kind }
 
 -- the job's works in flight, as its own store has them
 abbrev pub works_of : WorkLine → JobNo → List WorkInFlight
@@ -99,7 +95,7 @@ numbered job kind last (id ∷ ids) =
 -- as the job's own store has them
 abbrev pub numbered_works : WorkKind → ℕ → List ObjectId → List WorkInFlight
 numbered_works kind last [] = []
-numbered_works kind last (id ∷ ids) = record { number = last + 1; id = id; writes = is_write_work kind } ∷ numbered_works kind (last + 1) ids
+numbered_works kind last (id ∷ ids) = record { number = last + 1; id = id; writes = is_write kind } ∷ numbered_works kind (last + 1) ids
 
 -- works of these objects come last, in their order
 pub record AsksAll (old : WorkLine) (job : JobNo) (kind : WorkKind) (ids : List ObjectId) (new : WorkLine) : Type 0 where
@@ -131,9 +127,9 @@ abbrev pub taken_front : WorkLine → Option IoRequest → WorkLine
 taken_front line None = line
 taken_front line (Some asked) = record line { works = marked_taken asked.job asked.number line.works }
 
-pub record Takes (old : WorkLine) (told : Option IoRequest) (new : WorkLine) : Type 0 where
-  pub told_is : told ≡ front_of old.works
-  pub line : new ≡ taken_front old told
+pub record Takes (old : WorkLine) (response : Option IoRequest) (new : WorkLine) : Type 0 where
+  pub told_is : response ≡ front_of old.works
+  pub line : new ≡ taken_front old response
   pub same : (job : JobNo) → works_of new job ≡ works_of old job
 
 -- ---- answering

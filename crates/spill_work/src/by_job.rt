@@ -6,7 +6,7 @@ ghost use Rattle.spill_work.specs.Turns.{marked_at, with_row, all_of, front_from
 use crate::queue::{IoRequest, Queued};
 use crate::row::{Row, Timed};
 use indexmap::IndexMap;
-use obj_id::{Items, JobNo, ObjectId, WorkKind};
+use obj_id::{ItemList, JobNo, ObjectId, WorkKind};
 use std::alloc::{AllocError, Global};
 use std::marker::Model;
 
@@ -65,12 +65,12 @@ impl ByJob {
     }
 
     /// What the job's works ask, in their order. Takes a walk over them, and memory for each.
-    pub(crate) fn asked_of(&self, job: JobNo) -> Result<Items<IoRequest>, AllocError>
+    pub(crate) fn asked_of(&self, job: JobNo) -> Result<ItemList<IoRequest>, AllocError>
         ensures { IfOk result (λ asked. asked ≡ map (λ work. work.asked) (filter (is_of job) self.now)) }
     {
         match self.rows.get(&job) {
             Some(row) => Ok(row.asked(self.alloc)?),
-            None => Ok(Items::new(self.alloc)),
+            None => Ok(ItemList::new(self.alloc)),
         }
     }
 

@@ -18,7 +18,7 @@ mod row;
 use by_job::ByJob;
 use indexmap::IndexMap;
 use obj_id::limits::MOST_WORKS;
-use obj_id::{Items, JobNo, ObjectId, Refusal, WorkKind};
+use obj_id::{ItemList, JobNo, ObjectId, Refusal, WorkKind};
 pub use queue::{IoRequest, Queued};
 use std::alloc::{AllocError, Global};
 use std::marker::Model;
@@ -77,7 +77,7 @@ impl Works {
     }
 
     /// The job's works in flight, in the order asked. Takes a walk over them, and memory for each.
-    pub fn asked_of(&self, job: JobNo) -> Result<Items<IoRequest>, AllocError>
+    pub fn asked_of(&self, job: JobNo) -> Result<ItemList<IoRequest>, AllocError>
         ensures { IfOk result (λ asked. map shown asked ≡ works_of self.now job) }
     {
         Ok(self.line.asked_of(job)?)

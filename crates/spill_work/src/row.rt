@@ -4,7 +4,7 @@ ghost use Rattle.std.specs.Option.{option_map};
 ghost use Rattle.spill_work.specs.Turns.{has_number, with_mark, timed, earlier as earlier_lem, front_from};
 
 use crate::queue::{IoRequest, Queued};
-use obj_id::{Items, JobNo, ObjectId, WorkKind};
+use obj_id::{ItemList, JobNo, ObjectId, WorkKind};
 use std::alloc::{AllocError, Global};
 use std::marker::Model;
 
@@ -55,14 +55,14 @@ impl Row {
     }
 
     /// What each asks, in their order. Takes a walk over them, and memory for each.
-    pub(crate) fn asked(&self, alloc: Global) -> Result<Items<IoRequest>, AllocError>
+    pub(crate) fn asked(&self, alloc: Global) -> Result<ItemList<IoRequest>, AllocError>
         ensures { IfOk result (λ asked. asked ≡ map (λ t. t.work.asked) self.now) }
     {
         let mut asked = Vec::new(alloc);
         for timed in &self.works {
             asked.push(timed.work.asked)?;
         }
-        Ok(Items::from_vec(asked))
+        Ok(ItemList::from_vec(asked))
     }
 
     /// The work under the number.

@@ -6,12 +6,12 @@ use Rattle.obj_id.specs.declared.ids.ObjectId.{ObjectId}
 use Rattle.obj_id.specs.declared.ids.TaskNo.{TaskNo}
 use Rattle.obj_id.specs.declared.refusals.Refusal.{Refusal}
 use Rattle.private_store.specs.rules.Tables.{at, ids_of, with_entry, without_entry}
-use Rattle.private_store.specs.rules.Shape.{Copy, Shape, Change, Sending, Seen, HandTaken}
+use Rattle.private_store.specs.rules.Shape.{Copy, Shape, Change, Sending, Seen, GrantTaken}
 use Rattle.private_store.specs.rules.Copies.{in_scope}
 use Rattle.private_store.specs.rules.Room.{set_copy}
 use Rattle.private_store.specs.rules.Change.{done, checked, needing, sending, settled, doomed, doom}
 use Rattle.private_store.specs.rules.Commands.{of_task, task_ended, scoped, give_up_one, leave_one, has_borrower, without_borrower, with_holds, grant_own, grant_foreign, at_each, then_change, write, read, release, unpin, borrow, give_up, delete, end_task, grant, withdraw, peek, leave}
-use Rattle.private_store.specs.rules.Events.{withdrawn, is_hand, hand_ended, without_hand}
+use Rattle.private_store.specs.rules.Events.{withdrawn, is_the_grant, grant_ended, without_grant}
 use Rattle.store_facts.proofs.Tests.{none_some}
 use Rattle.store_facts.proofs.Checks.{checked_has, needing_has}
 pub use Rattle.store_facts.proofs.Checks.{visible_at}
@@ -101,7 +101,7 @@ module _ (store : Shape) where
   grant_calm id target =
       elim (id.job.0 == store.job) as (λ b. IsCalm store (cond b (grant_own store id target) (grant_foreign store id target))) [
         | true ↦ checked_calm _ _ (needing_calm _ _ _ (λ copy e. checked_calm _ _ (record { is = quiet_stays store })))
-        | false ↦ checked_calm _ _ (needing_calm _ _ _ (λ hand e. checked_calm _ _ (record { is = quiet_stays store })))
+        | false ↦ checked_calm _ _ (needing_calm _ _ _ (λ a_grant e. checked_calm _ _ (record { is = quiet_stays store })))
       ]
 
   pub withdraw_calm : (id : ObjectId) (target : ℕ) → IsCalm store (withdraw store id target)
@@ -111,29 +111,29 @@ module _ (store : Shape) where
   peek_calm id offset n = checked_calm _ _ (needing_calm _ _ _ (λ seen e. checked_calm _ _ (stays _ refl)))
 
   -- what is left of an object that others granted has its length still
-  hands_left : (id : ObjectId) (grantor depth : ℕ) (seen : Seen) → at store.received id ≡ Some seen → Quiet store (hand_ended store id grantor depth seen)
-  hands_left id grantor depth seen e =
+  grants_left : (id : ObjectId) (grantor depth : ℕ) (seen : Seen) → at store.received id ≡ Some seen → Quiet store (grant_ended store id grantor depth seen)
+  grants_left id grantor depth seen e =
       let stood = quiet_stays store in
       record {
         row = stood.row;
         writes = stood.writes;
         quota = refl;
-        seen = elim (without_hand seen grantor depth) as (λ o. without_hand seen grantor depth ≡ o → (q : ObjectId) → SeenRow (at store.received q) (at (option_map_or (λ left. with_entry store.received id left) o (without_entry store.received id)) q)) [
+        seen = elim (without_grant seen grantor depth) as (λ o. without_grant seen grantor depth ≡ o → (q : ObjectId) → SeenRow (at store.received q) (at (option_map_or (λ left. with_entry store.received id left) o (without_entry store.received id)) q)) [
           | None ↦ λ _. drop_rows (λ q o. SeenRow (at store.received q) o) store.received id (λ q. tt) stood.seen
           | Some left ↦ λ is. put_rows (λ q o. SeenRow (at store.received q) o) store.received id left
-              (subst (λ o. SeenRow o (Some left)) (sym e) (same_length (filter (λ hand. not (is_hand grantor depth hand)) seen.hands) left is)) (λ q _. stood.seen q)
+              (subst (λ o. SeenRow o (Some left)) (sym e) (same_length (filter (λ a_grant. not (is_the_grant grantor depth a_grant)) seen.grants) left is)) (λ q _. stood.seen q)
         ] refl;
       }
     where
-      same_length : (hands : List HandTaken) (left : Seen) → elim hands [ [] ↦ None | hand ∷ hands ↦ Some (record seen { hands = hand ∷ hands }) ] ≡ Some left → left.length ≡ seen.length
+      same_length : (grants : List GrantTaken) (left : Seen) → elim grants [ [] ↦ None | a_grant ∷ grants ↦ Some (record seen { grants = a_grant ∷ grants }) ] ≡ Some left → left.length ≡ seen.length
       same_length [] left e = none_some left e
-      same_length (hand ∷ hands) left e = sym (ap (λ o. (unwrap_or o left).length) e)
+      same_length (a_grant ∷ grants) left e = sym (ap (λ o. (unwrap_or o left).length) e)
 
   pub withdrawn_calm : (id : ObjectId) (grantor depth : ℕ) → IsCalm store (withdrawn store id grantor depth)
   withdrawn_calm id grantor depth = record {
-    is = elim (at store.received id) as (λ o. at store.received id ≡ o → Quiet store (option_map_or (λ seen. cond (list_any (is_hand grantor depth) seen.hands) (hand_ended store id grantor depth seen) store) o store)) [
+    is = elim (at store.received id) as (λ o. at store.received id ≡ o → Quiet store (option_map_or (λ seen. cond (list_any (is_the_grant grantor depth) seen.grants) (grant_ended store id grantor depth seen) store) o store)) [
       | None ↦ λ _. quiet_stays store
-      | Some seen ↦ λ e. elim (list_any (is_hand grantor depth) seen.hands) as (λ b. Quiet store (cond b (hand_ended store id grantor depth seen) store)) [ true ↦ hands_left id grantor depth seen e | false ↦ quiet_stays store ]
+      | Some seen ↦ λ e. elim (list_any (is_the_grant grantor depth) seen.grants) as (λ b. Quiet store (cond b (grant_ended store id grantor depth seen) store)) [ true ↦ grants_left id grantor depth seen e | false ↦ quiet_stays store ]
     ] refl;
   }
 

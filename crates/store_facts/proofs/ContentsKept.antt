@@ -39,7 +39,7 @@ use Rattle.private_store.specs.rules.Shape.{Sending, Copy, Change, Seen, Fetch, 
 use Rattle.private_store.specs.rules.Copies.{is_sealed, is_created}
 use Rattle.private_store.specs.rules.Change.{refused, done, sending}
 use Rattle.private_store.specs.rules.Commands.{write, seal, chunk_count}
-use Rattle.private_store.specs.rules.Events.{hands_of, work_of, fetch_of, is_missing}
+use Rattle.private_store.specs.rules.Events.{grants_of, work_of, fetch_of, is_missing}
 use Rattle.private_store.specs.rules.Step.{step, owned}
 use Rattle.private_store.specs.rules.Contents.{has_digest, is_read_back, work_verdict, read_verdict, write_verdict, chunk_verdict, pulled_verdict, gap_verdict, with_chunk, chunk_length, source_in, entry_elsewhere, is_locating, peer_arrival, View, bytes_at, digest_at, digest_of, overwritten, judge, without_payload, contents_after, brought}
 use Rattle.private_store.specs.rules.Private.{view_step, no_store}
@@ -431,7 +431,7 @@ module _ (node : ℕ) (view : View) (sh : IsShapeKept view.shape) (h : AreConten
     where
       seen : (q : ObjectId) (was : Seen) → at (after (judged.Received id (length bytes) grantor depth)).shape.received q ≡ Some was → length (bytes_at (with_entry view.contents.received id bytes) q) ≡ was.length
       seen q was e =
-          let new : Seen = record { length = length bytes; hands = hands_of view.shape id ++ record { grantor = grantor.0; depth = depth } ∷ [] } in
+          let new : Seen = record { length = length bytes; grants = grants_of view.shape id ++ record { grantor = grantor.0; depth = depth } ∷ [] } in
           ap (λ o. length (unwrap_or o [])) (at-put view.contents.received id bytes q)
           ∙ elim (same_id q id) as (λ b. cond b (Some new) (at view.shape.received q) ≡ Some was → length (unwrap_or (cond b (Some bytes) (at view.contents.received q)) []) ≡ was.length) [
             | true ↦ λ e. ap (λ x. x.length) (some_value new was e)

@@ -33,11 +33,11 @@ use Rattle.private_store.specs.rules.Copies.{is_sealed, is_evictable, is_idle, i
 use Rattle.private_store.specs.rules.Room.{Room, shortest_from, in_order, fits, wait, full, busy, evict, spill, victims, spilled, spill_plan, bytes_of_copies, works_left, offset_without, set_copy, drop_copy, evicted, asked, no_room, spill_room, evict_room, room_by, make_room, eviction_notice}
 use Rattle.private_store.specs.rules.Change.{replied, refused, done, checked, needing, sending, in_room, erasing, settled, doomed, doom, doom_notice}
 use Rattle.private_store.specs.rules.Commands.{refusal_of, fetch_refusal, create, end_task, created, new_copy, get, grant, grant_own, grant_foreign, restore, restoring, get_away, get_fetching, get_copy, get_sealed, begin_pull, begin_fetch, fetched_copy, at_each, then_change, scoped, give_up_one, leave_one, has_borrower, without_borrower, with_holds, of_task, set_phase, counted, chunk_count}
-use Rattle.private_store.specs.rules.Events.{begin, requota, end_job_here, answer, written, read_back, without_work, located, located_copy, with_fetch, fetch_of, fetch_failed, chunk_taken, chunk_arrived, is_missing, not_here_arrived, quiet, pull_answer, pull_arrived, withdrawn, hand_ended, is_child_of, is_hand}
+use Rattle.private_store.specs.rules.Events.{begin, requota, end_job_here, answer, written, read_back, without_work, located, located_copy, with_fetch, fetch_of, fetch_failed, chunk_taken, chunk_arrived, is_missing, not_here_arrived, quiet, pull_answer, pull_arrived, withdrawn, grant_ended, is_child_of, is_the_grant}
 use Rattle.private_store.specs.rules.Step.{step, owned, commanded, if_live}
 use Rattle.private_store.specs.laws.Invariants.{is_end}
 use Rattle.private_store.specs.laws.Made
-use Rattle.private_store.specs.laws.Made.{is_want, Marked, Goes, Edit, Edits, none, then_edit, marks, drops, creates, fetches, asks, finishes, flags, ends_task, gives, leaves, receives, loses, begins, requotas, ends, BytesTold, Told, told_ok, told_placed, told_got, told_bytes, told_list, told_usage, told_refused, IsUsedThere, IsMadeOf, IsMade, command_sends, may_send}
+use Rattle.private_store.specs.laws.Made.{is_want, Marked, Goes, Edit, Edits, none, then_edit, marks, drops, creates, fetches, asks, finishes, flags, ends_task, gives, leaves, receives, loses, begins, requotas, ends, BytesAnswered, Response, response_ok, response_placed, response_got, response_bytes, response_list, response_usage, response_refused, IsUsedThere, IsMadeOf, IsMade, command_sends, may_send}
 use Rattle.store_facts.proofs.Checks.{Fails, visible_at, fetch_found}
 use Rattle.store_facts.proofs.Rows.{at-put, at-drop, at-put_here}
 use Rattle.store_facts.proofs.Tests.{both, both_left, false_true, both_right, passed, refuted, some_value, none_some}
@@ -98,11 +98,11 @@ stays_evicted store id copy out mid (q ∷ ids) may e =
     (stays_one mid q id copy (refuted (same_id id q) (λ t. sym out ∙ ap (may_go store) (same_id-equal id q t) ∙ both_left (may_go store q) (list_all (may_go store) ids) may)) e)
 
 -- no fault is answered as NoMemory
-never_want : (told : Fault) → is_want (refusal_of told) ≡ false
+never_want : (response : Fault) → is_want (refusal_of response) ≡ false
 never_want restore_fault.DeviceFailed = refl
 never_want restore_fault.Damaged = refl
 
-fetch_never_wants : (told : FetchFault) → is_want (fetch_refusal told) ≡ false
+fetch_never_wants : (response : FetchFault) → is_want (fetch_refusal response) ≡ false
 fetch_never_wants fetch_fault.Absent = refl
 fetch_never_wants fetch_fault.Damaged = refl
 
@@ -160,15 +160,15 @@ module _ (x : Judged) where
 
   -- ---- changes
 
-  made_replied : (found store : Shape) (r : Reply ℕ) → Told x found r → IsMadeOf x found store (replied store r)
-  made_replied found store r t = record { edits = none; told = t; used = tt; sent = refl }
+  made_replied : (found store : Shape) (r : Reply ℕ) → Response x found r → IsMadeOf x found store (replied store r)
+  made_replied found store r t = record { edits = none; response = t; used = tt; sent = refl }
 
   -- after these edits, and no copy is used
   made_done : (found : Shape) {store after : Shape} → Edits x None store after → IsMadeOf x found store (done after)
-  made_done found h = record { edits = h; told = told_ok; used = tt; sent = refl }
+  made_done found h = record { edits = h; response = response_ok; used = tt; sent = refl }
 
   made_refused : (found : Shape) {store after : Shape} (r : Refusal) → is_want r ≡ false → Edits x None store after → IsMadeOf x found store (refused after r)
-  made_refused found r t h = record { edits = h; told = told_refused r t; used = tt; sent = refl }
+  made_refused found r t h = record { edits = h; response = response_refused r t; used = tt; sent = refl }
 
   abbrev NoneWants : List (Bool × Refusal) → Bool
   NoneWants checks = list_all (λ check. not (is_want check.1)) checks
@@ -228,10 +228,10 @@ module _ (x : Judged) where
 
   made_sending : (found store : Shape) (sent : List Sending) (c : Change) → AreSent sent → IsMadeOf x found store c → IsMadeOf x found store (sending sent c)
   unfolding sending
-  made_sending found store sent c t k = record { edits = k.edits; told = k.told; used = k.used; sent = all_of_both (may_send x) sent c.sent t k.sent }
+  made_sending found store sent c t k = record { edits = k.edits; response = k.response; used = k.used; sent = all_of_both (may_send x) sent c.sent t k.sent }
 
   made_erasing : (found store before : Shape) (c : Change) → IsMadeOf x found store c → IsMadeOf x found store (erasing before c)
-  made_erasing found store before c k = record { edits = k.edits; told = k.told; used = k.used; sent = k.sent }
+  made_erasing found store before c k = record { edits = k.edits; response = k.response; used = k.used; sent = k.sent }
 
   -- ---- room
 
@@ -258,14 +258,14 @@ module _ (x : Judged) where
   evict_room_made : (store : Shape) (n : ℕ) (ids : List ObjectId) → list_all (may_go store) ids ≡ true → MakesRoom store (evict_room store n ids)
   evict_room_made store n ids may = record {
     edits = λ used. fold_edits used evicted (evicted_edits used) store ids;
-    refuses = λ r e. told (offset_without store n ids) r e;
+    refuses = λ r e. response (offset_without store n ids) r e;
     sent = λ ev. notices_sent ev store ids;
     stays = λ offset e id copy there unsealed. stays_evicted store id copy (stays_behind store id copy there unsealed) store ids may there;
   }
     where
-      told : (o : Option ℕ) (r : Refusal) → option_map_or Ok o (Err Full) ≡ Err r → is_want r ≡ false
-      told None r e = let is : Full ≡ r = cc in sym (ap is_want is)
-      told (Some offset) r e = cc
+      response : (o : Option ℕ) (r : Refusal) → option_map_or Ok o (Err Full) ≡ Err r → is_want r ≡ false
+      response None r e = let is : Full ≡ r = cc in sym (ap is_want is)
+      response (Some offset) r e = cc
 
   spill_plan_made : (store : Shape) (n : ℕ) (ids : List ObjectId) → MakesRoom store (room_by store n (spill_plan store ids))
   spill_plan_made store n ids =
@@ -298,32 +298,32 @@ module _ (x : Judged) where
   unfolding in_room sending
   made_in_room found store room f ev h k =
       elim room.offset as (λ o. room.offset ≡ o → IsMadeOf x found store (sending room.sent (elim o [ Ok offset ↦ f room.shape offset | Err refusal ↦ refused room.shape refusal ]))) [
-        | Ok offset ↦ λ e. let m = k offset e in record { edits = edits_both _ (h.edits (f room.shape offset).used) m.edits; told = m.told; used = m.used; sent = all_of_both (may_send x) room.sent (f room.shape offset).sent (h.sent ev) m.sent }
-        | Err refusal ↦ λ e. record { edits = h.edits None; told = told_refused refusal (h.refuses refusal e); used = tt; sent = all_of_both (may_send x) room.sent [] (h.sent ev) refl }
+        | Ok offset ↦ λ e. let m = k offset e in record { edits = edits_both _ (h.edits (f room.shape offset).used) m.edits; response = m.response; used = m.used; sent = all_of_both (may_send x) room.sent (f room.shape offset).sent (h.sent ev) m.sent }
+        | Err refusal ↦ λ e. record { edits = h.edits None; response = response_refused refusal (h.refuses refusal e); used = tt; sent = all_of_both (may_send x) room.sent [] (h.sent ev) refl }
       ] refl
 
   -- ---- changes that use no copy
 
   record MakesUnused (found store : Shape) (c : Change) : Type 0 where
     edits : Edits x None store c.shape
-    told : Told x found c.reply
+    response : Response x found c.reply
     unused : c.used ≡ None
     sent : AreSent c.sent
 
   unused_made : (found store : Shape) (c : Change) → MakesUnused found store c → IsMadeOf x found store c
   unused_made found store c k = record {
     edits = subst (λ o. Edits x o store c.shape) (sym k.unused) k.edits;
-    told = k.told;
+    response = k.response;
     used = subst (λ o. IsUsedThere o c.shape.copies) (sym k.unused) tt;
     sent = k.sent;
   }
 
   done_unused : (found : Shape) {store after : Shape} → Edits x None store after → MakesUnused found store (done after)
-  done_unused found h = record { edits = h; told = told_ok; unused = refl; sent = refl }
+  done_unused found h = record { edits = h; response = response_ok; unused = refl; sent = refl }
 
   doom_unused : Dooms → (found : Shape) {store : Shape} (mid : Shape) (id : ObjectId) → Edits x None store mid → MakesUnused found store (doom mid id)
   unfolding sending
-  doom_unused dm found mid id h = record { edits = doomed_edits None mid id h; told = told_ok; unused = refl; sent = all_of_both (may_send x) (option_to_list (doom_notice mid id)) [] (notice_sent dm mid id) refl }
+  doom_unused dm found mid id h = record { edits = doomed_edits None mid id h; response = response_ok; unused = refl; sent = all_of_both (may_send x) (option_to_list (doom_notice mid id)) [] (notice_sent dm mid id) refl }
 
   scoped_unused : Dooms → (found store : Shape) (id : ObjectId) (copy d : Copy) → at store.copies id ≡ Some copy → Marked copy d → MakesUnused found store (scoped store id d)
   scoped_unused dm found store id copy d e m =
@@ -361,7 +361,7 @@ module _ (x : Judged) where
   at_each_unused found f each [] c k = k
   at_each_unused found f each (id ∷ ids) c k =
       let next = each c.shape id in
-      at_each_unused found f each ids (then_change c (λ s. f s id)) (record { edits = edits_both None k.edits next.edits; told = next.told; unused = next.unused; sent = all_of_both (may_send x) c.sent (f c.shape id).sent k.sent next.sent })
+      at_each_unused found f each ids (then_change c (λ s. f s id)) (record { edits = edits_both None k.edits next.edits; response = next.response; unused = next.unused; sent = all_of_both (may_send x) c.sent (f c.shape id).sent k.sent next.sent })
 
   -- ---- Create and Get
 
@@ -375,7 +375,7 @@ module _ (x : Judged) where
         let room = make_room order store n in
         made_checked store store _ _ refl (λ _. made_in_room store store room (created id kind n) ev (make_room_made order store n) (λ offset _. record {
           edits = one (Some id) (creates id kind n offset refl);
-          told = told_placed offset n;
+          response = response_placed offset n;
           used = ap is_some (at-put_here room.shape.copies id (new_copy kind n offset));
           sent = refl;
         }))
@@ -389,8 +389,8 @@ module _ (x : Judged) where
 
     get_away_made : Evicts → (id : ObjectId) (copy : Copy) → at store.copies id ≡ Some copy → is_sealed copy.state ≡ false → IsMade x store (get_away order store id copy)
     get_away_made ev id copy e s =
-        elim copy.fault as (λ o. copy.fault ≡ o → IsMade x store (elim o [ Some told ↦ refused (set_copy store id (record copy { fault = None })) (refusal_of told) | None ↦ restore order store id copy ])) [
-          | Some told ↦ λ f. made_refused store (refusal_of told) (never_want told) (set_edits None store id copy (record copy { fault = None }) e Made.to_told none)
+        elim copy.fault as (λ o. copy.fault ≡ o → IsMade x store (elim o [ Some response ↦ refused (set_copy store id (record copy { fault = None })) (refusal_of response) | None ↦ restore order store id copy ])) [
+          | Some response ↦ λ f. made_refused store (refusal_of response) (never_want response) (set_edits None store id copy (record copy { fault = None }) e Made.to_told none)
           | None ↦ λ f. restore_made ev id copy e s
         ] refl
 
@@ -404,7 +404,7 @@ module _ (x : Judged) where
         made_sending store room.shape _ _ (one_sent _ (g (pull id) refl)) (made_refused store Pending refl (set_edits None room.shape id copy (record copy { offset = Some offset; fetch = Some (record fetch { phase = pulling source missing }) })
         (r.stays offset found id copy e s) (Made.to_pulled fetch offset source missing f) none))))
     get_fetching_made id g copy fetch (pulling source missing) e s f p = made_sending store store _ _ (one_sent _ (g _ refl)) (made_refused store Pending refl none)
-    get_fetching_made id g copy fetch (failed told) e s f p = made_refused store (fetch_refusal told) (fetch_never_wants told) (one None (drops id copy e (Made.as_failed fetch told f p)))
+    get_fetching_made id g copy fetch (failed response) e s f p = made_refused store (fetch_refusal response) (fetch_never_wants response) (one None (drops id copy e (Made.as_failed fetch response f p)))
 
     get_copy_made : (session : ℕ) (id : ObjectId) → Gets id → (copy : Copy) (state : CopyState) → at store.copies id ≡ Some copy → copy.state ≡ state
         → IsMade x store (elim state [
@@ -417,7 +417,7 @@ module _ (x : Judged) where
     get_copy_made session id g copy Created e s = made_refused store NotSealed refl none
     get_copy_made session id g copy Sealed e s = made_checked store store _ _ refl (λ _. record {
       edits = set_edits (Some id) store id copy (with_holds copy session _) e (Made.to_held session _) none;
-      told = told_got id copy e;
+      response = response_got id copy e;
       used = ap is_some (at-put_here store.copies id (with_holds copy session _));
       sent = refl;
     })
@@ -430,7 +430,7 @@ module _ (x : Judged) where
     unfolding sending
     begin_fetch_made id g e = made_checked store store _ _ refl (λ fails. record {
       edits = one (Some id) (fetches id refl e (passed (has_numbers store.fetches_begun 1) fails.1.0));
-      told = told_refused Pending refl;
+      response = response_refused Pending refl;
       used = ap is_some (at-put_here store.copies id (fetched_copy (store.fetches_begun + 1)));
       sent = one_sent (locate id (store.fetches_begun + 1)) (g _ refl);
     })
@@ -451,7 +451,7 @@ module _ (x : Judged) where
     grant_made id target =
         elim (id.job.0 == store.job) as (λ b. IsMade x store (cond b (grant_own store id target) (grant_foreign store id target))) [
           | true ↦ made_checked store store _ _ refl (λ _. made_needing store store _ _ _ refl (λ copy e. made_checked store store _ _ refl (λ _. made_done store (one None (gives _)))))
-          | false ↦ made_checked store store _ _ refl (λ _. made_needing store store _ _ _ refl (λ hand e. made_checked store store _ _ refl (λ _. made_done store (one None (gives _)))))
+          | false ↦ made_checked store store _ _ refl (λ _. made_needing store store _ _ _ refl (λ a_grant e. made_checked store store _ _ refl (λ _. made_done store (one None (gives _)))))
         ]
 
     end_task_made : Dooms → (task : TaskNo) → IsMade x store (end_task store task)
@@ -486,12 +486,12 @@ module _ (x : Judged) where
     silent_made session (command.Withdraw id target) h t =
         made_checked store store _ _ refl (λ _. made_done store (settled_edits None _ id (one None (leaves _))))
     silent_made session (command.Peek id offset n) h t = false_true t
-    silent_made session command.List h t = made_replied store store _ told_list
-    silent_made session command.Usage h t = made_replied store store _ told_usage
+    silent_made session command.List h t = made_replied store store _ response_list
+    silent_made session command.Usage h t = made_replied store store _ response_usage
     silent_made session command.Leave h t =
         unused_made store store _ (at_each_unused store (leave_one session) (leave_one_unused store session) (ids_of store.copies) _ (done_unused store none))
 
-    -- ---- the operator, and the hands that others give
+    -- ---- the operator, and the grants that others give
 
     if_live_made : (c : Change) → IsMade x store c → IsMade x store (if_live store c)
     if_live_made c k = made_checked store store _ _ refl (λ _. k)
@@ -513,10 +513,10 @@ module _ (x : Judged) where
 
     withdrawn_made : (id : ObjectId) (grantor depth : ℕ) → IsMade x store (withdrawn store id grantor depth)
     withdrawn_made id grantor depth = made_done store (
-        elim (at store.received id) as (λ o. at store.received id ≡ o → Edits x None store (option_map_or (λ seen. cond (list_any (is_hand grantor depth) seen.hands) (hand_ended store id grantor depth seen) store) o store)) [
+        elim (at store.received id) as (λ o. at store.received id ≡ o → Edits x None store (option_map_or (λ seen. cond (list_any (is_the_grant grantor depth) seen.grants) (grant_ended store id grantor depth seen) store) o store)) [
           | None ↦ λ _. none
-          | Some seen ↦ λ e. elim (list_any (is_hand grantor depth) seen.hands) as (λ b. Edits x None store (cond b (hand_ended store id grantor depth seen) store)) [
-            | true ↦ then_edit (one None (loses id grantor depth seen e)) (leaves (λ hand. not (is_child_of id grantor hand)))
+          | Some seen ↦ λ e. elim (list_any (is_the_grant grantor depth) seen.grants) as (λ b. Edits x None store (cond b (grant_ended store id grantor depth seen) store)) [
+            | true ↦ then_edit (one None (loses id grantor depth seen e)) (leaves (λ a_grant. not (is_child_of id grantor a_grant)))
             | false ↦ none
           ]
         ] refl)
@@ -565,8 +565,8 @@ module _ (x : Judged) where
           | failed _ ↦ made_done store none
         ])
 
-    failed_made : (id : ObjectId) (copy : Copy) (fetch : Fetch) (told : FetchFault) → at store.copies id ≡ Some copy → copy.fetch ≡ Some fetch → IsMade x store (done (fetch_failed store id copy fetch told))
-    failed_made id copy fetch told e f = made_done store (set_edits None store id copy _ e (Made.to_failed fetch told f) none)
+    failed_made : (id : ObjectId) (copy : Copy) (fetch : Fetch) (response : FetchFault) → at store.copies id ≡ Some copy → copy.fetch ≡ Some fetch → IsMade x store (done (fetch_failed store id copy fetch response))
+    failed_made id copy fetch response e f = made_done store (set_edits None store id copy _ e (Made.to_failed fetch response f) none)
 
     part_made : (id : ObjectId) (copy : Copy) (fetch : Fetch) (source : ℕ) (missing : List ℕ) → at store.copies id ≡ Some copy → copy.fetch ≡ Some fetch → IsMade x store (done (set_phase store id copy fetch (pulling source missing)))
     part_made id copy fetch source missing e f = made_done store (set_edits None store id copy _ e (Made.to_part fetch source missing f) none)
@@ -619,7 +619,7 @@ module _ (x : Judged) where
     sent_made m h = made_sending store store (m ∷ []) (done store) (one_sent m h) (made_done store none)
 
     quiet_made : (c : Change) → IsMade x store c → IsMade x store (quiet store c)
-    quiet_made c k = record { edits = then_edit k.edits (flags store.spill_failed); told = told_ok; used = k.used; sent = k.sent }
+    quiet_made c k = record { edits = then_edit k.edits (flags store.spill_failed); response = response_ok; used = k.used; sent = k.sent }
 
     -- what a Pull may send
     abbrev Pulls : Type 0
@@ -658,11 +658,11 @@ module _ (order : List ObjectId) (store : Shape) where
   commanded_made session (command.Read id offset n) =
       let x = judged.Call session (command.Read id offset n) in
       owned_made x order store id _ (made_checked x store store _ _ refl (λ few. made_needing x store store _ _ _ refl (λ copy e. made_checked x store store _ _ refl (λ fails.
-      made_replied x store store _ (told_bytes n (refl, record { copy = copy; there = e; sealed = fails.0; held = fails.1.0; within = fails.1.1.0; few = few.0 }))))))
+      made_replied x store store _ (response_bytes n (refl, record { copy = copy; there = e; sealed = fails.0; held = fails.1.0; within = fails.1.1.0; few = few.0 }))))))
   commanded_made session (command.Peek id offset n) =
       let x = judged.Call session (command.Peek id offset n) in
       made_checked x store store _ _ refl (λ _. made_needing x store store _ _ _ refl (λ seen e. made_checked x store store _ _ refl (λ fails.
-      made_replied x store store _ (told_bytes n (refl, record { seen = seen; there = e; few = fails.0; within = fails.1.0 })))))
+      made_replied x store store _ (response_bytes n (refl, record { seen = seen; there = e; few = fails.0; within = fails.1.0 })))))
   commanded_made session c = silent_made (judged.Call session c) order store session c (λ m e. e) refl
 
   -- each input's change is made of edits and an answer

@@ -16,12 +16,12 @@ use Rattle.private_store.specs.rules.Copies.{is_sealed, is_away}
 use Rattle.private_store.specs.rules.Room.{set_copy}
 use Rattle.private_store.specs.rules.Change.{done, erasing, settled}
 use Rattle.private_store.specs.rules.Events.{work_of, without_work, written, read_back, answer}
-use Rattle.private_store.specs.laws.Invariants.{IsCopyKept, IsUseKept, has_extent, has_work, has_read, has_write, has_hand, is_fetching, is_restoring}
+use Rattle.private_store.specs.laws.Invariants.{IsCopyKept, IsUseKept, has_extent, has_work, has_read, has_write, has_grant, is_fetching, is_restoring}
 use Rattle.store_facts.proofs.KeptCopy.{IsLoose, sealed_is, restoring_is, has_work-split}
 use Rattle.store_facts.proofs.KeptLists.{find-any}
 use Rattle.store_facts.proofs.KeptRows.{IsRowChange, IsLiveKept, row_same}
 use Rattle.store_facts.proofs.KeptWorks.{rest_keep, rest_free, same_rest}
-use Rattle.store_facts.proofs.KeptChanges.{no_hand_of, unheld_of}
+use Rattle.store_facts.proofs.KeptChanges.{no_grant_of, unheld_of}
 use Rattle.store_facts.proofs.KeptStore.{IsFrameKept, settle_moved, Keeps, needing_keeps, put_row, kept_copy}
 use Rattle.store_facts.proofs.Tests.{false_true, or_false_left, or_false_right, true_false}
 use Rattle.store_facts.proofs.Ids.{same_id-itself}
@@ -31,7 +31,7 @@ module _ {store : Shape} (h : IsLiveKept store) (number : ℕ) (w : WorkInFlight
   rest = without_work store number
 
   frame_rest : (flag : Bool) (new : ById Copy) → IsFrameKept (record rest { copies = new; spill_failed = flag })
-  frame_rest flag new = record { live = h.live; quota = h.quota; works = rest_keep store.works store.works_asked number w h.works found; hands = h.hands; fetches = h.fetches; ended = h.ended }
+  frame_rest flag new = record { live = h.live; quota = h.quota; works = rest_keep store.works store.works_asked number w h.works found; grants = h.grants; fetches = h.fetches; ended = h.ended }
 
   kept : IsCopyKept store.job store.works store.given store.ended_tasks w.id copy
   kept = kept_copy h w.id copy e
@@ -51,7 +51,7 @@ module _ {store : Shape} (h : IsLiveKept store) (number : ℕ) (w : WorkInFlight
   answered flag after new c k = settle_moved (record rest { copies = new; spill_failed = flag }) w.id after (frame_rest flag new) h.rows c
       (λ q t. same_rest store.works store.works_asked number w h.works found store.given q t) k
 
-  used : (state : CopyState) (kind : Kind) (backed : Option ℕ) → (has_hand store.given w.id ≡ true → (is_sealed state ≡ true) × (is_primary kind ≡ true)) → is_restoring state ≡ false → IsUseKept rest.works store.given w.id state kind backed
+  used : (state : CopyState) (kind : Kind) (backed : Option ℕ) → (has_grant store.given w.id ≡ true → (is_sealed state ≡ true) × (is_primary kind ≡ true)) → is_restoring state ≡ false → IsUseKept rest.works store.given w.id state kind backed
   used state kind backed g r = record { granted = g; spilled = λ t. true_false (sym no_write_left ∙ t); restored = no_read_left ∙ sym r }
 
   -- ---- a write
@@ -97,8 +97,8 @@ module _ {store : Shape} (h : IsLiveKept store) (number : ℕ) (w : WorkInFlight
     coming : copy.state ≡ Restoring
     coming = restoring_is copy.state (sym kept.restored ∙ find-any (λ x. x.number == number) (λ x. same_id w.id x.id && not x.writes) store.works w found (ap (λ b. b && not w.writes) (same_id-itself w.id) ∙ ap not reads))
 
-    no_hand : has_hand store.given w.id ≡ false
-    no_hand = no_hand_of copy kept (ap is_sealed coming)
+    no_grant : has_grant store.given w.id ≡ false
+    no_grant = no_grant_of copy kept (ap is_sealed coming)
 
     back : IsLoose store.job rest.works store.given store.ended_tasks w.id (record copy { state = Sealed })
     back = record {
@@ -113,7 +113,7 @@ module _ {store : Shape} (h : IsLiveKept store) (number : ℕ) (w : WorkInFlight
         };
         marks = record { secondary = kept.secondary; away = λ t. true_false t; faulty = λ t. true_false (sym (ap is_away coming) ∙ kept.faulty t) };
         holds = record { held = λ _. refl; sessions = kept.sessions; few_holds = kept.few_holds };
-        uses = used Sealed copy.kind copy.backed (λ t. true_false (sym no_hand ∙ t)) refl;
+        uses = used Sealed copy.kind copy.backed (λ t. true_false (sym no_grant ∙ t)) refl;
       };
       scope = kept.scope;
     }
@@ -125,7 +125,7 @@ module _ {store : Shape} (h : IsLiveKept store) (number : ℕ) (w : WorkInFlight
         form = record { resident = refl; in_fetch = kept.in_fetch ∙ ap is_fetching coming; fetched = λ t. true_false t; gaps = kept.gaps; sized = λ _. kept.sized (ap is_fetching coming) };
         marks = record { secondary = kept.secondary; away = λ _. kept.away (ap (λ s. is_away s || is_restoring s) coming); faulty = λ _. refl };
         holds = record { held = λ t. true_false (sym (unheld_of copy kept (ap is_sealed coming)) ∙ t); sessions = kept.sessions; few_holds = kept.few_holds };
-        uses = used Away copy.kind copy.backed (λ t. true_false (sym no_hand ∙ t)) refl;
+        uses = used Away copy.kind copy.backed (λ t. true_false (sym no_grant ∙ t)) refl;
       };
       scope = kept.scope;
     }

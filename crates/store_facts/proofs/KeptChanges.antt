@@ -12,11 +12,11 @@ use Rattle.obj_id.specs.declared.commands.Kind.TheVariants.{Secondary}
 use Rattle.obj_id.specs.declared.commands.CopyState.{CopyState}
 use Rattle.obj_id.specs.declared.commands.CopyState.TheVariants.{Created, Sealed, Fetching}
 use Rattle.private_store.specs.rules.Limits.{longest_object, most_borrowers, most_holds}
-use Rattle.private_store.specs.rules.Shape.{Copy, Fetch, WorkInFlight, HandGiven}
+use Rattle.private_store.specs.rules.Shape.{Copy, Fetch, WorkInFlight, GrantGiven}
 use Rattle.obj_id.specs.Kinds.{is_primary}
 use Rattle.private_store.specs.rules.Copies.{is_sealed, is_away}
 use Rattle.private_store.specs.rules.Commands.{new_copy, fetched_copy, holds_of, all_holds, with_holds, without_borrower}
-use Rattle.private_store.specs.laws.Invariants.{AreMarksKept, AreHoldsKept, IsUseKept, IsScopeKept, IsCopyKept, are_held, are_gaps, has_extent, has_work, has_read, has_write, has_hand, is_remembered, is_restoring, is_fetching, is_pulling}
+use Rattle.private_store.specs.laws.Invariants.{AreMarksKept, AreHoldsKept, IsUseKept, IsScopeKept, IsCopyKept, are_held, are_gaps, has_extent, has_work, has_read, has_write, has_grant, is_remembered, is_restoring, is_fetching, is_pulling}
 use Rattle.store_facts.proofs.KeptCopy.{IsBare, IsLoose, IsAbsentKept, has_work-split}
 use Rattle.store_facts.proofs.KeptLists.{any-filter-only, length-filter-le}
 use Rattle.store_facts.proofs.KeptHolds.{holds_keep}
@@ -31,13 +31,13 @@ visible_at (Some c) copy e = by_doom c.doomed refl e
     by_doom true d e = true_false (ap is_some e)
     by_doom false d e = (e, sym (ap (λ o. (unwrap_or o c).doomed) e) ∙ d)
 
-module _ {job : ℕ} {works : List WorkInFlight} {given : List HandGiven} {ended : List TaskNo} {id : ObjectId} (copy : Copy) (h : IsCopyKept job works given ended id copy) where
+module _ {job : ℕ} {works : List WorkInFlight} {given : List GrantGiven} {ended : List TaskNo} {id : ObjectId} (copy : Copy) (h : IsCopyKept job works given ended id copy) where
   -- what its state excludes
   pub no_write_of : is_sealed copy.state ≡ false → has_write works id ≡ false
   no_write_of e = refuted (has_write works id) (λ t. sym e ∙ (h.spilled t).0)
 
-  pub no_hand_of : is_sealed copy.state ≡ false → has_hand given id ≡ false
-  no_hand_of e = refuted (has_hand given id) (λ t. sym e ∙ (h.granted t).0)
+  pub no_grant_of : is_sealed copy.state ≡ false → has_grant given id ≡ false
+  no_grant_of e = refuted (has_grant given id) (λ t. sym e ∙ (h.granted t).0)
 
   pub unheld_of : is_sealed copy.state ≡ false → are_held copy.holds ≡ false
   unheld_of e = refuted (are_held copy.holds) (λ t. sym e ∙ h.held t)
@@ -59,7 +59,7 @@ module _ {job : ℕ} {works : List WorkInFlight} {given : List HandGiven} {ended
     marks = record { secondary = h.secondary; away = λ t. true_false t; faulty = λ t. true_false (sym (ap is_away e) ∙ h.faulty t) };
     holds = record { held = λ _. refl; sessions = h.sessions; few_holds = h.few_holds };
     uses = record {
-      granted = λ t. true_false (sym (no_hand_of (ap is_sealed e)) ∙ t);
+      granted = λ t. true_false (sym (no_grant_of (ap is_sealed e)) ∙ t);
       spilled = λ t. true_false (sym (no_write_of (ap is_sealed e)) ∙ t);
       restored = h.restored ∙ ap is_restoring e;
     };
@@ -122,7 +122,7 @@ module _ {job : ℕ} {works : List WorkInFlight} {given : List HandGiven} {ended
     few_borrowers = let l = length-filter-le (λ t. not (same_task task t)) copy.borrowers in let f = h.few_borrowers in omega (arith, l, f);
   }
 
-  -- a fault is told of
+  -- a fault is answered
   pub told_copy : IsCopyKept job works given ended id (record copy { fault = None })
   told_copy = record {
     own = h.own;
@@ -161,7 +161,7 @@ module _ {job : ℕ} {works : List WorkInFlight} {given : List HandGiven} {ended
     marks = record { secondary = h.secondary; away = λ t. true_false t; faulty = λ t. true_false (sym (ap is_away e) ∙ h.faulty t) };
     holds = record { held = λ _. refl; sessions = h.sessions; few_holds = h.few_holds };
     uses = record {
-      granted = λ t. true_false (sym (no_hand_of (ap is_sealed e)) ∙ t);
+      granted = λ t. true_false (sym (no_grant_of (ap is_sealed e)) ∙ t);
       spilled = λ t. true_false (sym (no_write_of (ap is_sealed e)) ∙ t);
       restored = h.restored ∙ ap is_restoring e;
     };
@@ -171,7 +171,7 @@ module _ {job : ℕ} {works : List WorkInFlight} {given : List HandGiven} {ended
 
 -- ---- new copies
 
-module _ (job : ℕ) (works : List WorkInFlight) (given : List HandGiven) (ended : List TaskNo) (id : ObjectId) (own : id.job.0 ≡ job) (h : IsAbsentKept job works given id) (live : is_remembered ended id.task ≡ false) where
+module _ (job : ℕ) (works : List WorkInFlight) (given : List GrantGiven) (ended : List TaskNo) (id : ObjectId) (own : id.job.0 ≡ job) (h : IsAbsentKept job works given id) (live : is_remembered ended id.task ≡ false) where
   no_write_here : has_write works id ≡ false
   no_write_here = or_false_left (has_write works id) (has_read works id) (sym (has_work-split works id) ∙ h.no_work)
 
@@ -188,7 +188,7 @@ module _ (job : ℕ) (works : List WorkInFlight) (given : List HandGiven) (ended
   new_scope doomed = record { of_live_task = λ _. live; by_live_tasks = λ t r. true_false r; few_borrowers = omega arith }
 
   new_use : (state : CopyState) (kind : Kind) → is_restoring state ≡ false → IsUseKept works given id state kind None
-  new_use state kind e = record { granted = λ t. true_false (sym (h.no_hand own) ∙ t); spilled = λ t. true_false (sym no_write_here ∙ t); restored = no_read_here ∙ sym e }
+  new_use state kind e = record { granted = λ t. true_false (sym (h.no_grant own) ∙ t); spilled = λ t. true_false (sym no_write_here ∙ t); restored = no_read_here ∙ sym e }
 
   pub new_kept : (kind : Kind) (n offset : ℕ) → 0 < n → n ≤ longest_object → IsCopyKept job works given ended id (new_copy kind n offset)
   new_kept kind n offset pos long = record {

@@ -8,7 +8,7 @@ use Rattle.private_store.specs.rules.Copies.{is_idle, in_scope}
 use Rattle.private_store.specs.rules.Room.{set_copy, drop_copy}
 use Rattle.private_store.specs.rules.Change.{done, sending, settled, doomed, doom}
 use Rattle.private_store.specs.rules.Commands.{scoped, at_each}
-use Rattle.private_store.specs.laws.Invariants.{are_held, has_work, has_hand}
+use Rattle.private_store.specs.laws.Invariants.{are_held, has_work, has_grant}
 use Rattle.store_facts.proofs.KeptCopy.{is_kept_up, idle_granted, idle_working, not_idle}
 use Rattle.store_facts.proofs.KeptRows.{IsRowChange, row_put, row_drop, row_then, row_here}
 use Rattle.store_facts.proofs.Tests.{and_rest, both_right, false_true}
@@ -60,7 +60,7 @@ pub record RowOf (most : ℕ) (copies : ById Copy) (id : ObjectId) (P : Option C
   pub holds : P row
 
 module _ (most : ℕ) (copies : ById Copy) (id : ObjectId) (P : Option Copy → Type 0) (store : Shape) where
-  settled_as : (copy : Copy) → IsRowChange most copies id (Some copy) store.copies → (has_work store.works id ≡ false → has_hand store.given id ≡ false → P None)
+  settled_as : (copy : Copy) → IsRowChange most copies id (Some copy) store.copies → (has_work store.works id ≡ false → has_grant store.given id ≡ false → P None)
       → ((copy.doomed ≡ true → is_kept_up store.works store.given id copy ≡ true) → P (Some copy))
       → (b : Bool) → copy.doomed && is_idle store id copy ≡ b → RowOf most copies id P (cond b (drop_copy store id) store).copies
   settled_as copy c none some true t =
@@ -68,16 +68,16 @@ module _ (most : ℕ) (copies : ById Copy) (id : ObjectId) (P : Option Copy → 
       record {
         row = None;
         change = row_then c (row_drop store.copies id c.in_order c.few);
-        holds = none (idle_working (are_held copy.holds) (has_hand store.given id) (has_work store.works id) idle) (idle_granted (are_held copy.holds) (has_hand store.given id) (has_work store.works id) idle);
+        holds = none (idle_working (are_held copy.holds) (has_grant store.given id) (has_work store.works id) idle) (idle_granted (are_held copy.holds) (has_grant store.given id) (has_work store.works id) idle);
       }
   settled_as copy c none some false t = record {
     row = Some copy;
     change = c;
-    holds = some (λ d. not_idle (are_held copy.holds) (has_hand store.given id) (has_work store.works id) (and_rest copy.doomed (is_idle store id copy) d t));
+    holds = some (λ d. not_idle (are_held copy.holds) (has_grant store.given id) (has_work store.works id) (and_rest copy.doomed (is_idle store id copy) d t));
   }
 
   -- a copy settles: it goes, or something keeps it
-  pub settled_row : (copy : Copy) → IsRowChange most copies id (Some copy) store.copies → (has_work store.works id ≡ false → has_hand store.given id ≡ false → P None)
+  pub settled_row : (copy : Copy) → IsRowChange most copies id (Some copy) store.copies → (has_work store.works id ≡ false → has_grant store.given id ≡ false → P None)
       → ((copy.doomed ≡ true → is_kept_up store.works store.given id copy ≡ true) → P (Some copy)) → RowOf most copies id P (settled store id).copies
   settled_row copy c none some =
       subst (λ o. RowOf most copies id P (option_map_or (λ x. cond (x.doomed && is_idle store id x) (drop_copy store id) store) o store).copies) (sym (row_here c))
@@ -85,7 +85,7 @@ module _ (most : ℕ) (copies : ById Copy) (id : ObjectId) (P : Option Copy → 
 
 -- a copy is doomed
 pub doomed_row : (most : ℕ) (copies : ById Copy) (id : ObjectId) (P : Option Copy → Type 0) (store : Shape) (copy : Copy) → IsRowChange most copies id (Some copy) store.copies
-    → (has_work store.works id ≡ false → has_hand store.given id ≡ false → P None) → (is_kept_up store.works store.given id copy ≡ true → P (Some (record copy { doomed = true })))
+    → (has_work store.works id ≡ false → has_grant store.given id ≡ false → P None) → (is_kept_up store.works store.given id copy ≡ true → P (Some (record copy { doomed = true })))
     → RowOf most copies id P (doomed store id).copies
 doomed_row most copies id P store copy c none some =
     let gone : Copy = record copy { doomed = true } in

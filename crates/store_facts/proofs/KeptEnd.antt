@@ -89,7 +89,7 @@ module _ (store : Shape) (h : IsLiveKept store) (task : TaskNo) where
   EndedRow id o = IsRowKept start.job start.works start.given start.ended_tasks id o
 
   absent_start : (id : ObjectId) → IsAbsentKept store.job store.works store.given id → IsAbsentKept store.job store.works start.given id
-  absent_start id k = record { no_work = k.no_work; no_hand = λ j. any-filter-le (λ hand. same_id id hand.id) (λ hand. not (hand.id.job.0 == store.job && same_task task hand.id.task)) store.given (k.no_hand j) }
+  absent_start id k = record { no_work = k.no_work; no_grant = λ j. any-filter-le (λ grant. same_id id grant.id) (λ grant. not (grant.id.job.0 == store.job && same_task task grant.id.task)) store.given (k.no_grant j) }
 
   half_start : (id : ObjectId) (copy : Copy) → at store.copies id ≡ Some copy → IsCopyKept store.job store.works store.given store.ended_tasks id copy → IsHalf id copy
   half_start id copy e k = record {
@@ -99,7 +99,7 @@ module _ (store : Shape) (h : IsLiveKept store) (task : TaskNo) where
       marks = k.marks;
       holds = k.holds;
       uses = record {
-        granted = λ g. k.granted (any-filter-only (λ hand. same_id id hand.id) (λ hand. not (hand.id.job.0 == store.job && same_task task hand.id.task)) store.given g);
+        granted = λ g. k.granted (any-filter-only (λ grant. same_id id grant.id) (λ grant. not (grant.id.job.0 == store.job && same_task task grant.id.task)) store.given g);
         spilled = k.spilled;
         restored = k.restored;
       };
@@ -115,8 +115,8 @@ module _ (store : Shape) (h : IsLiveKept store) (task : TaskNo) where
     half = half_start id copy e k;
     of_live_task = λ d. pushed_no (same_task id.task) store.ended_tasks task (same_task_swapped task id.task other) ∙ k.of_live_task d;
     kept_up = λ d. ap (λ b. are_held copy.holds || b || has_work store.works id)
-        (any-filter (λ hand. same_id id hand.id) (λ hand. not (hand.id.job.0 == store.job && same_task task hand.id.task)) store.given
-        (λ hand s. no_and (hand.id.job.0 == store.job) (same_task task hand.id.task) (sym (ap (λ x. same_task task x.task) (same_id-equal id hand.id s)) ∙ other)))
+        (any-filter (λ grant. same_id id grant.id) (λ grant. not (grant.id.job.0 == store.job && same_task task grant.id.task)) store.given
+        (λ grant s. no_and (grant.id.job.0 == store.job) (same_task task grant.id.task) (sym (ap (λ x. same_task task x.task) (same_id-equal id grant.id s)) ∙ other)))
         ∙ k.doomed d;
   }
 
@@ -132,7 +132,7 @@ module _ (store : Shape) (h : IsLiveKept store) (task : TaskNo) where
       (record { row = None; change = row_same copies id None s n e; holds = k })
   doomed_visit most copies id s n (Some copy) e k =
       doomed_row most copies id (ReadyRow id) (record start { copies = copies }) copy (row_same copies id (Some copy) s n e)
-      (λ w g. record { no_work = w; no_hand = λ _. g })
+      (λ w g. record { no_work = w; no_grant = λ _. g })
       (λ up. record {
         half = record {
           bare_kept = record { own = k.bare_kept.own; form = k.bare_kept.form; marks = k.bare_kept.marks; holds = k.bare_kept.holds; uses = k.bare_kept.uses };
@@ -247,7 +247,7 @@ module _ (store : Shape) (h : IsLiveKept store) (task : TaskNo) where
         elim (in_scope left) as (λ b. RowOf most copies id (IsOver id) (cond b (done (set_copy now id left)) (doom (set_copy now id left) id)).shape.copies) [
           | true ↦ record { row = Some left; change = without_change copy e; holds = copy_over id left ready (without_none copy) }
           | false ↦ doomed_row most copies id (IsOver id) (set_copy now id left) left (without_change copy e)
-              (λ w g. absent_over id (record { no_work = w; no_hand = λ _. g }))
+              (λ w g. absent_over id (record { no_work = w; no_grant = λ _. g }))
               (λ up. copy_over id (record left { doomed = true }) (doomed_ready id left ready up) (without_none copy))
         ]
 

@@ -8,7 +8,7 @@ use Rattle.obj_id.specs.declared.refusals.Refusal.TheVariants.{Gone, TooMany}
 use Rattle.obj_id.specs.Ids.{same_task}
 use Rattle.private_store.specs.rules.Limits.{most_ended_tasks}
 use Rattle.private_store.specs.rules.Tables.{ById, ids_of}
-use Rattle.private_store.specs.rules.Shape.{Copy, Shape, Change, HandGiven}
+use Rattle.private_store.specs.rules.Shape.{Copy, Shape, Change, GrantGiven}
 use Rattle.private_store.specs.rules.Change.{done, doom, sending, has_ended}
 use Rattle.private_store.specs.rules.Commands.{of_task, task_ended, give_up_one, at_each, end_task}
 use Rattle.store_facts.proofs.KeptLists.{all-filter, length-filter-le}
@@ -48,15 +48,15 @@ module _ (store : Shape) (h : IsLiveKept store) (task : TaskNo) where
   task_over : nat_le most_ended_tasks (length store.ended_tasks) ≡ false → IsLiveKept (record (task_ended store task) { copies = second_copies })
   task_over e =
       let v = second_pass store h task first_copies (first_pass store h task) in
-      let keep = λ (hand : HandGiven). not (hand.id.job.0 == store.job && same_task task hand.id.task) in
+      let keep = λ (grant : GrantGiven). not (grant.id.job.0 == store.job && same_task task grant.id.task) in
       record {
         live = h.live;
         quota = h.quota;
         rows = record { in_order = v.in_order; each = λ q. (v.each q).ended_row; few = v.few };
         works = h.works;
-        hands = record {
-          own_hands = all-filter _ keep store.given h.hands.own_hands;
-          few = let l = length-filter-le keep store.given in let f = h.hands.few in omega (arith, l, f);
+        grants = record {
+          own_grants = all-filter _ keep store.given h.grants.own_grants;
+          few = let l = length-filter-le keep store.given in let f = h.grants.few in omega (arith, l, f);
         };
         fetches = h.fetches;
         ended = one_more_ended e;

@@ -172,7 +172,7 @@ module _ {store : Shape} (h : IsLiveKept store) where
   nothing_keeps id = sending_keeps _ _ (same_keeps h _ refl)
 
   quiet_keeps : (c : Change) → Keeps c → Keeps (quiet store c)
-  quiet_keeps c k = record { is = record { live = k.is.live; quota = k.is.quota; rows = k.is.rows; works = k.is.works; hands = k.is.hands; fetches = k.is.fetches; ended = k.is.ended } }
+  quiet_keeps c k = record { is = record { live = k.is.live; quota = k.is.quota; rows = k.is.rows; works = k.is.works; grants = k.is.grants; fetches = k.is.fetches; ended = k.is.ended } }
 
   pull_answer_keeps : (order : List ObjectId) → IsOrderOfUse order → (id : ObjectId) (copy : Copy) (state : CopyState) → at store.copies id ≡ Some copy → copy.state ≡ state → Keeps (elim state [
     | Sealed ↦ sending (chunks id ∷ []) (done store)

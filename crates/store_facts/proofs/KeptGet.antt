@@ -17,13 +17,13 @@ use Rattle.private_store.specs.rules.Copies.{is_sealed, is_away}
 use Rattle.private_store.specs.rules.Room.{make_room, works_left, set_copy}
 use Rattle.private_store.specs.rules.Change.{refused, checked, needing, sending, has_ended}
 use Rattle.private_store.specs.rules.Commands.{refusal_of, is_length, is_full_of_copies, new_copy, created, create, get_sealed, restoring, restore, get_away, counted, chunk_count, begin_pull, get_fetching, get_copy, fetched_copy, fetch_begun, begin_fetch, get, holds_of, all_holds, with_holds}
-use Rattle.private_store.specs.laws.Invariants.{IsOrderOfUse, IsCopyKept, are_held, are_gaps, has_work, has_hand, is_fetching, is_restoring}
+use Rattle.private_store.specs.laws.Invariants.{IsOrderOfUse, IsCopyKept, are_held, are_gaps, has_work, has_grant, is_fetching, is_restoring}
 use Rattle.store_facts.proofs.KeptCopy.{tight}
 use Rattle.store_facts.proofs.KeptRows.{row_put, rows_changed, IsLiveKept}
 use Rattle.store_facts.proofs.KeptWorks.{ask_keeps, next_work, pushed_no, pushed_yes}
 use Rattle.store_facts.proofs.KeptRoom.{IsMade}
 use Rattle.store_facts.proofs.KeptPlan.{room_keeps, in_room_keeps}
-use Rattle.store_facts.proofs.KeptChanges.{no_write_of, no_hand_of, unheld_of, no_work_of, held_copy, told_copy, fetched_on, new_kept, fetched_kept}
+use Rattle.store_facts.proofs.KeptChanges.{no_write_of, no_grant_of, unheld_of, no_work_of, held_copy, told_copy, fetched_on, new_kept, fetched_kept}
 use Rattle.store_facts.proofs.KeptStore.{Keeps, same_keeps, check_keeps, checks_keep, needing_keeps, sending_keeps, keeps_row, set_keeps, drop_keeps, put_row, kept_copy, kept_absent}
 use Rattle.store_facts.proofs.Tests.{and_rest, both, both_left, both_right, none_here, or_right, passed, true_false}
 use Rattle.store_facts.proofs.Ids.{same_id-itself}
@@ -102,12 +102,12 @@ module _ (order : List ObjectId) (once : IsOrderOfUse order) {store : Shape} (h 
         marks = record { secondary = k.secondary; away = λ _. k.away (ap (λ x. is_away x || is_restoring x) s); faulty = λ t. true_false (sym (ap is_some f) ∙ t) };
         holds = record { held = λ t. true_false (sym (unheld_of copy k (ap is_sealed s)) ∙ t); sessions = k.sessions; few_holds = k.few_holds };
         uses = record {
-          granted = λ t. true_false (sym (no_hand_of copy k (ap is_sealed s)) ∙ t);
+          granted = λ t. true_false (sym (no_grant_of copy k (ap is_sealed s)) ∙ t);
           spilled = λ t. true_false (sym (pushed_no (λ x. same_id id x.id && x.writes) store.works w (ap (λ b. b && false) (same_id-itself id)) ∙ no_write_of copy k (ap is_sealed s)) ∙ t);
           restored = pushed_yes (λ x. same_id id x.id && not x.writes) store.works w (ap (λ b. b && true) (same_id-itself id));
         };
         scope = k.scope;
-        doomed = λ d. or_right (are_held copy.holds || has_hand store.given id) (has_work (store.works ++ w ∷ []) id) (pushed_yes (λ x. same_id id x.id) store.works w (same_id-itself id));
+        doomed = λ d. or_right (are_held copy.holds || has_grant store.given id) (has_work (store.works ++ w ∷ []) id) (pushed_yes (λ x. same_id id x.id) store.works w (same_id-itself id));
       }
 
   works_few : (works_left store == 0) ≡ false → length store.works < most_works
@@ -160,7 +160,7 @@ module _ (order : List ObjectId) (once : IsOrderOfUse order) {store : Shape} (h 
   get_fetching_keeps id copy fetch (pulling source missing) e s = sending_keeps _ _ (same_keeps h _ refl)
   get_fetching_keeps id copy fetch (failed refusal) e s =
       let k = kept_copy h id copy e in
-      record { is = drop_keeps h id (no_work_of copy k (ap is_sealed s) (ap is_restoring s)) (no_hand_of copy k (ap is_sealed s)) }
+      record { is = drop_keeps h id (no_work_of copy k (ap is_sealed s) (ap is_restoring s)) (no_grant_of copy k (ap is_sealed s)) }
 
   -- ---- Get
 
@@ -187,7 +187,7 @@ module _ (order : List ObjectId) (once : IsOrderOfUse order) {store : Shape} (h 
         rows_changed {o = Some new} h.rows (row_put store.copies id new h.rows.in_order h.rows.few (λ _. few))
         (fetched_kept store.job store.works store.given store.ended_tasks id own (kept_absent h id none) live (store.fetches_begun + 1));
     works = h.works;
-    hands = h.hands;
+    grants = h.grants;
     fetches = ltb-true (store.fetches_begun + 1) (2 ^ 64) numbers;
     ended = h.ended;
   }

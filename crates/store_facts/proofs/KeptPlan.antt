@@ -130,7 +130,7 @@ module _ (order : List ObjectId) (once : IsOrderOfUse order) (store : Shape) whe
     made_room room m = record { made = λ _. m; kept = subst IsLiveKept (sym m.is) m.kept }
 
     unflagged : IsLiveKept (record store { spill_failed = false })
-    unflagged = record { live = h.live; quota = h.quota; rows = h.rows; works = h.works; hands = h.hands; fetches = h.fetches; ended = h.ended }
+    unflagged = record { live = h.live; quota = h.quota; rows = h.rows; works = h.works; grants = h.grants; fetches = h.fetches; ended = h.ended }
 
     spill_room_keeps : (ids : List ObjectId) → MaySpillAll ids → IsRoomKept (spill_room store ids)
     spill_room_keeps ids m =

@@ -10,11 +10,11 @@ use Rattle.obj_id.specs.declared.commands.CopyState.TheVariants.{Away}
 use Rattle.obj_id.specs.Ids.{id_cmp, same_id}
 use Rattle.private_store.specs.rules.Limits.{most_works}
 use Rattle.private_store.specs.rules.Tables.{ById, at, with_entry, without_entry, is_among}
-use Rattle.private_store.specs.rules.Shape.{Copy, WorkInFlight, HandGiven, Shape}
+use Rattle.private_store.specs.rules.Shape.{Copy, WorkInFlight, GrantGiven, Shape}
 use Rattle.obj_id.specs.Kinds.{is_primary}
 use Rattle.private_store.specs.rules.Copies.{is_sealed, is_idle, is_evictable, is_spillable}
 use Rattle.private_store.specs.rules.Room.{set_copy, drop_copy, evicted, asked}
-use Rattle.private_store.specs.laws.Invariants.{IsOrderOfUse, IsCopyKept, are_held, has_work, has_read, has_write, has_hand, is_fetching}
+use Rattle.private_store.specs.laws.Invariants.{IsOrderOfUse, IsCopyKept, are_held, has_work, has_read, has_write, has_grant, is_fetching}
 use Rattle.store_facts.proofs.KeptCopy.{IsRowKept, idle_held, idle_granted, idle_working, sealed_is, has_work-split, none_of}
 use Rattle.store_facts.proofs.KeptLists.{count-cons, none_counted}
 use Rattle.store_facts.proofs.KeptRows.{IsRowChange, row_put, row_drop, row_same, IsLiveKept}
@@ -27,9 +27,9 @@ use Rattle.store_facts.proofs.Ids.{same_id-itself}
 -- ---- copies that may go
 
 -- a copy that nothing keeps here, and whose bytes are elsewhere if it is a primary
-pub record MayGo (works : List WorkInFlight) (given : List HandGiven) (id : ObjectId) (copy : Copy) : Type 0 where
+pub record MayGo (works : List WorkInFlight) (given : List GrantGiven) (id : ObjectId) (copy : Copy) : Type 0 where
   pub unheld : are_held copy.holds ≡ false
-  pub no_hand : has_hand given id ≡ false
+  pub no_grant : has_grant given id ≡ false
   pub no_work : has_work works id ≡ false
   pub still : is_fetching copy.state ≡ false
   pub backed : is_primary copy.kind ≡ true → is_some copy.backed ≡ true
@@ -43,20 +43,20 @@ no_write works id e = or_false_left (has_write works id) (has_read works id) (sy
 no_read : (works : List WorkInFlight) (id : ObjectId) → has_work works id ≡ false → has_read works id ≡ false
 no_read works id e = or_false_right (has_write works id) (has_read works id) (sym (has_work-split works id) ∙ e)
 
-module _ {job : ℕ} {works : List WorkInFlight} {given : List HandGiven} {ended : List TaskNo} {id : ObjectId} where
+module _ {job : ℕ} {works : List WorkInFlight} {given : List GrantGiven} {ended : List TaskNo} {id : ObjectId} where
   away_kept : (copy : Copy) → IsCopyKept job works given ended id copy → MayGo works given id copy → is_primary copy.kind ≡ true → IsCopyKept job works given ended id (away_copy copy)
   away_kept copy h g p = record {
     own = h.own;
     form = record { resident = refl; in_fetch = h.in_fetch ∙ g.still; fetched = λ e. true_false e; gaps = h.gaps; sized = λ _. h.sized g.still };
     marks = record { secondary = h.secondary; away = λ _. (p, g.backed p); faulty = λ _. refl };
     holds = record { held = λ e. true_false (sym g.unheld ∙ e); sessions = h.sessions; few_holds = h.few_holds };
-    uses = record { granted = λ e. true_false (sym g.no_hand ∙ e); spilled = λ e. true_false (sym (no_write works id g.no_work) ∙ e); restored = no_read works id g.no_work };
+    uses = record { granted = λ e. true_false (sym g.no_grant ∙ e); spilled = λ e. true_false (sym (no_write works id g.no_work) ∙ e); restored = no_read works id g.no_work };
     scope = h.scope;
     doomed = h.doomed;
   }
 
-still_may_go : (works : List WorkInFlight) (given : List HandGiven) (id : ObjectId) (copy : Copy) → MayGo works given id copy → MayGo works given id (away_copy copy)
-still_may_go works given id copy g = record { unheld = g.unheld; no_hand = g.no_hand; no_work = g.no_work; still = refl; backed = g.backed }
+still_may_go : (works : List WorkInFlight) (given : List GrantGiven) (id : ObjectId) (copy : Copy) → MayGo works given id copy → MayGo works given id (away_copy copy)
+still_may_go works given id copy g = record { unheld = g.unheld; no_grant = g.no_grant; no_work = g.no_work; still = refl; backed = g.backed }
 
 -- ---- eviction
 
@@ -111,7 +111,7 @@ module _ (store : Shape) (ids : List ObjectId) where
     gone_kind copy e g false p = record {
       row = None;
       change = row_drop copies id h n;
-      going = going_row id None g.chosen (record { no_work = g.go.no_work; no_hand = λ _. g.go.no_hand }) tt (λ f. refl);
+      going = going_row id None g.chosen (record { no_work = g.go.no_work; no_grant = λ _. g.go.no_grant }) tt (λ f. refl);
     }
 
     gone_row : (o : Option Copy) → at copies id ≡ o → Going id o → Gone most copies id (option_map_or (λ copy. cond (is_primary copy.kind) (with_entry copies id (away_copy copy)) (without_entry copies id)) o copies)
@@ -148,9 +148,9 @@ module _ (store : Shape) (h : IsLiveKept store) where
       let first : is_sealed copy.state && is_idle store id copy ≡ true = both_left _ (not (is_primary copy.kind) || is_some copy.backed) t in
       let idle = both_right (is_sealed copy.state) (is_idle store id copy) first in
       record {
-        unheld = idle_held (are_held copy.holds) (has_hand store.given id) (has_work store.works id) idle;
-        no_hand = idle_granted (are_held copy.holds) (has_hand store.given id) (has_work store.works id) idle;
-        no_work = idle_working (are_held copy.holds) (has_hand store.given id) (has_work store.works id) idle;
+        unheld = idle_held (are_held copy.holds) (has_grant store.given id) (has_work store.works id) idle;
+        no_grant = idle_granted (are_held copy.holds) (has_grant store.given id) (has_work store.works id) idle;
+        no_work = idle_working (are_held copy.holds) (has_grant store.given id) (has_work store.works id) idle;
         still = ap is_fetching (sealed_is copy.state (both_left (is_sealed copy.state) (is_idle store id copy) first));
         backed = λ p. or_rest (is_primary copy.kind) (is_some copy.backed) p mark;
       }
@@ -207,7 +207,7 @@ spillable_is store id t = by_row (at store.copies id) refl t
           sealed = both_left (is_sealed copy.state) (is_primary copy.kind) two;
           primary = both_right (is_sealed copy.state) (is_primary copy.kind) two;
           unbacked = none_of copy.backed (both_right (is_sealed copy.state && is_primary copy.kind) (is_none copy.backed) three);
-          no_work = idle_working (are_held copy.holds) (has_hand store.given id) (has_work store.works id) (both_right (is_sealed copy.state && is_primary copy.kind && is_none copy.backed) (is_idle store id copy) four);
+          no_work = idle_working (are_held copy.holds) (has_grant store.given id) (has_work store.works id) (both_right (is_sealed copy.state && is_primary copy.kind && is_none copy.backed) (is_idle store id copy) four);
         }
 
 module _ (store : Shape) (h : IsLiveKept store) where
@@ -228,7 +228,7 @@ module _ (store : Shape) (h : IsLiveKept store) where
           restored = pushed_no (λ x. same_id id x.id && not x.writes) store.works w (ap (λ b. b && false) (same_id-itself id)) ∙ k.restored;
         };
         scope = k.scope;
-        doomed = λ d. or_right (are_held m.copy.holds || has_hand store.given id) (has_work works id) (pushed_yes (λ x. same_id id x.id) store.works w (same_id-itself id));
+        doomed = λ d. or_right (are_held m.copy.holds || has_grant store.given id) (has_work works id) (pushed_yes (λ x. same_id id x.id) store.works w (same_id-itself id));
       })
 
   -- another id may still be spilled

@@ -7,9 +7,9 @@ use Rattle.std.specs.FinMap.Entries.{find-where_key, is_sorted-where_key, is_sor
 use Rattle.obj_id.specs.declared.ids.ObjectId.{ObjectId}
 use Rattle.obj_id.specs.declared.ids.TaskNo.{TaskNo}
 use Rattle.obj_id.specs.Ids.{id_cmp, same_id}
-use Rattle.private_store.specs.rules.Limits.{most_copies, most_works, most_hands, most_ended_tasks, is_quota}
+use Rattle.private_store.specs.rules.Limits.{most_copies, most_works, most_grants, most_ended_tasks, is_quota}
 use Rattle.private_store.specs.rules.Tables.{ById, at, with_entry, without_entry}
-use Rattle.private_store.specs.rules.Shape.{Copy, WorkInFlight, HandGiven, Shape}
+use Rattle.private_store.specs.rules.Shape.{Copy, WorkInFlight, GrantGiven, Shape}
 use Rattle.private_store.specs.rules.Events.{is_live}
 use Rattle.private_store.specs.laws.Invariants.{IsShapeKept}
 use Rattle.store_facts.proofs.Ids.{id_cmp-IsAntisymmetric, id_cmp-IsTotalOrder, same_id-equal, same_id-itself, same_id-not_back}
@@ -84,13 +84,13 @@ row_then {copies} {id} {o} {p} {mid} {new} h k = record {
 
 -- ---- what the rows keep
 
-pub record AreRowsKept (job : ℕ) (works : List WorkInFlight) (given : List HandGiven) (ended : List TaskNo) (copies : ById Copy) : Type 0 where
+pub record AreRowsKept (job : ℕ) (works : List WorkInFlight) (given : List GrantGiven) (ended : List TaskNo) (copies : ById Copy) : Type 0 where
   pub in_order : T (is_sorted id_cmp copies)
   pub each : (id : ObjectId) → IsRowKept job works given ended id (at copies id)
   pub few : length copies ≤ most_copies
 
--- a row changes, and with it the works and the hands of that id alone
-pub rows_moved : {job : ℕ} {works old_works : List WorkInFlight} {given old_given : List HandGiven} {ended : List TaskNo} {copies : ById Copy} {id : ObjectId} {o : Option Copy} {new : ById Copy}
+-- a row changes, and with it the works and the grants of that id alone
+pub rows_moved : {job : ℕ} {works old_works : List WorkInFlight} {given old_given : List GrantGiven} {ended : List TaskNo} {copies : ById Copy} {id : ObjectId} {o : Option Copy} {new : ById Copy}
     → AreRowsKept job old_works old_given ended copies → IsRowChange most_copies copies id o new → ((q : ObjectId) → same_id q id ≡ false → SameFor works old_works given old_given q)
     → IsRowKept job works given ended id o → AreRowsKept job works given ended new
 rows_moved {job} {works} {old_works} {given} {old_given} {ended} {copies} {id} {o} {new} h c same r = record {
@@ -103,10 +103,10 @@ rows_moved {job} {works} {old_works} {given} {old_given} {ended} {copies} {id} {
   few = c.few;
 }
 
-pub same_lists : (works : List WorkInFlight) (given : List HandGiven) (q : ObjectId) → SameFor works works given given q
-same_lists works given q = record { work = refl; write = refl; read = refl; hand = refl }
+pub same_lists : (works : List WorkInFlight) (given : List GrantGiven) (q : ObjectId) → SameFor works works given given q
+same_lists works given q = record { work = refl; write = refl; read = refl; grant = refl }
 
-pub rows_changed : {job : ℕ} {works : List WorkInFlight} {given : List HandGiven} {ended : List TaskNo} {copies : ById Copy} {id : ObjectId} {o : Option Copy} {new : ById Copy}
+pub rows_changed : {job : ℕ} {works : List WorkInFlight} {given : List GrantGiven} {ended : List TaskNo} {copies : ById Copy} {id : ObjectId} {o : Option Copy} {new : ById Copy}
     → AreRowsKept job works given ended copies → IsRowChange most_copies copies id o new → IsRowKept job works given ended id o → AreRowsKept job works given ended new
 rows_changed {works = works} {given = given} h c r = rows_moved h c (λ q _. same_lists works given q) r
 
@@ -119,9 +119,9 @@ pub record AreWorksKept (works : List WorkInFlight) (asked : ℕ) : Type 0 where
   pub numbers_end : asked < 2 ^ 64
   pub few : length works ≤ most_works
 
-pub record AreHandsKept (job : ℕ) (given : List HandGiven) : Type 0 where
-  pub own_hands : IsTrue (list_all (λ hand. not (hand.id.job.0 == job) || is_none hand.parent) given)
-  pub few : length given ≤ most_hands
+pub record AreGrantsKept (job : ℕ) (given : List GrantGiven) : Type 0 where
+  pub own_grants : IsTrue (list_all (λ grant. not (grant.id.job.0 == job) || is_none grant.parent) given)
+  pub few : length given ≤ most_grants
 
 -- a live store
 pub record IsLiveKept (store : Shape) : Type 0 where
@@ -129,7 +129,7 @@ pub record IsLiveKept (store : Shape) : Type 0 where
   pub quota : is_quota store.quota ≡ true
   pub rows : AreRowsKept store.job store.works store.given store.ended_tasks store.copies
   pub works : AreWorksKept store.works store.works_asked
-  pub hands : AreHandsKept store.job store.given
+  pub grants : AreGrantsKept store.job store.given
   pub fetches : store.fetches_begun < 2 ^ 64
   pub ended : length store.ended_tasks ≤ most_ended_tasks
 
@@ -137,7 +137,7 @@ rows_of : (store : Shape) → IsShapeKept store → AreRowsKept store.job store.
 rows_of store h = record {
   in_order = T_true _ h.by_id;
   each = λ id. elim (at store.copies id) as (λ o. at store.copies id ≡ o → IsRowKept store.job store.works store.given store.ended_tasks id o) [
-    | None ↦ λ e. record { no_work = h.works_of_copies id e; no_hand = λ j. h.hands_of_copies id j e }
+    | None ↦ λ e. record { no_work = h.works_of_copies id e; no_grant = λ j. h.grants_of_copies id j e }
     | Some copy ↦ λ e. h.each id copy e
   ] refl;
   few = h.most_copies;
@@ -149,7 +149,7 @@ to_live store h l = record {
   quota = h.quota l;
   rows = rows_of store h;
   works = record { one_work = h.one_work; numbers_used = h.numbers_used; one_number = h.one_number; numbers_end = h.numbers_end.0; few = h.most_works };
-  hands = record { own_hands = h.own_hands; few = h.most_hands };
+  grants = record { own_grants = h.own_grants; few = h.most_grants };
   fetches = h.numbers_end.1;
   ended = h.most_ended;
 }
@@ -165,10 +165,10 @@ from_live store h = record {
   numbers_used = h.works.numbers_used;
   one_number = h.works.one_number;
   numbers_end = (h.works.numbers_end, h.fetches);
-  hands_of_copies = λ id j e. (subst (IsRowKept store.job store.works store.given store.ended_tasks id) e (h.rows.each id)).no_hand j;
-  own_hands = h.hands.own_hands;
+  grants_of_copies = λ id j e. (subst (IsRowKept store.job store.works store.given store.ended_tasks id) e (h.rows.each id)).no_grant j;
+  own_grants = h.grants.own_grants;
   most_copies = h.rows.few;
   most_works = h.works.few;
-  most_hands = h.hands.few;
+  most_grants = h.grants.few;
   most_ended = h.ended;
 }

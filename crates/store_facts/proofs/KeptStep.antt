@@ -23,11 +23,11 @@ use Rattle.store_facts.proofs.KeptRows.{IsLiveKept, to_live, from_live}
 use Rattle.store_facts.proofs.KeptStore.{Keeps, same_keeps, checked_keeps, check_keeps, checks_keep}
 use Rattle.store_facts.proofs.KeptCommands.{write_keeps, seal_keeps, read_keeps, peek_keeps, release_keeps, unpin_keeps, borrow_keeps, give_up_keeps, delete_keeps, leave_keeps}
 use Rattle.store_facts.proofs.KeptEndTask.{end_task_keeps}
-use Rattle.store_facts.proofs.KeptHands.{grant_keeps, withdraw_keeps}
+use Rattle.store_facts.proofs.KeptGrants.{grant_keeps, withdraw_keeps}
 use Rattle.store_facts.proofs.KeptGet.{create_keeps, get_keeps}
 use Rattle.store_facts.proofs.KeptFetches.{located_keeps, chunk_keeps, not_here_keeps, pull_keeps}
 use Rattle.store_facts.proofs.KeptAnswers.{answer_keeps}
-use Rattle.store_facts.proofs.KeptHandsTaken.{received_keeps, withdrawn_keeps}
+use Rattle.store_facts.proofs.KeptGrantsTaken.{received_keeps, withdrawn_keeps}
 use Rattle.store_facts.proofs.Tests.{false_true, passed, true_false}
 
 -- ---- the commands
@@ -57,7 +57,7 @@ module _ (order : List ObjectId) (once : IsOrderOfUse order) {store : Shape} (h 
 
   requota_keeps : (quota : Quota) → Keeps (requota store quota)
   requota_keeps quota = check_keeps h (not (is_quota quota)) BadSize _ _ (λ q. checked_keeps h _ _ (record {
-    is = record { live = h.live; quota = passed (is_quota quota) q; rows = h.rows; works = h.works; hands = h.hands; fetches = h.fetches; ended = h.ended };
+    is = record { live = h.live; quota = passed (is_quota quota) q; rows = h.rows; works = h.works; grants = h.grants; fetches = h.fetches; ended = h.ended };
   }))
 
 -- ---- the begin and the end
@@ -74,11 +74,11 @@ unbegun_kept job = record {
   numbers_used = refl;
   one_number = λ n. omega arith;
   numbers_end = (omega arith, omega arith);
-  hands_of_copies = λ id j e. refl;
-  own_hands = refl;
+  grants_of_copies = λ id j e. refl;
+  own_grants = refl;
   most_copies = omega arith;
   most_works = omega arith;
-  most_hands = omega arith;
+  most_grants = omega arith;
   most_ended = omega arith;
 }
 
@@ -95,11 +95,11 @@ over_kept store =
       numbers_used = h.numbers_used;
       one_number = h.one_number;
       numbers_end = h.numbers_end;
-      hands_of_copies = h.hands_of_copies;
-      own_hands = h.own_hands;
+      grants_of_copies = h.grants_of_copies;
+      own_grants = h.own_grants;
       most_copies = h.most_copies;
       most_works = h.most_works;
-      most_hands = h.most_hands;
+      most_grants = h.most_grants;
       most_ended = h.most_ended;
     }
 
@@ -114,11 +114,11 @@ begun_kept store quota q h = record {
   numbers_used = h.numbers_used;
   one_number = h.one_number;
   numbers_end = h.numbers_end;
-  hands_of_copies = h.hands_of_copies;
-  own_hands = h.own_hands;
+  grants_of_copies = h.grants_of_copies;
+  own_grants = h.own_grants;
   most_copies = h.most_copies;
   most_works = h.most_works;
-  most_hands = h.most_hands;
+  most_grants = h.most_grants;
   most_ended = h.most_ended;
 }
 

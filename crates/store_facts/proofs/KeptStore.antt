@@ -8,42 +8,42 @@ use Rattle.obj_id.specs.Ids.{same_id}
 use Rattle.private_store.specs.rules.Events.{is_live}
 use Rattle.private_store.specs.rules.Limits.{most_copies, most_ended_tasks, is_quota}
 use Rattle.private_store.specs.rules.Tables.{ById, at, with_entry}
-use Rattle.private_store.specs.rules.Shape.{Copy, Shape, Change, Sending, WorkInFlight, HandGiven}
+use Rattle.private_store.specs.rules.Shape.{Copy, Shape, Change, Sending, WorkInFlight, GrantGiven}
 use Rattle.private_store.specs.rules.Copies.{in_scope}
 use Rattle.private_store.specs.rules.Room.{set_copy, drop_copy}
 use Rattle.private_store.specs.rules.Change.{done, checked, needing, sending, settled, doomed, doom}
 use Rattle.private_store.specs.rules.Commands.{scoped}
-use Rattle.private_store.specs.laws.Invariants.{IsCopyKept, IsScopeKept, has_work, has_hand}
+use Rattle.private_store.specs.laws.Invariants.{IsCopyKept, IsScopeKept, has_work, has_grant}
 use Rattle.store_facts.proofs.Checks.{checked_has, needing_has}
 use Rattle.store_facts.proofs.KeptCopy.{SameFor, IsRowKept, IsAbsentKept, IsBare, IsLoose, tight, is_kept_up}
 use Rattle.store_facts.proofs.KeptEach.{settled_row, settled_of_copies}
-use Rattle.store_facts.proofs.KeptRows.{AreWorksKept, AreHandsKept, rows_moved, same_lists, IsRowChange, row_put, row_drop, row_then, row_here, AreRowsKept, rows_changed, IsLiveKept}
+use Rattle.store_facts.proofs.KeptRows.{AreWorksKept, AreGrantsKept, rows_moved, same_lists, IsRowChange, row_put, row_drop, row_then, row_here, AreRowsKept, rows_changed, IsLiveKept}
 use Rattle.store_facts.proofs.Tests.{false_true}
 
 pub with_copies : {store : Shape} → IsLiveKept store → (new : ById Copy) → AreRowsKept store.job store.works store.given store.ended_tasks new → IsLiveKept (record store { copies = new })
-with_copies h new r = record { live = h.live; quota = h.quota; rows = r; works = h.works; hands = h.hands; fetches = h.fetches; ended = h.ended }
+with_copies h new r = record { live = h.live; quota = h.quota; rows = r; works = h.works; grants = h.grants; fetches = h.fetches; ended = h.ended }
 
 -- what a live store keeps beside its rows
 pub record IsFrameKept (store : Shape) : Type 0 where
   pub live : is_live store ≡ true
   pub quota : is_quota store.quota ≡ true
   pub works : AreWorksKept store.works store.works_asked
-  pub hands : AreHandsKept store.job store.given
+  pub grants : AreGrantsKept store.job store.given
   pub fetches : store.fetches_begun < 2 ^ 64
   pub ended : length store.ended_tasks ≤ most_ended_tasks
 
 pub frame_of : {store : Shape} → IsLiveKept store → (new : ById Copy) → IsFrameKept (record store { copies = new })
-frame_of h new = record { live = h.live; quota = h.quota; works = h.works; hands = h.hands; fetches = h.fetches; ended = h.ended }
+frame_of h new = record { live = h.live; quota = h.quota; works = h.works; grants = h.grants; fetches = h.fetches; ended = h.ended }
 
 pub in_frame : (store : Shape) (new : ById Copy) → IsFrameKept store → AreRowsKept store.job store.works store.given store.ended_tasks new → IsLiveKept (record store { copies = new })
-in_frame store new f r = record { live = f.live; quota = f.quota; rows = r; works = f.works; hands = f.hands; fetches = f.fetches; ended = f.ended }
+in_frame store new f r = record { live = f.live; quota = f.quota; rows = r; works = f.works; grants = f.grants; fetches = f.fetches; ended = f.ended }
 
--- a copy, and the works and hands on it, change, and it goes if it is doomed and nothing keeps it
-pub settle_moved : (store : Shape) (id : ObjectId) (copy : Copy) → IsFrameKept store → {old_works : List WorkInFlight} {old_given : List HandGiven} {copies : ById Copy}
+-- a copy, and the works and grants on it, change, and it goes if it is doomed and nothing keeps it
+pub settle_moved : (store : Shape) (id : ObjectId) (copy : Copy) → IsFrameKept store → {old_works : List WorkInFlight} {old_given : List GrantGiven} {copies : ById Copy}
     → AreRowsKept store.job old_works old_given store.ended_tasks copies → IsRowChange most_copies copies id (Some copy) store.copies
     → ((q : ObjectId) → same_id q id ≡ false → SameFor store.works old_works store.given old_given q) → IsLoose store.job store.works store.given store.ended_tasks id copy → IsLiveKept (settled store id)
 settle_moved store id copy f {copies = copies} rows c same k =
-    let r = settled_row most_copies copies id (IsRowKept store.job store.works store.given store.ended_tasks id) store copy c (λ w g. record { no_work = w; no_hand = λ _. g }) (λ up. tight k up) in
+    let r = settled_row most_copies copies id (IsRowKept store.job store.works store.given store.ended_tasks id) store copy c (λ w g. record { no_work = w; no_grant = λ _. g }) (λ up. tight k up) in
     subst IsLiveKept (sym (settled_of_copies store id).is) (in_frame store (settled store id).copies f (rows_moved rows r.change same r.holds))
 
 module _ {store : Shape} (h : IsLiveKept store) where
@@ -64,8 +64,8 @@ module _ {store : Shape} (h : IsLiveKept store) where
   set_keeps id old copy e k = keeps_row id (Some copy) _ (put_row id old copy e) k
 
   -- a copy that nothing keeps goes
-  pub drop_keeps : (id : ObjectId) → has_work store.works id ≡ false → has_hand store.given id ≡ false → IsLiveKept (drop_copy store id)
-  drop_keeps id w g = keeps_row id None _ (row_drop store.copies id h.rows.in_order h.rows.few) (record { no_work = w; no_hand = λ _. g })
+  pub drop_keeps : (id : ObjectId) → has_work store.works id ≡ false → has_grant store.given id ≡ false → IsLiveKept (drop_copy store id)
+  drop_keeps id w g = keeps_row id None _ (row_drop store.copies id h.rows.in_order h.rows.few) (record { no_work = w; no_grant = λ _. g })
 
   -- a copy changes, and goes if it is doomed and nothing keeps it
   pub settle : (id : ObjectId) (copy : Copy) (new : ById Copy) → IsRowChange most_copies store.copies id (Some copy) new → IsLoose store.job store.works store.given store.ended_tasks id copy → IsLiveKept (settled (record store { copies = new }) id)

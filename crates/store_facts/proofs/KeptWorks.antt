@@ -9,7 +9,7 @@ use Rattle.obj_id.specs.declared.ids.ObjectId.{ObjectId}
 use Rattle.obj_id.specs.Ids.{same_id}
 use Rattle.private_store.specs.rules.Limits.{most_works, most_copies}
 use Rattle.private_store.specs.rules.Tables.{ById}
-use Rattle.private_store.specs.rules.Shape.{Copy, WorkInFlight, HandGiven, Shape}
+use Rattle.private_store.specs.rules.Shape.{Copy, WorkInFlight, GrantGiven, Shape}
 use Rattle.private_store.specs.rules.Room.{asked}
 use Rattle.private_store.specs.laws.Invariants.{IsCopyKept, has_work}
 use Rattle.store_facts.proofs.KeptCopy.{SameFor}
@@ -35,12 +35,12 @@ pushed_yes p xs x e = list_any-append p xs (x ∷ []) ∙ or_right (list_any p x
 abbrev pub next_work : ℕ → ObjectId → Bool → WorkInFlight
 next_work asked id writes = record { number = asked + 1; id = id; writes = writes }
 
-pub same_asked : (works : List WorkInFlight) (asked : ℕ) (given : List HandGiven) (id : ObjectId) (writes : Bool) (q : ObjectId) → same_id q id ≡ false → SameFor (works ++ next_work asked id writes ∷ []) works given given q
+pub same_asked : (works : List WorkInFlight) (asked : ℕ) (given : List GrantGiven) (id : ObjectId) (writes : Bool) (q : ObjectId) → same_id q id ≡ false → SameFor (works ++ next_work asked id writes ∷ []) works given given q
 same_asked works asked given id writes q e = record {
   work = pushed_no (λ w. same_id q w.id) works (next_work asked id writes) e;
   write = pushed_no (λ w. same_id q w.id && w.writes) works (next_work asked id writes) (ap (λ b. b && writes) e);
   read = pushed_no (λ w. same_id q w.id && not w.writes) works (next_work asked id writes) (ap (λ b. b && not writes) e);
-  hand = refl;
+  grant = refl;
 }
 
 number_above : (works : List WorkInFlight) (asked n : ℕ) → list_all (λ w. nat_lt 0 w.number && nat_le w.number asked) works ≡ true → asked < n → list_any (λ w. w.number == n) works ≡ false
@@ -85,7 +85,7 @@ ask_keeps {store} h id copy new writes c free few end k = record {
   quota = h.quota;
   rows = rows_moved {o = Some copy} h.rows c (same_asked store.works store.works_asked store.given id writes) k;
   works = works_asked_keep store.works store.works_asked id writes h.works free few end;
-  hands = h.hands;
+  grants = h.grants;
   fetches = h.fetches;
   ended = h.ended;
 }
@@ -110,10 +110,10 @@ module _ (works : List WorkInFlight) (asked number : ℕ) (w : WorkInFlight) (h 
   pub rest_free : has_work rest_of w.id ≡ false
   rest_free = none-taken (λ x. x.number == number) (λ x. same_id w.id x.id) works w found (h.one_work w.id) (same_id-itself w.id)
 
-  pub same_rest : (given : List HandGiven) (q : ObjectId) → same_id q w.id ≡ false → SameFor rest_of works given given q
+  pub same_rest : (given : List GrantGiven) (q : ObjectId) → same_id q w.id ≡ false → SameFor rest_of works given given q
   same_rest given q e = record {
     work = any-taken (λ x. x.number == number) (λ x. same_id q x.id) works w found (h.one_number number) e;
     write = any-taken (λ x. x.number == number) (λ x. same_id q x.id && x.writes) works w found (h.one_number number) (ap (λ b. b && w.writes) e);
     read = any-taken (λ x. x.number == number) (λ x. same_id q x.id && not x.writes) works w found (h.one_number number) (ap (λ b. b && not w.writes) e);
-    hand = refl;
+    grant = refl;
   }

@@ -36,11 +36,11 @@ pub mod KeptEndTask
 pub mod KeptHolds
 pub mod KeptChanges
 pub mod KeptCommands
-pub mod KeptHands
+pub mod KeptGrants
 pub mod KeptGet
 pub mod KeptFetches
 pub mod KeptAnswers
-pub mod KeptHandsTaken
+pub mod KeptGrantsTaken
 pub mod KeptStep
 pub mod KeptView
 pub mod WorksHaveCopies
@@ -48,7 +48,7 @@ pub mod EachStep
 pub mod OwnJob
 pub mod ListsKept
 pub mod AnswersAre
-pub mod BriefKept
+pub mod ReplayStateKept
 pub mod ErasedKeys
 pub mod VictimsMakeRoom
 pub mod Ids

@@ -11,9 +11,9 @@ use Rattle.obj_id.specs.Ids.{id_cmp, same_id}
 use Rattle.private_store.specs.declared.inputs.WorkVerdict.TheVariants as work
 use Rattle.private_store.specs.declared.inputs.Judged.{Judged}
 use Rattle.private_store.specs.rules.Tables.{ById, at, with_entry, without_entry}
-use Rattle.private_store.specs.rules.Shape.{Copy, Shape, HandTaken, WorkInFlight, Seen, unbegun}
+use Rattle.private_store.specs.rules.Shape.{Copy, Shape, GrantTaken, WorkInFlight, Seen, unbegun}
 use Rattle.private_store.specs.rules.Commands.{new_copy, fetched_copy}
-use Rattle.private_store.specs.rules.Events.{hands_of, is_hand}
+use Rattle.private_store.specs.rules.Events.{grants_of, is_the_grant}
 use Rattle.private_store.specs.rules.Step.{step, is_used, reordered, order_after}
 use Rattle.private_store.specs.laws.Made
 use Rattle.private_store.specs.laws.Made.{Marked, Edit, marks, drops, creates, fetches, asks, finishes, receives, loses, ends, IsUsedThere}
@@ -165,30 +165,30 @@ edit_works used store after _ h = h
 
 -- ---- what others granted
 
-some_hands : (hands : List HandTaken) (hand : HandTaken) → 0 < length (hands ++ hand ∷ [])
-some_hands [] hand = omega arith
-some_hands (h ∷ hands) hand = let k = some_hands hands hand in omega (arith, k)
+some_grants : (grants : List GrantTaken) (grant : GrantTaken) → 0 < length (grants ++ grant ∷ [])
+some_grants [] grant = omega arith
+some_grants (h ∷ grants) grant = let k = some_grants grants grant in omega (arith, k)
 
-put_seen : (received : ById Seen) (id : ObjectId) (seen : Seen) → 0 < length seen.hands → AreSeenKept received → AreSeenKept (with_entry received id seen)
+put_seen : (received : ById Seen) (id : ObjectId) (seen : Seen) → 0 < length seen.grants → AreSeenKept received → AreSeenKept (with_entry received id seen)
 put_seen received id seen some h = record {
   by_id = true_T _ (is_sorted-put id_cmp id_cmp-IsTotalOrder id seen received (T_true _ h.by_id));
-  by_hands = λ q s. put_rows (λ q o. o ≡ Some s → 0 < length s.hands) received id seen (λ e. subst (λ y. 0 < length y.hands) (some_value seen s e) some) (λ q _ e. h.by_hands q s e) q;
+  by_grants = λ q s. put_rows (λ q o. o ≡ Some s → 0 < length s.grants) received id seen (λ e. subst (λ y. 0 < length y.grants) (some_value seen s e) some) (λ q _ e. h.by_grants q s e) q;
 }
 
 drop_seen : (received : ById Seen) (id : ObjectId) → AreSeenKept received → AreSeenKept (without_entry received id)
 drop_seen received id h = record {
   by_id = true_T _ (is_sorted-where_key id_cmp (λ x. not (same_id id x)) received (T_true _ h.by_id));
-  by_hands = λ q s. drop_rows (λ q o. o ≡ Some s → 0 < length s.hands) received id (λ q e. none_some s e) (λ q e. h.by_hands q s e) q;
+  by_grants = λ q s. drop_rows (λ q o. o ≡ Some s → 0 < length s.grants) received id (λ q e. none_some s e) (λ q e. h.by_grants q s e) q;
 }
 
-pub lost_seen : (received : ById Seen) (id : ObjectId) (seen : Seen) (hands : List HandTaken) → AreSeenKept received
-    → AreSeenKept (option_map_or (λ left. with_entry received id left) (elim hands [ [] ↦ None | hand ∷ hands ↦ Some (record seen { hands = hand ∷ hands }) ]) (without_entry received id))
+pub lost_seen : (received : ById Seen) (id : ObjectId) (seen : Seen) (grants : List GrantTaken) → AreSeenKept received
+    → AreSeenKept (option_map_or (λ left. with_entry received id left) (elim grants [ [] ↦ None | grant ∷ grants ↦ Some (record seen { grants = grant ∷ grants }) ]) (without_entry received id))
 lost_seen received id seen [] h = drop_seen received id h
-lost_seen received id seen (hand ∷ hands) h = put_seen received id (record seen { hands = hand ∷ hands }) (omega arith) h
+lost_seen received id seen (grant ∷ grants) h = put_seen received id (record seen { grants = grant ∷ grants }) (omega arith) h
 
 edit_seen : {x : Judged} (used : Option ObjectId) (store after : Shape) → Edit x used store after → AreSeenKept store.received → AreSeenKept after.received
-edit_seen used store after (receives id n grantor depth is) h = put_seen store.received id _ (some_hands (hands_of store id) (record { grantor = grantor.0; depth = depth })) h
-edit_seen used store after (loses id grantor depth seen e) h = lost_seen store.received id seen (filter (λ hand. not (is_hand grantor depth hand)) seen.hands) h
+edit_seen used store after (receives id n grantor depth is) h = put_seen store.received id _ (some_grants (grants_of store id) (record { grantor = grantor.0; depth = depth })) h
+edit_seen used store after (loses id grantor depth seen e) h = lost_seen store.received id seen (filter (λ grant. not (is_the_grant grantor depth grant)) seen.grants) h
 edit_seen used store after _ h = h
 
 -- ---- all of them
@@ -208,5 +208,5 @@ pub unbegun_lists : (job : ℕ) → AreListsKept (unbegun job)
 unbegun_lists job = record {
   fetches = record { numbered = λ q n t. none_some n t; apart = λ a b n s t. none_some n s };
   works = record { rising = refl; numbered = refl };
-  seen = record { by_id = refl; by_hands = λ id seen e. none_some seen e };
+  seen = record { by_id = refl; by_grants = λ id seen e. none_some seen e };
 }

@@ -4,7 +4,7 @@ use Rattle.std.specs.List.{cons_option}
 use Rattle.std.proofs.lemmas.List.{reverse-append, reverse-reverse}
 use Rattle.std.proofs.lemmas.List.Elements.{filter-append, filter_map-append}
 use Rattle.private_store.specs.declared.schedules.Traced.{Traced}
-use Rattle.private_store.specs.rules.Cluster.{Cluster, ClusterInput, Told, cluster_step, cluster_from, told, told_from, no_cluster}
+use Rattle.private_store.specs.rules.Cluster.{Cluster, ClusterInput, Response, cluster_step, cluster_from, response, responses_from, no_cluster}
 use Rattle.private_store.specs.rules.Trace.{own_input, notes, for_job, cluster_until, inputs_until, reply_of, replies_of, is_answered, IsPrivate}
 
 pub cluster_from-append : (cluster : Cluster) (xs ys : List ClusterInput) → cluster_from cluster (xs ++ ys) ≡ cluster_from (cluster_from cluster xs) ys
@@ -15,11 +15,11 @@ append_assoc : {A : Type 0} (xs ys zs : List A) → xs ++ (ys ++ zs) ≡ (xs ++ 
 append_assoc [] ys zs = refl
 append_assoc (x ∷ xs) ys zs = ap (λ l. x ∷ l) (append_assoc xs ys zs)
 
-pub told_from-append : (cluster : Cluster) (xs ys : List ClusterInput) → told_from cluster (xs ++ ys) ≡ told_from cluster xs ++ told_from (cluster_from cluster xs) ys
-told_from-append cluster [] ys = refl
-told_from-append cluster (x ∷ xs) ys =
-    ap (λ l. told x (cluster_step cluster x) ++ l) (told_from-append (cluster_step cluster x).cluster xs ys)
-    ∙ append_assoc (told x (cluster_step cluster x)) (told_from (cluster_step cluster x).cluster xs) (told_from (cluster_from (cluster_step cluster x).cluster xs) ys)
+pub responses_from-append : (cluster : Cluster) (xs ys : List ClusterInput) → responses_from cluster (xs ++ ys) ≡ responses_from cluster xs ++ responses_from (cluster_from cluster xs) ys
+responses_from-append cluster [] ys = refl
+responses_from-append cluster (x ∷ xs) ys =
+    ap (λ l. response x (cluster_step cluster x) ++ l) (responses_from-append (cluster_step cluster x).cluster xs ys)
+    ∙ append_assoc (response x (cluster_step cluster x)) (responses_from (cluster_step cluster x).cluster xs) (responses_from (cluster_from (cluster_step cluster x).cluster xs) ys)
 
 -- what a step is to a job
 abbrev pub inputs_now : ℕ → ℕ → Traced → List Traced → List ClusterInput
@@ -36,19 +36,19 @@ abbrev pub EachPrivate : ℕ → ℕ → List Traced → Type 0
 EachPrivate nodes job [] = Unit {0}
 EachPrivate nodes job (entry ∷ before) =
     EachPrivate nodes job before
-    × (filter is_answered (option_to_list (reply_of job entry.step entry.answer)) ≡ told_from (cluster_until nodes job before) (inputs_now nodes job entry before))
+    × (filter is_answered (option_to_list (reply_of job entry.step entry.answer)) ≡ responses_from (cluster_until nodes job before) (inputs_now nodes job entry before))
 
 private_until : (nodes job : ℕ) (history : List Traced) → EachPrivate nodes job history
-    → filter is_answered (replies_of job (reverse history)) ≡ told_from (no_cluster job nodes) (inputs_until nodes job history)
+    → filter is_answered (replies_of job (reverse history)) ≡ responses_from (no_cluster job nodes) (inputs_until nodes job history)
 private_until nodes job [] h = refl
 private_until nodes job (entry ∷ before) h =
     ap (filter is_answered) (ap (replies_of job) (reverse-append (entry ∷ []) before) ∙ filter_map-append (λ e. reply_of job e.step e.answer) (reverse before) (entry ∷ []) ∙ ap (λ l. replies_of job (reverse before) ++ l) (one (reply_of job entry.step entry.answer)))
     ∙ filter-append is_answered (replies_of job (reverse before)) (option_to_list (reply_of job entry.step entry.answer))
     ∙ ap (λ l. l ++ filter is_answered (option_to_list (reply_of job entry.step entry.answer))) (private_until nodes job before h.0)
-    ∙ ap (λ l. told_from (no_cluster job nodes) (inputs_until nodes job before) ++ l) h.1
-    ∙ sym (told_from-append (no_cluster job nodes) (inputs_until nodes job before) (inputs_now nodes job entry before))
+    ∙ ap (λ l. responses_from (no_cluster job nodes) (inputs_until nodes job before) ++ l) h.1
+    ∙ sym (responses_from-append (no_cluster job nodes) (inputs_until nodes job before) (inputs_now nodes job entry before))
   where
-    one : (o : Option Told) → cons_option o [] ≡ option_to_list o
+    one : (o : Option Response) → cons_option o [] ≡ option_to_list o
     one None = refl
     one (Some t) = refl
 

@@ -39,7 +39,7 @@ pub spilled-shared : AreSharedAnswers 1 1048576 spilled
 unfolding checked needing sending in_room
 spilled-shared = refl
 
--- a spill that failed is told of once
+-- a spill that failed is answered once
 abbrev pub failed_spill : List Traced
 failed_spill =
     admit 0 1 32 32 reply.Ok
@@ -62,7 +62,7 @@ pub failed_spill-shared : AreSharedAnswers 1 1048576 failed_spill
 unfolding checked needing sending in_room
 failed_spill-shared = refl
 
--- a restore that read other bytes is told of, and made again
+-- a restore that read other bytes is answered, and made again
 abbrev pub damaged_restore : List Traced
 damaged_restore =
     admit 0 1 32 64 reply.Ok

@@ -11,7 +11,7 @@ use Rattle.obj_id.specs.declared.messages.Endpoint.TheVariants.{Node, Directory}
 use Rattle.obj_id.specs.declared.messages.Message.TheVariants.{ToDirectory, Located, ToPeer}
 use Rattle.obj_id.specs.declared.messages.DirectoryMessage.TheVariants.{AddLocation, Locate}
 use Rattle.obj_id.specs.declared.messages.PeerMessage.TheVariants.{Pull, Chunk, NotHere}
-use Rattle.private_store.specs.declared.schedules.StepAnswer.TheVariants.{Told, HandedOver, NoMessage}
+use Rattle.private_store.specs.declared.schedules.StepAnswer.TheVariants.{Response, HandedOver, NoMessage}
 use Rattle.private_store.specs.declared.inputs.ChunkVerdict.TheVariants.{Part, Whole, Ignored}
 use Rattle.private_store.specs.declared.inputs.Judged.{Judged}
 use Rattle.private_store.specs.declared.inputs.Judged.TheVariants.{Begin, Call}
@@ -19,7 +19,7 @@ use Rattle.private_store.specs.declared.inputs.Judged.TheVariants as judged
 use Rattle.private_store.specs.declared.schedules.Traced.{Traced}
 use Rattle.private_store.specs.rules.Change.{checked, needing, sending, in_room}
 use Rattle.private_store.specs.rules.Contents.{digest_of}
-use Rattle.private_store.specs.rules.Replay.{unbegun_brief, answers_due}
+use Rattle.private_store.specs.rules.Replay.{unbegun_replay, answers_due}
 use Rattle.private_store.specs.rules.Trace.{IsPrivate}
 use Rattle.private_store.specs.rules.Shared.{AreSharedAnswers}
 use Rattle.store_laws.proofs.ExampleWords.{zeros, object, admit, end, call, deliver}
@@ -51,7 +51,7 @@ pub fetched-shared : AreSharedAnswers 2 1048576 fetched
 unfolding checked needing sending in_room sha256 hash_after digest_bytes compress rounds schedule first_words
 fetched-shared = refl
 
--- a fetch that got other bytes is told of, and made again
+-- a fetch that got other bytes is answered, and made again
 abbrev pub damaged_fetch : List Traced
 damaged_fetch =
     admit 0 1 64 0 reply.Ok
@@ -115,7 +115,7 @@ gone_at_the_source =
     ∷ call 1 1 1 (Get (object 1 1 1)) (Refused Absent)
     ∷ call 1 1 1 (command.Usage) (reply.Usage (record { window = 64; window_used = 0; device = 0; device_used = 0; copies = 0; works = 0 }))
     ∷ end 1 1 reply.Ok
-    ∷ deliver 1 (Node 0) (Node 1) 1 false (Told (Refused Stale))
+    ∷ deliver 1 (Node 0) (Node 1) 1 false (Response (Refused Stale))
     ∷ []
 
 pub gone_at_the_source-job_1 : IsPrivate 2 1 gone_at_the_source
@@ -138,7 +138,7 @@ serving =
     ∷ judged.Pull (object 1 1 1) 1 true
     ∷ []
 
-pub two_chunks-served : answers_due (unbegun_brief 1) serving ≡ reply.Ok ∷ Placed 0 65552 ∷ reply.Ok ∷ reply.Ok ∷ reply.Ok ∷ reply.Ok ∷ []
+pub two_chunks-served : answers_due (unbegun_replay 1) serving ≡ reply.Ok ∷ Placed 0 65552 ∷ reply.Ok ∷ reply.Ok ∷ reply.Ok ∷ reply.Ok ∷ []
 unfolding checked needing sending in_room
 two_chunks-served = refl
 
@@ -156,7 +156,7 @@ fetching =
     ∷ Call 1 (Read (object 1 1 1) 65536 1)
     ∷ []
 
-pub two_chunks-fetched : answers_due (unbegun_brief 1) fetching
+pub two_chunks-fetched : answers_due (unbegun_replay 1) fetching
     ≡ reply.Ok
     ∷ Refused Pending
     ∷ reply.Ok

@@ -223,9 +223,9 @@ pub not_handed_on-shared : AreSharedAnswers 1 1048576 not_handed_on
 unfolding checked needing sending in_room
 not_handed_on-shared = refl
 
--- a job with two hands keeps the object until both have ended
-abbrev pub two_hands : List Traced
-two_hands =
+-- a job with two grants keeps the object until both have ended
+abbrev pub two_grants : List Traced
+two_grants =
     admit 0 1 64 0 reply.Ok
     ∷ admit 0 2 64 0 reply.Ok
     ∷ admit 0 3 64 0 reply.Ok
@@ -244,26 +244,26 @@ two_hands =
     ∷ call 0 3 1 (Peek (object 1 1 1) 0 4) (Refused NotGranted)
     ∷ []
 
-pub two_hands-job_1 : IsPrivate 1 1 two_hands
+pub two_grants-job_1 : IsPrivate 1 1 two_grants
 unfolding checked needing sending in_room
-two_hands-job_1 = refl
+two_grants-job_1 = refl
 
-pub two_hands-job_2 : IsPrivate 1 2 two_hands
+pub two_grants-job_2 : IsPrivate 1 2 two_grants
 unfolding checked needing sending in_room
-two_hands-job_2 = refl
+two_grants-job_2 = refl
 
-pub two_hands-job_3 : IsPrivate 1 3 two_hands
+pub two_grants-job_3 : IsPrivate 1 3 two_grants
 unfolding checked needing sending in_room
-two_hands-job_3 = refl
+two_grants-job_3 = refl
 
-pub two_hands-job_4 : IsPrivate 1 4 two_hands
+pub two_grants-job_4 : IsPrivate 1 4 two_grants
 unfolding checked needing sending in_room
-two_hands-job_4 = refl
+two_grants-job_4 = refl
 
-pub two_hands-job_5 : IsPrivate 1 5 two_hands
+pub two_grants-job_5 : IsPrivate 1 5 two_grants
 unfolding checked needing sending in_room
-two_hands-job_5 = refl
+two_grants-job_5 = refl
 
-pub two_hands-shared : AreSharedAnswers 1 1048576 two_hands
+pub two_grants-shared : AreSharedAnswers 1 1048576 two_grants
 unfolding checked needing sending in_room
-two_hands-shared = refl
+two_grants-shared = refl

@@ -380,7 +380,7 @@ module _ (store : Shape) where
   grant_clean id target =
       elim (id.job.0 == store.job) as (λ b. RefusesCleanly store (cond b (grant_own store id target) (grant_foreign store id target))) [
         | true ↦ checked_clean store _ _ (needing_clean store _ _ _ (λ copy is. checked_clean store _ _ (done_clean store _)))
-        | false ↦ checked_clean store _ _ (needing_clean store _ _ _ (λ hand is. checked_clean store _ _ (done_clean store _)))
+        | false ↦ checked_clean store _ _ (needing_clean store _ _ _ (λ a_grant is. checked_clean store _ _ (done_clean store _)))
       ]
 
   withdraw_clean : (id : ObjectId) (target : ℕ) → RefusesCleanly store (withdraw store id target)

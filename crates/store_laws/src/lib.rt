@@ -10,7 +10,7 @@ ghost use Rattle.private_store.specs.declared.inputs.Input.{Input};
 ghost use Rattle.private_store.specs.declared.schedules.Event.{Event};
 ghost use Rattle.private_store.specs.declared.schedules.NodeEvent.TheVariants.{Own};
 ghost use Rattle.private_store.specs.declared.schedules.Step.TheVariants.{At};
-ghost use Rattle.private_store.specs.declared.schedules.StepAnswer.TheVariants.{Told};
+ghost use Rattle.private_store.specs.declared.schedules.StepAnswer.TheVariants.{Response};
 ghost use Rattle.private_store.specs.declared.schedules.Traced.{Traced};
 ghost use Rattle.private_store.specs.declared.inputs.Judged.{Judged};
 ghost use Rattle.private_store.specs.rules.Extents.{first, is_free};
@@ -20,12 +20,12 @@ ghost use Rattle.private_store.specs.rules.Copies.{is_sealed};
 ghost use Rattle.private_store.specs.rules.Step.{step};
 ghost use Rattle.private_store.specs.rules.Contents.{View, judge, bytes_at, digest_at, digest_of, completes};
 ghost use Rattle.private_store.specs.rules.Private.{view_of, view_step, view_from, view_replies, no_store, store_from, private_replies};
-ghost use Rattle.private_store.specs.rules.Replay.{Brief, Line, brief_of, unbegun_brief, brief_after, replayed, lines_from, IsReplayed};
+ghost use Rattle.private_store.specs.rules.Replay.{ReplayState, Line, replay_state_of, unbegun_replay, replay_after, replayed, lines_from, IsReplayed};
 ghost use Rattle.store_laws.specs.Refusing.{RefusesCleanly};
 ghost use Rattle.private_store.specs.laws.Invariants.{IsViewKept, NumbersRise, is_end};
-ghost use Rattle.private_store.specs.laws.Made.{IsMade, BytesTold, may_send, is_silent};
-ghost use Rattle.private_store.specs.laws.Listed.{IsBriefKept, AreSeenKept};
-ghost use Rattle.private_store.specs.laws.Answers.{wants_memory, brief_reply, is_small_reply, AreGrantedWithin, brings_within};
+ghost use Rattle.private_store.specs.laws.Made.{IsMade, BytesAnswered, may_send, is_silent};
+ghost use Rattle.private_store.specs.laws.Listed.{IsReplayStateKept, AreSeenKept};
+ghost use Rattle.private_store.specs.laws.Answers.{wants_memory, reply_without_payload, is_small_reply, AreGrantedWithin, brings_within};
 ghost use Rattle.private_store.specs.rules.Cluster.{at_node};
 ghost use Rattle.private_store.specs.rules.Trace.{inputs_until};
 ghost use Rattle.private_store.specs.laws.NodeInputs.{before_at, inputs_to};
@@ -56,12 +56,12 @@ pub fn journals_replay()
     ensures step { (node : ℕ) (view : View) (x : Input)
         → (view_step node view x).view.shape ≡ (step view.order view.shape (judge node view x)).shape }
     ensures state { (node : ℕ) (view : View) (xs : List Input)
-        → replayed (brief_of view) (lines_from node view xs) ≡ brief_of (view_from node view xs) }
-    ensures answers { (node : ℕ) (view : View) (xs : List Input) → IsReplayed (brief_of view) (lines_from node view xs) }
+        → replayed (replay_state_of view) (lines_from node view xs) ≡ replay_state_of (view_from node view xs) }
+    ensures answers { (node : ℕ) (view : View) (xs : List Input) → IsReplayed (replay_state_of view) (lines_from node view xs) }
 {}
 
 /// A step that refuses leaves the store as it was; but a device fault, damage or a fetch's failure is
-/// told of once and forgotten, and a caller that is to ask again may have made room, asked for works, or
+/// answered once and forgotten, and a caller that is to ask again may have made room, asked for works, or
 /// begun a fetch, a restore or a pull, and nothing else.
 pub fn refusals_change_nothing()
     ensures { (order : List ObjectId) (store : Shape) (x : Judged) → RefusesCleanly store (step order store x) }
@@ -82,10 +82,10 @@ pub fn no_step_wants_memory()
 /// Only Read and Peek are answered with bytes, of what is there, and with as many as were asked for: so
 /// an answer without its contents is the answer of the step without contents.
 pub fn answers_have_their_bytes()
-    ensures told { (order : List ObjectId) (store : Shape) (x : Judged) (n : ℕ)
-        → (step order store x).reply ≡ reply.Bytes n → BytesTold store x n }
+    ensures response { (order : List ObjectId) (store : Shape) (x : Judged) (n : ℕ)
+        → (step order store x).reply ≡ reply.Bytes n → BytesAnswered store x n }
     ensures whole { (node : ℕ) (view : View) (x : Input)
-        → IsViewKept view → brief_reply (view_step node view x).reply ≡ (step view.order view.shape (judge node view x)).reply }
+        → IsViewKept view → reply_without_payload (view_step node view x).reply ≡ (step view.order view.shape (judge node view x)).reply }
 {}
 
 /// No answer has more bytes or items than a reply may have, and none is a device worker's, if no more was
@@ -100,7 +100,7 @@ pub fn answers_are_small()
 {}
 
 /// Each input sends only messages of its own kinds; and the operator's inputs but the end, device answers,
-/// a Located and what comes of other jobs' hands send none.
+/// a Located and what comes of other jobs' grants send none.
 pub fn each_input_sends_its_own()
     ensures own { (order : List ObjectId) (store : Shape) (x : Judged) → list_all (may_send x) (step order store x).sent ≡ true }
     ensures silent { (order : List ObjectId) (store : Shape) (x : Judged) → is_silent x ≡ true → (step order store x).sent ≡ [] }
@@ -131,19 +131,19 @@ pub fn every_input_keeps_a_store()
         → IsViewKept view → IsViewKept (view_step node view x).view }
     ensures runs { (node job : ℕ) (xs : List Input)
         → IsViewKept (view_of (store_from node (no_store job) xs)) }
-    ensures begins_brief { (job : ℕ) → IsBriefKept (unbegun_brief job) }
-    ensures each_judged { (brief : Brief) (x : Judged) → IsBriefKept brief → IsBriefKept (brief_after brief x) }
-    ensures replays { (job : ℕ) (lines : List Line) → IsBriefKept (replayed (unbegun_brief job) lines) }
-    ensures runs_brief { (node job : ℕ) (xs : List Input) → IsBriefKept (brief_of (view_of (store_from node (no_store job) xs))) }
+    ensures begins_replay { (job : ℕ) → IsReplayStateKept (unbegun_replay job) }
+    ensures each_judged { (replay_state : ReplayState) (x : Judged) → IsReplayStateKept replay_state → IsReplayStateKept (replay_after replay_state x) }
+    ensures replays { (job : ℕ) (lines : List Line) → IsReplayStateKept (replayed (unbegun_replay job) lines) }
+    ensures runs_replay { (node job : ℕ) (xs : List Input) → IsReplayStateKept (replay_state_of (view_of (store_from node (no_store job) xs))) }
     ensures numbers { (order : List ObjectId) (store : Shape) (x : Judged)
         → is_end x ≡ false → NumbersRise store (step order store x).shape }
 {}
 
 /// What an event at a node adds to a job's inputs, by the trace, is the list that the node's own words give:
 /// by its event, the answer, and what it knows of works that are out, of bytes that others granted and of
-/// standing hands.
+/// standing grants.
 pub fn an_event_adds_its_inputs()
-    ensures { (nodes place : ℕ) (history : List Traced) (e : Event) (told : Reply (List ℕ)) (job : ℕ)
-        → inputs_until nodes job (record { step = At place e; answer = Told told } ∷ history)
-        ≡ inputs_until nodes job history ++ map (at_node place) (inputs_to (before_at nodes place history) (Own e) told job) }
+    ensures { (nodes place : ℕ) (history : List Traced) (e : Event) (response : Reply (List ℕ)) (job : ℕ)
+        → inputs_until nodes job (record { step = At place e; answer = Response response } ∷ history)
+        ≡ inputs_until nodes job history ++ map (at_node place) (inputs_to (before_at nodes place history) (Own e) response job) }
 {}

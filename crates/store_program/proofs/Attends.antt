@@ -7,7 +7,7 @@ use Rattle.store_program.specs.declared.fault.Fault.{Fault}
 use Rattle.store_program.specs.declared.fault.Fault.TheVariants.{NotAStep, Input, Output, Socket, Folded, NoMemory}
 use Rattle.store_program.specs.declared.taking.LineTaken.{LineTaken}
 use Rattle.store_program.specs.declared.taking.LineTaken.TheVariants.{Line, TooLong}
-use Rattle.store_program.specs.Lines.{with_line_feed}
+use Rattle.schedule_text.specs.Lines.{with_line_feed}
 use Rattle.store_program.specs.Runs.{IsReadingFault}
 use Rattle.store_program.specs.Servings.{IsWritten, StopsReply}
 use Rattle.store_program.specs.Attending.{Attending, AttendingEnds, HasAttended, IsHandled, IsAnswerText, Replies, answers_of, texts_of}
@@ -65,25 +65,25 @@ module _ (nodes count number : ℕ) (a r b w : Option (List ℕ)) (so_far : Atte
     module _ (w1 : Option (List ℕ)) (is_last : Bool) (replies : (text : List ℕ) → IsAnswerText taken line text → Replies nodes count number text w w1 is_last) where
       pub line_more : Attending nodes count (number + 1) a r1 b w1
       line_more =
-          let told = replies one.text one.is_text in
+          let response = replies one.text one.is_text in
           let counted = so_far.counted in
           record {
-            lines = record { text = one.text; answer = told.answer; is_last = is_last } ∷ so_far.lines;
+            lines = record { text = one.text; answer = response.answer; is_last = is_last } ∷ so_far.lines;
             counted = ap suc counted ∙ (omega arith);
-            attended = (one.unbroken, subst (λ n. IsHandled nodes count n one.text told.answer is_last) (sym so_far.counted) told.handled, so_far.attended);
+            attended = (one.unbroken, subst (λ n. IsHandled nodes count n one.text response.answer is_last) (sym so_far.counted) response.handled, so_far.attended);
             consumed = Consumes-then a r r1 (texts_of so_far.lines) (with_line_feed one.text) so_far.consumed one.consumed;
-            written = Appends-then b w w1 (answers_of so_far.lines) told.answer so_far.written told.written;
+            written = Appends-then b w w1 (answers_of so_far.lines) response.answer so_far.written response.written;
           }
 
       -- the same, and it is the last
       pub line_last : is_last ≡ true → HasAttended nodes count a r1 b w1 (Ok tt)
       line_last last =
-          let told = replies one.text one.is_text in
+          let response = replies one.text one.is_text in
           record {
-            lines = record { text = one.text; answer = told.answer; is_last = is_last } ∷ so_far.lines;
+            lines = record { text = one.text; answer = response.answer; is_last = is_last } ∷ so_far.lines;
             rest = [];
-            attended = (one.unbroken, subst (λ n. IsHandled nodes count n one.text told.answer is_last) (sym so_far.counted) told.handled, so_far.attended);
+            attended = (one.unbroken, subst (λ n. IsHandled nodes count n one.text response.answer is_last) (sym so_far.counted) response.handled, so_far.attended);
             consumed = Consumes-then a r1 r1 (texts_of so_far.lines ++ with_line_feed one.text) [] (Consumes-then a r r1 (texts_of so_far.lines) (with_line_feed one.text) so_far.consumed one.consumed) (Consumes-none r1);
-            written = Appends-then b w w1 (answers_of so_far.lines) told.answer so_far.written told.written;
+            written = Appends-then b w w1 (answers_of so_far.lines) response.answer so_far.written response.written;
             ends = inl (last, refl);
           }

@@ -41,13 +41,13 @@ module _ (nodes : ℕ) (crew : Crew) (history : List Traced) (is : IsCrewAfter n
 
   -- ---- what is kept
 
-  module _ (told : StepAnswer) where
+  module _ (response : StepAnswer) where
     pub after_handing : (node : ℕ) (job : JobNo) (number : ℕ) (answer : DeviceAnswer) (new : Crew) → Calls crew node job number answer new
-        → IsCrewAfter nodes (noted (At node (event.Finish job number answer)) told new) (record { step = At node (event.Finish job number answer); answer = told } ∷ history)
+        → IsCrewAfter nodes (noted (At node (event.Finish job number answer)) response new) (record { step = At node (event.Finish job number answer); answer = response } ∷ history)
     after_handing node job number answer new calls =
         record {
           count = calls.count ∙ is.count;
-          kept = ap (crew_after_take (At node (event.Finish job number answer)) told) (calls.kept ∙ is.kept);
+          kept = ap (crew_after_take (At node (event.Finish job number answer)) response) (calls.kept ∙ is.kept);
           holds = λ place key below.
               calls.holds place key (subst (λ n. place < n) (sym is.count) below)
               ∙ ap (λ taken. bytes_after (bytes_put taken (At node (event.Finish job number answer)) place key) (held_by crew.devices place key)) is.kept
@@ -63,11 +63,11 @@ module _ (nodes : ℕ) (crew : Crew) (history : List Traced) (is : IsCrewAfter n
     put_none taken (At node (event.Finish job number answer)) place key h = false_true h
     put_none taken (At node (event.Call job session c)) place key h = refl
 
-    pub after_step : (step : Step) → hands_in step ≡ false → IsCrewAfter nodes (noted step told crew) (record { step = step; answer = told } ∷ history)
+    pub after_step : (step : Step) → hands_in step ≡ false → IsCrewAfter nodes (noted step response crew) (record { step = step; answer = response } ∷ history)
     after_step step apart =
         record {
           count = is.count;
-          kept = ap (crew_after_take step told) is.kept;
+          kept = ap (crew_after_take step response) is.kept;
           holds = λ place key below.
               is.holds place key below
               ∙ sym (ap (λ put. bytes_after put (device_bytes_of history place key)) (put_none (works_taken history) step place key apart));

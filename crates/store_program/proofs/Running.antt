@@ -18,11 +18,12 @@ use Rattle.schedule_text.specs.declared.line.FinishWord.{FinishWord}
 use Rattle.world_core.specs.Worlds.{Hosting, IsAfter}
 use Rattle.store_program.specs.declared.fault.Fault.{Fault}
 use Rattle.store_program.specs.declared.fault.Fault.TheVariants.{NotAStep, Input, Output, Socket, Folded, NoMemory}
-use Rattle.store_program.specs.Lines.{LineRead, IsSpelled, Says, stands, finishes, with_line_feed, items_of_lines, history_of, input_of, output_of}
+use Rattle.store_program.specs.Lines.{LineRead, IsSpelled, Says, stands, finishes, items_of_lines, history_of, input_of, output_of}
+use Rattle.schedule_text.specs.Lines.{with_line_feed, IsNextLine}
 use Rattle.journal_text.specs.Saved.{Saved}
 use Rattle.store_program.specs.SavedRuns.{SavedStep, IsSavedStep}
 use Rattle.store_program.specs.Workers.{Crew, IsCrewAfter, Calls, handed_in, held_by}
-use Rattle.store_program.specs.Runs.{RunsStep, RunsLine, StopsRun, IsNextScheduleLine, IsReadingFault, AreKept, LeadTo, Progress, IsWorldly, IsOutput, Ran}
+use Rattle.store_program.specs.Runs.{RunsStep, RunsLine, StopsRun, IsReadingFault, AreKept, LeadTo, Progress, IsWorldly, IsOutput, Ran}
 use Rattle.store_program.proofs.Crews.{handed_due, after_handing, after_step}
 use Rattle.store_program.proofs.Within.{said_apart, finish_within}
 use Rattle.store_facts.proofs.KnownBytes.{Appends-none, Appends-then, Appends-kept, Consumes-none, Consumes-then, Consumes-all}
@@ -103,7 +104,7 @@ all_kept nodes memory world [] h = tt
 all_kept nodes memory world (heard ∷ lines) h = (world, h)
 
 -- the line that is read next is the next one of the input
-pub next_line : (a r : Option (List ℕ)) (before bytes : List ℕ) → Consumes a r before → IfSome r (λ left. bytes ≡ take_through 10 left) → IsNextScheduleLine a before bytes
+pub next_line : (a r : Option (List ℕ)) (before bytes : List ℕ) → Consumes a r before → IfSome r (λ left. bytes ≡ take_through 10 left) → IsNextLine a before bytes
 next_line None r before bytes read whole = tt
 next_line (Some all) None before bytes read whole = absurd read
 next_line (Some all) (Some left) before bytes read whole = whole ∙ ap (take_through 10) (sym (ap (drop (length before)) read ∙ drop-append_seam before left))

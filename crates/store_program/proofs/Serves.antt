@@ -7,7 +7,7 @@ use Rattle.store_program.specs.declared.fault.Fault.{Fault}
 use Rattle.store_program.specs.declared.fault.Fault.TheVariants.{NotAStep, Input, Output, Socket, Folded, NoMemory}
 use Rattle.store_program.specs.declared.serving.LastLine.{LastLine}
 use Rattle.store_program.specs.declared.serving.LastLine.TheVariants.{Close, OfInput}
-use Rattle.store_program.specs.Lines.{with_line_feed}
+use Rattle.schedule_text.specs.Lines.{with_line_feed}
 use Rattle.store_program.specs.Runs.{IsReadingFault}
 use Rattle.store_program.specs.Servings.{CarriesOut, StopsOrder, Serving, ServingEnds, IsWritten, ServedText, close_line, orders_of, answers_of}
 use Rattle.store_program.proofs.Running.{next_line}

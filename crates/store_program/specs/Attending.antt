@@ -4,7 +4,7 @@ use Rattle.std.specs.Io.KnownBytes.{Appends, Consumes, IsAtEnd}
 use Rattle.std.specs.Str.{IsUtf8}
 use Rattle.std.specs.String.{string_bytes}
 use Rattle.obj_id.specs.declared.commands.Reply.{Reply}
-use Rattle.private_store.specs.declared.schedules.StepAnswer.TheVariants.{Told}
+use Rattle.private_store.specs.declared.schedules.StepAnswer.TheVariants.{Response}
 use Rattle.schedule_text.specs.declared.prefixes.Prefix.TheVariants.{Operator}
 use Rattle.schedule_text.specs.Printing.{line_text}
 use Rattle.schedule_text.specs.Reading.{is_skipped}
@@ -20,7 +20,7 @@ use Rattle.store_program.specs.declared.operator.Order.TheVariants as order
 use Rattle.store_program.specs.declared.taking.LineTaken.{LineTaken}
 use Rattle.store_program.specs.declared.taking.LineTaken.TheVariants.{Line, TooLong}
 use Rattle.store_program.specs.ControlLines.{IsControlLine, IsAskedWithin}
-use Rattle.store_program.specs.Lines.{with_line_feed}
+use Rattle.schedule_text.specs.Lines.{with_line_feed}
 use Rattle.store_program.specs.Looks.{IsLookText}
 use Rattle.store_program.specs.Servings.{IsWritten, report_line}
 use Rattle.store_program.specs.TakenLines.{IsUnbroken}
@@ -33,8 +33,8 @@ no_order_line number = with_line_feed (codes "line " ++ decimal number ++ codes 
 
 -- to a line that asks for a change: the node's, with a reply
 pub record IsChangeLine (node : ℕ) (line : List ℕ) : Type 0 where
-  pub told : Reply (List ℕ)
-  pub is : line ≡ line_text (Operator node) (Told told)
+  pub response : Reply (List ℕ)
+  pub is : line ≡ line_text (Operator node) (Response response)
 
 -- to one that lets the server close: its report, or that a fault ended it
 abbrev pub closing_line : Option Report → List ℕ

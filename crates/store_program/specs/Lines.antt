@@ -9,6 +9,7 @@ use Rattle.private_store.specs.declared.schedules.Traced.{Traced}
 use Rattle.schedule_text.specs.declared.line.Line.{Line}
 use Rattle.schedule_text.specs.declared.line.Line.TheVariants as line
 use Rattle.schedule_text.specs.declared.line.FinishWord.{FinishWord}
+use Rattle.schedule_text.specs.Lines.{with_line_feed}
 use Rattle.schedule_text.specs.Prefixes.{prefix_of}
 use Rattle.schedule_text.specs.Printing.{line_text}
 use Rattle.schedule_text.specs.Reading.{IsLine, is_skipped}
@@ -83,10 +84,6 @@ history_of (heard ∷ lines) = with_answered heard.answered (history_of lines)
 abbrev pub AreHeard : ℕ → List LineRead → Type 0
 AreHeard nodes [] = ⊤
 AreHeard nodes (heard ∷ lines) = IsLineRead nodes (history_of lines) heard × AreHeard nodes lines
-
--- a text with its line feed
-abbrev pub with_line_feed : List ℕ → List ℕ
-with_line_feed text = text ++ 10 ∷ []
 
 -- the bytes that were read
 abbrev pub input_of : List LineRead → List ℕ

@@ -3,13 +3,13 @@ use Rattle.std.specs.Prelude.{◌≡◌, ℕ, List, [], ◌∷◌, ◌++◌, cod
 use Rattle.obj_id.specs.declared.commands.Reply.{Reply}
 use Rattle.obj_id.specs.declared.commands.Reply.TheVariants as reply
 use Rattle.obj_id.specs.declared.refusals.Refusal.TheVariants.{NotAdmitted}
-use Rattle.private_store.specs.declared.schedules.StepAnswer.TheVariants.{Told}
+use Rattle.private_store.specs.declared.schedules.StepAnswer.TheVariants.{Response}
 use Rattle.schedule_text.specs.declared.prefixes.Prefix.TheVariants.{Operator}
 use Rattle.schedule_text.specs.Printing.{line_text}
 use Rattle.session_threads.specs.declared.looking.LiveJob.{LiveJob}
 use Rattle.store_program.specs.declared.control_lines.Look.{Look}
 use Rattle.store_program.specs.declared.control_lines.Look.TheVariants as look
-use Rattle.store_program.specs.Lines.{with_line_feed}
+use Rattle.schedule_text.specs.Lines.{with_line_feed}
 
 -- a job with its quotas, after a space
 abbrev pub job_text : LiveJob → List ℕ
@@ -37,9 +37,9 @@ pub record IsJobsLine (node : ℕ) (line : List ℕ) : Type 0 where
   pub is : line ≡ jobs_line node jobs
 
 pub record IsUsageLine (node : ℕ) (line : List ℕ) : Type 0 where
-  pub told : Reply (List ℕ)
-  pub is : line ≡ line_text (Operator node) (Told told)
-  pub of_usage : IsUsageReply told
+  pub response : Reply (List ℕ)
+  pub is : line ≡ line_text (Operator node) (Response response)
+  pub of_usage : IsUsageReply response
 
 pub record IsSessionsLine (node : ℕ) (line : List ℕ) : Type 0 where
   pub sessions : ℕ

@@ -1,6 +1,5 @@
 -- A run of a text: the lines that were read, a world that took their steps, and what was printed.
-use Rattle.std.specs.Prelude.{◌≡◌, ℕ, suc, Bool, List, [], ◌∷◌, ◌++◌, length, drop, Option, None, Some, IfSome, Result, Ok, Err, OnOk, ⊤}
-use Rattle.std.specs.Io.BufRead.{take_through}
+use Rattle.std.specs.Prelude.{◌≡◌, ℕ, suc, Bool, List, [], ◌∷◌, ◌++◌, length, Option, None, Some, IfSome, Result, Ok, Err, OnOk, ⊤}
 use Rattle.std.specs.Io.KnownBytes.{Appends, Consumes, Keeps}
 use Rattle.private_store.specs.declared.schedules.Step.{Step}
 use Rattle.private_store.specs.declared.schedules.StepAnswer.{StepAnswer}
@@ -15,7 +14,8 @@ use Rattle.store_program.specs.declared.fault.Fault.{Fault}
 use Rattle.store_program.specs.declared.fault.Fault.TheVariants.{NotAStep, Input, Output, Socket, Folded, NoMemory}
 use Rattle.store_program.specs.Workers.{Crew, IsCrewAfter, noted as crew_noted}
 use Rattle.store_program.specs.SavedRuns.{SavedStep, IsSavedStep, KeepsStep}
-use Rattle.store_program.specs.Lines.{LineRead, AreHeard, IsAnswered, IsNoLine, with_line_feed, with_answered, with_heard, items_of_lines, history_of, input_of, output_of, printed}
+use Rattle.store_program.specs.Lines.{LineRead, AreHeard, IsAnswered, IsNoLine, with_answered, with_heard, items_of_lines, history_of, input_of, output_of, printed}
+use Rattle.schedule_text.specs.Lines.{IsNextLine, with_line_feed}
 
 -- the world takes the step, the line is that of its answer, the workers note it, and the journal keeps what it was to the jobs
 pub record Answers (old : Hosting) (crew_old : Crew) (journal_old : Option Saved) (step : Step) (line : List ℕ) (new : Hosting) (crew_new : Crew) (journal_new : Option Saved) : Type 0 where
@@ -110,14 +110,10 @@ abbrev pub IsWorldly : ℕ → ℕ → List Traced → Type 0
 IsWorldly nodes memory [] = ⊤
 IsWorldly nodes memory (entry ∷ history) = (world : Hosting) × IsAfter nodes memory world (entry ∷ history)
 
--- of an input, what comes after these bytes: the next line with its line feed, or all that is left
-abbrev pub IsNextScheduleLine : Option (List ℕ) → List ℕ → List ℕ → Type 0
-IsNextScheduleLine read_old before bytes = IfSome read_old (λ all. bytes ≡ take_through 10 (drop (length before) all))
-
 -- a run ends without a fault once the lines are the whole input; and in this line by a fault for what it says
 abbrev pub EndsAt : ℕ → ℕ → List ℕ → Option (List ℕ) → List ℕ → Result ⊤ Fault → Type 0
 EndsAt nodes number bytes read_old input (Ok u) = IfSome read_old (λ all. all ≡ input)
-EndsAt nodes number bytes read_old input (Err (NotAStep n)) = (n ≡ number) × IsNoLine nodes bytes × IsNextScheduleLine read_old input bytes
+EndsAt nodes number bytes read_old input (Err (NotAStep n)) = (n ≡ number) × IsNoLine nodes bytes × IsNextLine read_old input bytes
 EndsAt nodes number bytes read_old input (Err Input) = ⊤
 EndsAt nodes number bytes read_old input (Err Output) = ⊤
 EndsAt nodes number bytes read_old input (Err Socket) = ⊥

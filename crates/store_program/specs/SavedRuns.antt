@@ -13,8 +13,8 @@ use Rattle.private_store.specs.declared.schedules.Event.TheVariants as event
 use Rattle.private_store.specs.declared.schedules.Step.{Step}
 use Rattle.private_store.specs.declared.schedules.Step.TheVariants.{At, Deliver}
 use Rattle.private_store.specs.declared.schedules.StepAnswer.{StepAnswer}
-use Rattle.private_store.specs.declared.schedules.StepAnswer.TheVariants.{Told, HandedOver, NoMessage}
-use Rattle.private_store.specs.laws.Answers.{brief_reply, wants_memory}
+use Rattle.private_store.specs.declared.schedules.StepAnswer.TheVariants.{Response, HandedOver, NoMessage}
+use Rattle.private_store.specs.laws.Answers.{reply_without_payload, wants_memory}
 use Rattle.schedule_text.specs.declared.lines.JobAt.{JobAt}
 use Rattle.journal_text.specs.declared.entry.LineInput.{LineInput}
 use Rattle.journal_text.specs.declared.entry.LineInput.TheVariants as line
@@ -30,17 +30,17 @@ use Rattle.node_core.specs.Steps.{job_of_event}
 -- the job under which an event is kept: that of the work that a Take gave, and 0 if it gave none
 abbrev pub kept_under : Event → Reply (List ℕ) → JobNo
 kept_under event.Take (reply.Work work) = work.job
-kept_under e told = record { 0 = job_of_event e }
+kept_under e response = record { 0 = job_of_event e }
 
 -- of a delivery to a node there is an entry, but if nothing was sent, or it was out of memory
 abbrev pub is_taken_in : StepAnswer → Bool
-is_taken_in (Told told) = if wants_memory told then false else true
+is_taken_in (Response response) = if wants_memory response then false else true
 is_taken_in (HandedOver m) = true
 is_taken_in NoMessage = false
 
 -- the job at its node under which a step is kept, if it makes an entry
 abbrev pub entry_place : Step → StepAnswer → Option JobAt
-entry_place (At node e) (Told told) = if wants_memory told then None else Some (record { node = node; job = kept_under e told })
+entry_place (At node e) (Response response) = if wants_memory response then None else Some (record { node = node; job = kept_under e response })
 entry_place (At node e) _ = None
 entry_place (Deliver job from (place.Node node) m damage) answer = if is_taken_in answer then Some (record { node = node; job = job }) else None
 entry_place (Deliver job from place.Directory m damage) answer = None
@@ -48,9 +48,9 @@ entry_place (Deliver job from place.Directory m damage) answer = None
 -- ---- what its line says
 
 -- the entries of the directory's message that was handed over
-abbrev pub entries_told : StepAnswer → List Location
-entries_told (HandedOver (message.Located id number entries)) = entries
-entries_told _ = []
+abbrev pub located_entries : StepAnswer → List Location
+located_entries (HandedOver (message.Located id number entries)) = entries
+located_entries _ = []
 
 -- an input without contents, where these are the entries of the directory's message
 abbrev pub input_said : List Location → Judged → LineInput
@@ -68,13 +68,13 @@ input_said entries judged.End = line.End
 
 -- an answer without contents; what was handed over is answered ok
 abbrev pub reply_said : StepAnswer → Reply ℕ
-reply_said (Told told) = brief_reply told
+reply_said (Response response) = reply_without_payload response
 reply_said (HandedOver m) = reply.Ok
 reply_said NoMessage = reply.Ok
 
 -- ---- the entry and the notes of a step
 
--- what a step was to the jobs, without contents: to its own, and to the grantees of hands
+-- what a step was to the jobs, without contents: to its own, and to the grantees
 pub record SavedStep : Type 0 where
   pub judged : Option Judged
   pub notes : List Note
@@ -89,7 +89,7 @@ with_notes node (note ∷ notes) marks = with_notes node notes (note_mark node n
 
 abbrev pub entry_mark : JobAt → StepAnswer → Option Judged → JournalItem
 entry_mark at answer was =
-    record { place = at; line = option_map (λ x. record { input = input_said (entries_told answer) x; reply = reply_said answer }) was }
+    record { place = at; line = option_map (λ x. record { input = input_said (located_entries answer) x; reply = reply_said answer }) was }
 
 abbrev pub with_entry_item : Option JobAt → StepAnswer → SavedStep → List JournalItem → List JournalItem
 with_entry_item None answer kept marks = marks

@@ -3,7 +3,7 @@ use Rattle.std.specs.Prelude.{◌≡◌, ℕ, suc, false, true, Bool, List, [], 
 use Rattle.std.specs.Io.KnownBytes.{Appends, Consumes, Keeps}
 use Rattle.std.specs.Str.{IsUtf8}
 use Rattle.obj_id.specs.declared.commands.Reply.{Reply}
-use Rattle.private_store.specs.declared.schedules.StepAnswer.TheVariants.{Told}
+use Rattle.private_store.specs.declared.schedules.StepAnswer.TheVariants.{Response}
 use Rattle.schedule_text.specs.declared.prefixes.Prefix.TheVariants.{Operator}
 use Rattle.schedule_text.specs.Printing.{line_text}
 use Rattle.session_threads.specs.declared.cluster.Report.{Report}
@@ -14,9 +14,8 @@ use Rattle.store_program.specs.declared.operator.Order.{Order}
 use Rattle.store_program.specs.declared.operator.Order.TheVariants as order
 use Rattle.store_program.specs.declared.serving.LastLine.{LastLine}
 use Rattle.store_program.specs.declared.serving.LastLine.TheVariants.{Close, OfInput}
-use Rattle.store_program.specs.Lines.{with_line_feed}
+use Rattle.schedule_text.specs.Lines.{with_line_feed, IsNextLine}
 use Rattle.store_program.specs.Orders.{IsOrder, IsWithin}
-use Rattle.store_program.specs.Runs.{IsNextScheduleLine}
 
 -- a line, without its line feed, and the answer to it
 pub record Obeyed : Type 0 where
@@ -27,7 +26,7 @@ pub record Obeyed : Type 0 where
 
 -- the bytes of a line that was answered
 abbrev pub order_answer_text : Obeyed → List ℕ
-order_answer_text o = line_text (Operator o.node) (Told o.reply)
+order_answer_text o = line_text (Operator o.node) (Response o.reply)
 
 -- of lines that stand newest first: each spells its change
 abbrev pub AreObeyed : ℕ → List Obeyed → Type 0
@@ -47,7 +46,7 @@ answers_of (o ∷ lines) = answers_of lines ++ order_answer_text o
 -- an answer is written
 pub record Replies (node : ℕ) (written_old written_new : Option (List ℕ)) : Type 0 where
   pub reply : Reply (List ℕ)
-  pub written : Appends written_old written_new (line_text (Operator node) (Told reply))
+  pub written : Appends written_old written_new (line_text (Operator node) (Response reply))
 
 -- a line is carried out, and its answer written
 pub record CarriesOut (nodes : ℕ) (bytes : List ℕ) (written_old written_new : Option (List ℕ)) : Type 0 where
@@ -102,7 +101,7 @@ pub record Serving (nodes number : ℕ) (read_old read_new written_old written_n
 abbrev pub ServingEnds : ℕ → ℕ → ℕ → Option (List ℕ) → List ℕ → List ℕ → Result LastLine Fault → Type 0
 ServingEnds nodes count number read_old input rest (Ok Close) = rest ≡ close_line
 ServingEnds nodes count number read_old input rest (Ok OfInput) = IfSome read_old (λ all. all ≡ input)
-ServingEnds nodes count number read_old input rest (Err (NotAStep n)) = (n ≡ number) × IsNoOrder nodes count rest × IsNextScheduleLine read_old input rest
+ServingEnds nodes count number read_old input rest (Err (NotAStep n)) = (n ≡ number) × IsNoOrder nodes count rest × IsNextLine read_old input rest
 ServingEnds nodes count number read_old input rest (Err Input) = ⊤
 ServingEnds nodes count number read_old input rest (Err Output) = ⊤
 ServingEnds nodes count number read_old input rest (Err Socket) = ⊥

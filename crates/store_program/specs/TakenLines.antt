@@ -4,7 +4,7 @@ use Rattle.std.specs.Io.KnownBytes.{Consumes, IsAtEnd}
 use Rattle.store_program.specs.declared.taking.TheConstants.{LONGEST_LINE}
 use Rattle.store_program.specs.declared.taking.LineTaken.{LineTaken}
 use Rattle.store_program.specs.declared.taking.LineTaken.TheVariants.{Line, TooLong}
-use Rattle.store_program.specs.Lines.{with_line_feed}
+use Rattle.schedule_text.specs.Lines.{with_line_feed}
 
 -- no line feed is among these bytes
 abbrev pub IsUnbroken : List ℕ → Type 0

@@ -14,7 +14,7 @@ use Rattle.private_store.specs.declared.schedules.Event.TheVariants as event
 use Rattle.private_store.specs.declared.schedules.Step.{Step}
 use Rattle.private_store.specs.declared.schedules.Step.TheVariants.{At}
 use Rattle.private_store.specs.declared.schedules.StepAnswer.{StepAnswer}
-use Rattle.private_store.specs.declared.schedules.StepAnswer.TheVariants.{Told}
+use Rattle.private_store.specs.declared.schedules.StepAnswer.TheVariants.{Response}
 use Rattle.private_store.specs.declared.schedules.Traced.{Traced}
 use Rattle.schedule_text.specs.declared.line.FinishWord.{FinishWord}
 use Rattle.schedule_text.specs.declared.line.FinishWord.TheVariants as outcome
@@ -28,8 +28,8 @@ is_taken_at node job number taken = taken.node == node && taken.work.job.0 == jo
 
 -- a work that a Take gave is kept until a Finish of it that had memory
 abbrev pub crew_after_take : Step → StepAnswer → List InService → List InService
-crew_after_take (At node event.Take) (Told (reply.Work work)) taken = taken ++ record { node = node; work = work } ∷ []
-crew_after_take (At node (event.Finish job number answer)) told taken = if is_no_memory told then taken else filter (λ t. not (is_taken_at node job number t)) taken
+crew_after_take (At node event.Take) (Response (reply.Work work)) taken = taken ++ record { node = node; work = work } ∷ []
+crew_after_take (At node (event.Finish job number answer)) response taken = if is_no_memory response then taken else filter (λ t. not (is_taken_at node job number t)) taken
 crew_after_take _ _ taken = taken
 
 -- after these steps, newest first
@@ -119,4 +119,4 @@ pub record Calls (old : Crew) (node : ℕ) (job : JobNo) (number : ℕ) (answer 
 
 -- what the crew keeps after a step with its answer
 abbrev pub noted : Step → StepAnswer → Crew → Crew
-noted step told crew = record crew { taken = crew_after_take step told crew.taken }
+noted step response crew = record crew { taken = crew_after_take step response crew.taken }

@@ -205,7 +205,7 @@ fn change_answer(alloc: Global, node: u32, reply: Reply<Bytes>) -> Result<Answer
     ensures { IfOk result (λ answer. IsChangeLine node (string_bytes answer.line) × (answer.is_last ≡ false)) }
 {
     Ok(Answer {
-        line: answer_line(alloc, Prefix::Operator(node), &StepAnswer::Told(reply))?,
+        line: answer_line(alloc, Prefix::Operator(node), &StepAnswer::Response(reply))?,
         is_last: false,
     })
 }

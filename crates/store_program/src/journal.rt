@@ -3,15 +3,15 @@ ghost use Rattle.std.specs.Prelude.{◌≡◌, [], List, true, false, is_some, I
 ghost use Rattle.store_program.specs.declared.fault.Fault.TheVariants.{Folded};
 ghost use Rattle.journal_text.specs.declared.saved.JournalItem.{JournalItem};
 ghost use Rattle.journal_text.specs.Saved.{is_folded, saved_text, IsSaved};
-ghost use Rattle.private_store.specs.laws.Answers.{brief_reply};
-ghost use Rattle.store_program.specs.SavedRuns.{entries_told, entry_mark, entry_place as entry_place_lem, input_said, kept_under as kept_under_lem, note_mark as note_mark_lem, reply_said, is_asked, with_notes, IsSavedStep, SavedStep, KeepsStep};
+ghost use Rattle.private_store.specs.laws.Answers.{reply_without_payload};
+ghost use Rattle.store_program.specs.SavedRuns.{located_entries, entry_mark, entry_place as entry_place_lem, input_said, kept_under as kept_under_lem, note_mark as note_mark_lem, reply_said, is_asked, with_notes, IsSavedStep, SavedStep, KeepsStep};
 
 use crate::Fault;
 use bytes::Bytes;
 use journal_text::{Answered, JournalItem, LineInput, SavedJournal};
 use node_core::Note;
-use obj_id::{Endpoint, Items, JobNo, Location, Message, Refusal, Reply};
-use private_store::{Event, Judged, Step, StepAnswer, brief_work};
+use obj_id::{Endpoint, ItemList, JobNo, Location, Message, Refusal, Reply};
+use private_store::{Event, Judged, Step, StepAnswer, work_without_payload};
 use schedule_text::JobAt;
 use std::alloc::{AllocError, Global};
 use std::marker::Model;
@@ -58,7 +58,7 @@ impl RunJournal {
         step: &Step,
         answer: &StepAnswer,
         judged: Option<Judged>,
-        notes: Items<Note>,
+        notes: ItemList<Note>,
     ) -> Result<(), AllocError>
         ensures { OnOk result (KeepsStep self.old step.now answer.now (record { judged = judged; notes = notes }) self.new) }
     {
@@ -95,7 +95,7 @@ fn add_notes(
     alloc: Global,
     saved: &mut SavedJournal,
     node: u32,
-    notes: Items<Note>,
+    notes: ItemList<Note>,
 ) -> Result<(), AllocError>
     ensures { OnOk result ((marks : List JournalItem) → IsSaved saved.old marks → IsSaved saved.new (with_notes node notes marks)) }
 {
@@ -113,7 +113,7 @@ fn note_mark(alloc: Global, node: u32, note: Note) -> JournalItem
     JournalItem {
         place: JobAt { node, job },
         line: Some(Answered {
-            input: line_input(Items::new(alloc), input),
+            input: line_input(ItemList::new(alloc), input),
             reply: Reply::Ok,
         }),
     }
@@ -124,8 +124,8 @@ fn entry_place(step: &Step, answer: &StepAnswer) -> Option<JobAt>
     ensures { result ≡ entry_place_lem step.now answer.now }
 {
     match (step, answer) {
-        (_, StepAnswer::Told(Reply::Refused(Refusal::NoMemory))) => None,
-        (Step::At(node, event), StepAnswer::Told(reply)) => Some(JobAt {
+        (_, StepAnswer::Response(Reply::Refused(Refusal::NoMemory))) => None,
+        (Step::At(node, event), StepAnswer::Response(reply)) => Some(JobAt {
             node: *node,
             job: kept_under(event, reply),
         }),
@@ -135,7 +135,7 @@ fn entry_place(step: &Step, answer: &StepAnswer) -> Option<JobAt>
                 to: Endpoint::Node(node),
                 ..
             },
-            StepAnswer::Told(_) | StepAnswer::HandedOver(_),
+            StepAnswer::Response(_) | StepAnswer::HandedOver(_),
         ) => Some(JobAt {
             node: *node,
             job: *job,
@@ -173,7 +173,7 @@ fn entry_mark(
     let Some(judged) = judged else {
         return Ok(JournalItem { place, line: None })
     };
-    let input = line_input(entries_told(alloc, answer)?, judged);
+    let input = line_input(located_entries(alloc, answer)?, judged);
     let reply = reply_said(alloc, answer)?;
     Ok(JournalItem {
         place,
@@ -182,27 +182,27 @@ fn entry_mark(
 }
 
 /// The entries of the directory's message that was handed over.
-fn entries_told(alloc: Global, answer: &StepAnswer) -> Result<Items<Location>, AllocError>
-    ensures { IfOk result (λ entries. entries ≡ entries_told answer.now) }
+fn located_entries(alloc: Global, answer: &StepAnswer) -> Result<ItemList<Location>, AllocError>
+    ensures { IfOk result (λ entries. entries ≡ located_entries answer.now) }
 {
     match answer {
         StepAnswer::HandedOver(Message::Located { entries, .. }) => copied(
             alloc,
             entries.as_slice(),
         ),
-        _ => Ok(Items::new(alloc)),
+        _ => Ok(ItemList::new(alloc)),
     }
 }
 
 /// A copy of the items.
-fn copied<T: Copy>(alloc: Global, items: &[T]) -> Result<Items<T>, AllocError>
+fn copied<T: Copy>(alloc: Global, items: &[T]) -> Result<ItemList<T>, AllocError>
     ensures { IfOk result (λ copy. copy ≡ items.now) }
 {
-    Ok(Items::from_vec(Vec::from_slice(alloc, items)?))
+    Ok(ItemList::from_vec(Vec::from_slice(alloc, items)?))
 }
 
 /// What a line says of an input, where these are the entries of the directory's message. Takes no memory.
-fn line_input(entries: Items<Location>, judged: Judged) -> LineInput
+fn line_input(entries: ItemList<Location>, judged: Judged) -> LineInput
     ensures { result ≡ input_said entries judged }
 {
     match judged {
@@ -261,14 +261,14 @@ fn reply_said(alloc: Global, answer: &StepAnswer) -> Result<Reply<u64>, AllocErr
     ensures { IfOk result (λ said. said ≡ reply_said answer.now) }
 {
     match answer {
-        StepAnswer::Told(reply) => brief_reply(alloc, reply),
+        StepAnswer::Response(reply) => reply_without_payload(alloc, reply),
         StepAnswer::HandedOver(_) | StepAnswer::NoMessage => Ok(Reply::Ok),
     }
 }
 
 /// The reply without contents: bytes as their number.
-fn brief_reply(alloc: Global, reply: &Reply<Bytes>) -> Result<Reply<u64>, AllocError>
-    ensures { IfOk result (λ said. said ≡ brief_reply reply.now) }
+fn reply_without_payload(alloc: Global, reply: &Reply<Bytes>) -> Result<Reply<u64>, AllocError>
+    ensures { IfOk result (λ said. said ≡ reply_without_payload reply.now) }
 {
     match reply {
         Reply::Ok => Ok(Reply::Ok),
@@ -280,7 +280,7 @@ fn brief_reply(alloc: Global, reply: &Reply<Bytes>) -> Result<Reply<u64>, AllocE
             Ok(Reply::List(own, copied(alloc, granted.as_slice())?))
         }
         Reply::Usage(usage) => Ok(Reply::Usage(*usage)),
-        Reply::Work(work) => Ok(Reply::Work(brief_work(work))),
+        Reply::Work(work) => Ok(Reply::Work(work_without_payload(work))),
         Reply::NoWork => Ok(Reply::NoWork),
         Reply::Refused(refusal) => Ok(Reply::Refused(*refusal)),
     }

@@ -26,8 +26,8 @@ pub(crate) fn look_text<L: Ledger, R: Wait>(
     match look {
         Look::Jobs => jobs_line(alloc, node, &shared.live_jobs(rt)?),
         Look::Usage(job) => {
-            let told = StepAnswer::Told(usage_reply(rt, shared, job));
-            answer_line(alloc, Prefix::Operator(node), &told)
+            let response = StepAnswer::Response(usage_reply(rt, shared, job));
+            answer_line(alloc, Prefix::Operator(node), &response)
         }
         Look::Sessions => sessions_line(alloc, node, shared.open_sessions(rt)),
     }

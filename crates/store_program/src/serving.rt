@@ -2,7 +2,7 @@
 ghost use Rattle.std.specs.Prelude.{◌≡◌, ◌↔◌, ◌<◌, IfOk, OnOk, IfErr, IfSome, IsSome, length};
 ghost use Rattle.std.specs.Io.KnownBytes.{Appends};
 ghost use Rattle.std.specs.Str.{IsUtf8};
-ghost use Rattle.private_store.specs.declared.schedules.StepAnswer.TheVariants.{Told};
+ghost use Rattle.private_store.specs.declared.schedules.StepAnswer.TheVariants.{Response};
 ghost use Rattle.schedule_text.specs.declared.prefixes.Prefix.TheVariants.{Operator};
 ghost use Rattle.schedule_text.specs.Fields.{Reads};
 ghost use Rattle.schedule_text.specs.Printing.{line_text};
@@ -159,10 +159,10 @@ fn write_answer<O: Write>(
     reply: Reply<Bytes>,
     writer: &mut O,
 ) -> Result<(), Fault>
-    ensures ok { OnOk result (Appends (O.contents writer.old) (O.contents writer.new) (line_text (Operator node) (Told reply))) }
+    ensures ok { OnOk result (Appends (O.contents writer.old) (O.contents writer.new) (line_text (Operator node) (Response reply))) }
     ensures err { IfErr result (StopsReply (O.contents writer.old) (O.contents writer.new)) }
 {
-    let Ok(line) = answer_line(alloc, Prefix::Operator(node), &StepAnswer::Told(reply)) else {
+    let Ok(line) = answer_line(alloc, Prefix::Operator(node), &StepAnswer::Response(reply)) else {
         return Err(Fault::NoMemory)
     };
     write_out(line.as_bytes(), writer)

@@ -96,12 +96,12 @@ impl Workers {
         ensures { OnOk result (self.new ≡ noted step.now answer self.old) }
     {
         match (step, answer) {
-            (Step::At(node, Event::Take), StepAnswer::Told(Reply::Work(work))) => {
+            (Step::At(node, Event::Take), StepAnswer::Response(Reply::Work(work))) => {
                 self.taken.push(InService { node: *node, work })?;
             }
             (
                 Step::At(_, Event::Finish { .. }),
-                StepAnswer::Told(Reply::Refused(Refusal::NoMemory)),
+                StepAnswer::Response(Reply::Refused(Refusal::NoMemory)),
             ) => {}
             (Step::At(node, Event::Finish { job, number, .. }), _) => self.finish(
                 *node, *job, *number,

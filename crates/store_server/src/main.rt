@@ -14,7 +14,7 @@ mod sockets;
 mod telling;
 
 use journal_replay::{ReplayFault, Verdict, replay_text, status_of as status_of_replay};
-use serve_fault::Told;
+use serve_fault::PrintedFault;
 use serving::serve;
 use std::fs::File;
 use std::io::{BufReader, BufWriter, ErrorKind};
@@ -38,7 +38,7 @@ fn main(rt: HostRuntime) -> io::Result<ExitCode> {
         Task::Run(running) => end(&rt, run(&rt, running)),
         Task::Serve(serving) => match serve(rt, rt, serving, rt.reader(), io::writer(&rt)) {
             Ok(()) => Ok(ExitCode::SUCCESS),
-            Err(Told) => Ok(ExitCode::FAILURE),
+            Err(PrintedFault) => Ok(ExitCode::FAILURE),
         },
         Task::Replay(path) => replay(&rt, path),
     }

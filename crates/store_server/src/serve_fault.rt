@@ -27,7 +27,7 @@ pub enum ServeFault {
 
 /// A fault that was written to standard error.
 #[derive(Clone, Copy, Debug)]
-pub struct Told;
+pub struct PrintedFault;
 
 impl From<FolderFault> for ServeFault {
     fn from(fault: FolderFault) -> ServeFault {

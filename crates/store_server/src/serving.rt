@@ -5,7 +5,7 @@ ghost use Rattle.world_core.specs.Worlds.{is_shape};
 use crate::connecting::{Connecting, connect_control, take_input};
 use crate::machine::machine_memory;
 use crate::patient::Patient;
-use crate::serve_fault::{ServeFault, Told};
+use crate::serve_fault::{PrintedFault, ServeFault};
 use crate::sockets::{SocketFile, bind};
 use crate::telling::{Telling, TellingDevice};
 use session_threads::{Cluster, Listening, NoPause, Report, SharedNode, Working, listen, work};
@@ -46,7 +46,7 @@ pub fn serve<
     R: Threads + Wait + Clock + Files + Net + Copy + Send + 'static,
     I: Read + Drop,
     O: Write + Drop,
->(rt: R, host: HostRuntime, serving: Serving<'_>, reader: I, writer: O) -> Result<(), Told>
+>(rt: R, host: HostRuntime, serving: Serving<'_>, reader: I, writer: O) -> Result<(), PrintedFault>
     requires { is_shape serving.shape ≡ true }
 {
     if let Some(fault) = memory_fault(&host, &serving) {
@@ -68,9 +68,9 @@ pub fn serve<
 }
 
 /// Writes the fault to standard error. Whoever reads none is served all the same.
-fn tell(host: HostRuntime, fault: ServeFault) -> Told {
+fn tell(host: HostRuntime, fault: ServeFault) -> PrintedFault {
     let _ = host.eprintln(fault);
-    Told
+    PrintedFault
 }
 
 /// That the machine has less memory than the nodes are to have in all, unless that is not to be looked at, or nobody knows.
@@ -102,7 +102,7 @@ fn serve_named<
     blank: Blank,
     reader: &mut I,
     writer: &mut O,
-) -> Result<(), Told>
+) -> Result<(), PrintedFault>
     requires shape { is_shape serving.shape ≡ true }
     requires name { blank.name ≡ L.name }
     requires parts { blank.parts ≡ L.parts }

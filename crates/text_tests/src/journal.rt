@@ -98,8 +98,8 @@ fn answered(alloc: Global, text: &str) -> Result<String, AllocError> {
 
 /// Checks the answer in a line.
 fn answers(rt: &impl Abort, alloc: Global, text: &str, answer: &str) -> Result<(), AllocError> {
-    let told = answered(alloc, text)?;
-    same!(rt; told.as_str(), answer);
+    let response = answered(alloc, text)?;
+    same!(rt; response.as_str(), answer);
     Ok(())
 }
 
@@ -123,7 +123,7 @@ fn other_lines_are_no_entries(rt: HostRuntime) -> Result<(), Fail> {
 }
 
 #[test]
-fn the_first_version_tells_less_of_hands(rt: HostRuntime) -> Result<(), Fail> {
+fn the_first_version_tells_less_of_grants(rt: HostRuntime) -> Result<(), Fail> {
     let alloc = rt.alloc();
     for row in FIRST.split('\n') {
         let (first, third) = row.split_once(" > ").unwrap_or((row, ""));

@@ -2,7 +2,7 @@
 use assertions::same;
 use bytes::Bytes;
 use obj_id::{
-    CopyState, DeviceKey, Endpoint, GrantedItem, Items, JobKey, JobNo, Kind, Message, ObjectId,
+    CopyState, DeviceKey, Endpoint, GrantedItem, ItemList, JobKey, JobNo, Kind, Message, ObjectId,
     OwnItem, PeerMessage, Quota, Refusal, Reply, TaskNo, Usage, Work, WorkKind,
 };
 use private_store::{Event, Step, StepAnswer};
@@ -50,7 +50,7 @@ fn prints(
     reply: Reply<Bytes>,
     text: &str,
 ) -> Result<(), AllocError> {
-    is_line(rt, alloc, prefix, StepAnswer::Told(reply), text)
+    is_line(rt, alloc, prefix, StepAnswer::Response(reply), text)
 }
 
 fn numbered(task: u64, job: u32, index: u32) -> Result<ObjectId, Refusal> {
@@ -62,8 +62,8 @@ fn own(
     id: ObjectId,
     state: CopyState,
     kind: Kind,
-) -> Result<Items<OwnItem>, AllocError> {
-    let mut items = Items::new(alloc);
+) -> Result<ItemList<OwnItem>, AllocError> {
+    let mut items = ItemList::new(alloc);
     items.push(OwnItem {
         id,
         state,
@@ -79,7 +79,7 @@ fn one(
     id: ObjectId,
     state: CopyState,
     kind: Kind,
-) -> Result<Items<OwnItem>, AllocError> {
+) -> Result<ItemList<OwnItem>, AllocError> {
     match own(alloc, id, state, kind) {
         Ok(items) => Ok(items),
         Err(_) => own(alloc, id, state, kind),
@@ -98,18 +98,18 @@ fn own_and_granted(
         kind: Kind::Primary,
         length: 7,
     })?;
-    let mut hands = Items::new(alloc);
-    hands.push(GrantedItem {
+    let mut grants = ItemList::new(alloc);
+    grants.push(GrantedItem {
         id: granted,
         length: 4,
         depth: 1,
     })?;
-    hands.push(GrantedItem {
+    grants.push(GrantedItem {
         id: granted,
         length: 5,
         depth: 3,
     })?;
-    Ok(Reply::List(items, hands))
+    Ok(Reply::List(items, grants))
 }
 
 #[test]
@@ -181,7 +181,7 @@ fn usage_is_six_numbers(rt: HostRuntime) -> Result<(), Fail> {
 #[test]
 fn an_empty_list_is_one_word(rt: HostRuntime) -> Result<(), Fail> {
     let alloc = rt.alloc();
-    let list = Reply::List(Items::new(alloc), Items::new(alloc));
+    let list = Reply::List(ItemList::new(alloc), ItemList::new(alloc));
     Ok(prints(&rt, alloc, SESSION, list, "n0 j1 s3 list\n")?)
 }
 
@@ -204,7 +204,7 @@ fn a_task_without_a_number_is_printed_in_full(rt: HostRuntime) -> Result<(), Fai
     let alloc = rt.alloc();
     let id = ObjectId::new(TaskNo([7; 20]), JobNo(1), 258)?;
     let items = one(alloc, id, CopyState::Sealed, Kind::Primary)?;
-    let list = Reply::List(items, Items::new(alloc));
+    let list = Reply::List(items, ItemList::new(alloc));
     let text =
         "n0 j1 s3 list 07070707070707070707070707070707070707070000000100000102:sealed:primary:20\n";
     Ok(prints(&rt, alloc, SESSION, list, text)?)
@@ -235,7 +235,7 @@ fn states_have_words(rt: HostRuntime) -> Result<(), Fail> {
     ];
     for (state, text) in states {
         let items = one(alloc, id, state, Kind::Secondary)?;
-        let list = Reply::List(items, Items::new(alloc));
+        let list = Reply::List(items, ItemList::new(alloc));
         prints(&rt, alloc, SESSION, list, text)?;
     }
     Ok(())

@@ -1,5 +1,5 @@
 //! The whole case of a direct caller, with the numbers of its report.
-use crate::objects::{admit, is_hello, object, seal_hello, told};
+use crate::objects::{admit, is_hello, object, response, seal_hello};
 use crate::trials::{Trial, try_out};
 use assertions::{holds, same};
 use bytes::Bytes;
@@ -34,8 +34,8 @@ pub(crate) fn six_commands<L: Ledger, R: Wait + Abort>(
     let id = object(rt, JOB, 1);
     admit(rt, node, JOB, QUOTA);
     seal_hello(rt, alloc, node, id)?;
-    holds!(rt; matches!(told(rt, node, JOB, Command::Get(id)), Reply::Got(20)));
-    holds!(rt; is_hello(&told(rt, node, JOB, Command::Read { id, offset: 0, count: 20 })));
+    holds!(rt; matches!(response(rt, node, JOB, Command::Get(id)), Reply::Got(20)));
+    holds!(rt; is_hello(&response(rt, node, JOB, Command::Read { id, offset: 0, count: 20 })));
     let (reply, receipt) = node.call(rt, JOB, 1, Command::Release(id));
     holds!(rt; matches!(reply, Reply::Ok));
     Ok(receipt.expect(rt, "a receipt"))

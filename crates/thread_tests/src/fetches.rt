@@ -1,5 +1,5 @@
 //! What is sealed at one node is fetched at another one, and a message that finds no room is counted.
-use crate::objects::{admit, is_hello, object, seal_hello, told};
+use crate::objects::{admit, is_hello, object, response, seal_hello};
 use crate::trials::{Trial, try_out};
 use assertions::{holds, same};
 use obj_id::{Command, JobNo, Quota, Refusal, Reply};
@@ -31,7 +31,7 @@ fn get_and_read<L: Ledger, R: Wait + Clock + Abort>(rt: &R, node: &SharedNode<L>
     let (reply, receipt) = node.call_wait(rt, JOB, 1, Awaited::Get(id));
     holds!(rt; matches!(reply, Reply::Got(20)));
     same!(rt; receipt.map(|receipt| receipt.node()), Some(1));
-    holds!(rt; is_hello(&told(rt, node, JOB, Command::Read { id, offset: 0, count: 20 })));
+    holds!(rt; is_hello(&response(rt, node, JOB, Command::Read { id, offset: 0, count: 20 })));
 }
 
 /// The job is admitted at both nodes, and seals an object at the first.
@@ -62,7 +62,7 @@ pub(crate) fn fetch<L: Ledger, R: Wait + Clock + Abort>(
 fn ask_often<L: Ledger, R: Wait + Abort>(rt: &R, node: &SharedNode<L>) {
     let id = object(rt, JOB, 1);
     for _ in 0..1 + MOST_IN_LINK + TOO_MANY {
-        let reply = told(rt, node, JOB, Command::Get(id));
+        let reply = response(rt, node, JOB, Command::Get(id));
         holds!(rt; matches!(reply, Reply::Refused(Refusal::Pending)));
     }
 }

@@ -1,7 +1,7 @@
 //! While a device writes, reads or erases for one job, another one is answered: no device is called under the node's lock.
 use crate::gates::Gate;
 use crate::kept_devices::{DeviceCall, KeptDevice};
-use crate::objects::{admit, object, seal_hello, told};
+use crate::objects::{admit, object, response, seal_hello};
 use crate::trials::{Trial, try_out};
 use assertions::{holds, same};
 use bytes::Bytes;
@@ -59,7 +59,7 @@ fn is_answered_beside<L: Ledger, R: Wait + Abort>(
     gate: &Gate,
 ) -> bool {
     let is_reached = gate.await_arrival();
-    let reply = told(rt, node, OTHER, Command::Get(object(rt, OTHER, 1)));
+    let reply = response(rt, node, OTHER, Command::Get(object(rt, OTHER, 1)));
     gate.open() && is_reached && matches!(reply, Reply::Got(20))
 }
 
@@ -99,14 +99,14 @@ fn ask_for_write<L: Ledger, R: Wait + Abort>(rt: &R, node: &SharedNode<L>) {
         kind: Kind::Primary,
         length: 32,
     };
-    holds!(rt; matches!(told(rt, node, SPILLED, create), Reply::Placed(..)));
-    holds!(rt; matches!(told(rt, node, SPILLED, Command::Seal(first)), Reply::Ok));
+    holds!(rt; matches!(response(rt, node, SPILLED, create), Reply::Placed(..)));
+    holds!(rt; matches!(response(rt, node, SPILLED, Command::Seal(first)), Reply::Ok));
     let create = Command::Create {
         id: second,
         kind: Kind::Primary,
         length: 16,
     };
-    holds!(rt; is_pending(&told(rt, node, SPILLED, create)));
+    holds!(rt; is_pending(&response(rt, node, SPILLED, create)));
 }
 
 /// The first object was written: the second takes its room, and gives it back, and the first is asked for.
@@ -117,25 +117,25 @@ fn ask_for_read<L: Ledger, R: Wait + Abort>(rt: &R, node: &SharedNode<L>) {
         kind: Kind::Primary,
         length: 16,
     };
-    holds!(rt; matches!(told(rt, node, SPILLED, create), Reply::Placed(..)));
-    holds!(rt; matches!(told(rt, node, SPILLED, Command::Delete(second)), Reply::Ok));
-    holds!(rt; is_pending(&told(rt, node, SPILLED, Command::Get(first))));
+    holds!(rt; matches!(response(rt, node, SPILLED, create), Reply::Placed(..)));
+    holds!(rt; matches!(response(rt, node, SPILLED, Command::Delete(second)), Reply::Ok));
+    holds!(rt; is_pending(&response(rt, node, SPILLED, Command::Get(first))));
 }
 
 /// The read that failed is answered once, and asked for again.
 fn ask_for_read_again<L: Ledger, R: Wait + Abort>(rt: &R, node: &SharedNode<L>) {
     let first = object(rt, SPILLED, 1);
-    let reply = told(rt, node, SPILLED, Command::Get(first));
+    let reply = response(rt, node, SPILLED, Command::Get(first));
     holds!(rt; matches!(reply, Reply::Refused(Refusal::DeviceFailed)));
-    holds!(rt; is_pending(&told(rt, node, SPILLED, Command::Get(first))));
+    holds!(rt; is_pending(&response(rt, node, SPILLED, Command::Get(first))));
 }
 
 /// The first object is back, and goes, and what lies on the device with it.
 fn ask_for_erase<L: Ledger, R: Wait + Abort>(rt: &R, node: &SharedNode<L>) {
     let first = object(rt, SPILLED, 1);
-    holds!(rt; matches!(told(rt, node, SPILLED, Command::Get(first)), Reply::Got(32)));
-    holds!(rt; matches!(told(rt, node, SPILLED, Command::Release(first)), Reply::Ok));
-    holds!(rt; matches!(told(rt, node, SPILLED, Command::Delete(first)), Reply::Ok));
+    holds!(rt; matches!(response(rt, node, SPILLED, Command::Get(first)), Reply::Got(32)));
+    holds!(rt; matches!(response(rt, node, SPILLED, Command::Release(first)), Reply::Ok));
+    holds!(rt; matches!(response(rt, node, SPILLED, Command::Delete(first)), Reply::Ok));
 }
 
 fn is_pending(reply: &Reply<Bytes>) -> bool {

@@ -27,7 +27,7 @@ pub(crate) fn admit<L: Ledger, P: Pause, R: Wait + Abort>(
 }
 
 /// The answer to a command of the job's first session.
-pub(crate) fn told<L: Ledger, R: Wait>(
+pub(crate) fn response<L: Ledger, R: Wait>(
     rt: &R,
     node: &SharedNode<L>,
     job: JobNo,
@@ -45,9 +45,9 @@ pub(crate) fn seal_hello<L: Ledger, R: Wait + Abort>(
 ) -> Result<(), AllocError> {
     let hello = Bytes::from_vec(Vec::from_slice(alloc, b"Hello")?)?;
     let job = id.job();
-    holds!(rt; matches!(told(rt, node, job, Command::Create { id, kind: Kind::Primary, length: 20 }), Reply::Placed(_, 32)));
-    holds!(rt; matches!(told(rt, node, job, Command::Write { id, offset: 0, bytes: hello }), Reply::Ok));
-    holds!(rt; matches!(told(rt, node, job, Command::Seal(id)), Reply::Ok));
+    holds!(rt; matches!(response(rt, node, job, Command::Create { id, kind: Kind::Primary, length: 20 }), Reply::Placed(_, 32)));
+    holds!(rt; matches!(response(rt, node, job, Command::Write { id, offset: 0, bytes: hello }), Reply::Ok));
+    holds!(rt; matches!(response(rt, node, job, Command::Seal(id)), Reply::Ok));
     Ok(())
 }
 

@@ -214,7 +214,7 @@ fn widen_to(tree: &mut Tree<Use, VictimClasses>, bits: u32, turn: u64) -> u32
 
 /// The use of the greatest turn below this one whose copy the walk chooses. Goes into at most two nodes of each depth.
 fn last(tree: &Tree<Use, VictimClasses>, class: VictimClass, below: u64) -> Option<Use>
-    requires told { HasSummaries IsAnyUse AreClassesOf tree.now }
+    requires summarized { HasSummaries IsAnyUse AreClassesOf tree.now }
     requires rising { AreUsesRising (items tree.now) }
     ensures { result ≡ last_chosen class below (items tree.now) }
 {

@@ -9,7 +9,7 @@ use Rattle.private_store.specs.rules.Frames.{malformed, Stream, stopped, after_i
 use Rattle.wire_frames.specs.Filled.{filled_item}
 use Rattle.wire_frames.specs.Finishing.{IsCompleted, IsFilled, IsWholeFrame}
 use Rattle.wire_frames.specs.Heads.{IsPart, stream_read}
-use Rattle.wire_frames.specs.Reading.{Fed, unfinished, answer_of, fed, fed_by, reading_after, reading_told}
+use Rattle.wire_frames.specs.Reading.{Fed, unfinished, answer_of, fed, fed_by, reading_after, reading_fed}
 use Rattle.wire_frames.specs.declared.bodies.FrameBody.{FrameBody}
 use Rattle.wire_frames.proofs.Pieces.{IsKept, IsKept-reading_after, onward, stream_of-append}
 use Rattle.wire_frames.proofs.Streams.{number_at-append}
@@ -21,16 +21,16 @@ rest_taken bytes n = ap (λ k. take k (drop n bytes)) (sym (length-drop n bytes)
 
 -- what a reader tells of a stream, and what it keeps
 abbrev told_of : Stream → Fed
-told_of s = reading_told (answer_of s) (reading_after s)
+told_of s = reading_fed (answer_of s) (reading_after s)
 
-stream_read-told : (items : List Item) (faulty : Bool) (rest : List ℕ) → told_of (stream_read items faulty rest) ≡ fed_by items faulty rest
-stream_read-told items true rest = refl
-stream_read-told items false [] = refl
-stream_read-told items false (b ∷ bs) = refl
+stream_read-response : (items : List Item) (faulty : Bool) (rest : List ℕ) → told_of (stream_read items faulty rest) ≡ fed_by items faulty rest
+stream_read-response items true rest = refl
+stream_read-response items false [] = refl
+stream_read-response items false (b ∷ bs) = refl
 
 pub fed-stream_read : (before piece : List ℕ) (items : List Item) (faulty : Bool) (rest : List ℕ)
     → stream_of (before ++ piece) ≡ stream_read items faulty rest → fed (unfinished before) piece ≡ fed_by items faulty rest
-fed-stream_read before piece items faulty rest is = ap told_of is ∙ stream_read-told items faulty rest
+fed-stream_read before piece items faulty rest is = ap told_of is ∙ stream_read-response items faulty rest
 
 -- what is kept after a piece is a part of a frame
 pub IsPart-fed : (before piece : List ℕ) (items : List Item) (faulty : Bool) (rest : List ℕ)

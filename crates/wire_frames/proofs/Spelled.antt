@@ -12,7 +12,7 @@ use Rattle.obj_id.specs.declared.commands.Command.{Command}
 use Rattle.obj_id.specs.declared.commands.Command.TheVariants as command
 use Rattle.private_store.specs.declared.frames.Item.{Item}
 use Rattle.private_store.specs.declared.frames.Item.TheVariants as item
-use Rattle.private_store.specs.rules.Frames.{bare, be4, command_body, hello, id_at, is_create, is_id, item_body, item_of, kind_byte, kind_of, number_at, task_at, with_id}
+use Rattle.private_store.specs.rules.Frames.{empty_body, be4, command_body, hello, id_at, is_create, is_id, item_body, item_of, kind_byte, kind_of, number_at, task_at, with_id}
 use Rattle.wire_frames.specs.Items.{AreBytes, IsCommandBytes, IsItemBytes, is_bad_id}
 use Rattle.wire_frames.specs.Kinds.{byte_of, end_task_item, fits_kind, object_byte, read_about, read_of, said}
 use Rattle.wire_frames.specs.declared.kinds.FrameKind.{FrameKind}
@@ -203,9 +203,9 @@ nothing : (body : List ℕ) → (length body == 0) ≡ true → [] ≡ body
 nothing [] h = refl
 nothing (b ∷ bs) h = absurd (omega (arith, eqb-true (length (b ∷ bs)) 0 h))
 
-bare_spelled : (c : Command (List ℕ)) (byte : ℕ) (body : List ℕ) (x : Item) → command_body c ≡ byte ∷ [] → IsCommandBytes c → bare c body ≡ Some x
+empty_body_spelled : (c : Command (List ℕ)) (byte : ℕ) (body : List ℕ) (x : Item) → command_body c ≡ byte ∷ [] → IsCommandBytes c → empty_body c body ≡ Some x
     → IsSpelled byte body x
-bare_spelled c byte body x spelled is e =
+empty_body_spelled c byte body x spelled is e =
     let p = some_if (length body == 0) (item.Command c) x e in
     subst (IsSpelled byte body) p.1 (record {
       spelled = ap (λ b. Some b) spelled ∙ ap (λ b. Some (byte ∷ b)) (nothing body p.0);
@@ -243,9 +243,9 @@ kind_spelled : (kind : FrameKind) (body : List ℕ) (x : Item) → AreBytes body
     → IsSpelled (byte_of kind) body x
 kind_spelled frame.Hello body x h e ok = hello_spelled body x h e
 kind_spelled frame.EndTask body x h e ok = end_task_spelled body x h e
-kind_spelled frame.List body x h e ok = bare_spelled command.List 0x10 body x refl tt e
-kind_spelled frame.Usage body x h e ok = bare_spelled command.Usage 0x11 body x refl tt e
-kind_spelled frame.Leave body x h e ok = bare_spelled command.Leave 0x12 body x refl tt e
+kind_spelled frame.List body x h e ok = empty_body_spelled command.List 0x10 body x refl tt e
+kind_spelled frame.Usage body x h e ok = empty_body_spelled command.Usage 0x11 body x refl tt e
+kind_spelled frame.Leave body x h e ok = empty_body_spelled command.Leave 0x12 body x refl tt e
 kind_spelled (frame.About kind) body x h e ok = about_spelled kind body x h e ok
 
 -- ---- each byte

@@ -5,7 +5,7 @@ use Rattle.obj_id.specs.declared.commands.Command.TheVariants as command
 use Rattle.private_store.specs.declared.frames.Awaited.TheVariants as awaited
 use Rattle.private_store.specs.declared.frames.Item.{Item}
 use Rattle.private_store.specs.declared.frames.Item.TheVariants as item
-use Rattle.private_store.specs.rules.Frames.{Read, bare, hello, id_at, is_create, kind_of, number_at, of_length, task_at, with_id}
+use Rattle.private_store.specs.rules.Frames.{Read, empty_body, hello, id_at, is_create, kind_of, number_at, of_length, task_at, with_id}
 use Rattle.wire_frames.specs.declared.kinds.FrameKind.{FrameKind}
 use Rattle.wire_frames.specs.declared.kinds.FrameKind.TheVariants as frame
 use Rattle.wire_frames.specs.declared.kinds.ObjectKind.{ObjectKind}
@@ -82,7 +82,7 @@ end_task_item body = of_length body 20 (item.Command (command.EndTask (task_at b
 abbrev pub read_of : FrameKind → Read
 read_of frame.Hello = hello
 read_of frame.EndTask = end_task_item
-read_of frame.List = bare command.List
-read_of frame.Usage = bare command.Usage
-read_of frame.Leave = bare command.Leave
+read_of frame.List = empty_body command.List
+read_of frame.Usage = empty_body command.Usage
+read_of frame.Leave = empty_body command.Leave
 read_of (frame.About kind) = read_about kind

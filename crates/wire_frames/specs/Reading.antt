@@ -56,14 +56,14 @@ pub record Fed : Type 0 where
   pub answer : Result (List Item) Refusal
   pub reader : Reading
 
-abbrev pub reading_told : Result (List Item) Refusal → Reading → Fed
-reading_told answer reader = record { answer = answer; reader = reader }
+abbrev pub reading_fed : Result (List Item) Refusal → Reading → Fed
+reading_fed answer reader = record { answer = answer; reader = reader }
 
 -- a piece is fed to a reader
 abbrev pub fed : Reading → List ℕ → Fed
-fed reader piece = reading_told (answer_of (continued reader piece)) (reading_after (continued reader piece))
+fed reader piece = reading_fed (answer_of (continued reader piece)) (reading_after (continued reader piece))
 
 -- a piece by the items that it gives and what is left, where a fault stands after them or doesn't
 abbrev pub fed_by : List Item → Bool → List ℕ → Fed
-fed_by items true rest = reading_told (answer_at malformed items) failed
-fed_by items false rest = reading_told (Ok items) (unfinished rest)
+fed_by items true rest = reading_fed (answer_at malformed items) failed
+fed_by items false rest = reading_fed (Ok items) (unfinished rest)

@@ -1,6 +1,6 @@
 //! What the bodies of frames say.
 ghost use Rattle.std.specs.Prelude.{◌≡◌, ◌+◌, ◌≤◌, Some, None, IsTrue, if◌then◌else◌, IfOk, IfSome, length, slice_index};
-ghost use Rattle.private_store.specs.rules.Frames.{bare as bare_lem, hello as hello_lem, id_at as id_at_lem, is_id, kind_of, number_at as number_at_lem, task_at as task_at_lem};
+ghost use Rattle.private_store.specs.rules.Frames.{empty_body as bare_lem, hello as hello_lem, id_at as id_at_lem, is_id, kind_of, number_at as number_at_lem, task_at as task_at_lem};
 ghost use Rattle.wire_frames.specs.Kinds.{end_task_item as end_task_lem, fits_kind as fits_lem, read_about, read_of, said as said_lem};
 ghost use Rattle.wire_frames.specs.Filled.{HasPayload, filled_item, option_filled};
 
@@ -67,9 +67,9 @@ pub(crate) fn read_body(kind: FrameKind, body: &[u8]) -> Option<FrameBody>
     let item = match kind {
         FrameKind::Hello => hello(body),
         FrameKind::EndTask => end_task(body),
-        FrameKind::List => bare(Command::List, body),
-        FrameKind::Usage => bare(Command::Usage, body),
-        FrameKind::Leave => bare(Command::Leave, body),
+        FrameKind::List => empty_body(Command::List, body),
+        FrameKind::Usage => empty_body(Command::Usage, body),
+        FrameKind::Leave => empty_body(Command::Leave, body),
         FrameKind::About(kind) => return about(kind, body),
     };
     Some(FrameBody::Item(item?))
@@ -98,7 +98,7 @@ fn end_task(body: &[u8]) -> Option<Item>
 }
 
 /// Nothing but the kind.
-fn bare(command: Command<Bytes>, body: &[u8]) -> Option<Item>
+fn empty_body(command: Command<Bytes>, body: &[u8]) -> Option<Item>
     ensures { result ≡ bare_lem command body.now }
 {
     if body.is_empty() {

@@ -3,7 +3,7 @@ ghost use Rattle.std.specs.Prelude.{◌≡◌, ◌≤◌, ◌⊎◌, [], Ok, Err
 ghost use Rattle.obj_id.specs.declared.refusals.Refusal.TheVariants.{Malformed, NoMemory};
 ghost use Rattle.wire_frames.specs.Finishing.{IsCompleted, IsFilled, IsWholeFrame};
 ghost use Rattle.wire_frames.specs.Heads.{IsPart};
-ghost use Rattle.wire_frames.specs.Reading.{failed, unfinished, fed, fed_by, reading_told, is_fault, is_in_mid_frame};
+ghost use Rattle.wire_frames.specs.Reading.{failed, unfinished, fed, fed_by, reading_fed, is_fault, is_in_mid_frame};
 
 use crate::bodies::{FrameBody, number_at};
 use crate::frames::{BEFORE_BODY, Frames, Head, is_command_length, read_frames, read_head};
@@ -63,8 +63,8 @@ impl Reader {
     /// kept lacks is added to it, and once it is whole its bytes become the item's; every other whole frame is read
     /// from the piece itself. No more is kept than a frame, of 65,604 bytes at most.
     pub fn feed(&mut self, alloc: Global, piece: &[u8]) -> Result<Vec<Item>, Refusal>
-        ensures items { IfOk result (λ items. fed self.old piece.now ≡ reading_told (Ok items.items) self.new) }
-        ensures fault { result ≡ Err Malformed → fed self.old piece.now ≡ reading_told (Err Malformed) self.new }
+        ensures items { IfOk result (λ items. fed self.old piece.now ≡ reading_fed (Ok items.items) self.new) }
+        ensures fault { result ≡ Err Malformed → fed self.old piece.now ≡ reading_fed (Err Malformed) self.new }
         ensures for_good { self.old ≡ failed → result ≡ Err Malformed }
         ensures memory { result ≡ Err NoMemory → self.new ≡ self.old }
         ensures refusals { IfErr result (λ refusal. (refusal ≡ Malformed) ⊎ (refusal ≡ NoMemory)) }

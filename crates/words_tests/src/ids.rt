@@ -1,7 +1,7 @@
 //! Ids, their texts, and the refusals. A table is one text: the prover reads each element of an array.
 use assertions::{holds, same};
 use obj_id::numbers::{read_u32, read_u64};
-use obj_id::{Items, JobNo, ObjectId, Refusal, TaskNo};
+use obj_id::{ItemList, JobNo, ObjectId, Refusal, TaskNo};
 use std::alloc::{AllocError, Global};
 use std::process::Abort;
 use std::test::Fail;
@@ -249,7 +249,7 @@ fn each_refusal_has_its_number_and_name(rt: HostRuntime) -> Result<(), Fail> {
 }
 
 /// Adds the item, once more if memory ran out. Whether it is then the last, and nothing had changed before.
-fn pushed(items: &mut Items<JobNo>, job: JobNo) -> Result<bool, AllocError> {
+fn pushed(items: &mut ItemList<JobNo>, job: JobNo) -> Result<bool, AllocError> {
     let had = items.as_slice().len();
     let mut kept = had;
     if items.push(job).is_err() {
@@ -261,7 +261,7 @@ fn pushed(items: &mut Items<JobNo>, job: JobNo) -> Result<bool, AllocError> {
 
 #[test]
 fn a_list_keeps_what_it_had_where_memory_is_wanting(rt: HostRuntime) -> Result<(), Fail> {
-    let mut items = Items::new(rt.alloc());
+    let mut items = ItemList::new(rt.alloc());
     for job in 0..20 {
         holds!(rt; pushed(&mut items, JobNo(job))?);
     }

@@ -13,12 +13,12 @@ use Rattle.obj_id.specs.declared.messages.DirectoryMessage.{DirectoryMessage}
 use Rattle.obj_id.specs.declared.messages.Message.{Message}
 use Rattle.private_store.specs.declared.inputs.Input.TheVariants as input
 use Rattle.private_store.specs.declared.schedules.StepAnswer.{StepAnswer}
-use Rattle.private_store.specs.declared.schedules.StepAnswer.TheVariants.{Told, HandedOver, NoMessage}
+use Rattle.private_store.specs.declared.schedules.StepAnswer.TheVariants.{Response, HandedOver, NoMessage}
 use Rattle.private_store.specs.declared.schedules.Traced.{Traced}
 use Rattle.private_store.specs.rules.Contents.{View}
 use Rattle.private_store.specs.rules.Private.{Store, view_of, view_step}
 use Rattle.private_store.specs.rules.Directory.{locations_after, directory_posts}
-use Rattle.private_store.specs.rules.Cluster.{Cluster, ClusterOutcome, at_node, deliver, posted, unmoved, input_at, told_directory, handed_over, message_at, damaged, cluster_step, cluster_from}
+use Rattle.private_store.specs.rules.Cluster.{Cluster, ClusterOutcome, at_node, deliver, posted, unmoved, input_at, directory_told_of, handed_over, message_at, damaged, cluster_step, cluster_from}
 use Rattle.private_store.specs.rules.Trace.{is_no_memory, cluster_until}
 use Rattle.private_store.specs.rules.Shared.{AskedWork, LiveJob, leaves, waiting, asked_by, works_asked_by, outcome_works, lives_step, is_admission, is_live_at, goes_to_live, deliver_answer, shared_answer, answer_due}
 use Rattle.private_store.specs.rules.Shared as shared
@@ -61,25 +61,25 @@ module _ (nodes memory : ℕ) (history : List Traced) (old : Hosting) (h : IsAft
 
   pub no_answer : message_in (sent_of old.messages job.0) from to m ≡ None → deliver_answer nodes memory history job.0 from to m damage ≡ NoMessage
   no_answer none =
-      ap (λ o. elim o [ None ↦ NoMessage | Some message ↦ cond (goes_to_live memory history job.0 to) (HandedOver (cond damage (damaged message) message)) (Told (reply.Refused Stale)) ]) (message_is ∙ none)
+      ap (λ o. elim o [ None ↦ NoMessage | Some message ↦ cond (goes_to_live memory history job.0 to) (HandedOver (cond damage (damaged message) message)) (Response (reply.Refused Stale)) ]) (message_is ∙ none)
 
   pub answer_is : (sent : Message) → message_in (sent_of old.messages job.0) from to m ≡ Some sent
-      → deliver_answer nodes memory history job.0 from to m damage ≡ cond (goes_to_live memory history job.0 to) (HandedOver (as_damaged damage sent)) (Told (reply.Refused Stale))
+      → deliver_answer nodes memory history job.0 from to m damage ≡ cond (goes_to_live memory history job.0 to) (HandedOver (as_damaged damage sent)) (Response (reply.Refused Stale))
   answer_is sent some =
-      ap (λ o. elim o [ None ↦ NoMessage | Some message ↦ cond (goes_to_live memory history job.0 to) (HandedOver (cond damage (damaged message) message)) (Told (reply.Refused Stale)) ]) (message_is ∙ some)
+      ap (λ o. elim o [ None ↦ NoMessage | Some message ↦ cond (goes_to_live memory history job.0 to) (HandedOver (cond damage (damaged message) message)) (Response (reply.Refused Stale)) ]) (message_is ∙ some)
 
 -- ---- what changes no node
 
-module _ (nodes memory : ℕ) (history : List Traced) (job : JobNo) (from to : Endpoint) (m : ℕ) (damage : Bool) (told : StepAnswer) (n : is_no_memory told ≡ false) where
+module _ (nodes memory : ℕ) (history : List Traced) (job : JobNo) (from to : Endpoint) (m : ℕ) (damage : Bool) (response : StepAnswer) (n : is_no_memory response ≡ false) where
   abbrev entry : Traced
-  entry = delivery nodes memory history job from to m damage told n
+  entry = delivery nodes memory history job from to m damage response n
 
   abbrev stepped : ClusterOutcome
   stepped = cluster_step (cluster_until nodes job.0 history) (deliver from to m damage)
 
   asked_none : stepped.outcome ≡ None → (place : ℕ) → asked_by nodes place history entry ≡ []
   asked_none none place =
-      ap (λ o. option_map_or (works_asked_by nodes place history) o []) (own_delivery nodes memory history job from to m damage told n)
+      ap (λ o. option_map_or (works_asked_by nodes place history) o []) (own_delivery nodes memory history job from to m damage response n)
       ∙ by (option_map_or (λ n. n == place) (shared.taken_at (deliver from to m damage)) false)
     where
       by : (t : Bool) → cond t (outcome_works job.0 stepped.outcome) [] ≡ []
@@ -87,7 +87,7 @@ module _ (nodes memory : ℕ) (history : List Traced) (job : JobNo) (from to : E
       by false = refl
 
   stores_same : stepped.cluster.stores ≡ (cluster_until nodes job.0 history).stores → (other : ℕ) → (cluster_until nodes other (entry ∷ history)).stores ≡ (cluster_until nodes other history).stores
-  stores_same same other = ap (λ (c : Cluster). c.stores) (cluster_delivery nodes memory history job from to m damage told n other) ∙ by (job.0 == other) refl
+  stores_same same other = ap (λ (c : Cluster). c.stores) (cluster_delivery nodes memory history job from to m damage response n other) ∙ by (job.0 == other) refl
     where
       by : (t : Bool) → (job.0 == other) ≡ t → (cond t (cluster_step (cluster_until nodes other history) (deliver from to m damage)).cluster (cluster_until nodes other history)).stores ≡ (cluster_until nodes other history).stores
       by false s = refl
@@ -95,28 +95,28 @@ module _ (nodes memory : ℕ) (history : List Traced) (job : JobNo) (from to : E
           let j = same_number job.0 other s in
           subst (λ j. (cluster_step (cluster_until nodes j history) (deliver from to m damage)).cluster.stores ≡ (cluster_until nodes j history).stores) j same
 
-  pub delivery_idle : stepped.outcome ≡ None → stepped.cluster.stores ≡ (cluster_until nodes job.0 history).stores → told ≡ deliver_answer nodes memory history job.0 from to m damage → IsIdle nodes memory history entry
+  pub delivery_idle : stepped.outcome ≡ None → stepped.cluster.stores ≡ (cluster_until nodes job.0 history).stores → response ≡ deliver_answer nodes memory history job.0 from to m damage → IsIdle nodes memory history entry
   delivery_idle none same is = record {
-    hands = λ place hands. refl;
+    grants = λ place grants. refl;
     out = λ place j number was. refl;
     left = λ place waiting. filter_all waiting;
     asked = asked_none none;
     lives = λ place lives. refl;
     admission = λ place j. refl;
     stores = stores_same same;
-    due = is ∙ sym (ap (λ t. cond t told (deliver_answer nodes memory history job.0 from to m damage)) n);
+    due = is ∙ sym (ap (λ t. cond t response (deliver_answer nodes memory history job.0 from to m damage)) n);
   }
 
   -- the world is as it was
-  pub after_nothing : (old : Hosting) → IsAfter nodes memory old history → stepped ≡ unmoved (cluster_until nodes job.0 history) → told ≡ deliver_answer nodes memory history job.0 from to m damage
+  pub after_nothing : (old : Hosting) → IsAfter nodes memory old history → stepped ≡ unmoved (cluster_until nodes job.0 history) → response ≡ deliver_answer nodes memory history job.0 from to m damage
       → IsAfter nodes memory old (entry ∷ history)
   after_nothing old h still is =
       let idle = delivery_idle (ap (λ o. o.outcome) still) (ap (λ o. o.cluster.stores) still) is in
       world_idle nodes memory history entry idle old old h refl
-      (λ other. job_idle nodes memory history entry idle other old h (same other) (told_delivery nodes memory history job from to m damage told n other))
+      (λ other. job_idle nodes memory history entry idle other old h (same other) (told_delivery nodes memory history job from to m damage response n other))
     where
       same : (other : ℕ) → cluster_until nodes other (entry ∷ history) ≡ cluster_until nodes other history
-      same other = cluster_delivery nodes memory history job from to m damage told n other ∙ by (job.0 == other) refl
+      same other = cluster_delivery nodes memory history job from to m damage response n other ∙ by (job.0 == other) refl
         where
           by : (t : Bool) → (job.0 == other) ≡ t → cond t (cluster_step (cluster_until nodes other history) (deliver from to m damage)).cluster (cluster_until nodes other history) ≡ cluster_until nodes other history
           by false s = refl
@@ -125,23 +125,23 @@ module _ (nodes memory : ℕ) (history : List Traced) (job : JobNo) (from to : E
               (ap (λ o. o.cluster) still)
 
   -- the directory took a message
-  pub after_directory : (old new : Hosting) (d : DirectoryMessage) → IsAfter nodes memory old history → stepped ≡ told_directory (cluster_until nodes job.0 history) d
-      → told ≡ deliver_answer nodes memory history job.0 from to m damage → MovesDirectory old job d new → IsAfter nodes memory new (entry ∷ history)
+  pub after_directory : (old new : Hosting) (d : DirectoryMessage) → IsAfter nodes memory old history → stepped ≡ directory_told_of (cluster_until nodes job.0 history) d
+      → response ≡ deliver_answer nodes memory history job.0 from to m damage → MovesDirectory old job d new → IsAfter nodes memory new (entry ∷ history)
   after_directory old new d h took is moves =
       world_idle nodes memory history entry (delivery_idle (ap (λ o. o.outcome) took) (ap (λ o. o.cluster.stores) took) is) old new h moves.nodes job_after
     where
       job_at : (other : ℕ) (t : Bool) → (job.0 == other) ≡ t → IsJobAfter nodes other (sent_of new.messages other) (locations_of new.tables (record { 0 = other })) (entry ∷ history)
       job_at other false s =
           let j = h.each_job other in
-          let same = cluster_delivery nodes memory history job from to m damage told n other ∙ ap (λ t. cond t (cluster_step (cluster_until nodes other history) (deliver from to m damage)).cluster (cluster_until nodes other history)) s in
+          let same = cluster_delivery nodes memory history job from to m damage response n other ∙ ap (λ t. cond t (cluster_step (cluster_until nodes other history) (deliver from to m damage)).cluster (cluster_until nodes other history)) s in
           record {
             messages = moves.sent other ∙ ap (λ t. cond t (sent_of old.messages other ++ posted Directory (directory_posts (locations_of old.tables job) d)) (sent_of old.messages other)) s ∙ j.messages ∙ sym (ap (λ (c : Cluster). c.sent) same);
             locations = moves.tables.others (record { 0 = other }) s ∙ j.locations ∙ sym (ap (λ (c : Cluster). c.locations) same);
-            replies = replies_more nodes other entry history j.replies (told_delivery nodes memory history job from to m damage told n other);
+            replies = replies_more nodes other entry history j.replies (told_delivery nodes memory history job from to m damage response n other);
           }
       job_at other true s =
           let j = h.each_job job.0 in
-          let same = cluster_delivery nodes memory history job from to m damage told n job.0
+          let same = cluster_delivery nodes memory history job from to m damage response n job.0
           ∙ ap (λ t. cond t (cluster_step (cluster_until nodes job.0 history) (deliver from to m damage)).cluster (cluster_until nodes job.0 history)) (itself job.0)
           ∙ ap (λ o. o.cluster) took in
           subst (λ k. IsJobAfter nodes k (sent_of new.messages k) (locations_of new.tables (record { 0 = k })) (entry ∷ history)) (same_number job.0 other s)
@@ -151,7 +151,7 @@ module _ (nodes memory : ℕ) (history : List Traced) (job : JobNo) (from to : E
                 ∙ (λ i. j.messages i ++ posted Directory (directory_posts (j.locations i) d))
                 ∙ sym (ap (λ (c : Cluster). c.sent) same);
             locations = moves.tables.own ∙ ap (λ t. locations_after t d) j.locations ∙ sym (ap (λ (c : Cluster). c.locations) same);
-            replies = replies_more nodes job.0 entry history j.replies (told_delivery nodes memory history job from to m damage told n job.0);
+            replies = replies_more nodes job.0 entry history j.replies (told_delivery nodes memory history job from to m damage response n job.0);
           })
 
       job_after : (other : ℕ) → IsJobAfter nodes other (sent_of new.messages other) (locations_of new.tables (record { 0 = other })) (entry ∷ history)
@@ -162,8 +162,8 @@ module _ (nodes memory : ℕ) (history : List Traced) (job : JobNo) (from to : E
 pub live_is : (memory place : ℕ) (history : List Traced) (a : Admissions) (job : JobNo) → lives_of a.live ≡ shared.lives_after memory place history → is_live_at memory place history job.0 ≡ is_some (live_at a job)
 live_is memory place history a job lives = ap (list_any (shared.job_is job.0)) (sym lives) ∙ any_live job a.live
 
--- what is told by the node is told of the delivery
-pub handed_is : (msg : Message) (fine : Bool) → handed msg (answer_of_check (stale_unless fine)) ≡ cond fine (HandedOver msg) (Told (reply.Refused Stale))
+-- what is answered by the node is answered to the delivery
+pub handed_is : (msg : Message) (fine : Bool) → handed msg (answer_of_check (stale_unless fine)) ≡ cond fine (HandedOver msg) (Response (reply.Refused Stale))
 handed_is msg true = refl
 handed_is msg false = refl
 
@@ -182,17 +182,17 @@ module _ (nodes memory place : ℕ) (history : List Traced) (job : JobNo) (from 
   abbrev v : ℕ → View
   v job = view_of (store job)
 
-  abbrev pub told : StepAnswer
-  told = handed msg (answer_of_check (stale_unless fine))
+  abbrev pub response : StepAnswer
+  response = handed msg (answer_of_check (stale_unless fine))
 
   abbrev r : Reply (List ℕ)
   r = answer_of_check (stale_unless fine)
 
-  pub n : is_no_memory told ≡ false
+  pub n : is_no_memory response ≡ false
   n = handed_wants msg fine
 
   abbrev pub entry_to : Traced
-  entry_to = delivery nodes memory history job from (Node place) m damage told n
+  entry_to = delivery nodes memory history job from (Node place) m damage response n
 
   abbrev b : Before
   b = before_at nodes place history
@@ -211,7 +211,7 @@ module _ (nodes memory place : ℕ) (history : List Traced) (job : JobNo) (from 
 
   moves_to : (other : ℕ) → cluster_until nodes other (entry_to ∷ history) ≡ cluster_from (cluster_until nodes other history) (map (at_node place) (inputs_to b (Arrive job a) r other))
   moves_to other =
-      cluster_delivery nodes memory history job from (Node place) m damage told n other
+      cluster_delivery nodes memory history job from (Node place) m damage response n other
       ∙ by (job.0 == other) refl
       ∙ sym (ap (λ xs. cluster_from (cluster_until nodes other history) (map (at_node place) xs)) (inputs_arrive other))
     where
@@ -225,7 +225,7 @@ module _ (nodes memory place : ℕ) (history : List Traced) (job : JobNo) (from 
   asked_to : asked_by nodes place history entry_to
       ≡ option_map_or (λ x. map (λ w. record { job = x.job; number = w.number }) (view_step place (v x.job) x.input).works) (own_here b (Arrive job a) r) []
   asked_to =
-      ap (λ o. option_map_or (works_asked_by nodes place history) o []) (own_delivery nodes memory history job from (Node place) m damage told n)
+      ap (λ o. option_map_or (works_asked_by nodes place history) o []) (own_delivery nodes memory history job from (Node place) m damage response n)
       ∙ ap (λ t. cond t (outcome_works job.0 (cluster_step (cluster_until nodes job.0 history) (deliver from (Node place) m damage)).outcome) []) (itself place)
       ∙ ap (λ o. outcome_works job.0 o.outcome) (taken ∙ input_found (cluster_until nodes job.0 history) place (input.Arrive a) (store job.0) (found job.0))
       ∙ sym (ap (λ o. option_map_or (λ (x : JobInput). map (λ w. record { job = x.job; number = w.number }) (view_step place (v x.job) x.input).works) o []) own_arrives)
@@ -233,15 +233,15 @@ module _ (nodes memory place : ℕ) (history : List Traced) (job : JobNo) (from 
   pub is_arrival : IsEntry nodes memory place (Arrive job a) r v node.works.works node.admissions history entry_to
   is_arrival = record {
     tables = record {
-      hands_here = refl;
-      hands_there = λ other apart hands. refl;
+      grants_here = refl;
+      grants_there = λ other apart grants. refl;
       out_here = λ j number. refl;
       out_there = λ other apart j number was. refl;
       left_here = sym (filter_all (untaken node.works.works));
       left_there = λ other apart waiting. filter_all waiting;
       asked_here = asked_to;
       asked_there = λ other apart.
-          ap (λ o. option_map_or (works_asked_by nodes other history) o []) (own_delivery nodes memory history job from (Node place) m damage told n)
+          ap (λ o. option_map_or (works_asked_by nodes other history) o []) (own_delivery nodes memory history job from (Node place) m damage response n)
           ∙ ap (λ t. cond t (outcome_works job.0 (cluster_step (cluster_until nodes job.0 history) (deliver from (Node place) m damage)).outcome) []) (apart_number place other apart);
     };
     lives = record {
@@ -251,6 +251,6 @@ module _ (nodes memory place : ℕ) (history : List Traced) (job : JobNo) (from 
       admission_there = λ other j apart. refl;
     };
     moves = moves_to;
-    replies = told_delivery nodes memory history job from (Node place) m damage told n;
-    due = sym (ap (λ t. cond t told (deliver_answer nodes memory history job.0 from (Node place) m damage)) n ∙ due);
+    replies = told_delivery nodes memory history job from (Node place) m damage response n;
+    due = sym (ap (λ t. cond t response (deliver_answer nodes memory history job.0 from (Node place) m damage)) n ∙ due);
   }

@@ -15,11 +15,11 @@ use Rattle.obj_id.specs.declared.messages.Message.TheVariants as message
 use Rattle.private_store.specs.declared.inputs.Input.TheVariants as input
 use Rattle.private_store.specs.declared.schedules.Step.TheVariants.{Deliver}
 use Rattle.private_store.specs.declared.schedules.StepAnswer.{StepAnswer}
-use Rattle.private_store.specs.declared.schedules.StepAnswer.TheVariants.{Told, HandedOver, NoMessage}
+use Rattle.private_store.specs.declared.schedules.StepAnswer.TheVariants.{Response, HandedOver, NoMessage}
 use Rattle.private_store.specs.declared.schedules.Traced.{Traced}
 use Rattle.private_store.specs.declared.schedules.NodeEvent.TheVariants.{Arrive}
 use Rattle.private_store.specs.rules.Private.{Store}
-use Rattle.private_store.specs.rules.Cluster.{Cluster, arrival_of, deliver, unmoved, input_at, told_directory, handed_to_directory, cluster_step}
+use Rattle.private_store.specs.rules.Cluster.{Cluster, arrival_of, deliver, unmoved, input_at, directory_told_of, handed_to_directory, cluster_step}
 use Rattle.private_store.specs.laws.NodeInputs.{wants_memory}
 use Rattle.private_store.specs.rules.Shared.{deliver_answer}
 use Rattle.private_store.specs.rules.Trace.{is_no_memory, cluster_until}
@@ -28,7 +28,7 @@ use Rattle.job_admission.specs.Admissions.{live_at}
 use Rattle.node_core.specs.Steps.{NodeGiven, answer_of_check, stale_unless}
 use Rattle.world_core.specs.Logs.{sent_of, message_in}
 use Rattle.world_core.specs.Worlds.{Hosting, IsAfter, is_place}
-use Rattle.world_core.specs.WorldSteps.{HostingStep, as_damaged, handed, message_of, for_directory, Hands, to_directory, past_directory, to_node, past_node, nothing, hands, WorldStep, delivers, Arrives}
+use Rattle.world_core.specs.WorldSteps.{HostingStep, as_damaged, handed, message_of, for_directory, IsDelivered, to_directory, past_directory, to_node, past_node, nothing, delivered, WorldStep, delivers, Arrives}
 use Rattle.world_core.proofs.Numbers.{is_less}
 use Rattle.world_core.proofs.Entries.{IsEntry}
 use Rattle.world_core.proofs.Stepping.{here, view_at, shown, after_event}
@@ -36,8 +36,8 @@ use Rattle.world_core.proofs.Deliveries.{step_is, answer_is, after_nothing, afte
 
 -- ---- after a delivery
 
-directory_takes : (cluster : Cluster) (m : Message) (d : DirectoryMessage) → for_directory m ≡ Some d → handed_to_directory cluster m ≡ told_directory cluster d
-directory_takes cluster (message.ToDirectory x) d is = ap (told_directory cluster) (some_value x d is)
+directory_takes : (cluster : Cluster) (m : Message) (d : DirectoryMessage) → for_directory m ≡ Some d → handed_to_directory cluster m ≡ directory_told_of cluster d
+directory_takes cluster (message.ToDirectory x) d is = ap (directory_told_of cluster) (some_value x d is)
 directory_takes cluster (message.Located id number entries) d is = none_some d is
 directory_takes cluster (message.ToPeer m) d is = none_some d is
 
@@ -64,30 +64,30 @@ after_arrival nodes memory place history old new job from m damage msg a given h
     (is_arrival nodes memory place history job from m damage msg a fine moves.before p store (λ job. (here nodes memory place old history h within moves.before moves.found job).1) taken due)))
 
 -- the world after a message was handed over
-pub after_handed : (nodes memory : ℕ) (history : List Traced) (old new : Hosting) (job : JobNo) (from to : Endpoint) (m : ℕ) (damage : Bool) (sent : Message) (told : StepAnswer)
-    → IsAfter nodes memory old history → is_place nodes to ≡ true → message_in (sent_of old.messages job.0) from to m ≡ Some sent → Hands old job from (as_damaged damage sent) new to told
-    → IsAfter nodes memory new (record { step = Deliver job from to m damage; answer = told } ∷ history)
-after_handed nodes memory history old new job from to m damage sent told h inside some (to_directory d is moves) =
-    after_directory nodes memory history job from Directory m damage told refl old new d h
+pub after_handed : (nodes memory : ℕ) (history : List Traced) (old new : Hosting) (job : JobNo) (from to : Endpoint) (m : ℕ) (damage : Bool) (sent : Message) (response : StepAnswer)
+    → IsAfter nodes memory old history → is_place nodes to ≡ true → message_in (sent_of old.messages job.0) from to m ≡ Some sent → IsDelivered old job from (as_damaged damage sent) new to response
+    → IsAfter nodes memory new (record { step = Deliver job from to m damage; answer = response } ∷ history)
+after_handed nodes memory history old new job from to m damage sent response h inside some (to_directory d is moves) =
+    after_directory nodes memory history job from Directory m damage response refl old new d h
     (step_is nodes memory history old h job from Directory m damage sent some ∙ directory_takes (cluster_until nodes job.0 history) (as_damaged damage sent) d is)
     (sym (answer_is nodes memory history old h job from Directory m damage sent some)) moves
-after_handed nodes memory history old new job from to m damage sent told h inside some (past_directory is same) =
+after_handed nodes memory history old new job from to m damage sent response h inside some (past_directory is same) =
     subst (λ w. IsAfter nodes memory w (record { step = Deliver job from Directory m damage; answer = HandedOver (as_damaged damage sent) } ∷ history)) (sym same)
-    (after_nothing nodes memory history job from Directory m damage told refl old h
+    (after_nothing nodes memory history job from Directory m damage response refl old h
     (step_is nodes memory history old h job from Directory m damage sent some ∙ directory_leaves (cluster_until nodes job.0 history) (as_damaged damage sent) is)
     (sym (answer_is nodes memory history old h job from Directory m damage sent some)))
-after_handed nodes memory history old new job from to m damage sent told h inside some (to_node place given a is moves) =
+after_handed nodes memory history old new job from to m damage sent response h inside some (to_node place given a is moves) =
     let within = is_less place nodes inside in
     let p = h.each_node place moves.before moves.found in
     let s = moves.steps.each (view_at nodes memory place old history h within moves.before moves.found) (shown nodes memory place old history h within moves.before moves.found) in
     let fine = is_some (live_at moves.before.admissions job) in
     let due = answer_is nodes memory history old h job from (Node place) m damage sent some
-    ∙ ap (λ t. cond t (HandedOver (as_damaged damage sent)) (Told (reply.Refused Stale))) (live_is memory place history moves.before.admissions job p.lives)
+    ∙ ap (λ t. cond t (HandedOver (as_damaged damage sent)) (Response (reply.Refused Stale))) (live_is memory place history moves.before.admissions job p.lives)
     ∙ sym (handed_is (as_damaged damage sent) fine) in
     let taken = step_is nodes memory history old h job from (Node place) m damage sent some
     ∙ ap (λ o. option_map_or (λ a. input_at (cluster_until nodes job.0 history) place (input.Arrive a)) o (unmoved (cluster_until nodes job.0 history))) is in
     after_arrival nodes memory place history old new job from m damage (as_damaged damage sent) a given h within moves fine s.operator due taken
-after_handed nodes memory history old new job from to m damage sent told h inside some (past_node place node found is same) =
+after_handed nodes memory history old new job from to m damage sent response h inside some (past_node place node found is same) =
     let within = is_less place nodes inside in
     let p = h.each_node place node found in
     let fine = is_some (live_at node.admissions job) in
@@ -97,37 +97,37 @@ after_handed nodes memory history old new job from to m damage sent told h insid
     ∙ ap (λ o. option_map_or (λ a. input_at (cluster_until nodes job.0 history) place (input.Arrive a)) o (unmoved (cluster_until nodes job.0 history))) is)
     (handed_is (as_damaged damage sent) fine
     ∙ sym (answer_is nodes memory history old h job from (Node place) m damage sent some
-    ∙ ap (λ t. cond t (HandedOver (as_damaged damage sent)) (Told (reply.Refused Stale))) (live_is memory place history node.admissions job p.lives))))
+    ∙ ap (λ t. cond t (HandedOver (as_damaged damage sent)) (Response (reply.Refused Stale))) (live_is memory place history node.admissions job p.lives))))
 
 -- a message that was handed over is never answered NoMemory, unless nothing was done
-pub handed_wants_none : (nodes memory : ℕ) (history : List Traced) (old new : Hosting) (job : JobNo) (from to : Endpoint) (m : Message) (told : StepAnswer)
-    → IsAfter nodes memory old history → is_place nodes to ≡ true → Hands old job from m new to told → is_no_memory told ≡ true → new ≡ old
-handed_wants_none nodes memory history old new job from to m told h inside (to_directory d is moves) n = true_false n
-handed_wants_none nodes memory history old new job from to m told h inside (past_directory is same) n = same
-handed_wants_none nodes memory history old new job from to m told h inside (to_node place given a is moves) n =
+pub handed_wants_none : (nodes memory : ℕ) (history : List Traced) (old new : Hosting) (job : JobNo) (from to : Endpoint) (m : Message) (response : StepAnswer)
+    → IsAfter nodes memory old history → is_place nodes to ≡ true → IsDelivered old job from m new to response → is_no_memory response ≡ true → new ≡ old
+handed_wants_none nodes memory history old new job from to m response h inside (to_directory d is moves) n = true_false n
+handed_wants_none nodes memory history old new job from to m response h inside (past_directory is same) n = same
+handed_wants_none nodes memory history old new job from to m response h inside (to_node place given a is moves) n =
     let within = is_less place nodes inside in
     let s = moves.steps.each (view_at nodes memory place old history h within moves.before moves.found) (shown nodes memory place old history h within moves.before moves.found) in
     true_false (sym (ap (λ r. is_no_memory (handed m r)) s.operator ∙ handed_wants m (is_some (live_at moves.before.admissions job))) ∙ n)
-handed_wants_none nodes memory history old new job from to m told h inside (past_node place node found is same) n = same
+handed_wants_none nodes memory history old new job from to m response h inside (past_node place node found is same) n = same
 
 abbrev is_directory : Endpoint → Bool
 is_directory Directory = true
 is_directory (Node place) = false
 
 -- the directory takes what is handed to it, and the nodes are as they were
-pub nodes_stay : (old : Hosting) (job : JobNo) (from to : Endpoint) (m : Message) (new : Hosting) (told : StepAnswer) → is_directory to ≡ true → Hands old job from m new to told → new.nodes ≡ old.nodes
-nodes_stay old job from to m new told at (to_directory d is moves) = moves.nodes
-nodes_stay old job from to m new told at (past_directory is same) = ap (λ w. w.nodes) same
-nodes_stay old job from to m new told at (to_node place given a is moves) = true_false at
-nodes_stay old job from to m new told at (past_node place node found is same) = ap (λ w. w.nodes) same
+pub nodes_stay : (old : Hosting) (job : JobNo) (from to : Endpoint) (m : Message) (new : Hosting) (response : StepAnswer) → is_directory to ≡ true → IsDelivered old job from m new to response → new.nodes ≡ old.nodes
+nodes_stay old job from to m new response at (to_directory d is moves) = moves.nodes
+nodes_stay old job from to m new response at (past_directory is same) = ap (λ w. w.nodes) same
+nodes_stay old job from to m new response at (to_node place given a is moves) = true_false at
+nodes_stay old job from to m new response at (past_node place node found is same) = ap (λ w. w.nodes) same
 
 -- ---- what the parts of a delivery give
 
-pub arrived : (old new : Hosting) (place : ℕ) (job : JobNo) (from : Endpoint) (m : Message) (a : Arrival) (r : Reply (List ℕ)) (told : StepAnswer) → arrival_of from m ≡ Some a → Arrives old place job a r new
-    → told ≡ handed m r → Hands old job from m new (Node place) told
-arrived old new place job from m a r told is k t =
-    subst (λ t. Hands old job from m new (Node place) t) (sym t)
-    (subst (λ r. Hands old job from m new (Node place) (handed m r)) k.reply
+pub arrived : (old new : Hosting) (place : ℕ) (job : JobNo) (from : Endpoint) (m : Message) (a : Arrival) (r : Reply (List ℕ)) (response : StepAnswer) → arrival_of from m ≡ Some a → Arrives old place job a r new
+    → response ≡ handed m r → IsDelivered old job from m new (Node place) response
+arrived old new place job from m a r response is k t =
+    subst (λ t. IsDelivered old job from m new (Node place) t) (sym t)
+    (subst (λ r. IsDelivered old job from m new (Node place) (handed m r)) k.reply
     (to_node place k.given a is (record { before = k.before; after = k.after; found = k.found; steps = k.steps; nodes = k.nodes; tables = k.tables; sent = k.sent })))
 
 -- an arrival is of the message that it was made of
@@ -147,10 +147,10 @@ module _ (kept old : Hosting) (shown_as : kept ≡ old) (job : JobNo) (from to :
   pub none_delivered : o ≡ None → WorldStep old old (Deliver job from to m damage) NoMessage
   none_delivered none = delivers job from to m damage NoMessage (nothing (found ∙ none) refl)
 
-  pub one_delivered : (sent : Message) → o ≡ Some sent → (new : Hosting) (msg : Message) (told : StepAnswer) (p : Endpoint) → msg ≡ as_damaged damage sent → to ≡ p
-      → Hands old job from msg new p told → WorldStep old new (Deliver job from to m damage) told
-  one_delivered sent some new msg told p is there k =
-      delivers job from to m damage told (hands sent told (found ∙ some) (subst (λ p. Hands old job from (as_damaged damage sent) new p told) (sym there) (subst (λ x. Hands old job from x new p told) is k)))
+  pub one_delivered : (sent : Message) → o ≡ Some sent → (new : Hosting) (msg : Message) (response : StepAnswer) (p : Endpoint) → msg ≡ as_damaged damage sent → to ≡ p
+      → IsDelivered old job from msg new p response → WorldStep old new (Deliver job from to m damage) response
+  one_delivered sent some new msg response p is there k =
+      delivers job from to m damage response (delivered sent response (found ∙ some) (subst (λ p. IsDelivered old job from (as_damaged damage sent) new p response) (sym there) (subst (λ x. IsDelivered old job from x new p response) is k)))
 
 pub if_ok : {A E : Type 0} {P Q : A → Type 0} (r : Result A E) → IfOk r P → ((x : A) → P x → Q x) → IfOk r Q
 if_ok (Ok x) h k = k x h

@@ -19,19 +19,19 @@ use Rattle.private_store.specs.declared.inputs.Input.TheVariants as input
 use Rattle.private_store.specs.declared.schedules.Event.{Event}
 use Rattle.private_store.specs.declared.schedules.Event.TheVariants as event
 use Rattle.private_store.specs.declared.schedules.Step.TheVariants.{At}
-use Rattle.private_store.specs.declared.schedules.StepAnswer.TheVariants.{Told}
+use Rattle.private_store.specs.declared.schedules.StepAnswer.TheVariants.{Response}
 use Rattle.private_store.specs.declared.schedules.Traced.{Traced}
 use Rattle.private_store.specs.rules.Limits.{is_quota, most_live_jobs}
 use Rattle.private_store.specs.rules.Extents.{first}
 use Rattle.private_store.specs.rules.Tables.{at}
 use Rattle.private_store.specs.rules.Shape.{Copy, WorkInFlight}
 use Rattle.private_store.specs.rules.Jobs.{same_job}
-use Rattle.private_store.specs.rules.Hands.{Hand}
+use Rattle.private_store.specs.rules.Grants.{StandingGrant}
 use Rattle.private_store.specs.rules.Contents.{View}
 use Rattle.private_store.specs.rules.Private.{Store, view_of, view_step, private_outcome}
-use Rattle.private_store.specs.rules.Cluster.{Cluster, at_node, input_at, told, told_from, cluster_from}
-use Rattle.private_store.specs.rules.Cluster.{Told as ToldTo}
-use Rattle.private_store.specs.rules.Trace.{hands_by, hands_step, hands_at, is_no_memory, out_after, is_out, cluster_until, reply_of, is_answered}
+use Rattle.private_store.specs.rules.Cluster.{Cluster, at_node, input_at, response, responses_from, cluster_from}
+use Rattle.private_store.specs.rules.Cluster.{Response as ToldTo}
+use Rattle.private_store.specs.rules.Trace.{grants_by, grants_step, grants_at, is_no_memory, out_after, is_out, cluster_until, reply_of, is_answered}
 use Rattle.private_store.specs.rules.Shared.{AskedWork, LiveJob, leaves, waiting, works_asked_by, outcome_works, is_admission, first_refusal, ok_unless, can_widen, holds_quota, store_at, admit_answer, requota_answer, take_answer, given_of, is_live_at, shared_answer, answer_due, lives_step}
 use Rattle.private_store.specs.rules.Shared as shared
 use Rattle.store_facts.proofs.Tests.{true_false, false_true, some_value, none_some, both_left, both_right, both}
@@ -42,9 +42,9 @@ use Rattle.spill_work.specs.declared.queue.IoRequest.{IoRequest}
 use Rattle.spill_work.specs.declared.queue.Queued.{Queued}
 use Rattle.spill_work.specs.Line.{is_at, is_of, front_of}
 use Rattle.private_store.specs.declared.schedules.NodeEvent.TheVariants.{Own}
-use Rattle.private_store.specs.laws.NodeInputs.{JobInput, Before, before_at, wants_memory, own_here, own_due, hands_after}
+use Rattle.private_store.specs.laws.NodeInputs.{JobInput, Before, before_at, wants_memory, own_here, own_due, grants_after}
 use Rattle.node_core.specs.Hosted.{Hosted}
-use Rattle.node_core.specs.Steps.{is_taken, line_left, row_work_of, take_told, answer_of_check, end_check, requota_check, stale_unless, IsEventAnswer, admissions_after, live_jobs_after, IsGiven}
+use Rattle.node_core.specs.Steps.{is_taken, line_left, row_work_of, take_response, answer_of_check, end_check, requota_check, stale_unless, IsEventAnswer, admissions_after, live_jobs_after, IsGiven}
 use Rattle.node_core.specs.Steps as steps
 use Rattle.world_core.specs.Worlds.{is_waiting, asked_of, untaken, IsNodeAfter}
 use Rattle.store_facts.proofs.StepInputs.{given_there, want_same, own_is, inputs_are}
@@ -53,15 +53,15 @@ use Rattle.world_core.proofs.Entries.{IsEntry}
 use Rattle.world_core.proofs.Lines.{any_filter, filter_all, untaken_filter, is_taken_taken, untaken_taken}
 use Rattle.world_core.proofs.Numbers.{itself, apart_number, same_number, number_same, turned}
 
--- ---- hands
+-- ---- grants
 
-hands_here : (place : ℕ) (hands : List Hand) (e : Event) (told : Reply (List ℕ)) → hands_step place hands (At place e) (Told told) ≡ hands_after hands (Own e) told
-hands_here place hands e reply.Ok = ap (λ t. cond t (hands_by hands e) hands) (itself place)
-hands_here place hands e _ = refl
+grants_here : (place : ℕ) (grants : List StandingGrant) (e : Event) (response : Reply (List ℕ)) → grants_step place grants (At place e) (Response response) ≡ grants_after grants (Own e) response
+grants_here place grants e reply.Ok = ap (λ t. cond t (grants_by grants e) grants) (itself place)
+grants_here place grants e _ = refl
 
-hands_there : (place other : ℕ) (hands : List Hand) (e : Event) (told : Reply (List ℕ)) → place ≢ other → hands_step other hands (At place e) (Told told) ≡ hands
-hands_there place other hands e reply.Ok apart = ap (λ t. cond t (hands_by hands e) hands) (apart_number place other apart)
-hands_there place other hands e _ apart = refl
+grants_there : (place other : ℕ) (grants : List StandingGrant) (e : Event) (response : Reply (List ℕ)) → place ≢ other → grants_step other grants (At place e) (Response response) ≡ grants
+grants_there place other grants e reply.Ok apart = ap (λ t. cond t (grants_by grants e) grants) (apart_number place other apart)
+grants_there place other grants e _ apart = refl
 
 -- ---- a work that is given
 
@@ -102,7 +102,7 @@ work_of_is asked view work e = by (find (λ w. w.number == asked.number) view.sh
             let same = some_value (steps.row_work_given asked.job.0 view w copy) work g in
             (ap (λ x. x.job.0) (sym same), ap (λ x. x.number) (sym same) ∙ found_number view.shape.works asked.number w is)
 
-front_is : (works : List Queued) (v : ℕ → View) (work : Work (List ℕ)) → reply.Work work ≡ take_told works v → IsFront works work
+front_is : (works : List Queued) (v : ℕ → View) (work : Work (List ℕ)) → reply.Work work ≡ take_response works v → IsFront works work
 front_is works v work e = by (front_of works) refl e
   where
     by : (o : Option IoRequest) → front_of works ≡ o → reply.Work work ≡ option_map_or (λ asked. option_map_or reply.Work (row_work_of asked.job.0 asked.number (v asked.job.0)) reply.NoWork) o reply.NoWork → IsFront works work
@@ -168,30 +168,30 @@ module _ (place : ℕ) (works : List Queued) (v : ℕ → View) where
       let j = same_number job q.asked.job.0 (both_left (job == q.asked.job.0) (q.asked.number == number) at) in
       ap (λ x. not (ended.0 == x)) (sym j)
 
-  out_here : (e : Event) (told : Reply (List ℕ)) → is_no_memory (Told told) ≡ false → (node : Hosted) → node.works.works ≡ works → IsEventAnswer node v e told
-      → (job number : ℕ) → is_taken (line_left works (Own e) told) job number ≡ out_after place job number (is_taken works job number) (At place e) (Told told)
+  out_here : (e : Event) (response : Reply (List ℕ)) → is_no_memory (Response response) ≡ false → (node : Hosted) → node.works.works ≡ works → IsEventAnswer node v e response
+      → (job number : ℕ) → is_taken (line_left works (Own e) response) job number ≡ out_after place job number (is_taken works job number) (At place e) (Response response)
   out_here event.Take (reply.Work work) n node w is job number =
-      let f = front_is works v work (is ∙ ap (λ l. take_told l v) w) in
+      let f = front_is works v work (is ∙ ap (λ l. take_response l v) w) in
       is_taken_taken works work.job work.number job number (front_there works f.asked work.job work.number f.front f.job f.number)
       ∙ ap (λ t. is_taken works job number || t) (sym (at_and (place == place) (work.job.0 == job) (work.number == number) (itself place)))
   out_here event.Take _ n node w is job number = refl
-  out_here (event.Finish fj fn a) told n node w is job number =
+  out_here (event.Finish fj fn a) response n node w is job number =
       any_filter (λ q. is_at (record { 0 = job }) number q && q.taken) (λ q. not (is_at fj fn q && q.taken)) (fj.0 == job && fn == number) (finish_kept fj fn job number) works
-      ∙ ap (λ t. is_taken works job number && not t) (sym (at_and_not (place == place) (fj.0 == job) (fn == number) (is_no_memory (Told told)) (itself place) n))
+      ∙ ap (λ t. is_taken works job number && not t) (sym (at_and_not (place == place) (fj.0 == job) (fn == number) (is_no_memory (Response response)) (itself place) n))
   out_here (event.JobEnd ended) reply.Ok n node w is job number =
       any_filter (λ q. is_at (record { 0 = job }) number q && q.taken) (λ q. not (is_of ended q)) (ended.0 == job) (end_kept ended job number) works
       ∙ ap (λ t. is_taken works job number && not (t && ended.0 == job)) (sym (itself place))
   out_here (event.JobEnd ended) _ n node w is job number = refl
-  out_here (event.Admit j quota key) told n node w is job number = refl
-  out_here (event.Requota j quota) told n node w is job number = refl
-  out_here (event.Call j session c) told n node w is job number = refl
+  out_here (event.Admit j quota key) response n node w is job number = refl
+  out_here (event.Requota j quota) response n node w is job number = refl
+  out_here (event.Call j session c) response n node w is job number = refl
 
-  left_here : (e : Event) (told : Reply (List ℕ)) → untaken (line_left works (Own e) told) ≡ filter (λ asked. not (leaves place asked (At place e) (Told told))) (untaken works)
+  left_here : (e : Event) (response : Reply (List ℕ)) → untaken (line_left works (Own e) response) ≡ filter (λ asked. not (leaves place asked (At place e) (Response response))) (untaken works)
   left_here event.Take (reply.Work work) =
       untaken_taken works work.job work.number
       ∙ ap (λ k. filter k (untaken works)) (λ i asked. not (sym (at_and (place == place) (work.job.0 == asked.job) (work.number == asked.number) (itself place)) i))
   left_here event.Take _ = sym (filter_all (untaken works))
-  left_here (event.Finish fj fn a) told =
+  left_here (event.Finish fj fn a) response =
       untaken_filter (λ q. not (is_at fj fn q && q.taken)) (λ asked. true) (λ q t. sym (ap (λ x. not (is_at fj fn q && x)) t ∙ none (is_at fj fn q))) works
     where
       none : (a : Bool) → not (a && false) ≡ true
@@ -201,18 +201,18 @@ module _ (place : ℕ) (works : List Queued) (v : ℕ → View) where
       untaken_filter (λ q. not (is_of ended q)) (λ asked. not (ended.0 == asked.job)) (λ q t. refl) works
       ∙ ap (λ k. filter k (untaken works)) (λ i asked. not (sym (itself place) i && ended.0 == asked.job))
   left_here (event.JobEnd ended) _ = sym (filter_all (untaken works))
-  left_here (event.Admit j quota key) told = sym (filter_all (untaken works))
-  left_here (event.Requota j quota) told = sym (filter_all (untaken works))
-  left_here (event.Call j session c) told = sym (filter_all (untaken works))
+  left_here (event.Admit j quota key) response = sym (filter_all (untaken works))
+  left_here (event.Requota j quota) response = sym (filter_all (untaken works))
+  left_here (event.Call j session c) response = sym (filter_all (untaken works))
 
-out_there : (place other : ℕ) → place ≢ other → (e : Event) (told : Reply (List ℕ)) (job number : ℕ) (was : Bool) → out_after other job number was (At place e) (Told told) ≡ was
+out_there : (place other : ℕ) → place ≢ other → (e : Event) (response : Reply (List ℕ)) (job number : ℕ) (was : Bool) → out_after other job number was (At place e) (Response response) ≡ was
 out_there place other apart event.Take (reply.Work work) job number was = ap (λ t. was || (t && work.job.0 == job && work.number == number)) (apart_number place other apart) ∙ by was
   where
     by : (a : Bool) → (a || false) ≡ a
     by true = refl
     by false = refl
 out_there place other apart event.Take _ job number was = refl
-out_there place other apart (event.Finish fj fn a) told job number was = ap (λ t. was && not (t && fj.0 == job && fn == number && not (is_no_memory (Told told)))) (apart_number place other apart) ∙ by was
+out_there place other apart (event.Finish fj fn a) response job number was = ap (λ t. was && not (t && fj.0 == job && fn == number && not (is_no_memory (Response response)))) (apart_number place other apart) ∙ by was
   where
     by : (a : Bool) → (a && true) ≡ a
     by true = refl
@@ -223,44 +223,44 @@ out_there place other apart (event.JobEnd ended) reply.Ok job number was = ap (�
     by true = refl
     by false = refl
 out_there place other apart (event.JobEnd ended) _ job number was = refl
-out_there place other apart (event.Admit j quota key) told job number was = refl
-out_there place other apart (event.Requota j quota) told job number was = refl
-out_there place other apart (event.Call j session c) told job number was = refl
+out_there place other apart (event.Admit j quota key) response job number was = refl
+out_there place other apart (event.Requota j quota) response job number was = refl
+out_there place other apart (event.Call j session c) response job number was = refl
 
-left_there : (place other : ℕ) → place ≢ other → (e : Event) (told : Reply (List ℕ)) (waiting : List AskedWork) → filter (λ asked. not (leaves other asked (At place e) (Told told))) waiting ≡ waiting
+left_there : (place other : ℕ) → place ≢ other → (e : Event) (response : Reply (List ℕ)) (waiting : List AskedWork) → filter (λ asked. not (leaves other asked (At place e) (Response response))) waiting ≡ waiting
 left_there place other apart event.Take (reply.Work work) waiting =
     ap (λ k. filter k waiting) (λ i asked. not (apart_number place other apart i && work.job.0 == asked.job && work.number == asked.number)) ∙ filter_all waiting
 left_there place other apart event.Take _ waiting = filter_all waiting
 left_there place other apart (event.JobEnd ended) reply.Ok waiting = ap (λ k. filter k waiting) (λ i asked. not (apart_number place other apart i && ended.0 == asked.job)) ∙ filter_all waiting
 left_there place other apart (event.JobEnd ended) _ waiting = filter_all waiting
-left_there place other apart (event.Finish fj fn a) told waiting = filter_all waiting
-left_there place other apart (event.Admit j quota key) told waiting = filter_all waiting
-left_there place other apart (event.Requota j quota) told waiting = filter_all waiting
-left_there place other apart (event.Call j session c) told waiting = filter_all waiting
+left_there place other apart (event.Finish fj fn a) response waiting = filter_all waiting
+left_there place other apart (event.Admit j quota key) response waiting = filter_all waiting
+left_there place other apart (event.Requota j quota) response waiting = filter_all waiting
+left_there place other apart (event.Call j session c) response waiting = filter_all waiting
 
 -- ---- live jobs
 
-lives_here : (memory place : ℕ) (lives : List LiveJob) (e : Event) (told : Reply (List ℕ)) → live_jobs_after memory lives (Own e) told ≡ lives_step memory place lives (At place e) (Told told)
+lives_here : (memory place : ℕ) (lives : List LiveJob) (e : Event) (response : Reply (List ℕ)) → live_jobs_after memory lives (Own e) response ≡ lives_step memory place lives (At place e) (Response response)
 lives_here memory place lives (event.Admit job quota key) reply.Ok = sym (ap (λ t. cond t (shared.admitted memory job.0 quota.window lives) lives) (itself place))
 lives_here memory place lives (event.Admit job quota key) _ = refl
 lives_here memory place lives (event.Requota job quota) reply.Ok = sym (ap (λ t. cond t (map (shared.widened job.0 quota.window) lives) lives) (itself place))
 lives_here memory place lives (event.Requota job quota) _ = refl
 lives_here memory place lives (event.JobEnd job) reply.Ok = sym (ap (λ t. cond t (filter (λ live. not (shared.job_is job.0 live)) lives) lives) (itself place))
 lives_here memory place lives (event.JobEnd job) _ = refl
-lives_here memory place lives (event.Call job session c) told = refl
-lives_here memory place lives event.Take told = refl
-lives_here memory place lives (event.Finish job number a) told = refl
+lives_here memory place lives (event.Call job session c) response = refl
+lives_here memory place lives event.Take response = refl
+lives_here memory place lives (event.Finish job number a) response = refl
 
-lives_there : (memory place other : ℕ) (lives : List LiveJob) (e : Event) (told : Reply (List ℕ)) → place ≢ other → lives_step memory other lives (At place e) (Told told) ≡ lives
+lives_there : (memory place other : ℕ) (lives : List LiveJob) (e : Event) (response : Reply (List ℕ)) → place ≢ other → lives_step memory other lives (At place e) (Response response) ≡ lives
 lives_there memory place other lives (event.Admit job quota key) reply.Ok apart = ap (λ t. cond t (shared.admitted memory job.0 quota.window lives) lives) (apart_number place other apart)
 lives_there memory place other lives (event.Admit job quota key) _ apart = refl
 lives_there memory place other lives (event.Requota job quota) reply.Ok apart = ap (λ t. cond t (map (shared.widened job.0 quota.window) lives) lives) (apart_number place other apart)
 lives_there memory place other lives (event.Requota job quota) _ apart = refl
 lives_there memory place other lives (event.JobEnd job) reply.Ok apart = ap (λ t. cond t (filter (λ live. not (shared.job_is job.0 live)) lives) lives) (apart_number place other apart)
 lives_there memory place other lives (event.JobEnd job) _ apart = refl
-lives_there memory place other lives (event.Call job session c) told apart = refl
-lives_there memory place other lives event.Take told apart = refl
-lives_there memory place other lives (event.Finish job number a) told apart = refl
+lives_there memory place other lives (event.Call job session c) response apart = refl
+lives_there memory place other lives event.Take response apart = refl
+lives_there memory place other lives (event.Finish job number a) response apart = refl
 
 refused_isnt_ok : {B : Type 0} (o : Option Refusal) → is_some o ≡ true → reply.Ok ≡ answer_of_check o → B
 refused_isnt_ok None t e = true_false t
@@ -297,8 +297,8 @@ greatest_stays a job quota =
 raised : (job number old : ℕ) → nat_le number old ≡ false → (nat_le job number || nat_le job old) ≡ nat_le job number
 raised job number old above = grind (arith, nat_tests)
 
-greatest_here : (place : ℕ) (node : Hosted) (v : ℕ → View) (e : Event) (told : Reply (List ℕ)) → IsEventAnswer node v e told → (job : ℕ) (before : Bool) → before ≡ nat_le job node.admissions.greatest
-    → (is_admission place job (At place e) (Told told) || before) ≡ nat_le job (admissions_after node.admissions (Own e) told).greatest
+greatest_here : (place : ℕ) (node : Hosted) (v : ℕ → View) (e : Event) (response : Reply (List ℕ)) → IsEventAnswer node v e response → (job : ℕ) (before : Bool) → before ≡ nat_le job node.admissions.greatest
+    → (is_admission place job (At place e) (Response response) || before) ≡ nat_le job (admissions_after node.admissions (Own e) response).greatest
 greatest_here place node v (event.Admit j quota key) reply.Ok is job before was =
     let h = admittable node.admissions j quota is in
     ap (λ t. (t && nat_le job j.0) || before) (itself place)
@@ -310,14 +310,14 @@ greatest_here place node v (event.JobEnd j) reply.Ok is job before was = was
 greatest_here place node v (event.JobEnd j) _ is job before was = was
 greatest_here place node v (event.Requota j quota) reply.Ok is job before was = was ∙ ap (nat_le job) (sym (greatest_stays node.admissions j quota))
 greatest_here place node v (event.Requota j quota) _ is job before was = was
-greatest_here place node v (event.Call j session c) told is job before was = was
-greatest_here place node v event.Take told is job before was = was
-greatest_here place node v (event.Finish j number x) told is job before was = was
+greatest_here place node v (event.Call j session c) response is job before was = was
+greatest_here place node v event.Take response is job before was = was
+greatest_here place node v (event.Finish j number x) response is job before was = was
 
-admission_there : (place other : ℕ) (e : Event) (told : Reply (List ℕ)) (job : ℕ) → place ≢ other → is_admission other job (At place e) (Told told) ≡ false
+admission_there : (place other : ℕ) (e : Event) (response : Reply (List ℕ)) (job : ℕ) → place ≢ other → is_admission other job (At place e) (Response response) ≡ false
 admission_there place other (event.Admit j quota key) reply.Ok job apart = ap (λ t. t && nat_le job j.0) (apart_number place other apart)
 admission_there place other (event.Admit j quota key) _ job apart = refl
-admission_there place other _ told job apart = refl
+admission_there place other _ response job apart = refl
 
 -- ---- what was due
 
@@ -337,8 +337,8 @@ module _ (nodes memory place : ℕ) (history : List Traced) (node : Hosted) (p :
   abbrev a : Admissions
   a = node.admissions
 
-  admit_due : (job : JobNo) (quota : Quota) → admit_answer memory place history job.0 quota ≡ Told (answer_of_check (admit_check a job quota))
-  admit_due job quota = ap (λ o. Told (answer_of_check o)) (by (job.0 == 0) refl)
+  admit_due : (job : JobNo) (quota : Quota) → admit_answer memory place history job.0 quota ≡ Response (answer_of_check (admit_check a job quota))
+  admit_due job quota = ap (λ o. Response (answer_of_check o)) (by (job.0 == 0) refl)
     where
       by : (t : Bool) → (job.0 == 0) ≡ t
           → first_refusal ((t, BadId) ∷ later_checks quota (list_any (λ entry. is_admission place job.0 entry.step entry.answer) history) memory (shared.lives_after memory place history))
@@ -346,55 +346,55 @@ module _ (nodes memory place : ℕ) (history : List Traced) (node : Hosted) (p :
       by true z = refl
       by false z = λ i. first_refusal (later_checks quota (p.greatest job.0 z i) (sym p.size i) (sym p.lives i))
 
-  requota_due : (job : JobNo) (quota : Quota) → requota_answer nodes memory place history job.0 quota ≡ Told (answer_of_check (requota_check a (v job.0) job quota))
+  requota_due : (job : JobNo) (quota : Quota) → requota_answer nodes memory place history job.0 quota ≡ Response (answer_of_check (requota_check a (v job.0) job quota))
   requota_due job quota = λ i.
-      Told (answer_of_check (first_refusal (
+      Response (answer_of_check (first_refusal (
       (not (list_any (shared.job_is job.0) (sym p.lives i)), NotAdmitted)
       ∷ (not (is_quota quota), BadSize)
       ∷ (not (holds_quota quota (found job.0 i)), Full)
       ∷ (not (can_widen (sym p.size i) job.0 quota.window (sym p.lives i)), NoRoom)
       ∷ [])))
 
-  end_due : (job : JobNo) → ok_unless ((not (is_live_at memory place history job.0), NotAdmitted) ∷ []) ≡ Told (answer_of_check (end_check a job))
-  end_due job = ap (λ l. Told (answer_of_check (cond (not l) (Some NotAdmitted) None))) (ap (list_any (shared.job_is job.0)) (sym p.lives) ∙ any_live job a.live) ∙ ap (λ o. Told (answer_of_check o)) (turn_round (is_some (live_at a job)))
+  end_due : (job : JobNo) → ok_unless ((not (is_live_at memory place history job.0), NotAdmitted) ∷ []) ≡ Response (answer_of_check (end_check a job))
+  end_due job = ap (λ l. Response (answer_of_check (cond (not l) (Some NotAdmitted) None))) (ap (list_any (shared.job_is job.0)) (sym p.lives) ∙ any_live job a.live) ∙ ap (λ o. Response (answer_of_check o)) (turn_round (is_some (live_at a job)))
     where
       turn_round : (l : Bool) → cond (not l) (Some NotAdmitted) None ≡ cond l None (Some NotAdmitted)
       turn_round true = refl
       turn_round false = refl
 
-  take_is : (works : List Queued) → elim (untaken works) [ [] ↦ reply.NoWork | asked ∷ _ ↦ option_map_or reply.Work (given_of asked.job asked.number (store_at nodes place history asked.job)) reply.NoWork ] ≡ take_told works v
+  take_is : (works : List Queued) → elim (untaken works) [ [] ↦ reply.NoWork | asked ∷ _ ↦ option_map_or reply.Work (given_of asked.job asked.number (store_at nodes place history asked.job)) reply.NoWork ] ≡ take_response works v
   take_is [] = refl
   take_is (q ∷ works) = by q.taken (take_is works)
     where
-      by : (t : Bool) → elim (untaken works) [ [] ↦ reply.NoWork | asked ∷ _ ↦ option_map_or reply.Work (given_of asked.job asked.number (store_at nodes place history asked.job)) reply.NoWork ] ≡ take_told works v
+      by : (t : Bool) → elim (untaken works) [ [] ↦ reply.NoWork | asked ∷ _ ↦ option_map_or reply.Work (given_of asked.job asked.number (store_at nodes place history asked.job)) reply.NoWork ] ≡ take_response works v
           → elim (map asked_of (cond (not t) (q ∷ filter is_waiting works) (filter is_waiting works))) [ [] ↦ reply.NoWork | asked ∷ _ ↦ option_map_or reply.Work (given_of asked.job asked.number (store_at nodes place history asked.job)) reply.NoWork ]
           ≡ option_map_or (λ asked. option_map_or reply.Work (row_work_of asked.job.0 asked.number (v asked.job.0)) reply.NoWork) (option_map (λ (w : Queued). w.asked) (cond (not t) (Some q) (find (λ w. not w.taken) works))) reply.NoWork
       by true rest = rest
       by false rest = ap (λ o. option_map_or reply.Work (given_of q.asked.job.0 q.asked.number o) reply.NoWork) (found q.asked.job.0)
 
-  take_due : take_answer nodes place history ≡ Told (take_told node.works.works v)
+  take_due : take_answer nodes place history ≡ Response (take_response node.works.works v)
   take_due =
-      ap (λ (ws : List AskedWork). Told (elim ws [ [] ↦ reply.NoWork | asked ∷ _ ↦ option_map_or reply.Work (given_of asked.job asked.number (store_at nodes place history asked.job)) reply.NoWork ])) (sym p.waiting)
-      ∙ ap Told (take_is node.works.works)
+      ap (λ (ws : List AskedWork). Response (elim ws [ [] ↦ reply.NoWork | asked ∷ _ ↦ option_map_or reply.Work (given_of asked.job asked.number (store_at nodes place history asked.job)) reply.NoWork ])) (sym p.waiting)
+      ∙ ap Response (take_is node.works.works)
 
-  finish_due : (job : JobNo) (number : ℕ) → ok_unless ((not (is_out place job.0 number history), Stale) ∷ []) ≡ Told (answer_of_check (stale_unless (is_taken node.works.works job.0 number)))
-  finish_due job number = ap (λ t. Told (answer_of_check (cond (not t) (Some Stale) None))) (sym (p.out job.0 number)) ∙ ap (λ o. Told (answer_of_check o)) (turn_round (is_taken node.works.works job.0 number))
+  finish_due : (job : JobNo) (number : ℕ) → ok_unless ((not (is_out place job.0 number history), Stale) ∷ []) ≡ Response (answer_of_check (stale_unless (is_taken node.works.works job.0 number)))
+  finish_due job number = ap (λ t. Response (answer_of_check (cond (not t) (Some Stale) None))) (sym (p.out job.0 number)) ∙ ap (λ o. Response (answer_of_check o)) (turn_round (is_taken node.works.works job.0 number))
     where
       turn_round : (l : Bool) → cond (not l) (Some Stale) None ≡ cond l None (Some Stale)
       turn_round true = refl
       turn_round false = refl
 
-  shared_due : (e : Event) (told : Reply (List ℕ)) → IsEventAnswer node v e told → unwrap_or (shared_answer nodes memory history (At place e)) (Told told) ≡ Told told
-  shared_due (event.Admit job quota key) told is = admit_due job quota ∙ ap Told (sym is)
-  shared_due (event.Requota job quota) told is = requota_due job quota ∙ ap Told (sym is)
-  shared_due (event.JobEnd job) told is = end_due job ∙ ap Told (sym is)
-  shared_due event.Take told is = take_due ∙ ap Told (sym is)
-  shared_due (event.Finish job number x) told is = finish_due job number ∙ ap Told (sym is)
-  shared_due (event.Call job session c) told is = refl
+  shared_due : (e : Event) (response : Reply (List ℕ)) → IsEventAnswer node v e response → unwrap_or (shared_answer nodes memory history (At place e)) (Response response) ≡ Response response
+  shared_due (event.Admit job quota key) response is = admit_due job quota ∙ ap Response (sym is)
+  shared_due (event.Requota job quota) response is = requota_due job quota ∙ ap Response (sym is)
+  shared_due (event.JobEnd job) response is = end_due job ∙ ap Response (sym is)
+  shared_due event.Take response is = take_due ∙ ap Response (sym is)
+  shared_due (event.Finish job number x) response is = finish_due job number ∙ ap Response (sym is)
+  shared_due (event.Call job session c) response is = refl
 
   -- the answer of an event is the one that is due
-  due : (e : Event) (told : Reply (List ℕ)) → IsEventAnswer node v e told → is_no_memory (Told told) ≡ false → Told told ≡ answer_due nodes memory history (record { step = At place e; answer = Told told })
-  due e told is n = sym (ap (λ t. cond t (Told told) (unwrap_or (shared_answer nodes memory history (At place e)) (Told told))) n ∙ shared_due e told is)
+  due : (e : Event) (response : Reply (List ℕ)) → IsEventAnswer node v e response → is_no_memory (Response response) ≡ false → Response response ≡ answer_due nodes memory history (record { step = At place e; answer = Response response })
+  due e response is n = sym (ap (λ t. cond t (Response response) (unwrap_or (shared_answer nodes memory history (At place e)) (Response response))) n ∙ shared_due e response is)
 
   -- ---- works that are asked for
 
@@ -411,53 +411,53 @@ module _ (nodes memory place : ℕ) (history : List Traced) (node : Hosted) (p :
 
   -- ---- what is told
 
-  module _ (e : Event) (given : steps.NodeGiven) (n : is_no_memory (Told given.reply) ≡ false) (is : IsEventAnswer node v e given.reply)
+  module _ (e : Event) (given : steps.NodeGiven) (n : is_no_memory (Response given.reply) ≡ false) (is : IsEventAnswer node v e given.reply)
       (g : IsGiven place v (own_due (before_at nodes place history) (Own e) given.reply) given) where
     abbrev entry : Traced
-    entry = record { step = At place e; answer = Told given.reply }
+    entry = record { step = At place e; answer = Response given.reply }
 
     abbrev b : Before
     b = before_at nodes place history
 
     -- one answer, to a command alone
     call_told : (cluster : Cluster) (s : Store) → slice_get cluster.stores place ≡ Some s → (session : ℕ) (c : Command (List ℕ))
-        → told_from cluster (at_node place (input.Call session c) ∷ []) ≡ record { node = place; session = session; reply = (private_outcome place s (input.Call session c)).reply } ∷ []
-    call_told cluster s at_s session c = ap (λ o. told (at_node place (input.Call session c)) o ++ []) (input_found cluster place (input.Call session c) s at_s)
+        → responses_from cluster (at_node place (input.Call session c) ∷ []) ≡ record { node = place; session = session; reply = (private_outcome place s (input.Call session c)).reply } ∷ []
+    call_told cluster s at_s session c = ap (λ o. response (at_node place (input.Call session c)) o ++ []) (input_found cluster place (input.Call session c) s at_s)
 
-    answered_one : (t : ToldTo) → is_no_memory (Told t.reply) ≡ false → filter is_answered (t ∷ []) ≡ t ∷ []
+    answered_one : (t : ToldTo) → is_no_memory (Response t.reply) ≡ false → filter is_answered (t ∷ []) ≡ t ∷ []
     answered_one t n = ap (λ b. cond (not b) (t ∷ []) []) n
 
-    one_input : (job of : ℕ) (x : Input) → ((c : Cluster) → told_from c (at_node place x ∷ []) ≡ []) → [] ≡ told_from (cluster_until nodes job history) (map (at_node place) (own_of job (Some (record { job = of; input = x }))))
+    one_input : (job of : ℕ) (x : Input) → ((c : Cluster) → responses_from c (at_node place x ∷ []) ≡ []) → [] ≡ responses_from (cluster_until nodes job history) (map (at_node place) (own_of job (Some (record { job = of; input = x }))))
     one_input job of x silent = by (of == job)
       where
-        by : (t : Bool) → [] ≡ told_from (cluster_until nodes job history) (map (at_node place) (cond t (x ∷ []) []))
+        by : (t : Bool) → [] ≡ responses_from (cluster_until nodes job history) (map (at_node place) (cond t (x ∷ []) []))
         by true = sym (silent (cluster_until nodes job history))
         by false = refl
 
-    finish_told : (job : ℕ) (of : ℕ) (x : Input) (t u : Bool) → ((c : Cluster) → told_from c (at_node place x ∷ []) ≡ []) → [] ≡ told_from (cluster_until nodes job history) (map (at_node place) (own_of job (cond t None (cond u (Some (record { job = of; input = x })) None))))
+    finish_told : (job : ℕ) (of : ℕ) (x : Input) (t u : Bool) → ((c : Cluster) → responses_from c (at_node place x ∷ []) ≡ []) → [] ≡ responses_from (cluster_until nodes job history) (map (at_node place) (own_of job (cond t None (cond u (Some (record { job = of; input = x })) None))))
     finish_told job of x true u silent = refl
     finish_told job of x false true silent = one_input job of x silent
     finish_told job of x false false silent = refl
 
-    own_told_is : (job : ℕ) (e : Event) (r : Reply (List ℕ)) → is_no_memory (Told r) ≡ false → IsGiven place v (own_due b (Own e) r) given → given.reply ≡ r
-        → filter is_answered (option_to_list (reply_of job (At place e) (Told r))) ≡ told_from (cluster_until nodes job history) (map (at_node place) (own_of job (own_here b (Own e) r)))
+    own_told_is : (job : ℕ) (e : Event) (r : Reply (List ℕ)) → is_no_memory (Response r) ≡ false → IsGiven place v (own_due b (Own e) r) given → given.reply ≡ r
+        → filter is_answered (option_to_list (reply_of job (At place e) (Response r))) ≡ responses_from (cluster_until nodes job history) (map (at_node place) (own_of job (own_here b (Own e) r)))
     own_told_is job (event.Admit j quota key) reply.Ok n g r = one_input job j.0 (input.Begin quota) (λ c. refl)
     own_told_is job (event.Admit j quota key) _ n g r = refl
     own_told_is job (event.Requota j quota) reply.Ok n g r = one_input job j.0 (input.Requota quota) (λ c. refl)
     own_told_is job (event.Requota j quota) _ n g r = refl
     own_told_is job (event.JobEnd j) reply.Ok n g r = one_input job j.0 input.End (λ c. refl)
     own_told_is job (event.JobEnd j) _ n g r = refl
-    own_told_is job event.Take told n g r = refl
-    own_told_is job (event.Finish j number x) told n g r = finish_told job j.0 (input.Answer number x) (wants_memory told) (b.out j.0 number) (λ c. refl)
-    own_told_is job (event.Call j session c) told n g r =
+    own_told_is job event.Take response n g r = refl
+    own_told_is job (event.Finish j number x) response n g r = finish_told job j.0 (input.Answer number x) (wants_memory response) (b.out j.0 number) (λ c. refl)
+    own_told_is job (event.Call j session c) response n g r =
         by (j.0 == job) refl
-        ∙ sym (ap (λ t. told_from (cluster_until nodes job history) (map (at_node place) (own_of job (cond t None (Some (record { job = j.0; input = input.Call session c })))))) (sym (want_same told) ∙ n))
+        ∙ sym (ap (λ t. responses_from (cluster_until nodes job history) (map (at_node place) (own_of job (cond t None (Some (record { job = j.0; input = input.Call session c })))))) (sym (want_same response) ∙ n))
       where
-        by : (t : Bool) → (j.0 == job) ≡ t → filter is_answered (option_to_list (cond t (Some (record { node = place; session = session; reply = told })) None))
-            ≡ told_from (cluster_until nodes job history) (map (at_node place) (cond t (input.Call session c ∷ []) []))
+        by : (t : Bool) → (j.0 == job) ≡ t → filter is_answered (option_to_list (cond t (Some (record { node = place; session = session; reply = response })) None))
+            ≡ responses_from (cluster_until nodes job history) (map (at_node place) (cond t (input.Call session c ∷ []) []))
         by false s = refl
         by true s =
-            answered_one (record { node = place; session = session; reply = told }) n
+            answered_one (record { node = place; session = session; reply = response }) n
             ∙ ap (λ q. record { node = place; session = session; reply = q } ∷ []) (sym r ∙ g.reply ∙ ap (λ k. (view_step place (v k) (input.Call session c)).reply) (same_number j.0 job s))
             ∙ sym (call_told (cluster_until nodes job history) (store job) (found job) session c)
 
@@ -465,8 +465,8 @@ module _ (nodes memory place : ℕ) (history : List Traced) (node : Hosted) (p :
     pub is_entry : IsEntry nodes memory place (Own e) given.reply v node.works.works node.admissions history entry
     is_entry = record {
       tables = record {
-        hands_here = hands_here place (hands_at place history) e given.reply;
-        hands_there = λ other apart hands. hands_there place other hands e given.reply apart;
+        grants_here = grants_here place (grants_at place history) e given.reply;
+        grants_there = λ other apart grants. grants_there place other grants e given.reply apart;
         out_here = λ job number. out_here place node.works.works v e given.reply n node refl is job number;
         out_there = λ other apart job number was. out_there place other apart e given.reply job number was;
         left_here = left_here place node.works.works v e given.reply;
@@ -484,6 +484,6 @@ module _ (nodes memory place : ℕ) (history : List Traced) (node : Hosted) (p :
       replies = λ job.
           own_told_is job e given.reply n g refl
           ∙ sym (own_told place job b (Own e) given.reply (cluster_until nodes job history))
-          ∙ sym (ap (told_from (cluster_until nodes job history)) (inputs_are nodes place history e given.reply job));
+          ∙ sym (ap (responses_from (cluster_until nodes job history)) (inputs_are nodes place history e given.reply job));
       due = due e given.reply is n;
     }

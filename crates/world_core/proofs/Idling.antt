@@ -10,11 +10,11 @@ use Rattle.private_store.specs.declared.schedules.Event.TheVariants as event
 use Rattle.private_store.specs.declared.schedules.Step.{Step}
 use Rattle.private_store.specs.declared.schedules.Step.TheVariants.{At, Deliver}
 use Rattle.private_store.specs.declared.schedules.StepAnswer.{StepAnswer}
-use Rattle.private_store.specs.declared.schedules.StepAnswer.TheVariants.{Told}
+use Rattle.private_store.specs.declared.schedules.StepAnswer.TheVariants.{Response}
 use Rattle.private_store.specs.declared.schedules.Traced.{Traced}
-use Rattle.private_store.specs.rules.Hands.{Hand}
-use Rattle.private_store.specs.rules.Cluster.{Cluster, ClusterInput, deliver, cluster_step, cluster_from, told_from}
-use Rattle.private_store.specs.rules.Trace.{Given, hands_at, hands_step, out_after, is_out, is_no_memory, own_input, notes, for_job, inputs_until, cluster_until, reply_of, is_answered}
+use Rattle.private_store.specs.rules.Grants.{StandingGrant}
+use Rattle.private_store.specs.rules.Cluster.{Cluster, ClusterInput, deliver, cluster_step, cluster_from, responses_from}
+use Rattle.private_store.specs.rules.Trace.{Given, grants_at, grants_step, out_after, is_out, is_no_memory, own_input, notes, for_job, inputs_until, cluster_until, reply_of, is_answered}
 use Rattle.private_store.specs.rules.Shared.{AskedWork, LiveJob, leaves, waiting, asked_by, works_asked_by, lives_step, is_admission, answer_due}
 use Rattle.private_store.specs.rules.Shared as shared
 use Rattle.store_facts.proofs.Runs.{inputs_now, cluster_until-step}
@@ -27,7 +27,7 @@ use Rattle.world_core.proofs.Stepping.{replies_more}
 
 -- an entry that is nothing at any node
 pub record IsIdle (nodes memory : ℕ) (history : List Traced) (entry : Traced) : Type 0 where
-  pub hands : (place : ℕ) (hands : List Hand) → hands_step place hands entry.step entry.answer ≡ hands
+  pub grants : (place : ℕ) (grants : List StandingGrant) → grants_step place grants entry.step entry.answer ≡ grants
   pub out : (place job number : ℕ) (was : Bool) → out_after place job number was entry.step entry.answer ≡ was
   pub left : (place : ℕ) (waiting : List AskedWork) → filter (λ asked. not (leaves place asked entry.step entry.answer)) waiting ≡ waiting
   pub asked : (place : ℕ) → asked_by nodes place history entry ≡ []
@@ -44,7 +44,7 @@ module _ (nodes memory : ℕ) (history : List Traced) (entry : Traced) (k : IsId
     lives = q.lives ∙ sym (k.lives place (shared.lives_after memory place history));
     greatest = λ job z. ap (λ t. t || list_any (λ entry. is_admission place job entry.step entry.answer) history) (k.admission place job) ∙ q.greatest job z;
     shows = λ job store f. q.shows job store (ap (λ stores. slice_get stores place) (sym (k.stores job)) ∙ f);
-    hands = q.hands ∙ sym (k.hands place (hands_at place history));
+    grants = q.grants ∙ sym (k.grants place (grants_at place history));
     waiting = q.waiting ∙ sym (k.left place (waiting nodes place history))
         ∙ sym (append-nil (filter (λ asked. not (leaves place asked entry.step entry.answer)) (waiting nodes place history)))
         ∙ ap (λ l. filter (λ asked. not (leaves place asked entry.step entry.answer)) (waiting nodes place history) ++ l) (sym (k.asked place));
@@ -63,20 +63,20 @@ module _ (nodes memory : ℕ) (history : List Traced) (entry : Traced) (k : IsId
 
   -- a job that the step is nothing to
   pub job_idle : (job : ℕ) (old : Hosting) → IsAfter nodes memory old history → cluster_until nodes job (entry ∷ history) ≡ cluster_until nodes job history
-      → filter is_answered (option_to_list (reply_of job entry.step entry.answer)) ≡ told_from (cluster_until nodes job history) (inputs_now nodes job entry history)
+      → filter is_answered (option_to_list (reply_of job entry.step entry.answer)) ≡ responses_from (cluster_until nodes job history) (inputs_now nodes job entry history)
       → IsJobAfter nodes job (sent_of old.messages job) (locations_of old.tables (record { 0 = job })) (entry ∷ history)
-  job_idle job old h same told =
+  job_idle job old h same response =
       let j = h.each_job job in
       record {
         messages = j.messages ∙ sym (ap (λ (c : Cluster). c.sent) same);
         locations = j.locations ∙ sym (ap (λ (c : Cluster). c.locations) same);
-        replies = replies_more nodes job entry history j.replies told;
+        replies = replies_more nodes job entry history j.replies response;
       }
 
 -- ---- out of memory
 
 abbrev wanting : StepAnswer
-wanting = Told (reply.Refused NoMemory)
+wanting = Response (reply.Refused NoMemory)
 
 module _ (nodes memory : ℕ) (history : List Traced) where
   own_wants : (step : Step) → own_input history step wanting ≡ None
@@ -137,9 +137,9 @@ module _ (nodes memory : ℕ) (history : List Traced) where
   admission_wants (At at _) place job = refl
   admission_wants (Deliver j from to m damage) place job = refl
 
-  hands_wants : (step : Step) (place : ℕ) (hands : List Hand) → hands_step place hands step wanting ≡ hands
-  hands_wants (At at e) place hands = refl
-  hands_wants (Deliver j from to m damage) place hands = refl
+  grants_wants : (step : Step) (place : ℕ) (grants : List StandingGrant) → grants_step place grants step wanting ≡ grants
+  grants_wants (At at e) place grants = refl
+  grants_wants (Deliver j from to m damage) place grants = refl
 
   reply_wants_none : (job : ℕ) (step : Step) → filter is_answered (option_to_list (reply_of job step wanting)) ≡ []
   reply_wants_none job (At at (event.Call j session c)) = by (j.0 == job)
@@ -156,7 +156,7 @@ module _ (nodes memory : ℕ) (history : List Traced) where
 
   wants_idle : (step : Step) → IsIdle nodes memory history (record { step = step; answer = wanting })
   wants_idle step = record {
-    hands = hands_wants step;
+    grants = grants_wants step;
     out = out_wants step;
     left = left_wants step;
     asked = λ place. ap (λ o. option_map_or (works_asked_by nodes place history) o []) (own_wants step);
@@ -171,15 +171,15 @@ module _ (nodes memory : ℕ) (history : List Traced) where
   after_wanting step old h =
       world_idle nodes memory history (record { step = step; answer = wanting }) (wants_idle step) old old h refl
       (λ job. job_idle nodes memory history (record { step = step; answer = wanting }) (wants_idle step) job old h (cluster_wants job step)
-      (reply_wants_none job step ∙ sym (ap (told_from (cluster_until nodes job history)) (inputs_wants job step))))
+      (reply_wants_none job step ∙ sym (ap (responses_from (cluster_until nodes job history)) (inputs_wants job step))))
 
 -- ---- a delivery
 
-module _ (nodes memory : ℕ) (history : List Traced) (job : JobNo) (from to : Endpoint) (m : ℕ) (damage : Bool) (told : StepAnswer) (answered : is_no_memory told ≡ false) where
+module _ (nodes memory : ℕ) (history : List Traced) (job : JobNo) (from to : Endpoint) (m : ℕ) (damage : Bool) (response : StepAnswer) (answered : is_no_memory response ≡ false) where
   abbrev pub delivery : Traced
-  delivery = record { step = Deliver job from to m damage; answer = told }
+  delivery = record { step = Deliver job from to m damage; answer = response }
 
-  pub own_delivery : own_input history (Deliver job from to m damage) told ≡ Some (record { job = job.0; input = deliver from to m damage })
+  pub own_delivery : own_input history (Deliver job from to m damage) response ≡ Some (record { job = job.0; input = deliver from to m damage })
   own_delivery = ap (λ t. cond t None (Some (record { job = job.0; input = deliver from to m damage }))) answered
 
   pub inputs_delivery : (other : ℕ) → inputs_now nodes other delivery history ≡ cond (job.0 == other) (deliver from to m damage ∷ []) []
@@ -198,9 +198,9 @@ module _ (nodes memory : ℕ) (history : List Traced) (job : JobNo) (from to : E
       by false = refl
 
   -- no reply to a command comes of it
-  pub told_delivery : (other : ℕ) → filter is_answered (option_to_list (reply_of other (Deliver job from to m damage) told)) ≡ told_from (cluster_until nodes other history) (inputs_now nodes other delivery history)
-  told_delivery other = by (job.0 == other) ∙ sym (ap (told_from (cluster_until nodes other history)) (inputs_delivery other))
+  pub told_delivery : (other : ℕ) → filter is_answered (option_to_list (reply_of other (Deliver job from to m damage) response)) ≡ responses_from (cluster_until nodes other history) (inputs_now nodes other delivery history)
+  told_delivery other = by (job.0 == other) ∙ sym (ap (responses_from (cluster_until nodes other history)) (inputs_delivery other))
     where
-      by : (t : Bool) → [] ≡ told_from (cluster_until nodes other history) (cond t (deliver from to m damage ∷ []) [])
+      by : (t : Bool) → [] ≡ responses_from (cluster_until nodes other history) (cond t (deliver from to m damage ∷ []) [])
       by true = refl
       by false = refl

@@ -48,7 +48,7 @@ new_node nodes memory place node k = record {
   lives = ap (λ a. lives_of a.live) k.admissions;
   greatest = λ job z. none_yet job z ∙ ap (λ a. nat_le job a.greatest) (sym k.admissions);
   shows = λ job store f. subst (λ s. Shows node job (view_of s)) (sym (no_cluster_at job nodes place store f)) (k.shows job);
-  hands = k.hands;
+  grants = k.grants;
   waiting = ap untaken k.works;
   out = λ job number. ap (λ works. is_taken works job number) k.works;
 }
@@ -66,12 +66,12 @@ new_world nodes memory hosted tables messages h empty nothing = record {
 
 pub data IsRunTo (nodes : ℕ) (start : Hosting) : Hosting → List Traced → Type 0 where
   begun : IsRunTo nodes start start []
-  stepped : (old new : Hosting) (history : List Traced) (step : Step) (told : StepAnswer) → IsRunTo nodes start old history → is_within nodes step ≡ true → WorldStep old new step told
-      → IsRunTo nodes start new (record { step = step; answer = told } ∷ history)
+  stepped : (old new : Hosting) (history : List Traced) (step : Step) (response : StepAnswer) → IsRunTo nodes start old history → is_within nodes step ≡ true → WorldStep old new step response
+      → IsRunTo nodes start new (record { step = step; answer = response } ∷ history)
 
 pub after_run : (nodes memory : ℕ) (start world : Hosting) (history : List Traced) → IsAfter nodes memory start [] → IsRunTo nodes start world history → IsAfter nodes memory world history
 after_run nodes memory start world history h begun = h
-after_run nodes memory start world history h (stepped old new before step told r inside t) = after_turn nodes memory before old new step told (after_run nodes memory start old before h r) inside t
+after_run nodes memory start world history h (stepped old new before step response r inside t) = after_turn nodes memory before old new step response (after_run nodes memory start old before h r) inside t
 
 -- a world's history is private to every job number, admitted or not
 pub private_of : (nodes memory : ℕ) (world : Hosting) (trace : List Traced) → IsAfter nodes memory world (reverse trace) → (job : ℕ) → IsPrivate nodes job trace

@@ -13,13 +13,13 @@ use Rattle.private_store.specs.declared.inputs.Input.TheVariants as input
 use Rattle.private_store.specs.declared.schedules.Traced.{Traced}
 use Rattle.private_store.specs.rules.Contents.{View, bytes_at}
 use Rattle.private_store.specs.rules.Private.{Store, view_of, view_from, store_from, private_outcome}
-use Rattle.private_store.specs.rules.Cluster.{Cluster, Sent, posted, told_from, no_cluster, private_run}
-use Rattle.private_store.specs.rules.Cluster.{Told as ToldTo}
-use Rattle.private_store.specs.rules.Trace.{hands_at, is_out, out_after, granted_bytes, inputs_until, cluster_until, reply_of, replies_of, is_answered}
+use Rattle.private_store.specs.rules.Cluster.{Cluster, Sent, posted, responses_from, no_cluster, private_run}
+use Rattle.private_store.specs.rules.Cluster.{Response as ToldTo}
+use Rattle.private_store.specs.rules.Trace.{grants_at, is_out, out_after, granted_bytes, inputs_until, cluster_until, reply_of, replies_of, is_answered}
 use Rattle.private_store.specs.rules.Shared.{is_admission, waiting}
 use Rattle.private_store.specs.rules.Shared as shared
 use Rattle.store_facts.proofs.Tests.{some_value}
-use Rattle.store_facts.proofs.Runs.{inputs_now, told_from-append}
+use Rattle.store_facts.proofs.Runs.{inputs_now, responses_from-append}
 use Rattle.store_facts.proofs.Stamped.{view_of_run}
 use Rattle.job_admission.specs.Admissions.{Admissions, window_place_for, live_at}
 use Rattle.std.specs.Map.{set_value}
@@ -31,7 +31,7 @@ use Rattle.private_store.specs.declared.schedules.NodeEvent.TheVariants.{Own, Ar
 use Rattle.owner_directory.specs.Locations.{locations_of}
 use Rattle.world_core.specs.Logs.{sent_of}
 use Rattle.private_store.specs.declared.schedules.NodeEvent.{NodeEvent}
-use Rattle.private_store.specs.laws.NodeInputs.{JobInput, Before, wants_memory, own_here, own_due, inputs_to, hands_after}
+use Rattle.private_store.specs.laws.NodeInputs.{JobInput, Before, wants_memory, own_here, own_due, inputs_to, grants_after}
 use Rattle.node_core.specs.Hosted.{Hosted, Shows, ShowsAll}
 use Rattle.node_core.specs.Steps.{NodeGiven, NodeStepFrom, IsGiven, before_of, is_taken, job_of, line_left, asked_now, admissions_after, live_jobs_after}
 use Rattle.world_core.specs.Worlds.{Hosting, untaken, IsNodeAfter, IsJobAfter, IsAfter}
@@ -53,19 +53,19 @@ one (Some t) = refl
 -- the replies of a job with one more step are those of its private run on one step's inputs more
 pub replies_more : (nodes job : ℕ) (entry : Traced) (history : List Traced)
     → filter is_answered (replies_of job (reverse history)) ≡ private_run job nodes (inputs_until nodes job history)
-    → filter is_answered (option_to_list (reply_of job entry.step entry.answer)) ≡ told_from (cluster_until nodes job history) (inputs_now nodes job entry history)
+    → filter is_answered (option_to_list (reply_of job entry.step entry.answer)) ≡ responses_from (cluster_until nodes job history) (inputs_now nodes job entry history)
     → filter is_answered (replies_of job (reverse (entry ∷ history))) ≡ private_run job nodes (inputs_until nodes job (entry ∷ history))
 replies_more nodes job entry history before now =
     ap (filter is_answered) (ap (replies_of job) (reverse-append (entry ∷ []) history) ∙ filter_map-append (λ e. reply_of job e.step e.answer) (reverse history) (entry ∷ []) ∙ ap (λ l. replies_of job (reverse history) ++ l) (one (reply_of job entry.step entry.answer)))
     ∙ filter-append is_answered (replies_of job (reverse history)) (option_to_list (reply_of job entry.step entry.answer))
     ∙ ap (λ l. l ++ filter is_answered (option_to_list (reply_of job entry.step entry.answer))) before
     ∙ ap (λ l. private_run job nodes (inputs_until nodes job history) ++ l) now
-    ∙ sym (told_from-append (no_cluster job nodes) (inputs_until nodes job history) (inputs_now nodes job entry history))
+    ∙ sym (responses_from-append (no_cluster job nodes) (inputs_until nodes job history) (inputs_now nodes job entry history))
 
 -- ---- admissions
 
 -- the admissions after keep the node's memory
-pub memory_stays : (a : Admissions) (e : NodeEvent) (told : Reply (List ℕ)) → (admissions_after a e told).memory ≡ a.memory
+pub memory_stays : (a : Admissions) (e : NodeEvent) (response : Reply (List ℕ)) → (admissions_after a e response).memory ≡ a.memory
 memory_stays a (Own (event.Admit job quota key)) reply.Ok =
     elim (window_place_for a quota.window) as (λ o. (option_map_or (λ offset. record a { greatest = job.0; live = a.live ++ (job, record { quota = quota; key = key; offset = offset; entered = 0 }) ∷ [] }) o a).memory ≡ a.memory) [ None ↦ refl | Some offset ↦ refl ]
 memory_stays a (Own (event.Requota job quota)) reply.Ok =
@@ -84,26 +84,26 @@ unless_of job x true u = tt
 unless_of job x false true = refl
 unless_of job x false false = tt
 
-own_is_of : (b : Before) (e : NodeEvent) (told : Reply (List ℕ)) → IsOfJob (job_of e) (own_here b e told)
+own_is_of : (b : Before) (e : NodeEvent) (response : Reply (List ℕ)) → IsOfJob (job_of e) (own_here b e response)
 own_is_of b (Own (event.Admit job quota key)) reply.Ok = refl
 own_is_of b (Own (event.Admit job quota key)) _ = tt
 own_is_of b (Own (event.Requota job quota)) reply.Ok = refl
 own_is_of b (Own (event.Requota job quota)) _ = tt
 own_is_of b (Own (event.JobEnd job)) reply.Ok = refl
 own_is_of b (Own (event.JobEnd job)) _ = tt
-own_is_of b (Own event.Take) told = tt
-own_is_of b (Own (event.Finish job number a)) told = unless_of job.0 (input.Answer number a) (wants_memory told) (b.out job.0 number)
-own_is_of b (Own (event.Call job session c)) told = unless_of job.0 (input.Call session c) (wants_memory told) true
-own_is_of b (Arrive job a) told = unless_of job.0 (input.Arrive a) (wants_memory told) true
+own_is_of b (Own event.Take) response = tt
+own_is_of b (Own (event.Finish job number a)) response = unless_of job.0 (input.Answer number a) (wants_memory response) (b.out job.0 number)
+own_is_of b (Own (event.Call job session c)) response = unless_of job.0 (input.Call session c) (wants_memory response) true
+own_is_of b (Arrive job a) response = unless_of job.0 (input.Arrive a) (wants_memory response) true
 
-pub own_same : (b : Before) (e : NodeEvent) (told : Reply (List ℕ)) → wants_memory told ≡ false → own_due b e told ≡ own_here b e told
-own_same b (Own (event.Finish job number a)) told n = sym (ap (λ t. cond t None (cond (b.out job.0 number) (Some (record { job = job.0; input = input.Answer number a })) None)) n)
-own_same b (Own (event.Call job session c)) told n = sym (ap (λ t. cond t None (Some (record { job = job.0; input = input.Call session c }))) n)
-own_same b (Arrive job a) told n = sym (ap (λ t. cond t None (Some (record { job = job.0; input = input.Arrive a }))) n)
-own_same b (Own (event.Admit job quota key)) told n = refl
-own_same b (Own (event.Requota job quota)) told n = refl
-own_same b (Own (event.JobEnd job)) told n = refl
-own_same b (Own event.Take) told n = refl
+pub own_same : (b : Before) (e : NodeEvent) (response : Reply (List ℕ)) → wants_memory response ≡ false → own_due b e response ≡ own_here b e response
+own_same b (Own (event.Finish job number a)) response n = sym (ap (λ t. cond t None (cond (b.out job.0 number) (Some (record { job = job.0; input = input.Answer number a })) None)) n)
+own_same b (Own (event.Call job session c)) response n = sym (ap (λ t. cond t None (Some (record { job = job.0; input = input.Call session c }))) n)
+own_same b (Arrive job a) response n = sym (ap (λ t. cond t None (Some (record { job = job.0; input = input.Arrive a }))) n)
+own_same b (Own (event.Admit job quota key)) response n = refl
+own_same b (Own (event.Requota job quota)) response n = refl
+own_same b (Own (event.JobEnd job)) response n = refl
+own_same b (Own event.Take) response n = refl
 
 -- ---- what a node's step is over
 
@@ -133,7 +133,7 @@ module _ (nodes memory place : ℕ) (old : Hosting) (history : List Traced) (h :
 
   -- the trace and the node know the same of what was before
   pub before_same : before_of before view_at ≡ before_at nodes place history
-  before_same = λ i. record { out = λ job number. at_place.out job number i; bytes = λ id. bytes_are id i; hands = at_place.hands i }
+  before_same = λ i. record { out = λ job number. at_place.out job number i; bytes = λ id. bytes_are id i; grants = at_place.grants i }
 
 module _ (nodes memory place : ℕ) (e : NodeEvent) (given : NodeGiven) (old new : Hosting) (history : List Traced) (entry : Traced)
     (h : IsAfter nodes memory old history) (within : place < nodes) (m : HostingStep old place e given new) (n : wants_memory given.reply ≡ false)
@@ -203,7 +203,7 @@ module _ (nodes memory place : ℕ) (e : NodeEvent) (given : NodeGiven) (old new
     lives = m.steps.lives ∙ (λ i. live_jobs_after (p.size i) (p.lives i) e given.reply) ∙ k.lives.lives_here (shared.lives_after memory place history);
     greatest = λ job z. k.lives.greatest job _ (p.greatest job z) ∙ ap (λ a. nat_le job a.greatest) (sym m.steps.admissions);
     shows = shows_here;
-    hands = m.steps.hands ∙ ap (λ hands. hands_after hands e given.reply) p.hands ∙ sym k.tables.hands_here;
+    grants = m.steps.grants ∙ ap (λ grants. grants_after grants e given.reply) p.grants ∙ sym k.tables.grants_here;
     waiting = ap untaken line_is ∙ untaken_more (own_here b e given.reply)
         ∙ (λ i. k.tables.left_here i ++ sym k.tables.asked_here i)
         ∙ ap (λ w. filter (λ asked. not (shared.leaves place asked entry.step entry.answer)) w ++ shared.asked_by nodes place history entry) p.waiting;
@@ -218,7 +218,7 @@ module _ (nodes memory place : ℕ) (e : NodeEvent) (given : NodeGiven) (old new
     lives = q.lives ∙ sym (k.lives.lives_there other apart (shared.lives_after memory other history));
     greatest = λ job z. ap (λ t. t || list_any (λ entry. is_admission other job entry.step entry.answer) history) (k.lives.admission_there other job apart) ∙ q.greatest job z;
     shows = λ job store f. q.shows job store (sym ((moved job).there other apart) ∙ f);
-    hands = q.hands ∙ sym (k.tables.hands_there other apart (hands_at other history));
+    grants = q.grants ∙ sym (k.tables.grants_there other apart (grants_at other history));
     waiting = q.waiting ∙ sym (k.tables.left_there other apart (waiting nodes other history))
         ∙ sym (append-nil (filter (λ asked. not (shared.leaves other asked entry.step entry.answer)) (waiting nodes other history)))
         ∙ ap (λ l. filter (λ asked. not (shared.leaves other asked entry.step entry.answer)) (waiting nodes other history) ++ l) (sym (k.tables.asked_there other apart));
@@ -239,7 +239,7 @@ module _ (nodes memory place : ℕ) (e : NodeEvent) (given : NodeGiven) (old new
   given_is : IsGiven place v (own_here b e given.reply) given
   given_is =
       subst (λ o. IsGiven place v o given) (own_same b e given.reply n)
-      (subst (λ n. IsGiven n v (own_due b e given.reply) given) p.number (subst (λ c. IsGiven m.before.number v (own_due c e given.reply) given) b_same s.told))
+      (subst (λ n. IsGiven n v (own_due b e given.reply) given) p.number (subst (λ c. IsGiven m.before.number v (own_due c e given.reply) given) b_same s.response))
 
   sent_by : (job : ℕ) (sent : List Sent) (o : Option JobInput) → IsOfJob (job_of e) o → IsGiven place v o given
       → cond (job_of e == job) (sent ++ posted (Node place) given.posts) sent ≡ sent ++ posted (Node place) (posts_from place (store job) (own_of job o))

@@ -15,7 +15,7 @@ use Rattle.private_store.specs.declared.schedules.Event.{Event}
 use Rattle.private_store.specs.declared.schedules.Step.{Step}
 use Rattle.private_store.specs.declared.schedules.Step.TheVariants.{At, Deliver}
 use Rattle.private_store.specs.declared.schedules.StepAnswer.{StepAnswer}
-use Rattle.private_store.specs.declared.schedules.StepAnswer.TheVariants.{Told, HandedOver, NoMessage}
+use Rattle.private_store.specs.declared.schedules.StepAnswer.TheVariants.{Response, HandedOver, NoMessage}
 use Rattle.private_store.specs.rules.Cluster.{posted, damaged, arrival_of}
 use Rattle.private_store.specs.rules.Directory.{directory_posts}
 use Rattle.owner_directory.specs.Locations.{Applies, locations_of}
@@ -52,7 +52,7 @@ as_damaged damage m = if damage then damaged m else m
 -- the answer to a delivery, by what the node answers
 abbrev pub handed : Message → Reply (List ℕ) → StepAnswer
 handed m reply.Ok = HandedOver m
-handed m told = Told told
+handed m response = Response response
 
 -- the message that an arrival was
 abbrev pub message_of : Arrival → Message
@@ -65,47 +65,47 @@ for_directory (message.ToDirectory d) = Some d
 for_directory _ = None
 
 -- a message is handed over, as it arrived; what isn't made for its place is nothing there
-pub data Hands (old : Hosting) (job : JobNo) (from : Endpoint) (m : Message) (new : Hosting) : Endpoint → StepAnswer → Type 0 where
-  to_directory : (d : DirectoryMessage) → for_directory m ≡ Some d → MovesDirectory old job d new → Hands old job from m new Directory (HandedOver m)
-  past_directory : for_directory m ≡ None → new ≡ old → Hands old job from m new Directory (HandedOver m)
+pub data IsDelivered (old : Hosting) (job : JobNo) (from : Endpoint) (m : Message) (new : Hosting) : Endpoint → StepAnswer → Type 0 where
+  to_directory : (d : DirectoryMessage) → for_directory m ≡ Some d → MovesDirectory old job d new → IsDelivered old job from m new Directory (HandedOver m)
+  past_directory : for_directory m ≡ None → new ≡ old → IsDelivered old job from m new Directory (HandedOver m)
   to_node : (place : ℕ) (given : NodeGiven) (a : Arrival) → arrival_of from m ≡ Some a → HostingStep old place (Arrive job a) given new
-      → Hands old job from m new (Node place) (handed m given.reply)
+      → IsDelivered old job from m new (Node place) (handed m given.reply)
   past_node : (place : ℕ) (node : Hosted) → slice_get old.nodes place ≡ Some node → arrival_of from m ≡ None → new ≡ old
-      → Hands old job from m new (Node place) (handed m (answer_of_check (stale_unless (is_some (live_at node.admissions job)))))
+      → IsDelivered old job from m new (Node place) (handed m (answer_of_check (stale_unless (is_some (live_at node.admissions job)))))
 
 -- a delivery of the m-th message, if there is one
 pub data Delivers (old : Hosting) (job : JobNo) (from to : Endpoint) (m : ℕ) (damage : Bool) (new : Hosting) : StepAnswer → Type 0 where
   nothing : message_in (sent_of old.messages job.0) from to m ≡ None → new ≡ old → Delivers old job from to m damage new NoMessage
-  hands : (sent : Message) (told : StepAnswer) → message_in (sent_of old.messages job.0) from to m ≡ Some sent → Hands old job from (as_damaged damage sent) new to told
-      → Delivers old job from to m damage new told
+  delivered : (sent : Message) (response : StepAnswer) → message_in (sent_of old.messages job.0) from to m ≡ Some sent → IsDelivered old job from (as_damaged damage sent) new to response
+      → Delivers old job from to m damage new response
 
 -- what a step does to a world
 pub data WorldStep (old : Hosting) (new : Hosting) : Step → StepAnswer → Type 0 where
-  at : (place : ℕ) (e : Event) (given : NodeGiven) → HostingStep old place (Own e) given new → WorldStep old new (At place e) (Told given.reply)
-  delivers : (job : JobNo) (from to : Endpoint) (m : ℕ) (damage : Bool) (told : StepAnswer) → Delivers old job from to m damage new told → WorldStep old new (Deliver job from to m damage) told
-  wants : (step : Step) → new ≡ old → WorldStep old new step (Told (reply.Refused NoMemory))
+  at : (place : ℕ) (e : Event) (given : NodeGiven) → HostingStep old place (Own e) given new → WorldStep old new (At place e) (Response given.reply)
+  delivers : (job : JobNo) (from to : Endpoint) (m : ℕ) (damage : Bool) (response : StepAnswer) → Delivers old job from to m damage new response → WorldStep old new (Deliver job from to m damage) response
+  wants : (step : Step) → new ≡ old → WorldStep old new step (Response (reply.Refused NoMemory))
 
 -- an event of a schedule at the place, with this answer
-pub record EventStep (old : Hosting) (place : ℕ) (e : Event) (told : Reply (List ℕ)) (new : Hosting) : Type 0 where
+pub record EventStep (old : Hosting) (place : ℕ) (e : Event) (response : Reply (List ℕ)) (new : Hosting) : Type 0 where
   pub before : Hosted
   pub given : NodeGiven
   pub after : Hosted
   pub found : slice_get old.nodes place ≡ Some before
   pub steps : NodeStep before (Own e) given after
-  pub reply : given.reply ≡ told
+  pub reply : given.reply ≡ response
   pub nodes : new.nodes ≡ slice_set old.nodes place after
   pub tables : new.tables ≡ old.tables
   pub sent : (job : ℕ) → sent_of new.messages job
       ≡ (if job_of_event e == job then sent_of old.messages job ++ posted (Node place) given.posts else sent_of old.messages job)
 
 -- the job's message arrives at the place, with this answer
-pub record Arrives (old : Hosting) (place : ℕ) (job : JobNo) (a : Arrival) (told : Reply (List ℕ)) (new : Hosting) : Type 0 where
+pub record Arrives (old : Hosting) (place : ℕ) (job : JobNo) (a : Arrival) (response : Reply (List ℕ)) (new : Hosting) : Type 0 where
   pub before : Hosted
   pub given : NodeGiven
   pub after : Hosted
   pub found : slice_get old.nodes place ≡ Some before
   pub steps : NodeStep before (Arrive job a) given after
-  pub reply : given.reply ≡ told
+  pub reply : given.reply ≡ response
   pub nodes : new.nodes ≡ slice_set old.nodes place after
   pub tables : new.tables ≡ old.tables
   pub sent : (other : ℕ) → sent_of new.messages other

@@ -9,7 +9,7 @@ use Rattle.private_store.specs.declared.schedules.Step.TheVariants.{At, Deliver}
 use Rattle.private_store.specs.declared.schedules.Traced.{Traced}
 use Rattle.private_store.specs.rules.Private.{Store, view_of, no_store}
 use Rattle.private_store.specs.rules.Cluster.{Sent, private_run}
-use Rattle.private_store.specs.rules.Trace.{hands_at, is_out, inputs_until, cluster_until, replies_of, is_answered}
+use Rattle.private_store.specs.rules.Trace.{grants_at, is_out, inputs_until, cluster_until, replies_of, is_answered}
 use Rattle.private_store.specs.rules.Shared.{AskedWork, waiting, lives_after, is_admission, answers_due}
 use Rattle.spill_work.specs.declared.queue.Queued.{Queued}
 use Rattle.job_admission.specs.Admissions.{largest_memory, lives_of}
@@ -63,8 +63,8 @@ pub record IsNodeAfter (nodes memory place : ℕ) (node : Hosted) (history : Lis
       → list_any (λ entry. is_admission place job entry.step entry.answer) history ≡ nat_le job node.admissions.greatest
   -- it shows of every job number the job's private store at this place
   pub shows : (job : ℕ) (store : Store) → slice_get (cluster_until nodes job history).stores place ≡ Some store → Shows node job (view_of store)
-  -- its hands are those that stand
-  pub hands : node.hands ≡ hands_at place history
+  -- its grants are those that stand
+  pub grants : node.grants ≡ grants_at place history
   -- of its works, in the order asked, the untaken ones wait, and the taken ones are out
   pub waiting : untaken node.works.works ≡ waiting nodes place history
   pub out : (job number : ℕ) → is_taken node.works.works job number ≡ is_out place job number history
@@ -90,7 +90,7 @@ pub record IsNew (memory place : ℕ) (node : Hosted) : Type 0 where
   pub number : node.number ≡ place
   pub admissions : node.admissions ≡ record { memory = memory; greatest = 0; live = [] }
   pub works : node.works.works ≡ []
-  pub hands : node.hands ≡ []
+  pub grants : node.grants ≡ []
   pub shows : (job : ℕ) → Shows node job (view_of (no_store job))
 
 -- so many of them, by number

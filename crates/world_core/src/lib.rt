@@ -11,7 +11,7 @@ ghost use Rattle.world_core.specs.WorldSteps.{EventStep, WorldStep};
 ghost use Rattle.world_core.specs.Noting.{IsNoted, IsEventNoted};
 ghost use Rattle.world_core.specs.Runs.{is_replied};
 
-mod handing;
+mod delivering;
 mod messages;
 mod on_the_way;
 mod runs;
@@ -122,7 +122,7 @@ impl World {
             Step::At(place, event) => {
                 let given = self.apply(*place, event)?;
                 Ok(Stepped {
-                    answer: StepAnswer::Told(given.reply),
+                    answer: StepAnswer::Response(given.reply),
                     judged: given.judged,
                     notes: given.notes,
                 })

@@ -5,7 +5,7 @@ ghost use Rattle.private_store.specs.rules.Cluster.{posted};
 ghost use Rattle.world_core.specs.Logs.{messages_of, sent_of, message_in, count_over, has_places, has_room};
 
 use indexmap::IndexMap;
-use obj_id::{Endpoint, Items, JobNo, Message};
+use obj_id::{Endpoint, ItemList, JobNo, Message};
 use std::alloc::{AllocError, Global};
 use std::marker::Model;
 use std::mem;
@@ -185,7 +185,7 @@ impl Messages {
     }
 
     /// Adds the messages that a step sent for the job from the place. There is room for them: this takes no memory.
-    pub fn add(&mut self, job: JobNo, from: Endpoint, posts: Items<(Endpoint, Message)>)
+    pub fn add(&mut self, job: JobNo, from: Endpoint, posts: ItemList<(Endpoint, Message)>)
         requires { 1 ≤ length posts → has_room self.old job (length posts) ≡ true }
         ensures { (other : ℕ) → sent_of (messages_of self.new.logs) other ≡ (if job.0 == other then sent_of (messages_of self.old.logs) other ++ posted from posts else sent_of (messages_of self.old.logs) other) }
     {

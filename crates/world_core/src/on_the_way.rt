@@ -6,7 +6,7 @@ ghost use Rattle.owner_directory.specs.Locations.{Locations};
 ghost use Rattle.world_core.specs.WorldSteps.{as_damaged, for_directory as for_directory_lem, handed as handed_lem, message_of as message_of_lem};
 
 use bytes::Bytes;
-use obj_id::{Arrival, DirectoryMessage, Endpoint, Items, Message, PeerMessage, Reply};
+use obj_id::{Arrival, DirectoryMessage, Endpoint, ItemList, Message, PeerMessage, Reply};
 use private_store::StepAnswer;
 use std::alloc::{AllocError, Global};
 
@@ -20,7 +20,7 @@ pub(crate) fn as_it_arrives(
     ensures { IfOk result (λ m. m ≡ as_damaged damaged message.now) }
 {
     match message {
-        Message::ToDirectory(told) => Ok(Message::ToDirectory(copy_of(told))),
+        Message::ToDirectory(response) => Ok(Message::ToDirectory(copy_of(response))),
         Message::Located {
             id,
             number,
@@ -30,10 +30,10 @@ pub(crate) fn as_it_arrives(
             Ok(Message::Located {
                 id: *id,
                 number: *number,
-                entries: Items::from_vec(copied),
+                entries: ItemList::from_vec(copied),
             })
         }
-        Message::ToPeer(told) => Ok(Message::ToPeer(peer_copy(alloc, told, damaged)?)),
+        Message::ToPeer(response) => Ok(Message::ToPeer(peer_copy(alloc, response, damaged)?)),
     }
 }
 
@@ -53,7 +53,7 @@ fn peer_copy(alloc: Global, message: &PeerMessage, damaged: bool) -> Result<Peer
             number: *number,
             length: *length,
             digest: *digest,
-            indexes: Items::from_vec(Vec::from_slice(alloc, indexes.as_slice())?),
+            indexes: ItemList::from_vec(Vec::from_slice(alloc, indexes.as_slice())?),
         }),
         PeerMessage::Chunk {
             id,
@@ -88,7 +88,7 @@ fn turned(alloc: Global, bytes: &[u8]) -> Result<Bytes, AllocError>
     Ok(Bytes::from_vec(copied)?)
 }
 
-/// A copy of what the directory is told. Takes no memory.
+/// A copy of what the directory is sent. Takes no memory.
 fn copy_of(message: &DirectoryMessage) -> DirectoryMessage
     ensures { result ≡ message.now }
 {
@@ -107,12 +107,12 @@ fn copy_of(message: &DirectoryMessage) -> DirectoryMessage
     }
 }
 
-/// What the directory is told by the message, if it is made for the directory. Takes no memory.
+/// What the directory is sent by the message, if it is made for the directory. Takes no memory.
 pub(crate) fn for_directory(message: &Message) -> Option<DirectoryMessage>
     ensures { result ≡ for_directory_lem message.now }
 {
     match message {
-        Message::ToDirectory(told) => Some(copy_of(told)),
+        Message::ToDirectory(response) => Some(copy_of(response)),
         Message::Located { .. } | Message::ToPeer(_) => None,
     }
 }
@@ -151,7 +151,7 @@ pub(crate) fn arrival(from: Endpoint, message: Message) -> Result<Arrival, Messa
                 entries,
             })
         }
-        (Endpoint::Node(node), Message::ToPeer(told)) => Ok(Arrival::FromPeer(node, told)),
+        (Endpoint::Node(node), Message::ToPeer(response)) => Ok(Arrival::FromPeer(node, response)),
         (_, other) => Err(other),
     }
 }
@@ -170,7 +170,7 @@ pub(crate) fn message_of(arrival: Arrival) -> Message
             number,
             entries,
         },
-        Arrival::FromPeer(_, told) => Message::ToPeer(told),
+        Arrival::FromPeer(_, response) => Message::ToPeer(response),
     }
 }
 
@@ -180,6 +180,6 @@ pub(crate) fn handed(message: Message, reply: Reply<Bytes>) -> StepAnswer
 {
     match reply {
         Reply::Ok => StepAnswer::HandedOver(message),
-        other => StepAnswer::Told(other),
+        other => StepAnswer::Response(other),
     }
 }

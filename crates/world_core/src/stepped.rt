@@ -2,11 +2,11 @@
 ghost use Rattle.std.specs.Prelude.{◌≡◌, [], None};
 ghost use Rattle.obj_id.specs.declared.commands.Reply.TheVariants as reply;
 ghost use Rattle.obj_id.specs.declared.refusals.Refusal.TheVariants.{NoMemory};
-ghost use Rattle.private_store.specs.declared.schedules.StepAnswer.TheVariants.{Told};
+ghost use Rattle.private_store.specs.declared.schedules.StepAnswer.TheVariants.{Response};
 
 use bytes::Bytes;
 use node_core::Note;
-use obj_id::{Items, Refusal, Reply};
+use obj_id::{ItemList, Refusal, Reply};
 use private_store::{Judged, StepAnswer};
 use std::alloc::Global;
 
@@ -16,8 +16,8 @@ pub struct Stepped {
     pub answer: StepAnswer,
     /// What it was to its own job; nothing, if it was no input of it.
     pub judged: Option<Judged>,
-    /// What it told the grantees of hands, in order.
-    pub notes: Items<Note>,
+    /// What it told the grantees, in order.
+    pub notes: ItemList<Note>,
 }
 
 impl Stepped {
@@ -28,15 +28,18 @@ impl Stepped {
         Stepped {
             answer,
             judged: None,
-            notes: Items::new(alloc),
+            notes: ItemList::new(alloc),
         }
     }
 
     /// A step that is answered out of memory. Takes none.
     pub(crate) fn without_memory(alloc: Global) -> Stepped
-        ensures { result ≡ record { answer = Told (reply.Refused NoMemory); judged = None; notes = [] } }
+        ensures { result ≡ record { answer = Response (reply.Refused NoMemory); judged = None; notes = [] } }
     {
-        Stepped::alone(alloc, StepAnswer::Told(Reply::Refused(Refusal::NoMemory)))
+        Stepped::alone(
+            alloc,
+            StepAnswer::Response(Reply::Refused(Refusal::NoMemory)),
+        )
     }
 }
 
@@ -45,5 +48,5 @@ impl Stepped {
 pub(crate) struct Given {
     pub reply: Reply<Bytes>,
     pub judged: Option<Judged>,
-    pub notes: Items<Note>,
+    pub notes: ItemList<Note>,
 }

@@ -11,12 +11,12 @@ summary_with-node-requires-clause-fits g t c =
     let is : items n.left ≡ c.deref.result.now.here ∷ items c.pop.new.tree = rw c.deref.ensures c.in-Some.ensures.some in
     (subst (AllOf g.T.Keyed.fits) is (all_fit g.T.Keyed.key g.T.Keyed.fits g.T.Keyed.tells n.left m.2)).0
 
-pub returns-in-Some-clause-told : goal.returns-in-Some-clause-told
-returns-in-Some-clause-told g t c =
+pub returns-in-Some-clause-summarized : goal.returns-in-Some-clause-summarized
+returns-in-Some-clause-summarized g t c =
     let n = c.deref_mut-node.result.now in
     let m = told_at g.T.Keyed.key g.T.Keyed.fits g.T.Keyed.tells c.args.tree.now c.in-Fork.here n c.in-Fork.is c.deref_mut-node.ensures.value c.requires in
     let is : items n.left ≡ c.deref.result.now.here ∷ items c.pop.new.tree = rw c.deref.ensures c.in-Some.ensures.some in
-    ((subst (AllOf g.T.Keyed.fits) is (all_fit g.T.Keyed.key g.T.Keyed.fits g.T.Keyed.tells n.left m.2)).0, c.summary_with-node.ensures, c.pop.ensures.told, m.3)
+    ((subst (AllOf g.T.Keyed.fits) is (all_fit g.T.Keyed.key g.T.Keyed.fits g.T.Keyed.tells n.left m.2)).0, c.summary_with-node.ensures, c.pop.ensures.summarized, m.3)
 
 pub returns-in-Some-clause-tree : goal.returns-in-Some-clause-tree
 returns-in-Some-clause-tree g t c low high h =
@@ -35,12 +35,12 @@ summary_with-node-requires-in-Some-pop-clause-fits g t c =
     let is : items n.right ≡ c.deref-in-Some-pop.result.now.here ∷ items c.pop-in-Fork.new.tree = rw c.deref-in-Some-pop.ensures c.in-Some-pop.ensures.some in
     (subst (AllOf g.T.Keyed.fits) is (all_fit g.T.Keyed.key g.T.Keyed.fits g.T.Keyed.tells n.right m.3)).0
 
-pub returns-in-Some-pop-clause-told : goal.returns-in-Some-pop-clause-told
-returns-in-Some-pop-clause-told g t c =
+pub returns-in-Some-pop-clause-summarized : goal.returns-in-Some-pop-clause-summarized
+returns-in-Some-pop-clause-summarized g t c =
     let n = c.deref_mut-node.result.now in
     let m = told_at g.T.Keyed.key g.T.Keyed.fits g.T.Keyed.tells c.args.tree.now c.in-Fork.here n c.in-Fork.is c.deref_mut-node.ensures.value c.requires in
     let is : items n.right ≡ c.deref-in-Some-pop.result.now.here ∷ items c.pop-in-Fork.new.tree = rw c.deref-in-Some-pop.ensures c.in-Some-pop.ensures.some in
-    ((subst (AllOf g.T.Keyed.fits) is (all_fit g.T.Keyed.key g.T.Keyed.fits g.T.Keyed.tells n.right m.3)).0, c.summary_with-node-in-Some-pop.ensures, c.pop.ensures.told, c.pop-in-Fork.ensures.told)
+    ((subst (AllOf g.T.Keyed.fits) is (all_fit g.T.Keyed.key g.T.Keyed.fits g.T.Keyed.tells n.right m.3)).0, c.summary_with-node-in-Some-pop.ensures, c.pop.ensures.summarized, c.pop-in-Fork.ensures.summarized)
 
 pub returns-in-Some-pop-clause-tree : goal.returns-in-Some-pop-clause-tree
 returns-in-Some-pop-clause-tree g t c low high h =

@@ -1,14 +1,14 @@
 use Rattle.std.proofs.Common.{◌≡◌, ◌≢◌, ◌+◌, sym, ◌∙◌, ap, subst, arith}
-use Rattle.augmented_tree.proofs.WellOrdered.{told, node_at, items_at, put_here, put_left, put_right}
+use Rattle.augmented_tree.proofs.WellOrdered.{summarized, node_at, items_at, put_here, put_left, put_right}
 use Rattle.augmented_tree.specs.Lists.{put_item}
 use Rattle.augmented_tree.specs.Shape.{IsTree, middle}
 use Rattle.augmented_tree.proofs.+put.Goals as goal
 
-pub summary_with-node-requires-clause-told : goal.summary_with-node-requires-clause-told
-summary_with-node-requires-clause-told g t c =
+pub summary_with-node-requires-clause-summarized : goal.summary_with-node-requires-clause-summarized
+summary_with-node-requires-clause-summarized g t c =
     let n = c.deref_mut-node.result.now in
     let node = node_at g.T.Keyed.key g.T.Keyed.fits g.T.Keyed.tells c.args.low c.args.high c.args.tree.now c.in-Fork.here n c.in-Fork.is c.deref_mut-node.ensures.value c.requires.tree in
-    (told g.T.Keyed.key g.T.Keyed.fits g.T.Keyed.tells (c.args.low + 1) (middle c.args.low c.args.high) n.left node.6, told g.T.Keyed.key g.T.Keyed.fits g.T.Keyed.tells (middle c.args.low c.args.high) c.args.high n.right node.7)
+    (summarized g.T.Keyed.key g.T.Keyed.fits g.T.Keyed.tells (c.args.low + 1) (middle c.args.low c.args.high) n.left node.6, summarized g.T.Keyed.key g.T.Keyed.fits g.T.Keyed.tells (middle c.args.low c.args.high) c.args.high n.right node.7)
 
 pub returns-then-key : goal.returns-then-key
 returns-then-key g t c =
@@ -19,17 +19,17 @@ returns-then-key g t c =
     let both = put_here g.T.Keyed.key g.T.Keyed.fits g.T.Keyed.tells c.args.low c.args.high n node c.args.item c.summary_with-node.result same c.requires.fits c.summary_with-node.ensures in
     (both.0, both.1 ∙ ap (put_item g.T.Keyed.key c.args.item) (sym is))
 
-pub summary_with-node-requires-then-key-middle-clause-told : goal.summary_with-node-requires-then-key-middle-clause-told
-summary_with-node-requires-then-key-middle-clause-told g t c =
+pub summary_with-node-requires-then-key-middle-clause-summarized : goal.summary_with-node-requires-then-key-middle-clause-summarized
+summary_with-node-requires-then-key-middle-clause-summarized g t c =
     let n = c.deref_mut-node.result.now in
     let node = node_at g.T.Keyed.key g.T.Keyed.fits g.T.Keyed.tells c.args.low c.args.high c.args.tree.now c.in-Fork.here n c.in-Fork.is c.deref_mut-node.ensures.value c.requires.tree in
-    (told g.T.Keyed.key g.T.Keyed.fits g.T.Keyed.tells (c.args.low + 1) c.middle-middle.result c.put.new.tree c.put.ensures.0, told g.T.Keyed.key g.T.Keyed.fits g.T.Keyed.tells (middle c.args.low c.args.high) c.args.high n.right node.7)
+    (summarized g.T.Keyed.key g.T.Keyed.fits g.T.Keyed.tells (c.args.low + 1) c.middle-middle.result c.put.new.tree c.put.ensures.0, summarized g.T.Keyed.key g.T.Keyed.fits g.T.Keyed.tells (middle c.args.low c.args.high) c.args.high n.right node.7)
 
-pub summary_with-node-requires-else-key-middle-clause-told : goal.summary_with-node-requires-else-key-middle-clause-told
-summary_with-node-requires-else-key-middle-clause-told g t c =
+pub summary_with-node-requires-else-key-middle-clause-summarized : goal.summary_with-node-requires-else-key-middle-clause-summarized
+summary_with-node-requires-else-key-middle-clause-summarized g t c =
     let n = c.deref_mut-node.result.now in
     let node = node_at g.T.Keyed.key g.T.Keyed.fits g.T.Keyed.tells c.args.low c.args.high c.args.tree.now c.in-Fork.here n c.in-Fork.is c.deref_mut-node.ensures.value c.requires.tree in
-    (told g.T.Keyed.key g.T.Keyed.fits g.T.Keyed.tells (c.args.low + 1) (middle c.args.low c.args.high) n.left node.6, told g.T.Keyed.key g.T.Keyed.fits g.T.Keyed.tells c.middle-middle.result c.args.high c.put-else-key-middle.new.tree c.put-else-key-middle.ensures.0)
+    (summarized g.T.Keyed.key g.T.Keyed.fits g.T.Keyed.tells (c.args.low + 1) (middle c.args.low c.args.high) n.left node.6, summarized g.T.Keyed.key g.T.Keyed.fits g.T.Keyed.tells c.middle-middle.result c.args.high c.put-else-key-middle.new.tree c.put-else-key-middle.ensures.0)
 
 pub returns-then-key-middle : goal.returns-then-key-middle
 returns-then-key-middle g t c =

@@ -1,14 +1,14 @@
 use Rattle.std.proofs.Common.{◌≢◌, ◌+◌, sym, ◌∙◌, ap, subst, arith}
-use Rattle.augmented_tree.proofs.WellOrdered.{told, node_at, items_at, change_here, change_left, change_right}
+use Rattle.augmented_tree.proofs.WellOrdered.{summarized, node_at, items_at, change_here, change_left, change_right}
 use Rattle.augmented_tree.specs.Lists.{change_item}
 use Rattle.augmented_tree.specs.Shape.{IsTree, middle}
 use Rattle.augmented_tree.proofs.+set_mark.Goals as goal
 
-pub summary_with-node-requires-clause-told : goal.summary_with-node-requires-clause-told
-summary_with-node-requires-clause-told g t c =
+pub summary_with-node-requires-clause-summarized : goal.summary_with-node-requires-clause-summarized
+summary_with-node-requires-clause-summarized g t c =
     let n = c.deref_mut-node.result.now in
     let node = node_at g.T.Keyed.key g.T.Keyed.fits g.T.Keyed.tells c.args.low c.args.high c.args.tree.now c.in-Fork.here n c.in-Fork.is c.deref_mut-node.ensures.value c.requires.tree in
-    (told g.T.Keyed.key g.T.Keyed.fits g.T.Keyed.tells (c.args.low + 1) (middle c.args.low c.args.high) n.left node.6, told g.T.Keyed.key g.T.Keyed.fits g.T.Keyed.tells (middle c.args.low c.args.high) c.args.high n.right node.7)
+    (summarized g.T.Keyed.key g.T.Keyed.fits g.T.Keyed.tells (c.args.low + 1) (middle c.args.low c.args.high) n.left node.6, summarized g.T.Keyed.key g.T.Keyed.fits g.T.Keyed.tells (middle c.args.low c.args.high) c.args.high n.right node.7)
 
 pub returns-then-key : goal.returns-then-key
 returns-then-key g t c =
@@ -20,17 +20,17 @@ returns-then-key g t c =
     (g.met.T.Marked.still_fits c.args.mark n.here node.2) (rw (← changed) c.summary_with-node.ensures) in
     rw changed (both.0, both.1 ∙ ap (change_item g.T.Keyed.key (g.T.Marked.marked c.args.mark) c.args.key) (sym is))
 
-pub summary_with-node-requires-then-key-middle-clause-told : goal.summary_with-node-requires-then-key-middle-clause-told
-summary_with-node-requires-then-key-middle-clause-told g t c =
+pub summary_with-node-requires-then-key-middle-clause-summarized : goal.summary_with-node-requires-then-key-middle-clause-summarized
+summary_with-node-requires-then-key-middle-clause-summarized g t c =
     let n = c.deref_mut-node.result.now in
     let node = node_at g.T.Keyed.key g.T.Keyed.fits g.T.Keyed.tells c.args.low c.args.high c.args.tree.now c.in-Fork.here n c.in-Fork.is c.deref_mut-node.ensures.value c.requires.tree in
-    (told g.T.Keyed.key g.T.Keyed.fits g.T.Keyed.tells (c.args.low + 1) c.middle-middle.result c.set_mark.new.tree c.set_mark.ensures.0, told g.T.Keyed.key g.T.Keyed.fits g.T.Keyed.tells (middle c.args.low c.args.high) c.args.high n.right node.7)
+    (summarized g.T.Keyed.key g.T.Keyed.fits g.T.Keyed.tells (c.args.low + 1) c.middle-middle.result c.set_mark.new.tree c.set_mark.ensures.0, summarized g.T.Keyed.key g.T.Keyed.fits g.T.Keyed.tells (middle c.args.low c.args.high) c.args.high n.right node.7)
 
-pub summary_with-node-requires-else-key-middle-clause-told : goal.summary_with-node-requires-else-key-middle-clause-told
-summary_with-node-requires-else-key-middle-clause-told g t c =
+pub summary_with-node-requires-else-key-middle-clause-summarized : goal.summary_with-node-requires-else-key-middle-clause-summarized
+summary_with-node-requires-else-key-middle-clause-summarized g t c =
     let n = c.deref_mut-node.result.now in
     let node = node_at g.T.Keyed.key g.T.Keyed.fits g.T.Keyed.tells c.args.low c.args.high c.args.tree.now c.in-Fork.here n c.in-Fork.is c.deref_mut-node.ensures.value c.requires.tree in
-    (told g.T.Keyed.key g.T.Keyed.fits g.T.Keyed.tells (c.args.low + 1) (middle c.args.low c.args.high) n.left node.6, told g.T.Keyed.key g.T.Keyed.fits g.T.Keyed.tells c.middle-middle.result c.args.high c.set_mark-else-key-middle.new.tree c.set_mark-else-key-middle.ensures.0)
+    (summarized g.T.Keyed.key g.T.Keyed.fits g.T.Keyed.tells (c.args.low + 1) (middle c.args.low c.args.high) n.left node.6, summarized g.T.Keyed.key g.T.Keyed.fits g.T.Keyed.tells c.middle-middle.result c.args.high c.set_mark-else-key-middle.new.tree c.set_mark-else-key-middle.ensures.0)
 
 pub returns-then-key-middle : goal.returns-then-key-middle
 returns-then-key-middle g t c =

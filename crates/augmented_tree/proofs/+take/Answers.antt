@@ -1,25 +1,25 @@
 use Rattle.std.proofs.Common.{◌≢◌, ◌+◌, sym, ◌∙◌, ap, subst, arith}
 use Rattle.std.specs.Prelude.{is_some}
-use Rattle.augmented_tree.proofs.WellOrdered.{told, told_at, node_at, items_at, take_left, take_right, has_left, has_right}
+use Rattle.augmented_tree.proofs.WellOrdered.{summarized, told_at, node_at, items_at, take_left, take_right, has_left, has_right}
 use Rattle.augmented_tree.specs.Lists.{take_item, has_item}
 use Rattle.augmented_tree.specs.Shape.{IsTree, middle}
 use Rattle.augmented_tree.proofs.+take.Goals as goal
 
 pub pop-requires : goal.pop-requires
 pop-requires g t c =
-    told_at g.T.Keyed.key g.T.Keyed.fits g.T.Keyed.tells c.args.tree.now c.in-Fork.here c.deref_mut-node.result.now c.in-Fork.is c.deref_mut-node.ensures.value (told g.T.Keyed.key g.T.Keyed.fits g.T.Keyed.tells c.args.low c.args.high c.args.tree.now c.requires.tree)
+    told_at g.T.Keyed.key g.T.Keyed.fits g.T.Keyed.tells c.args.tree.now c.in-Fork.here c.deref_mut-node.result.now c.in-Fork.is c.deref_mut-node.ensures.value (summarized g.T.Keyed.key g.T.Keyed.fits g.T.Keyed.tells c.args.low c.args.high c.args.tree.now c.requires.tree)
 
-pub summary_with-node-requires-clause-told : goal.summary_with-node-requires-clause-told
-summary_with-node-requires-clause-told g t c =
+pub summary_with-node-requires-clause-summarized : goal.summary_with-node-requires-clause-summarized
+summary_with-node-requires-clause-summarized g t c =
     let n = c.deref_mut-node.result.now in
     let node = node_at g.T.Keyed.key g.T.Keyed.fits g.T.Keyed.tells c.args.low c.args.high c.args.tree.now c.in-Fork.here n c.in-Fork.is c.deref_mut-node.ensures.value c.requires.tree in
-    (told g.T.Keyed.key g.T.Keyed.fits g.T.Keyed.tells (c.args.low + 1) c.middle-middle.result c.take-room.new.tree c.take-room.ensures.less.0, told g.T.Keyed.key g.T.Keyed.fits g.T.Keyed.tells (middle c.args.low c.args.high) c.args.high n.right node.7)
+    (summarized g.T.Keyed.key g.T.Keyed.fits g.T.Keyed.tells (c.args.low + 1) c.middle-middle.result c.take-room.new.tree c.take-room.ensures.less.0, summarized g.T.Keyed.key g.T.Keyed.fits g.T.Keyed.tells (middle c.args.low c.args.high) c.args.high n.right node.7)
 
-pub summary_with-node-requires-else-key-middle-clause-told : goal.summary_with-node-requires-else-key-middle-clause-told
-summary_with-node-requires-else-key-middle-clause-told g t c =
+pub summary_with-node-requires-else-key-middle-clause-summarized : goal.summary_with-node-requires-else-key-middle-clause-summarized
+summary_with-node-requires-else-key-middle-clause-summarized g t c =
     let n = c.deref_mut-node.result.now in
     let node = node_at g.T.Keyed.key g.T.Keyed.fits g.T.Keyed.tells c.args.low c.args.high c.args.tree.now c.in-Fork.here n c.in-Fork.is c.deref_mut-node.ensures.value c.requires.tree in
-    (told g.T.Keyed.key g.T.Keyed.fits g.T.Keyed.tells (c.args.low + 1) (middle c.args.low c.args.high) n.left node.6, told g.T.Keyed.key g.T.Keyed.fits g.T.Keyed.tells c.middle-middle.result c.args.high c.take-room-else-key-middle.new.tree c.take-room-else-key-middle.ensures.less.0)
+    (summarized g.T.Keyed.key g.T.Keyed.fits g.T.Keyed.tells (c.args.low + 1) (middle c.args.low c.args.high) n.left node.6, summarized g.T.Keyed.key g.T.Keyed.fits g.T.Keyed.tells c.middle-middle.result c.args.high c.take-room-else-key-middle.new.tree c.take-room-else-key-middle.ensures.less.0)
 
 pub returns-then-key-middle-clause-less : goal.returns-then-key-middle-clause-less
 returns-then-key-middle-clause-less g t c =

@@ -1,10 +1,10 @@
 use Rattle.std.proofs.Common.{◌≡◌, ◌∷◌, sym, ◌∙◌}
-use Rattle.augmented_tree.proofs.WellOrdered.{told, kept_empty, fits_first, widened}
+use Rattle.augmented_tree.proofs.WellOrdered.{summarized, kept_empty, fits_first, widened}
 use Rattle.augmented_tree.specs.Shape.{items, IsTree, middle as middle_of}
 use Rattle.augmented_tree.proofs.widen.Goals as goal
 
 pub pop-requires : goal.pop-requires
-pop-requires g c = told g.T.Keyed.key g.T.Keyed.fits g.T.Keyed.tells (middle_of c.args.low c.args.high) c.args.high c.args.tree.now c.requires.tree
+pop-requires g c = summarized g.T.Keyed.key g.T.Keyed.fits g.T.Keyed.tells (middle_of c.args.low c.args.high) c.args.high c.args.tree.now c.requires.tree
 
 pub returns-in_default : goal.returns-in_default
 returns-in_default g c =

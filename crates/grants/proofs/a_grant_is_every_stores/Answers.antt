@@ -2,4 +2,4 @@ use Rattle.grants.proofs.Private.{grants_alike}
 use Rattle.grants.proofs.a_grant_is_every_stores.Goals as goal
 
 pub returns : goal.returns
-returns c lengths hands grantor id grantee = grants_alike lengths hands grantor id grantee
+returns c lengths grants grantor id grantee = grants_alike lengths grants grantor id grantee

@@ -21,16 +21,16 @@ wants_memory _ = false
 -- ---- without contents
 
 -- the reply as it stands where there are no contents: the number of its bytes
-abbrev pub brief_reply : Reply (List ℕ) → Reply ℕ
-brief_reply reply.Ok = reply.Ok
-brief_reply (reply.Placed offset n) = reply.Placed offset n
-brief_reply (reply.Got n) = reply.Got n
-brief_reply (reply.Bytes bytes) = reply.Bytes (length bytes)
-brief_reply (reply.List own granted) = reply.List own granted
-brief_reply (reply.Usage usage) = reply.Usage usage
-brief_reply (reply.Work work) = reply.Work (record { job = work.job; number = work.number; kind = work.kind; key = work.key; length = work.length; payload = option_map length work.payload })
-brief_reply reply.NoWork = reply.NoWork
-brief_reply (reply.Refused refusal) = reply.Refused refusal
+abbrev pub reply_without_payload : Reply (List ℕ) → Reply ℕ
+reply_without_payload reply.Ok = reply.Ok
+reply_without_payload (reply.Placed offset n) = reply.Placed offset n
+reply_without_payload (reply.Got n) = reply.Got n
+reply_without_payload (reply.Bytes bytes) = reply.Bytes (length bytes)
+reply_without_payload (reply.List own granted) = reply.List own granted
+reply_without_payload (reply.Usage usage) = reply.Usage usage
+reply_without_payload (reply.Work work) = reply.Work (record { job = work.job; number = work.number; kind = work.kind; key = work.key; length = work.length; payload = option_map length work.payload })
+reply_without_payload reply.NoWork = reply.NoWork
+reply_without_payload (reply.Refused refusal) = reply.Refused refusal
 
 -- ---- small enough for a frame
 
@@ -43,13 +43,13 @@ is_small_reply (reply.Work work) = false
 is_small_reply reply.NoWork = false
 is_small_reply _ = true
 
--- of what others granted: no more objects than all other live jobs can have handed on, and no hand is deeper
+-- of what others granted: no more objects than all other live jobs can have handed on, and no grant is deeper
 -- than a Grant makes one. The grantors' stores see to it, and no input of this job but Received can break it
 pub record AreGrantedWithin (received : ById Seen) : Type 0 where
   pub few : length received ≤ most_granted
-  pub shallow : (id : ObjectId) (seen : Seen) → at received id ≡ Some seen → list_all (λ hand. nat_le hand.depth greatest_depth) seen.hands ≡ true
+  pub shallow : (id : ObjectId) (seen : Seen) → at received id ≡ Some seen → list_all (λ grant. nat_le grant.depth greatest_depth) seen.grants ≡ true
 
--- whether a hand at this depth may come: it is one that a Grant makes, and there is a place for its object
+-- whether a grant at this depth may come: it is one that a Grant makes, and there is a place for its object
 abbrev pub may_receive : Shape → ObjectId → ℕ → Bool
 may_receive store id depth = nat_le depth greatest_depth && (is_some (at store.received id) || nat_lt (length store.received) most_granted)
 

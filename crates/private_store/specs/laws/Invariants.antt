@@ -15,10 +15,10 @@ use Rattle.obj_id.specs.declared.works.Extent.{Extent}
 use Rattle.obj_id.specs.Ids.{id_cmp, same_id, same_task}
 use Rattle.private_store.specs.declared.inputs.Judged.{Judged}
 use Rattle.private_store.specs.declared.inputs.Judged.TheVariants as judged
-use Rattle.private_store.specs.rules.Limits.{longest_object, most_copies, most_works, most_holds, most_borrowers, most_hands, most_ended_tasks, is_quota}
+use Rattle.private_store.specs.rules.Limits.{longest_object, most_copies, most_works, most_holds, most_borrowers, most_grants, most_ended_tasks, is_quota}
 use Rattle.private_store.specs.rules.Tables.{at}
 use Rattle.private_store.specs.rules.Extents.{end_of, is_apart}
-use Rattle.private_store.specs.rules.Shape.{Copy, Shape, Phase, pulling, Fetch, WorkInFlight, HandGiven, Seen}
+use Rattle.private_store.specs.rules.Shape.{Copy, Shape, Phase, pulling, Fetch, WorkInFlight, GrantGiven, Seen}
 use Rattle.obj_id.specs.Kinds.{is_primary}
 use Rattle.private_store.specs.rules.Copies.{is_sealed, is_away, extent_of, device_used}
 use Rattle.private_store.specs.rules.Commands.{chunk_count}
@@ -56,8 +56,8 @@ has_write works id = list_any (λ work. same_id id work.id && work.writes) works
 abbrev pub has_read : List WorkInFlight → ObjectId → Bool
 has_read works id = list_any (λ work. same_id id work.id && not work.writes) works
 
-abbrev pub has_hand : List HandGiven → ObjectId → Bool
-has_hand given id = list_any (λ hand. same_id id hand.id) given
+abbrev pub has_grant : List GrantGiven → ObjectId → Bool
+has_grant given id = list_any (λ grant. same_id id grant.id) given
 
 abbrev pub is_remembered : List TaskNo → TaskNo → Bool
 is_remembered ended task = list_any (same_task task) ended
@@ -100,10 +100,10 @@ pub record AreHoldsKept (state : CopyState) (holds : List (ℕ × ℕ)) : Type 0
   pub sessions : IsTrue (is_sorted nat_cmp holds && list_all (λ e. nat_lt 0 e.1) holds)
   pub few_holds : sum_by (λ e. e.1) holds ≤ most_holds
 
--- the works and the hands that stand on a copy
-pub record IsUseKept (works : List WorkInFlight) (given : List HandGiven) (id : ObjectId) (state : CopyState) (kind : Kind) (backed : Option ℕ) : Type 0 where
+-- the works and the grants that stand on a copy
+pub record IsUseKept (works : List WorkInFlight) (given : List GrantGiven) (id : ObjectId) (state : CopyState) (kind : Kind) (backed : Option ℕ) : Type 0 where
   -- what this job granted is sealed, and a primary
-  pub granted : has_hand given id ≡ true → (is_sealed state ≡ true) × (is_primary kind ≡ true)
+  pub granted : has_grant given id ≡ true → (is_sealed state ≡ true) × (is_primary kind ≡ true)
   -- what is being spilled is a sealed primary that isn't backed
   pub spilled : has_write works id ≡ true → (is_sealed state ≡ true) × (is_primary kind ≡ true) × (backed ≡ None)
   -- what is being read back is Restoring
@@ -116,8 +116,8 @@ pub record IsScopeKept (ended : List TaskNo) (id : ObjectId) (doomed : Bool) (bo
   pub by_live_tasks : (task : TaskNo) → is_remembered borrowers task ≡ true → is_remembered ended task ≡ false
   pub few_borrowers : length borrowers ≤ most_borrowers
 
--- one copy of a job's store, under the job's works in flight, the hands that it gave and its ended tasks
-pub record IsCopyKept (job : ℕ) (works : List WorkInFlight) (given : List HandGiven) (ended : List TaskNo) (id : ObjectId) (copy : Copy) : Type 0 where
+-- one copy of a job's store, under the job's works in flight, the grants that it gave and its ended tasks
+pub record IsCopyKept (job : ℕ) (works : List WorkInFlight) (given : List GrantGiven) (ended : List TaskNo) (id : ObjectId) (copy : Copy) : Type 0 where
   -- a job's store has that job's objects alone
   pub own : id.job.0 ≡ job
   pub form : IsFormKept copy.state copy.kind copy.length copy.offset copy.fetch
@@ -131,7 +131,7 @@ pub record IsCopyKept (job : ℕ) (works : List WorkInFlight) (given : List Hand
   pub scope : IsScopeKept ended id copy.doomed copy.borrowers
   pub open scope use *
   -- what is doomed is kept by something
-  pub doomed : copy.doomed ≡ true → are_held copy.holds || has_hand given id || has_work works id ≡ true
+  pub doomed : copy.doomed ≡ true → are_held copy.holds || has_grant given id || has_work works id ≡ true
 
 -- ---- the store without contents
 
@@ -152,12 +152,12 @@ pub record IsShapeKept (store : Shape) : Type 0 where
   pub numbers_used : IsTrue (list_all (λ work. nat_lt 0 work.number && nat_le work.number store.works_asked) store.works)
   pub one_number : (n : ℕ) → count_by (λ work. work.number == n) store.works ≤ 1
   pub numbers_end : (store.works_asked < 2 ^ 64) × (store.fetches_begun < 2 ^ 64)
-  -- no hand is of an own object that has no copy, and a hand of an own object hangs on nothing
-  pub hands_of_copies : (id : ObjectId) → id.job.0 ≡ store.job → at store.copies id ≡ None → has_hand store.given id ≡ false
-  pub own_hands : IsTrue (list_all (λ hand. not (hand.id.job.0 == store.job) || is_none hand.parent) store.given)
+  -- no grant is of an own object that has no copy, and a grant of an own object hangs on nothing
+  pub grants_of_copies : (id : ObjectId) → id.job.0 ≡ store.job → at store.copies id ≡ None → has_grant store.given id ≡ false
+  pub own_grants : IsTrue (list_all (λ grant. not (grant.id.job.0 == store.job) || is_none grant.parent) store.given)
   pub most_copies : length store.copies ≤ most_copies
   pub most_works : length store.works ≤ most_works
-  pub most_hands : length store.given ≤ most_hands
+  pub most_grants : length store.given ≤ most_grants
   pub most_ended : length store.ended_tasks ≤ most_ended_tasks
 
 -- ---- extents and device bytes

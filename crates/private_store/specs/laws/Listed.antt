@@ -9,7 +9,7 @@ use Rattle.obj_id.specs.Ids.{id_cmp, same_id}
 use Rattle.private_store.specs.rules.Tables.{ById, at}
 use Rattle.private_store.specs.rules.Shape.{Copy, Shape, WorkInFlight, Seen}
 use Rattle.private_store.specs.laws.Invariants.{IsShapeKept, AreExtentsKept, IsDeviceKept}
-use Rattle.private_store.specs.rules.Replay.{Brief}
+use Rattle.private_store.specs.rules.Replay.{ReplayState}
 
 -- the order of use has each copy once, and nothing else
 abbrev pub IsOrderOf : List ObjectId → ById Copy → Type 0
@@ -33,19 +33,19 @@ pub record AreWorksRising (works : List WorkInFlight) (asked : ℕ) : Type 0 whe
   pub rising : are_rising works ≡ true
   pub numbered : list_all (λ w. nat_le w.number asked) works ≡ true
 
--- what others granted, by rising id, each by a hand at least
+-- what others granted, by rising id, each by a grant at least
 pub record AreSeenKept (received : ById Seen) : Type 0 where
   pub by_id : IsTrue (is_sorted id_cmp received)
-  pub by_hands : (id : ObjectId) (seen : Seen) → at received id ≡ Some seen → 0 < length seen.hands
+  pub by_grants : (id : ObjectId) (seen : Seen) → at received id ≡ Some seen → 0 < length seen.grants
 
 pub record AreListsKept (store : Shape) : Type 0 where
   pub fetches : AreFetchesKept store.copies store.fetches_begun
   pub works : AreWorksRising store.works store.works_asked
   pub seen : AreSeenKept store.received
 
-pub record IsBriefKept (brief : Brief) : Type 0 where
-  pub order : IsOrderOf brief.order brief.shape.copies
-  pub shape : IsShapeKept brief.shape
-  pub extents : AreExtentsKept brief.shape
-  pub device : IsDeviceKept brief.shape
-  pub lists : AreListsKept brief.shape
+pub record IsReplayStateKept (replay_state : ReplayState) : Type 0 where
+  pub order : IsOrderOf replay_state.order replay_state.shape.copies
+  pub shape : IsShapeKept replay_state.shape
+  pub extents : AreExtentsKept replay_state.shape
+  pub device : IsDeviceKept replay_state.shape
+  pub lists : AreListsKept replay_state.shape

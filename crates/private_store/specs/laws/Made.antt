@@ -24,12 +24,12 @@ use Rattle.private_store.specs.declared.faults.FetchFault.{FetchFault}
 use Rattle.private_store.specs.rules.Limits.{most_bytes, has_numbers, is_quota}
 use Rattle.private_store.specs.rules.Tables.{ById, at, with_entry, without_entry}
 use Rattle.private_store.specs.rules.Extents.{rounded}
-use Rattle.private_store.specs.rules.Shape.{Copy, Shape, Change, Sending, add_location, remove_location, remove_source, free, end_job, locate, pull, chunks, not_here, Fetch, pulling, failed, HandGiven, Seen, not_begun, live}
+use Rattle.private_store.specs.rules.Shape.{Copy, Shape, Change, Sending, add_location, remove_location, remove_source, free, end_job, locate, pull, chunks, not_here, Fetch, pulling, failed, GrantGiven, Seen, not_begun, live}
 use Rattle.obj_id.specs.Kinds.{is_primary}
 use Rattle.private_store.specs.rules.Copies.{is_idle, fits_quota}
 use Rattle.private_store.specs.rules.Room.{set_copy, drop_copy, asked}
 use Rattle.private_store.specs.rules.Commands.{new_copy, holds_of, with_holds, without_borrower, is_unsealed, fetch_begun, task_ended, own_items, granted_items, usage_of}
-use Rattle.private_store.specs.rules.Events.{over, without_work, read_back, located_copy, received, without_hand}
+use Rattle.private_store.specs.rules.Events.{over, without_work, read_back, located_copy, received, without_grant}
 use Rattle.private_store.specs.laws.Invariants.{is_end}
 
 -- whether the refusal is out of memory
@@ -46,7 +46,7 @@ pub data Marked (copy : Copy) : Copy → Type 0 where
   to_sealed : Marked copy (record copy { state = Sealed })
   to_held : (session n : ℕ) → Marked copy (with_holds copy session n)
   to_restoring : (offset : ℕ) → Marked copy (record copy { state = Restoring; offset = Some offset })
-  -- its fault is told of
+  -- its fault is answered
   to_told : Marked copy (record copy { fault = None })
   to_unpinned : Marked copy (record copy { pinned = false })
   to_borrowed : (task : TaskNo) → Marked copy (record copy { borrowers = copy.borrowers ++ task ∷ [] })
@@ -84,15 +84,15 @@ pub data Edit (x : Judged) (used : Option ObjectId) (store : Shape) : Shape → 
   -- a work is asked for; a work is answered
   asks : (writes : Bool) (id : ObjectId) → Edit x used store (asked writes store id)
   finishes : (number : ℕ) → Edit x used store (without_work store number)
-  -- whether a spill failed that isn't told of yet
+  -- whether a spill failed that isn't answered yet
   flags : (failed : Bool) → Edit x used store (record store { spill_failed = failed })
   ends_task : (task : TaskNo) → Edit x used store (task_ended store task)
-  gives : (hand : HandGiven) → Edit x used store (record store { given = store.given ++ hand ∷ [] })
-  -- of the hands given, those that pass the test are left
-  leaves : (stands : HandGiven → Bool) → Edit x used store (record store { given = filter stands store.given })
+  gives : (grant : GrantGiven) → Edit x used store (record store { given = store.given ++ grant ∷ [] })
+  -- of the grants given, those that pass the test are left
+  leaves : (stands : GrantGiven → Bool) → Edit x used store (record store { given = filter stands store.given })
   receives : (id : ObjectId) (n : ℕ) (grantor : JobNo) (depth : ℕ) → x ≡ judged.Received id n grantor depth → Edit x used store (received store id n grantor.0 depth).shape
   loses : (id : ObjectId) (grantor depth : ℕ) (seen : Seen) → at store.received id ≡ Some seen
-      → Edit x used store (record store { received = option_map_or (λ left. with_entry store.received id left) (without_hand seen grantor depth) (without_entry store.received id) })
+      → Edit x used store (record store { received = option_map_or (λ left. with_entry store.received id left) (without_grant seen grantor depth) (without_entry store.received id) })
   begins : (quota : Quota) → store.life ≡ not_begun → is_quota quota ≡ true → Edit x used store (record store { life = live; quota = quota })
   requotas : (quota : Quota) → is_quota quota ≡ true → fits_quota store quota ≡ true → Edit x used store (record store { quota = quota })
   ends : is_end x ≡ true → Edit x used store (over store)
@@ -105,7 +105,7 @@ pub data Edits (x : Judged) (used : Option ObjectId) (store : Shape) : Shape →
 -- ---- the answer
 
 -- the checks that a Read or a Peek passed before it told n bytes: they were there
-pub record IsReadTold (store : Shape) (session : ℕ) (id : ObjectId) (offset n : ℕ) : Type 0 where
+pub record IsReadAnswered (store : Shape) (session : ℕ) (id : ObjectId) (offset n : ℕ) : Type 0 where
   pub copy : Copy
   pub there : at store.copies id ≡ Some copy
   pub sealed : is_unsealed copy.state ≡ false
@@ -113,27 +113,27 @@ pub record IsReadTold (store : Shape) (session : ℕ) (id : ObjectId) (offset n 
   pub within : nat_lt copy.length (offset + n) ≡ false
   pub few : nat_lt most_bytes n ≡ false
 
-pub record IsPeekTold (store : Shape) (id : ObjectId) (offset n : ℕ) : Type 0 where
+pub record IsPeekAnswered (store : Shape) (id : ObjectId) (offset n : ℕ) : Type 0 where
   pub seen : Seen
   pub there : at store.received id ≡ Some seen
   pub within : nat_lt seen.length (offset + n) ≡ false
   pub few : nat_lt most_bytes n ≡ false
 
 -- only those two tell bytes, and tell as many as were asked for
-abbrev pub BytesTold : Shape → Judged → ℕ → Type 0
-BytesTold store (judged.Call session (command.Read id offset m)) n = (m ≡ n) × IsReadTold store session id offset n
-BytesTold store (judged.Call session (command.Peek id offset m)) n = (m ≡ n) × IsPeekTold store id offset n
-BytesTold store _ n = ⊥
+abbrev pub BytesAnswered : Shape → Judged → ℕ → Type 0
+BytesAnswered store (judged.Call session (command.Read id offset m)) n = (m ≡ n) × IsReadAnswered store session id offset n
+BytesAnswered store (judged.Call session (command.Peek id offset m)) n = (m ≡ n) × IsPeekAnswered store id offset n
+BytesAnswered store _ n = ⊥
 
 -- what an input may be answered, by the store as it was before
-pub data Told (x : Judged) (store : Shape) : Reply ℕ → Type 0 where
-  told_ok : Told x store reply.Ok
-  told_placed : (offset n : ℕ) → Told x store (reply.Placed offset (rounded n))
-  told_got : (id : ObjectId) (copy : Copy) → at store.copies id ≡ Some copy → Told x store (reply.Got copy.length)
-  told_bytes : (n : ℕ) → BytesTold store x n → Told x store (reply.Bytes n)
-  told_list : Told x store (reply.List (own_items store) (granted_items store))
-  told_usage : Told x store (reply.Usage (usage_of store))
-  told_refused : (refusal : Refusal) → is_want refusal ≡ false → Told x store (reply.Refused refusal)
+pub data Response (x : Judged) (store : Shape) : Reply ℕ → Type 0 where
+  response_ok : Response x store reply.Ok
+  response_placed : (offset n : ℕ) → Response x store (reply.Placed offset (rounded n))
+  response_got : (id : ObjectId) (copy : Copy) → at store.copies id ≡ Some copy → Response x store (reply.Got copy.length)
+  response_bytes : (n : ℕ) → BytesAnswered store x n → Response x store (reply.Bytes n)
+  response_list : Response x store (reply.List (own_items store) (granted_items store))
+  response_usage : Response x store (reply.Usage (usage_of store))
+  response_refused : (refusal : Refusal) → is_want refusal ≡ false → Response x store (reply.Refused refusal)
 
 -- what was made most recently used is there
 abbrev pub IsUsedThere : Option ObjectId → ById Copy → Type 0
@@ -187,7 +187,7 @@ is_silent _ = false
 -- the change leads on from this store, and tells of the one that the input found
 pub record IsMadeOf (x : Judged) (found store : Shape) (c : Change) : Type 0 where
   pub edits : Edits x c.used store c.shape
-  pub told : Told x found c.reply
+  pub response : Response x found c.reply
   pub used : IsUsedThere c.used c.shape.copies
   pub sent : list_all (may_send x) c.sent ≡ true
 

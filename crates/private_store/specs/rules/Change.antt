@@ -16,7 +16,7 @@ use Rattle.private_store.specs.rules.Room.{Room, set_copy, drop_copy}
 
 -- the store as it is, and this answer
 abbrev pub replied : Shape → Reply ℕ → Change
-replied store told = record { shape = store; reply = told; sent = []; used = None; erased = [] }
+replied store response = record { shape = store; reply = response; sent = []; used = None; erased = [] }
 
 -- the store as it is, and this refusal
 abbrev pub refused : Shape → Refusal → Change

@@ -100,12 +100,12 @@ abbrev pub input_at : Cluster → ℕ → Input → ClusterOutcome
 input_at cluster node x =
     option_map_or (λ store. moved_at cluster node store (private_outcome node store x)) (slice_get cluster.stores node) (unmoved cluster)
 
-abbrev pub told_directory : Cluster → DirectoryMessage → ClusterOutcome
-told_directory cluster m =
+abbrev pub directory_told_of : Cluster → DirectoryMessage → ClusterOutcome
+directory_told_of cluster m =
     unmoved (record cluster { locations = locations_after cluster.locations m; sent = cluster.sent ++ posted Directory (directory_posts cluster.locations m) })
 
 abbrev pub handed_to_directory : Cluster → Message → ClusterOutcome
-handed_to_directory cluster (message.ToDirectory m) = told_directory cluster m
+handed_to_directory cluster (message.ToDirectory m) = directory_told_of cluster m
 handed_to_directory cluster _ = unmoved cluster
 
 -- the message arrives
@@ -123,23 +123,23 @@ cluster_step cluster (deliver from to m damage) =
 -- ---- over a list of inputs
 
 -- a reply to a command, with its node and session
-pub record Told : Type 0 where
+pub record Response : Type 0 where
   pub node : ℕ
   pub session : ℕ
   pub reply : Reply (List ℕ)
 
-abbrev pub told : ClusterInput → ClusterOutcome → List Told
-told (at_node node (Call session c)) o =
+abbrev pub response : ClusterInput → ClusterOutcome → List Response
+response (at_node node (Call session c)) o =
     option_map_or (λ outcome. record { node = node; session = session; reply = outcome.reply } ∷ []) o.outcome []
-told _ o = []
+response _ o = []
 
 abbrev pub cluster_from : Cluster → List ClusterInput → Cluster
 cluster_from cluster [] = cluster
 cluster_from cluster (x ∷ xs) = cluster_from (cluster_step cluster x).cluster xs
 
-abbrev pub told_from : Cluster → List ClusterInput → List Told
-told_from cluster [] = []
-told_from cluster (x ∷ xs) = let o = cluster_step cluster x in told x o ++ told_from o.cluster xs
+abbrev pub responses_from : Cluster → List ClusterInput → List Response
+responses_from cluster [] = []
+responses_from cluster (x ∷ xs) = let o = cluster_step cluster x in response x o ++ responses_from o.cluster xs
 
 abbrev pub stores_of : ℕ → ℕ → List Store
 stores_of job zero = []
@@ -150,5 +150,5 @@ abbrev pub no_cluster : ℕ → ℕ → Cluster
 no_cluster job nodes = record { stores = stores_of job nodes; locations = []; sent = [] }
 
 -- the private run: the replies of the job's private cluster to these inputs
-abbrev pub private_run : ℕ → ℕ → List ClusterInput → List Told
-private_run job nodes xs = told_from (no_cluster job nodes) xs
+abbrev pub private_run : ℕ → ℕ → List ClusterInput → List Response
+private_run job nodes xs = responses_from (no_cluster job nodes) xs

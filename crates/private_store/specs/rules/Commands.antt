@@ -22,9 +22,9 @@ use Rattle.private_store.specs.declared.faults.FetchFault.{FetchFault}
 use Rattle.private_store.specs.declared.faults.Fault.TheVariants as restore_fault
 use Rattle.private_store.specs.declared.faults.FetchFault.TheVariants as fetch_fault
 use Rattle.private_store.specs.rules.Tables.{at, with_entry, ids_of}
-use Rattle.private_store.specs.rules.Limits.{most_bytes, chunk_size, most_copies, most_holds, most_borrowers, most_hands, greatest_depth, most_ended_tasks, has_numbers}
+use Rattle.private_store.specs.rules.Limits.{most_bytes, chunk_size, most_copies, most_holds, most_borrowers, most_grants, greatest_depth, most_ended_tasks, has_numbers}
 use Rattle.private_store.specs.rules.Extents.{rounded, is_size}
-use Rattle.private_store.specs.rules.Shape.{Copy, Shape, Change, Fetch, Phase, locating, sized, pulling, failed, HandTaken, add_location, locate, pull}
+use Rattle.private_store.specs.rules.Shape.{Copy, Shape, Change, Fetch, Phase, locating, sized, pulling, failed, GrantTaken, add_location, locate, pull}
 use Rattle.obj_id.specs.Kinds.{is_primary}
 use Rattle.private_store.specs.rules.Copies.{is_created, is_sealed, is_granted, in_scope, visible, window_used, device_used}
 use Rattle.private_store.specs.rules.Room.{make_room, set_copy, drop_copy, asked, works_left}
@@ -125,7 +125,7 @@ abbrev pub fetch_refusal : FetchFault → Refusal
 fetch_refusal fetch_fault.Absent = Absent
 fetch_refusal fetch_fault.Damaged = Damaged
 
--- Get of a copy that is away: a fault is told of, once; else it is read back
+-- Get of a copy that is away: a fault is answered, once; else it is read back
 abbrev pub get_away : List ObjectId → Shape → ObjectId → Copy → Change
 get_away order store id copy =
     elim copy.fault [
@@ -291,7 +291,7 @@ of_task task ids = filter (λ id. same_task task id.task) ids
 -- the task is remembered as ended, and what it had granted ends
 abbrev pub task_ended : Shape → TaskNo → Shape
 task_ended store task =
-    record store { ended_tasks = store.ended_tasks ++ task ∷ []; given = filter (λ hand. not (hand.id.job.0 == store.job && same_task task hand.id.task)) store.given }
+    record store { ended_tasks = store.ended_tasks ++ task ∷ []; given = filter (λ a_grant. not (a_grant.id.job.0 == store.job && same_task task a_grant.id.task)) store.given }
 
 -- EndTask: the task's copies are doomed, and then its borrows given up, each in order of id
 abbrev pub end_task : Shape → TaskNo → Change
@@ -306,42 +306,42 @@ is_sealed_primary copy = is_primary copy.kind && is_sealed copy.state
 
 -- whether this job gave the target this object
 abbrev pub has_given : Shape → ObjectId → ℕ → Bool
-has_given store id target = list_any (λ hand. same_id id hand.id && hand.target == target) store.given
+has_given store id target = list_any (λ a_grant. same_id id a_grant.id && a_grant.target == target) store.given
 
--- the hand is given
+-- the grant is given
 abbrev pub gives : Shape → ObjectId → ℕ → Option ℕ → Change
 gives store id target parent =
     done (record store { given = store.given ++ record { id = id; target = target; parent = parent } ∷ [] })
 
--- a grant of the job's own object
+-- a Grant of the job's own object
 abbrev pub grant_own : Shape → ObjectId → ℕ → Change
 grant_own store id target =
     checked store ((target == 0 || target == store.job, BadId) ∷ (has_ended store id.task, Gone) ∷ [])
     (needing store (visible store id) Absent (λ copy.
-    checked store ((not (is_sealed_primary copy), NotResident) ∷ (has_given store id target, Exists) ∷ (nat_le most_hands (length store.given), TooMany) ∷ [])
+    checked store ((not (is_sealed_primary copy), NotResident) ∷ (has_given store id target, Exists) ∷ (nat_le most_grants (length store.given), TooMany) ∷ [])
     (gives store id target None)))
 
--- the oldest standing hand of an object
-abbrev pub oldest : Shape → ObjectId → Option HandTaken
-oldest store id = option_and_then (λ seen. elim seen.hands [ [] ↦ None | hand ∷ _ ↦ Some hand ]) (at store.received id)
+-- the oldest standing grant of an object
+abbrev pub oldest : Shape → ObjectId → Option GrantTaken
+oldest store id = option_and_then (λ seen. elim seen.grants [ [] ↦ None | a_grant ∷ _ ↦ Some a_grant ]) (at store.received id)
 
--- a grant that hands on another job's object: it hangs on the oldest standing hand
+-- a Grant that hands on another job's object: what it makes hangs on the oldest standing grant
 abbrev pub grant_foreign : Shape → ObjectId → ℕ → Change
 grant_foreign store id target =
     checked store ((target == 0 || target == store.job || target == id.job.0, BadId) ∷ [])
-    (needing store (oldest store id) NotGranted (λ hand.
-    checked store ((has_given store id target, Exists) ∷ (nat_le greatest_depth hand.depth || nat_le most_hands (length store.given), TooMany) ∷ [])
-    (gives store id target (Some hand.grantor))))
+    (needing store (oldest store id) NotGranted (λ a_grant.
+    checked store ((has_given store id target, Exists) ∷ (nat_le greatest_depth a_grant.depth || nat_le most_grants (length store.given), TooMany) ∷ [])
+    (gives store id target (Some a_grant.grantor))))
 
 -- Grant: the target may peek, whether or not it lives
 abbrev pub grant : Shape → ObjectId → ℕ → Change
 grant store id target = if id.job.0 == store.job then grant_own store id target else grant_foreign store id target
 
--- Withdraw: the hand ends
+-- Withdraw: the grant ends
 abbrev pub withdraw : Shape → ObjectId → ℕ → Change
 withdraw store id target =
     checked store ((not (has_given store id target), NotGranted) ∷ [])
-    (done (settled (record store { given = filter (λ hand. not (same_id id hand.id && hand.target == target)) store.given }) id))
+    (done (settled (record store { given = filter (λ a_grant. not (same_id id a_grant.id && a_grant.target == target)) store.given }) id))
 
 -- Peek: bytes of an object that another job granted
 abbrev pub peek : Shape → ObjectId → ℕ → ℕ → Change
@@ -358,7 +358,7 @@ own_items store = map (λ e. record { id = e.0; state = e.1.state; kind = e.1.ki
 -- what others granted, as List shows it
 abbrev pub granted_items : Shape → List GrantedItem
 granted_items store =
-    map (λ e. record { id = e.0; length = e.1.length; depth = option_map_or (λ hand. hand.depth) (oldest store e.0) 0 }) store.received
+    map (λ e. record { id = e.0; length = e.1.length; depth = option_map_or (λ a_grant. a_grant.depth) (oldest store e.0) 0 }) store.received
 
 -- List: both, by id
 abbrev pub list : Shape → Change

@@ -167,13 +167,13 @@ judge node view input.End = judged.End
 -- the bytes that the input brings for a copy of the job, if the store takes them
 abbrev pub bytes_brought : View → Input → Judged → Reply ℕ → Option (ObjectId × List ℕ)
 bytes_brought view (input.Call session (command.Write id offset bytes)) x reply.Ok = Some (id, overwritten (bytes_at view.contents.bytes id) offset bytes)
-bytes_brought view (input.Answer number (device.Bytes bytes)) (judged.Answer _ work.Fine) told =
+bytes_brought view (input.Answer number (device.Bytes bytes)) (judged.Answer _ work.Fine) response =
     option_and_then (λ w. if w.writes then None else Some (w.id, bytes)) (work_of view.shape number)
-bytes_brought view (input.Arrive (arrival.FromPeer from (peer.Chunk id number index bytes))) (judged.Chunk _ _ _ _ chunk.Part) told =
+bytes_brought view (input.Arrive (arrival.FromPeer from (peer.Chunk id number index bytes))) (judged.Chunk _ _ _ _ chunk.Part) response =
     Some (id, with_chunk view id index bytes)
-bytes_brought view (input.Arrive (arrival.FromPeer from (peer.Chunk id number index bytes))) (judged.Chunk _ _ _ _ chunk.Whole) told =
+bytes_brought view (input.Arrive (arrival.FromPeer from (peer.Chunk id number index bytes))) (judged.Chunk _ _ _ _ chunk.Whole) response =
     Some (id, with_chunk view id index bytes)
-bytes_brought view x y told = None
+bytes_brought view x y response = None
 
 abbrev pub is_locating : Phase → Bool
 is_locating locating = true
@@ -188,8 +188,8 @@ digest_located node view id number entries =
 -- the digest that the input brings for a copy of the job, if the store takes it
 abbrev pub digest_brought : ℕ → View → Input → Reply ℕ → Option (ObjectId × Digest)
 digest_brought node view (input.Call session (command.Seal id)) reply.Ok = Some (id, digest_of (bytes_at view.contents.bytes id))
-digest_brought node view (input.Arrive (arrival.Located id number entries)) told = digest_located node view id number entries
-digest_brought node view x told = None
+digest_brought node view (input.Arrive (arrival.Located id number entries)) response = digest_located node view id number entries
+digest_brought node view x response = None
 
 abbrev pub bytes_received : Input → Option (ObjectId × List ℕ)
 bytes_received (input.Received id bytes grantor depth) = Some (id, bytes)
@@ -216,10 +216,10 @@ kept test default table entries =
 -- each resident copy has its bytes, zeros where its extent is new, and each copy that was sealed, or
 -- is fetched from a known source, its digest
 abbrev pub contents_after : ℕ → View → Input → Judged → Reply ℕ → Shape → Contents
-contents_after node view x y told after =
+contents_after node view x y response after =
     record {
-      bytes = kept (λ copy. is_some copy.offset) (λ copy. replicate copy.length 0) (brought view.contents.bytes (bytes_brought view x y told)) after.copies;
-      digests = kept keeps_digest (λ copy. no_digest) (brought view.contents.digests (digest_brought node view x told)) after.copies;
+      bytes = kept (λ copy. is_some copy.offset) (λ copy. replicate copy.length 0) (brought view.contents.bytes (bytes_brought view x y response)) after.copies;
+      digests = kept keeps_digest (λ copy. no_digest) (brought view.contents.digests (digest_brought node view x response)) after.copies;
       received = kept (λ seen. true) (λ seen. []) (brought view.contents.received (bytes_received x)) after.received;
     }
 
@@ -231,17 +231,17 @@ completes _ = false
 
 -- ---- what is told
 
-abbrev pub bytes_told : View → Input → List ℕ
-bytes_told view (input.Call session (command.Read id offset n)) = take n (drop offset (bytes_at view.contents.bytes id))
-bytes_told view (input.Call session (command.Peek id offset n)) = take n (drop offset (bytes_at view.contents.received id))
-bytes_told view _ = []
+abbrev pub bytes_answered : View → Input → List ℕ
+bytes_answered view (input.Call session (command.Read id offset n)) = take n (drop offset (bytes_at view.contents.bytes id))
+bytes_answered view (input.Call session (command.Peek id offset n)) = take n (drop offset (bytes_at view.contents.received id))
+bytes_answered view _ = []
 
 -- the reply with its bytes; a store tells no one a work
 abbrev pub whole_reply : View → Input → Reply ℕ → Reply (List ℕ)
 whole_reply view x reply.Ok = reply.Ok
 whole_reply view x (reply.Placed offset n) = reply.Placed offset n
 whole_reply view x (reply.Got n) = reply.Got n
-whole_reply view x (reply.Bytes n) = reply.Bytes (bytes_told view x)
+whole_reply view x (reply.Bytes n) = reply.Bytes (bytes_answered view x)
 whole_reply view x (reply.List own granted) = reply.List own granted
 whole_reply view x (reply.Usage usage) = reply.Usage usage
 whole_reply view x (reply.Work work) = reply.NoWork

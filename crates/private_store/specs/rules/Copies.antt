@@ -1,5 +1,5 @@
 -- The words that the rules are made of: what a copy is, by the marks on it and by the works, holds and
--- hands that stand on it.
+-- grants that stand on it.
 use Rattle.std.specs.Prelude.{ℕ, nat_le, Bool, true, false, not, if◌then◌else◌, ◌&&◌, ◌||◌, [], ◌∷◌, map, filter, filter_map, sum, Option, Some, None, is_some, is_none}
 use Rattle.std.specs.List.{list_any, list_all}
 use Rattle.std.specs.Option.{option_map, option_and_then}
@@ -48,7 +48,7 @@ abbrev pub is_writing : Shape → ObjectId → Bool
 is_writing store id = list_any (λ work. same_id id work.id && work.writes) store.works
 
 abbrev pub is_granted : Shape → ObjectId → Bool
-is_granted store id = list_any (λ hand. same_id id hand.id) store.given
+is_granted store id = list_any (λ grant. same_id id grant.id) store.given
 
 -- neither held nor granted nor working
 abbrev pub is_idle : Shape → ObjectId → Copy → Bool

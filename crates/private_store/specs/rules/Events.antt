@@ -1,5 +1,5 @@
 -- The inputs of a job's store that aren't commands: admission, change of quota and end, device
--- answers, messages, and the hands that others give.
+-- answers, messages, and the grants that others give.
 use Rattle.std.specs.Prelude.{ℕ, ◌==◌, Bool, true, false, not, ◌&&◌, if◌then◌else◌, List, [], ◌∷◌, ◌++◌, filter, find, Option, Some, None, is_none}
 use Rattle.std.specs.Option.{option_map_or, option_and_then}
 use Rattle.std.specs.List.{list_any}
@@ -19,7 +19,7 @@ use Rattle.private_store.specs.declared.faults.FetchFault.{FetchFault}
 use Rattle.private_store.specs.declared.faults.Fault.TheVariants as restore_fault
 use Rattle.private_store.specs.declared.faults.FetchFault.TheVariants as fetch_fault
 use Rattle.private_store.specs.rules.Tables.{at, with_entry, without_entry}
-use Rattle.private_store.specs.rules.Shape.{Copy, Shape, Change, WorkInFlight, not_begun, live, ended, Fetch, locating, sized, pulling, failed, HandTaken, HandGiven, Seen, add_location, remove_source, end_job, chunks, not_here, unbegun}
+use Rattle.private_store.specs.rules.Shape.{Copy, Shape, Change, WorkInFlight, not_begun, live, ended, Fetch, locating, sized, pulling, failed, GrantTaken, GrantGiven, Seen, add_location, remove_source, end_job, chunks, not_here, unbegun}
 use Rattle.private_store.specs.rules.Copies.{visible, fits_quota}
 use Rattle.private_store.specs.rules.Room.{set_copy}
 use Rattle.private_store.specs.rules.Change.{refused, done, checked, needing, sending, erasing, settled}
@@ -58,7 +58,7 @@ work_of store number = find (λ work. work.number == number) store.works
 abbrev pub without_work : Shape → ℕ → Shape
 without_work store number = record store { works = filter (λ work. not (work.number == number)) store.works }
 
--- a write is answered: the copy is backed, or the next room that would spill is told of the failure.
+-- a write is answered: the copy is backed, or the next room that would spill is answered the failure.
 -- The work stands no longer in the store
 abbrev pub written : Shape → WorkInFlight → Copy → WorkVerdict → Change
 written store w copy work.Failed = erasing store (done (settled (record store { spill_failed = true }) w.id))
@@ -107,7 +107,7 @@ located store id number source =
 
 -- the extent is given back, and the next Get answers the refusal
 abbrev pub fetch_failed : Shape → ObjectId → Copy → Fetch → FetchFault → Shape
-fetch_failed store id copy fetch told = set_phase store id (record copy { offset = None }) fetch (failed told)
+fetch_failed store id copy fetch response = set_phase store id (record copy { offset = None }) fetch (failed response)
 
 -- a chunk, and what is missing after it: the last one seals the copy, or shows that it is damaged
 abbrev pub chunk_taken : Shape → ObjectId → Copy → Fetch → ℕ → List ℕ → ChunkVerdict → Change
@@ -144,7 +144,7 @@ not_here_arrived store id number from =
 
 -- ---- messages to the serving side
 
--- a restore for another node: no reply, and a spill that failed is still to be told of
+-- a restore for another node: no reply, and a spill that failed is still to be answered
 abbrev pub quiet : Shape → Change → Change
 quiet store c = record c { shape = record c.shape { spill_failed = store.spill_failed }; reply = reply.Ok }
 
@@ -164,41 +164,41 @@ pull_arrived order store id matches =
     option_map_or (λ copy. if matches then pull_answer order store id copy else sending (not_here id ∷ []) (done store))
     (visible store id) (sending (not_here id ∷ []) (done store))
 
--- ---- hands that others give
+-- ---- grants that others give
 
-abbrev pub hands_of : Shape → ObjectId → List HandTaken
-hands_of store id = option_map_or (λ seen. seen.hands) (at store.received id) []
+abbrev pub grants_of : Shape → ObjectId → List GrantTaken
+grants_of store id = option_map_or (λ seen. seen.grants) (at store.received id) []
 
--- another hand of the object, the youngest
+-- another grant of the object, the youngest
 abbrev pub received : Shape → ObjectId → ℕ → ℕ → ℕ → Change
 received store id n grantor depth =
-    done (record store { received = with_entry store.received id (record { length = n; hands = hands_of store id ++ record { grantor = grantor; depth = depth } ∷ [] }) })
+    done (record store { received = with_entry store.received id (record { length = n; grants = grants_of store id ++ record { grantor = grantor; depth = depth } ∷ [] }) })
 
-abbrev pub is_hand : ℕ → ℕ → HandTaken → Bool
-is_hand grantor depth hand = hand.grantor == grantor && hand.depth == depth
+abbrev pub is_the_grant : ℕ → ℕ → GrantTaken → Bool
+is_the_grant grantor depth grant = grant.grantor == grantor && grant.depth == depth
 
--- what is seen by the other hands, if there are any
-abbrev pub without_hand : Seen → ℕ → ℕ → Option Seen
-without_hand seen grantor depth =
-    elim (filter (λ hand. not (is_hand grantor depth hand)) seen.hands) [
+-- what is seen by the other grants, if there are any
+abbrev pub without_grant : Seen → ℕ → ℕ → Option Seen
+without_grant seen grantor depth =
+    elim (filter (λ grant. not (is_the_grant grantor depth grant)) seen.grants) [
       | [] ↦ None
-      | hand ∷ hands ↦ Some (record seen { hands = hand ∷ hands })
+      | grant ∷ grants ↦ Some (record seen { grants = grant ∷ grants })
     ]
 
--- a hand of this object that hangs on one by the grantor
-abbrev pub is_child_of : ObjectId → ℕ → HandGiven → Bool
-is_child_of id grantor hand = same_id id hand.id && option_map_or (λ g. g == grantor) hand.parent false
+-- a grant of this object that hangs on one by the grantor
+abbrev pub is_child_of : ObjectId → ℕ → GrantGiven → Bool
+is_child_of id grantor grant = same_id id grant.id && option_map_or (λ g. g == grantor) grant.parent false
 
--- the hand ends, and with it those given here that hang on it
-abbrev pub hand_ended : Shape → ObjectId → ℕ → ℕ → Seen → Shape
-hand_ended store id grantor depth seen =
+-- the grant ends, and with it those given here that hang on it
+abbrev pub grant_ended : Shape → ObjectId → ℕ → ℕ → Seen → Shape
+grant_ended store id grantor depth seen =
     record store {
-      received = option_map_or (λ left. with_entry store.received id left) (without_hand seen grantor depth) (without_entry store.received id);
-      given = filter (λ hand. not (is_child_of id grantor hand)) store.given;
+      received = option_map_or (λ left. with_entry store.received id left) (without_grant seen grantor depth) (without_entry store.received id);
+      given = filter (λ grant. not (is_child_of id grantor grant)) store.given;
     }
 
--- a hand that stands ends
+-- a grant that stands ends
 abbrev pub withdrawn : Shape → ObjectId → ℕ → ℕ → Change
 withdrawn store id grantor depth =
-    done (option_map_or (λ seen. if list_any (is_hand grantor depth) seen.hands then hand_ended store id grantor depth seen else store)
+    done (option_map_or (λ seen. if list_any (is_the_grant grantor depth) seen.grants then grant_ended store id grantor depth seen else store)
     (at store.received id) store)

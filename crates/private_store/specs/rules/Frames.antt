@@ -91,8 +91,8 @@ of_job make body = id_item body 32 (make (id_at body) (number_at body 28))
 abbrev pub of_range : (ObjectId → ℕ → ℕ → Command (List ℕ)) → Read
 of_range make body = id_item body 36 (make (id_at body) (number_at body 28) (number_at body 32))
 
-abbrev pub bare : Command (List ℕ) → Read
-bare c body = of_length body 0 (item.Command c)
+abbrev pub empty_body : Command (List ℕ) → Read
+empty_body c body = of_length body 0 (item.Command c)
 
 -- the table of kinds
 abbrev pub kinds : List (ℕ × Read)
@@ -112,9 +112,9 @@ kinds =
     ∷ (0x0d, of_job (λ id job. command.Grant id (record { 0 = job })))
     ∷ (0x0e, of_job (λ id job. command.Withdraw id (record { 0 = job })))
     ∷ (0x0f, of_range command.Peek)
-    ∷ (0x10, bare command.List)
-    ∷ (0x11, bare command.Usage)
-    ∷ (0x12, bare command.Leave)
+    ∷ (0x10, empty_body command.List)
+    ∷ (0x11, empty_body command.Usage)
+    ∷ (0x12, empty_body command.Leave)
     ∷ (0x13, λ body. of_length body 28 (with_id body (item.Wait (awaited.Get (id_at body)))))
     ∷ (0x14, create (λ id kind n. item.Wait (awaited.Create id kind n)))
     ∷ []
@@ -197,6 +197,11 @@ command_body (command.Peek id offset n) = 0x0f ∷ range_body id offset n
 command_body command.List = 0x10 ∷ []
 command_body command.Usage = 0x11 ∷ []
 command_body command.Leave = 0x12 ∷ []
+
+-- the command that is tried again while its answer is Pending
+abbrev pub tried : Awaited → Command (List ℕ)
+tried (awaited.Get id) = command.Get id
+tried (awaited.Create id kind n) = command.Create id kind n
 
 abbrev pub awaited_body : Awaited → List ℕ
 awaited_body (awaited.Get id) = 0x13 ∷ id_bytes id

@@ -10,43 +10,43 @@ use Rattle.private_store.specs.rules.Contents.{View, judge}
 use Rattle.private_store.specs.rules.Private.{view_step}
 
 -- a job's store without contents, with the order of use
-pub record Brief : Type 0 where
+pub record ReplayState : Type 0 where
   pub shape : Shape
   pub order : List ObjectId
 
 -- of a job that was never admitted
-abbrev pub unbegun_brief : ℕ → Brief
-unbegun_brief job = record { shape = unbegun job; order = [] }
+abbrev pub unbegun_replay : ℕ → ReplayState
+unbegun_replay job = record { shape = unbegun job; order = [] }
 
 -- an input of the job, and what it was answered
 pub record Line : Type 0 where
   pub input : Judged
   pub reply : Reply ℕ
 
-abbrev pub brief_step : Brief → Judged → Change
-brief_step brief x = step brief.order brief.shape x
+abbrev pub replay_step : ReplayState → Judged → Change
+replay_step replay_state x = step replay_state.order replay_state.shape x
 
-abbrev pub brief_after : Brief → Judged → Brief
-brief_after brief x = record { shape = (brief_step brief x).shape; order = order_after brief.order (brief_step brief x) }
+abbrev pub replay_after : ReplayState → Judged → ReplayState
+replay_after replay_state x = record { shape = (replay_step replay_state x).shape; order = order_after replay_state.order (replay_step replay_state x) }
 
 -- the store after the lines
-abbrev pub replayed : Brief → List Line → Brief
-replayed brief [] = brief
-replayed brief (line ∷ lines) = replayed (brief_after brief line.input) lines
+abbrev pub replayed : ReplayState → List Line → ReplayState
+replayed replay_state [] = replay_state
+replayed replay_state (line ∷ lines) = replayed (replay_after replay_state line.input) lines
 
 -- what each line should be answered
-abbrev pub answers_due : Brief → List Judged → List (Reply ℕ)
-answers_due brief [] = []
-answers_due brief (x ∷ xs) = (brief_step brief x).reply ∷ answers_due (brief_after brief x) xs
+abbrev pub answers_due : ReplayState → List Judged → List (Reply ℕ)
+answers_due replay_state [] = []
+answers_due replay_state (x ∷ xs) = (replay_step replay_state x).reply ∷ answers_due (replay_after replay_state x) xs
 
 -- each line has the answer that the replay gives there
-abbrev pub IsReplayed : Brief → List Line → Type 0
-IsReplayed brief lines = map (λ line. line.reply) lines ≡ answers_due brief (map (λ line. line.input) lines)
+abbrev pub IsReplayed : ReplayState → List Line → Type 0
+IsReplayed replay_state lines = map (λ line. line.reply) lines ≡ answers_due replay_state (map (λ line. line.input) lines)
 
 -- ---- the lines that a run makes
 
-abbrev pub brief_of : View → Brief
-brief_of view = record { shape = view.shape; order = view.order }
+abbrev pub replay_state_of : View → ReplayState
+replay_state_of view = record { shape = view.shape; order = view.order }
 
 -- the line that an input makes in the journal
 abbrev pub line_of : ℕ → View → Input → Line

@@ -111,7 +111,7 @@ asked writes store id =
 abbrev pub no_room : Shape → Refusal → Room
 no_room store refusal = record { shape = store; offset = Err refusal; sent = [] }
 
--- a spill that failed is told of, once, before another is asked for
+-- a spill that failed is answered, once, before another is asked for
 abbrev pub spill_room : Shape → List ObjectId → Room
 spill_room store ids =
     if store.spill_failed then no_room (record store { spill_failed = false }) DeviceFailed else

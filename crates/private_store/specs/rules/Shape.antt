@@ -51,22 +51,22 @@ pub record WorkInFlight : Type 0 where
   -- whether it spills, and else restores
   pub writes : Bool
 
--- a hand that this job gave, and of another job's object the grantor of the hand that it hangs on
-pub record HandGiven : Type 0 where
+-- a grant that this job gave, and of another job's object the grantor of the grant that it hangs on
+pub record GrantGiven : Type 0 where
   pub id : ObjectId
   pub target : ℕ
   pub parent : Option ℕ
 
--- a hand that was given to this job
-pub record HandTaken : Type 0 where
+-- a grant that was given to this job
+pub record GrantTaken : Type 0 where
   pub grantor : ℕ
   pub depth : ℕ
 
 -- an object of another job that this job may peek at
 pub record Seen : Type 0 where
   pub length : ℕ
-  -- the standing hands, oldest first
-  pub hands : List HandTaken
+  -- the standing grants, oldest first
+  pub grants : List GrantTaken
 
 pub data Life : Type 0 where
   not_begun live ended : Life
@@ -87,7 +87,7 @@ pub record Shape : Type 0 where
   -- in the order in which they ended
   pub ended_tasks : List TaskNo
   -- in the order given
-  pub given : List HandGiven
+  pub given : List GrantGiven
   -- what others granted
   pub received : ById Seen
 

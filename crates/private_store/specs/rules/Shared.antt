@@ -49,11 +49,11 @@ admitted memory job window lives =
     (first (map (λ live. live.window) lives) memory window) lives
 
 abbrev pub lives_step : ℕ → ℕ → List LiveJob → Step → StepAnswer → List LiveJob
-lives_step memory node lives (steps.At n (event.Admit job quota key)) (answer.Told reply.Ok) =
+lives_step memory node lives (steps.At n (event.Admit job quota key)) (answer.Response reply.Ok) =
     if n == node then admitted memory job.0 quota.window lives else lives
-lives_step memory node lives (steps.At n (event.Requota job quota)) (answer.Told reply.Ok) =
+lives_step memory node lives (steps.At n (event.Requota job quota)) (answer.Response reply.Ok) =
     if n == node then map (widened job.0 quota.window) lives else lives
-lives_step memory node lives (steps.At n (event.JobEnd job)) (answer.Told reply.Ok) =
+lives_step memory node lives (steps.At n (event.JobEnd job)) (answer.Response reply.Ok) =
     if n == node then filter (λ live. not (job_is job.0 live)) lives else lives
 lives_step memory node lives _ _ = lives
 
@@ -63,7 +63,7 @@ lives_after memory node [] = []
 lives_after memory node (entry ∷ before) = lives_step memory node (lives_after memory node before) entry.step entry.answer
 
 abbrev pub is_admission : ℕ → ℕ → Step → StepAnswer → Bool
-is_admission node job (steps.At n (event.Admit j quota key)) (answer.Told reply.Ok) = n == node && nat_le job j.0
+is_admission node job (steps.At n (event.Admit j quota key)) (answer.Response reply.Ok) = n == node && nat_le job j.0
 is_admission node job _ _ = false
 
 abbrev pub first_refusal : List (Bool × Refusal) → Option Refusal
@@ -71,7 +71,7 @@ first_refusal [] = None
 first_refusal (check ∷ checks) = if check.0 then Some check.1 else first_refusal checks
 
 abbrev pub ok_unless : List (Bool × Refusal) → StepAnswer
-ok_unless checks = answer.Told (option_map_or reply.Refused (first_refusal checks) reply.Ok)
+ok_unless checks = answer.Response (option_map_or reply.Refused (first_refusal checks) reply.Ok)
 
 abbrev pub admit_answer : ℕ → ℕ → List Traced → ℕ → Quota → StepAnswer
 admit_answer memory node before job quota =
@@ -141,8 +141,8 @@ asked_by nodes node before entry =
 
 -- whether the work waits no more: it was taken, or its job ended
 abbrev pub leaves : ℕ → AskedWork → Step → StepAnswer → Bool
-leaves node asked (steps.At n event.Take) (answer.Told (reply.Work work)) = n == node && work.job.0 == asked.job && work.number == asked.number
-leaves node asked (steps.At n (event.JobEnd job)) (answer.Told reply.Ok) = n == node && job.0 == asked.job
+leaves node asked (steps.At n event.Take) (answer.Response (reply.Work work)) = n == node && work.job.0 == asked.job && work.number == asked.number
+leaves node asked (steps.At n (event.JobEnd job)) (answer.Response reply.Ok) = n == node && job.0 == asked.job
 leaves node asked _ _ = false
 
 -- the works of the node that no Take has given, in the order asked
@@ -171,7 +171,7 @@ given_of job number o =
 
 abbrev pub take_answer : ℕ → ℕ → List Traced → StepAnswer
 take_answer nodes node before =
-    answer.Told (elim (waiting nodes node before) [
+    answer.Response (elim (waiting nodes node before) [
       | [] ↦ reply.NoWork
       | asked ∷ _ ↦ option_map_or reply.Work (given_of asked.job asked.number (store_at nodes node before asked.job)) reply.NoWork
     ])
@@ -189,7 +189,7 @@ deliver_answer nodes memory before job from to m damage =
       | Some message ↦
           if goes_to_live memory before job to
           then answer.HandedOver (if damage then damaged message else message)
-          else answer.Told (reply.Refused Stale)
+          else answer.Response (reply.Refused Stale)
     ]
 
 -- ---- all

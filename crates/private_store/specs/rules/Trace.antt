@@ -16,31 +16,31 @@ use Rattle.private_store.specs.declared.schedules.StepAnswer.{StepAnswer}
 use Rattle.private_store.specs.declared.schedules.StepAnswer.TheVariants as answer
 use Rattle.private_store.specs.declared.schedules.Traced.{Traced}
 use Rattle.private_store.specs.rules.Contents.{bytes_at}
-use Rattle.private_store.specs.rules.Cluster.{Cluster, ClusterInput, at_node, deliver, Told, cluster_from, no_cluster, private_run}
-use Rattle.private_store.specs.rules.Hands.{Hand, new_hand, with_hand, hands_ended, hands_left, is_withdrawn, is_of_task, is_given_by}
+use Rattle.private_store.specs.rules.Cluster.{Cluster, ClusterInput, at_node, deliver, Response, cluster_from, no_cluster, private_run}
+use Rattle.private_store.specs.rules.Grants.{StandingGrant, new_grant, with_grant, grants_ended, grants_left, is_withdrawn, is_of_task, is_given_by}
 
--- ---- hands
+-- ---- grants
 
--- which hands an accepted event ends of its grantor's own accord
-abbrev pub ends : Event → Option (Hand → Bool)
+-- which grants an accepted event ends of its grantor's own accord
+abbrev pub ends : Event → Option (StandingGrant → Bool)
 ends (event.Call job session (command.Withdraw id target)) = Some (is_withdrawn job.0 id target.0)
 ends (event.Call job session (command.EndTask task)) = Some (is_of_task job.0 task)
 ends (event.JobEnd job) = Some (is_given_by job.0)
 ends _ = None
 
--- a node's standing hands after an accepted event
-abbrev pub hands_by : List Hand → Event → List Hand
-hands_by hands (event.Call job session (command.Grant id target)) = with_hand hands id job.0 target.0
-hands_by hands e = option_map_or (λ test. hands_left test hands) (ends e) hands
+-- a node's standing grants after an accepted event
+abbrev pub grants_by : List StandingGrant → Event → List StandingGrant
+grants_by grants (event.Call job session (command.Grant id target)) = with_grant grants id job.0 target.0
+grants_by grants e = option_map_or (λ test. grants_left test grants) (ends e) grants
 
-abbrev pub hands_step : ℕ → List Hand → Step → StepAnswer → List Hand
-hands_step node hands («step».At at e) (answer.Told reply.Ok) = if at == node then hands_by hands e else hands
-hands_step node hands _ _ = hands
+abbrev pub grants_step : ℕ → List StandingGrant → Step → StepAnswer → List StandingGrant
+grants_step node grants («step».At at e) (answer.Response reply.Ok) = if at == node then grants_by grants e else grants
+grants_step node grants _ _ = grants
 
--- the standing hands at a node, oldest first. A history is a trace, newest first
-abbrev pub hands_at : ℕ → List Traced → List Hand
-hands_at node [] = []
-hands_at node (entry ∷ before) = hands_step node (hands_at node before) entry.step entry.answer
+-- the standing grants at a node, oldest first. A history is a trace, newest first
+abbrev pub grants_at : ℕ → List Traced → List StandingGrant
+grants_at node [] = []
+grants_at node (entry ∷ before) = grants_step node (grants_at node before) entry.step entry.answer
 
 -- ---- inputs
 
@@ -51,16 +51,16 @@ pub record Given : Type 0 where
 
 -- whether the answer is that there is no memory
 abbrev pub is_no_memory : StepAnswer → Bool
-is_no_memory (answer.Told (reply.Refused NoMemory)) = true
+is_no_memory (answer.Response (reply.Refused NoMemory)) = true
 is_no_memory _ = false
 
 -- whether the work is out after the step: a Take gives it out; a Finish, or its job's end, takes it in
 abbrev pub out_after : ℕ → ℕ → ℕ → Bool → Step → StepAnswer → Bool
-out_after node job number was («step».At at event.Take) (answer.Told (reply.Work work)) =
+out_after node job number was («step».At at event.Take) (answer.Response (reply.Work work)) =
     was || (at == node && work.job.0 == job && work.number == number)
-out_after node job number was («step».At at (event.Finish j n a)) told =
-    was && not (at == node && j.0 == job && n == number && not (is_no_memory told))
-out_after node job number was («step».At at (event.JobEnd j)) (answer.Told reply.Ok) = was && not (at == node && j.0 == job)
+out_after node job number was («step».At at (event.Finish j n a)) response =
+    was && not (at == node && j.0 == job && n == number && not (is_no_memory response))
+out_after node job number was («step».At at (event.JobEnd j)) (answer.Response reply.Ok) = was && not (at == node && j.0 == job)
 out_after node job number was _ _ = was
 
 -- whether the work was taken, and neither finished since nor its job ended
@@ -73,20 +73,20 @@ abbrev pub given_at : ℕ → ℕ → Input → Option Given
 given_at node job x = Some (record { job = job; input = at_node node x })
 
 abbrev pub unless_no_memory : StepAnswer → Option Given → Option Given
-unless_no_memory told given = if is_no_memory told then None else given
+unless_no_memory response given = if is_no_memory response then None else given
 
 -- the input that the step is to its own job: an admission, a change of quota or an end that was
 -- accepted; the first Finish of a work that is out; each command and each Deliver. A step that had no
 -- memory is no input
 abbrev pub own_input : List Traced → Step → StepAnswer → Option Given
-own_input before («step».At node (event.Admit job quota key)) (answer.Told reply.Ok) = given_at node job.0 (input.Begin quota)
-own_input before («step».At node (event.Requota job quota)) (answer.Told reply.Ok) = given_at node job.0 (input.Requota quota)
-own_input before («step».At node (event.JobEnd job)) (answer.Told reply.Ok) = given_at node job.0 input.End
-own_input before («step».At node (event.Finish job number a)) told =
-    unless_no_memory told (if is_out node job.0 number before then given_at node job.0 (input.Answer number a) else None)
-own_input before («step».At node (event.Call job session c)) told = unless_no_memory told (given_at node job.0 (input.Call session c))
-own_input before («step».Deliver job from to m damage) told =
-    unless_no_memory told (Some (record { job = job.0; input = deliver from to m damage }))
+own_input before («step».At node (event.Admit job quota key)) (answer.Response reply.Ok) = given_at node job.0 (input.Begin quota)
+own_input before («step».At node (event.Requota job quota)) (answer.Response reply.Ok) = given_at node job.0 (input.Requota quota)
+own_input before («step».At node (event.JobEnd job)) (answer.Response reply.Ok) = given_at node job.0 input.End
+own_input before («step».At node (event.Finish job number a)) response =
+    unless_no_memory response (if is_out node job.0 number before then given_at node job.0 (input.Answer number a) else None)
+own_input before («step».At node (event.Call job session c)) response = unless_no_memory response (given_at node job.0 (input.Call session c))
+own_input before («step».Deliver job from to m damage) response =
+    unless_no_memory response (Some (record { job = job.0; input = deliver from to m damage }))
 own_input before _ _ = None
 
 -- the bytes that an object has in the private store of its own job at a node
@@ -95,27 +95,27 @@ granted_bytes nodes node inputs id =
     option_map_or (λ store. bytes_at store.contents.bytes id)
     (slice_get (cluster_from (no_cluster id.job.0 nodes) (inputs id.job.0)).stores node) []
 
--- what a new hand is to its grantee
-abbrev pub received_note : ℕ → ℕ → (ℕ → List ClusterInput) → Hand → Given
-received_note nodes node inputs hand =
+-- what a new grant is to its grantee
+abbrev pub received_note : ℕ → ℕ → (ℕ → List ClusterInput) → StandingGrant → Given
+received_note nodes node inputs grant =
     record {
-      job = hand.grantee;
-      input = at_node node (input.Received hand.id (granted_bytes nodes node inputs hand.id) (record { 0 = hand.grantor }) hand.depth);
+      job = grant.grantee;
+      input = at_node node (input.Received grant.id (granted_bytes nodes node inputs grant.id) (record { 0 = grant.grantor }) grant.depth);
     }
 
--- what the end of a hand is to its grantee
-abbrev pub withdrawn_note : ℕ → Hand → Given
-withdrawn_note node hand =
-    record { job = hand.grantee; input = at_node node (input.Withdrawn hand.id (record { 0 = hand.grantor }) hand.depth) }
+-- what the end of a grant is to its grantee
+abbrev pub withdrawn_note : ℕ → StandingGrant → Given
+withdrawn_note node grant =
+    record { job = grant.grantee; input = at_node node (input.Withdrawn grant.id (record { 0 = grant.grantor }) grant.depth) }
 
--- what an accepted event at a node is to the grantees of hands
-abbrev pub notes_by : ℕ → ℕ → (ℕ → List ClusterInput) → List Hand → Event → List Given
-notes_by nodes node inputs hands (event.Call job session (command.Grant id target)) =
-    received_note nodes node inputs (new_hand hands id job.0 target.0) ∷ []
-notes_by nodes node inputs hands e = option_map_or (λ test. map (withdrawn_note node) (hands_ended test hands)) (ends e) []
+-- what an accepted event at a node is to the grantees
+abbrev pub notes_by : ℕ → ℕ → (ℕ → List ClusterInput) → List StandingGrant → Event → List Given
+notes_by nodes node inputs grants (event.Call job session (command.Grant id target)) =
+    received_note nodes node inputs (new_grant grants id job.0 target.0) ∷ []
+notes_by nodes node inputs grants e = option_map_or (λ test. map (withdrawn_note node) (grants_ended test grants)) (ends e) []
 
 abbrev pub notes : ℕ → (ℕ → List ClusterInput) → List Traced → Step → StepAnswer → List Given
-notes nodes inputs before («step».At node e) (answer.Told reply.Ok) = notes_by nodes node inputs (hands_at node before) e
+notes nodes inputs before («step».At node e) (answer.Response reply.Ok) = notes_by nodes node inputs (grants_at node before) e
 notes nodes inputs before _ _ = []
 
 abbrev pub for_job : ℕ → List Given → List ClusterInput
@@ -138,21 +138,21 @@ cluster_until nodes job before = cluster_from (no_cluster job nodes) (inputs_unt
 
 -- ---- replies
 
-abbrev pub reply_of : ℕ → Step → StepAnswer → Option Told
-reply_of job («step».At node (event.Call j session c)) (answer.Told told) =
-    if j.0 == job then Some (record { node = node; session = session; reply = told }) else None
+abbrev pub reply_of : ℕ → Step → StepAnswer → Option Response
+reply_of job («step».At node (event.Call j session c)) (answer.Response response) =
+    if j.0 == job then Some (record { node = node; session = session; reply = response }) else None
 reply_of job _ _ = None
 
 -- the answers to a job's commands, with node and session
-abbrev pub replies_of : ℕ → List Traced → List Told
+abbrev pub replies_of : ℕ → List Traced → List Response
 replies_of job trace = filter_map (λ entry. reply_of job entry.step entry.answer) trace
 
 -- two runs agree for a job where its inputs are the same
 abbrev pub Agree : ℕ → ℕ → List Traced → List Traced → Type 0
 Agree nodes job first second = inputs_of nodes job first ≡ inputs_of nodes job second
 
-abbrev pub is_answered : Told → Bool
-is_answered t = not (is_no_memory (answer.Told t.reply))
+abbrev pub is_answered : Response → Bool
+is_answered t = not (is_no_memory (answer.Response t.reply))
 
 -- the headline of one trace: the job's replies, but for NoMemory, are those of its private cluster
 -- on its own inputs

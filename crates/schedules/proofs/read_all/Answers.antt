@@ -3,7 +3,7 @@ use Rattle.std.specs.Prelude.{All}
 use Rattle.std.specs.String.{string_bytes}
 use Rattle.std.proofs.lemmas.List.{take_all}
 use Rattle.schedules.specs.Vectors.{IsFrameLine}
-use Rattle.schedules.proofs.Told.{fewer_more, right_more}
+use Rattle.schedules.proofs.OneMore.{fewer_more, right_more}
 use Rattle.schedules.proofs.read_all.Goals as goal
 
 pub loop-line-preserved : goal.loop-line-preserved

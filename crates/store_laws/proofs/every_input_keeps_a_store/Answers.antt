@@ -1,5 +1,5 @@
 use Rattle.store_laws.proofs.NumbersRise.{numbers_rise}
-use Rattle.store_facts.proofs.BriefKept.{unbegun_brief_kept, brief_keeps, replay_keeps, run_keeps_brief}
+use Rattle.store_facts.proofs.ReplayStateKept.{unbegun_replay_kept, step_of_replay_keeps, replay_keeps, run_keeps_replay}
 use Rattle.store_facts.proofs.StepsKept.{no_store_kept, view_keeps, run_keeps}
 use Rattle.store_laws.proofs.every_input_keeps_a_store.Goals as goal
 
@@ -15,14 +15,14 @@ returns-clause-runs c = run_keeps
 pub returns-clause-numbers : goal.returns-clause-numbers
 returns-clause-numbers c = numbers_rise
 
-pub returns-clause-begins_brief : goal.returns-clause-begins_brief
-returns-clause-begins_brief c = unbegun_brief_kept
+pub returns-clause-begins_replay : goal.returns-clause-begins_replay
+returns-clause-begins_replay c = unbegun_replay_kept
 
 pub returns-clause-each_judged : goal.returns-clause-each_judged
-returns-clause-each_judged c = brief_keeps
+returns-clause-each_judged c = step_of_replay_keeps
 
 pub returns-clause-replays : goal.returns-clause-replays
 returns-clause-replays c = replay_keeps
 
-pub returns-clause-runs_brief : goal.returns-clause-runs_brief
-returns-clause-runs_brief c = run_keeps_brief
+pub returns-clause-runs_replay : goal.returns-clause-runs_replay
+returns-clause-runs_replay c = run_keeps_replay

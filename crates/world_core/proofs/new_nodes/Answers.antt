@@ -7,4 +7,4 @@ pub loop-number-preserved : goal.loop-number-preserved
 loop-number-preserved c =
     subst (AreNew c.args.shape.memory (c.loop-number.number + 1)) (sym c.in_ok-push.ensures.items)
     (AreNew-push c.args.shape.memory c.loop-number.number c.loop-number.nodes.items c.new.result c.loop-number.invariant
-    (record { number = c.new.ensures.number; admissions = c.new.ensures.admissions; works = ap (λ line. line.works) c.new.ensures.works; hands = c.new.ensures.hands; shows = c.new.ensures.shows }))
+    (record { number = c.new.ensures.number; admissions = c.new.ensures.admissions; works = ap (λ line. line.works) c.new.ensures.works; grants = c.new.ensures.grants; shows = c.new.ensures.shows }))

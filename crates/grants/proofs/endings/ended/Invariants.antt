@@ -1,7 +1,7 @@
 use Rattle.std.proofs.Common.{◌≡◌, [], drop}
-use Rattle.private_store.specs.rules.Hands.{ended_from}
-use Rattle.grants.specs.Table.{ends}
+use Rattle.private_store.specs.rules.Grants.{ended_from}
+use Rattle.grants.specs.Table.{is_ended_by}
 use Rattle.grants.proofs.endings.ended.Given as goal
 
-abbrev pub invariant-loop-hand : goal.invariant-loop-hand
-invariant-loop-hand l = ended_from (ends l.ending) l.gone (drop l.hand-index l.hands.items) ≡ ended_from (ends l.ending) [] l.hands.items
+abbrev pub invariant-loop-grant : goal.invariant-loop-grant
+invariant-loop-grant l = ended_from (is_ended_by l.ending) l.gone (drop l.grant-index l.grants.items) ≡ ended_from (is_ended_by l.ending) [] l.grants.items

@@ -1,18 +1,18 @@
 use Rattle.std.proofs.Common.{◌≡◌, ◌+◌, ◌-◌, ◌<◌, drop, length, ap, ◌∙◌, arith}
 use Rattle.std.specs.BTreeMap.{insert_entry}
-use Rattle.private_store.specs.rules.Hands.{hands_sorted}
+use Rattle.private_store.specs.rules.Grants.{grants_sorted}
 use Rattle.grants.proofs.Ranked.{rank_cmp, ranked_step}
 use Rattle.grants.proofs.endings.sorted.Goals as goal
 
 pub loop-left-preserved : goal.loop-left-preserved
 loop-left-preserved c =
-    let hands = c.args.hands.now.items in
+    let grants = c.args.grants.now.items in
     let old = c.loop-left.ranked.entries in
-    let hand = c.index.result.now in
+    let grant = c.index.result.now in
     let kept = c.loop-left.invariant in
     let back : c.loop-left.left ≡ (c.loop-left.left - 1) + 1 = omega arith in
-    let within : c.loop-left.left - 1 < length hands = omega (arith, kept.within) in
-    let step = ranked_step hands old c.insert.new.self.entries (c.loop-left.left - 1) hand c.requires within c.index.ensures kept.ranked
-    (kept.on ∙ ap (λ n. hands_sorted (drop n hands)) back)
-    (c.in_ok-insert.ensures.entries ∙ ap (λ k. insert_entry rank_cmp old k hand) c.rank.ensures) in
+    let within : c.loop-left.left - 1 < length grants = omega (arith, kept.within) in
+    let step = ranked_step grants old c.insert.new.self.entries (c.loop-left.left - 1) grant c.requires within c.index.ensures kept.ranked
+    (kept.on ∙ ap (λ n. grants_sorted (drop n grants)) back)
+    (c.in_ok-insert.ensures.entries ∙ ap (λ k. insert_entry rank_cmp old k grant) c.rank.ensures) in
     record { within = omega (arith, kept.within); on = step.0; ranked = step.1 }

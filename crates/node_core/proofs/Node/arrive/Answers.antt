@@ -27,11 +27,11 @@ returns-in_default-clause-ok c =
     let rows = c.get_mut.follows.lender-at-none.entries in
     let same = ap (λ r. r.entries) c.get_mut.follows.holds-at-none in
     let absent = sym c.get_mut.ensures.value ∙ ap option_copied_mut c.in_default.is in
-    let hands = c.self.inside.hands in
-    let all = node_of c.self.inside.number a line hands in
+    let grants = c.self.inside.grants in
+    let all = node_of c.self.inside.number a line grants in
     subst (λ given. NodeStep c.args.self.now (Arrive c.args.job c.args.arrival.now) given (all rows)) (sym (c.of_row.ensures.given ∙ ap with_no_notes c.only-outcome.ensures))
     (subst (λ old. NodeStep old (Arrive c.args.job c.args.arrival.now) _ (all rows)) (ap all same ∙ c.self.view_is)
-    (stale_steps c.self.inside.number a line hands c.args.job c.args.arrival.now rows (ap (lookup (same_job c.args.job)) same ∙ absent)
+    (stale_steps c.self.inside.number a line grants c.args.job c.args.arrival.now rows (ap (lookup (same_job c.args.job)) same ∙ absent)
     (sym (live-is a c.self.inside.rows.entries c.self.invariant.jobs c.args.job) ∙ ap is_some absent)))
 
 pub returns-in_default-clause-judged : goal.returns-in_default-clause-judged
@@ -41,7 +41,7 @@ returns-in_default-clause-judged c view h =
 
 pub returns-in_default-clause-stale : goal.returns-in_default-clause-stale
 returns-in_default-clause-stale c late =
-    ap (node_of c.self.inside.number c.self.inside.admission c.self.inside.works c.self.inside.hands) (ap (λ r. r.entries) c.get_mut.follows.holds-at-none) ∙ c.self.view_is
+    ap (node_of c.self.inside.number c.self.inside.admission c.self.inside.works c.self.inside.grants) (ap (λ r. r.entries) c.get_mut.follows.holds-at-none) ∙ c.self.view_is
 
 pub returns-in_err-outcome-clause-memory_last : goal.returns-in_err-outcome-clause-memory_last
 returns-in_err-outcome-clause-memory_last c =
@@ -54,7 +54,7 @@ returns-in_err-outcome-clause-err c =
     let rows = c.self.inside.rows.entries in
     let found = sym c.get_mut.ensures.value ∙ ap option_copied_mut c.in-Some.is in
     let wrote = c.get_mut.follows.holds c.deliver.new.row in
-    always_err c.from_residual.result ((λ i. node_of c.self.inside.number c.self.inside.admission (c.in_err-outcome.ensures.works i) c.self.inside.hands
+    always_err c.from_residual.result ((λ i. node_of c.self.inside.number c.self.inside.admission (c.in_err-outcome.ensures.works i) c.self.inside.grants
     ((wrote.0 ∙ ap (set_value (same_job c.args.job) rows) c.in_err-outcome.ensures.err ∙ set_value_same (same_job c.args.job) rows c.in-Some.row.now found) i)) ∙ c.self.view_is)
 
 pub returns-clause-ok : goal.returns-clause-ok
@@ -64,15 +64,15 @@ returns-clause-ok c =
     let x = input.Arrive c.args.arrival.now in
     let rows = c.self.inside.rows.entries in
     let new = (c.get_mut.follows.lender c.deliver.new.row).entries in
-    let told = row_given_of c.in_ok-outcome.outcome in
+    let response = row_given_of c.in_ok-outcome.outcome in
     let found = sym c.get_mut.ensures.value ∙ ap option_copied_mut c.in-Some.is in
-    let hands = c.self.inside.hands in
-    let after = node_of c.self.inside.number a c.deliver.new.works hands new in
+    let grants = c.self.inside.grants in
+    let after = node_of c.self.inside.number a c.deliver.new.works grants new in
     subst (λ given. NodeStep c.args.self.now (Arrive c.args.job c.args.arrival.now) given after) (sym c.of_row-2.ensures.given)
-    (subst (λ old. NodeStep old (Arrive c.args.job c.args.arrival.now) (with_no_notes told) after) c.self.view_is
-    (row_steps c.self.inside.number a line hands c.self.invariant.table c.args.job c.args.arrival.now rows new c.in-Some.row.now c.deliver.new.row c.deliver.new.works told found ((c.get_mut.follows.holds c.deliver.new.row).3 (ap is_some found)).0
+    (subst (λ old. NodeStep old (Arrive c.args.job c.args.arrival.now) (with_no_notes response) after) c.self.view_is
+    (row_steps c.self.inside.number a line grants c.self.invariant.table c.args.job c.args.arrival.now rows new c.in-Some.row.now c.deliver.new.row c.deliver.new.works response found ((c.get_mut.follows.holds c.deliver.new.row).3 (ap is_some found)).0
     c.in_ok-outcome.ensures.ok c.in_ok-outcome.ensures.line c.deliver.ensures.others
-    (sym (live-is a rows c.self.invariant.jobs c.args.job) ∙ ap is_some found) c.in_ok-outcome.ensures.told))
+    (sym (live-is a rows c.self.invariant.jobs c.args.job) ∙ ap is_some found) c.in_ok-outcome.ensures.response))
 
 pub returns-clause-judged : goal.returns-clause-judged
 returns-clause-judged c view h =
@@ -80,16 +80,16 @@ returns-clause-judged c view h =
     let line = c.self.inside.works in
     let rows = c.self.inside.rows.entries in
     let new = (c.get_mut.follows.lender c.deliver.new.row).entries in
-    let told = row_given_of c.in_ok-outcome.outcome in
+    let response = row_given_of c.in_ok-outcome.outcome in
     let found = sym c.get_mut.ensures.value ∙ ap option_copied_mut c.in-Some.is in
     let done = c.in_ok-outcome.ensures in
     ap (λ (g : NodeGiven). option_map (judge c.args.self.now.number view) (arrived c.args.arrival.now g.reply)) c.of_row-2.ensures.given
-    ∙ ap (λ (n : Hosted). option_map (judge n.number view) (arrived c.args.arrival.now told.reply)) (sym c.self.view_is)
-    ∙ row_judged c.self.inside.number a line c.self.inside.hands c.self.invariant.table c.args.job c.args.arrival.now rows new c.in-Some.row.now c.deliver.new.row c.deliver.new.works told found ((c.get_mut.follows.holds c.deliver.new.row).3 (ap is_some found)).0
-    done.ok done.line c.deliver.ensures.others (sym (live-is a rows c.self.invariant.jobs c.args.job) ∙ ap is_some found) done.told
+    ∙ ap (λ (n : Hosted). option_map (judge n.number view) (arrived c.args.arrival.now response.reply)) (sym c.self.view_is)
+    ∙ row_judged c.self.inside.number a line c.self.inside.grants c.self.invariant.table c.args.job c.args.arrival.now rows new c.in-Some.row.now c.deliver.new.row c.deliver.new.works response found ((c.get_mut.follows.holds c.deliver.new.row).3 (ap is_some found)).0
+    done.ok done.line c.deliver.ensures.others (sym (live-is a rows c.self.invariant.jobs c.args.job) ∙ ap is_some found) done.response
     c.in_ok-outcome.judged done.judged view (subst (λ n. Shows n c.args.job.0 view) (sym c.self.view_is) h)
     ∙ sym c.of_row-2.ensures.judged
 
 pub returns-clause-stale : goal.returns-clause-stale
 returns-clause-stale c late =
-    false_true (ap is_accepted (sym (ap (λ (g : NodeGiven). g.reply) c.of_row-2.ensures.given ∙ c.in_ok-outcome.ensures.told) ∙ late))
+    false_true (ap is_accepted (sym (ap (λ (g : NodeGiven). g.reply) c.of_row-2.ensures.given ∙ c.in_ok-outcome.ensures.response) ∙ late))

@@ -8,7 +8,7 @@ use Rattle.node_table.specs.Outcomes.{row_given_of}
 use Rattle.node_core.specs.Calls.{takes_no_memory}
 use Rattle.node_core.specs.Hosted.{row_at, bytes_here}
 use Rattle.node_core.specs.OneJob.{NodeStepOne}
-use Rattle.node_core.proofs.Calling.{if_ok_on, both_err, row_by_hands}
+use Rattle.node_core.proofs.Calling.{if_ok_on, both_err, row_by_grants}
 use Rattle.node_core.proofs.Giving.{unrefused}
 use Rattle.node_core.proofs.Views.{node_of, call_steps, refused_steps}
 use Rattle.node_core.proofs.Node.call_row.Goals as goal
@@ -18,10 +18,10 @@ returns-in_default-clause-ok c =
     let rows = c.get_mut.follows.lender-at-none.entries in
     let same = ap (λ r. r.entries) c.get_mut.follows.holds-at-none in
     let none = ap (lookup (same_job c.args.job)) same ∙ sym c.get_mut.ensures.value ∙ ap option_copied_mut c.in_default.is in
-    let all = node_of c.self.inside.number c.self.inside.admission c.self.inside.works c.self.inside.hands in
+    let all = node_of c.self.inside.number c.self.inside.admission c.self.inside.works c.self.inside.grants in
     subst (λ given. NodeStepOne c.args.self.now (event.Call c.args.job c.args.session c.args.command.now) given (all rows)) (sym c.only.ensures)
     (subst (λ old. NodeStepOne old (event.Call c.args.job c.args.session c.args.command.now) _ (all rows)) (ap all same ∙ c.self.view_is)
-    (refused_steps c.self.inside.number c.self.inside.admission c.self.inside.works c.self.inside.hands c.args.job c.args.session c.args.command.now rows none))
+    (refused_steps c.self.inside.number c.self.inside.admission c.self.inside.works c.self.inside.grants c.args.job c.args.session c.args.command.now rows none))
 
 pub returns-clause-ok : goal.returns-clause-ok
 returns-clause-ok c =
@@ -30,9 +30,9 @@ returns-clause-ok c =
     let found = sym c.get_mut.ensures.value ∙ ap option_copied_mut c.in-Some.is in
     let wrote = c.get_mut.follows.holds c.carry_out.new.row in
     if_ok_on c.carry_out.result c.carry_out.ensures.ok c.carry_out.ensures.line (λ o h line.
-    subst (λ old. NodeStepOne old (event.Call c.args.job c.args.session c.args.command.now) (row_given_of o) (node_of c.self.inside.number c.self.inside.admission c.carry_out.new.works c.self.inside.hands new)) c.self.view_is
-    (call_steps c.self.inside.number c.self.inside.admission c.self.inside.works c.self.inside.hands c.args.job c.args.session c.args.command.now c.self.invariant.table rows new c.in-Some.row.now c.carry_out.new.row c.carry_out.new.works (row_given_of o)
-    found (wrote.3 (ap is_some found)).0 line (h c.self.inside.hands (bytes_here rows)) c.carry_out.ensures.others))
+    subst (λ old. NodeStepOne old (event.Call c.args.job c.args.session c.args.command.now) (row_given_of o) (node_of c.self.inside.number c.self.inside.admission c.carry_out.new.works c.self.inside.grants new)) c.self.view_is
+    (call_steps c.self.inside.number c.self.inside.admission c.self.inside.works c.self.inside.grants c.args.job c.args.session c.args.command.now c.self.invariant.table rows new c.in-Some.row.now c.carry_out.new.row c.carry_out.new.works (row_given_of o)
+    found (wrote.3 (ap is_some found)).0 line (h c.self.inside.grants (bytes_here rows)) c.carry_out.ensures.others))
 
 pub returns-clause-err : goal.returns-clause-err
 returns-clause-err c =
@@ -40,7 +40,7 @@ returns-clause-err c =
     let found = sym c.get_mut.ensures.value ∙ ap option_copied_mut c.in-Some.is in
     let wrote = c.get_mut.follows.holds c.carry_out.new.row in
     both_err c.carry_out.result c.carry_out.ensures.err c.carry_out.ensures.works (λ same works.
-    (λ i. node_of c.self.inside.number c.self.inside.admission (works i) c.self.inside.hands
+    (λ i. node_of c.self.inside.number c.self.inside.admission (works i) c.self.inside.grants
     ((wrote.0 ∙ ap (set_value (same_job c.args.job) rows) same ∙ set_value_same (same_job c.args.job) rows c.in-Some.row.now found) i)) ∙ c.self.view_is)
 
 pub returns-clause-without_memory : goal.returns-clause-without_memory
@@ -51,6 +51,6 @@ returns-clause-without_memory c frugal =
 pub returns-clause-memory_last : goal.returns-clause-memory_last
 returns-clause-memory_last c =
     both_err c.carry_out.result c.carry_out.ensures.memory_last c.carry_out.ensures.room (λ late room.
-    unrefused c.self.inside.number c.self.inside.admission c.self.inside.works c.self.inside.hands c.self.invariant.table c.args.job c.args.session c.args.command.now
+    unrefused c.self.inside.number c.self.inside.admission c.self.inside.works c.self.inside.grants c.self.invariant.table c.args.job c.args.session c.args.command.now
     c.self.inside.rows.entries c.in-Some.row.now c.args.self.now c.self.view_is (sym c.get_mut.ensures.value ∙ ap option_copied_mut c.in-Some.is) late
-    (row_by_hands (node_of c.self.inside.number c.self.inside.admission c.self.inside.works c.self.inside.hands c.self.inside.rows.entries) c.in-Some.row.now c.args.job.0 c.args.command.now c.requires) room)
+    (row_by_grants (node_of c.self.inside.number c.self.inside.admission c.self.inside.works c.self.inside.grants c.self.inside.rows.entries) c.in-Some.row.now c.args.job.0 c.args.command.now c.requires) room)

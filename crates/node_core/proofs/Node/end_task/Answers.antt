@@ -10,16 +10,16 @@ use Rattle.obj_id.specs.declared.commands.Reply.TheVariants as reply
 use Rattle.private_store.specs.declared.inputs.Input.TheVariants as input
 use Rattle.private_store.specs.declared.schedules.Event.TheVariants as event
 use Rattle.private_store.specs.declared.schedules.NodeEvent.TheVariants.{Own}
-use Rattle.private_store.specs.rules.Hands.{Hand, hands_sorted, hands_ended, hands_left, is_of_task}
+use Rattle.private_store.specs.rules.Grants.{StandingGrant, grants_sorted, grants_ended, grants_left, is_of_task}
 use Rattle.private_store.specs.rules.Jobs.{same_job}
-use Rattle.grants.specs.Table.{AreHands}
-use Rattle.grants.proofs.ForCallers.{left_are_hands}
+use Rattle.grants.specs.Table.{AreGrants}
+use Rattle.grants.proofs.ForCallers.{left_are_grants}
 use Rattle.node_table.specs.Checks.{end_task_check}
 use Rattle.node_table.specs.EndingTasks.{beside_after}
 use Rattle.node_table.specs.Erased.{keys_of}
 use Rattle.node_table.specs.Shown.{only, RowStep}
 use Rattle.node_core.specs.declared.outcome.Note.{Note}
-use Rattle.node_core.specs.Foreseen.{most_by_command, grantees_told, AreTakers}
+use Rattle.node_core.specs.Foreseen.{most_by_command, grantees_in, AreTakers}
 use Rattle.node_core.specs.Hosted.{Hosted, row_at}
 use Rattle.node_core.specs.MemoryLast.{task_refusal}
 use Rattle.node_core.specs.Outcomes.{with_no_notes, with_ends}
@@ -36,14 +36,14 @@ returns-in-Some-clause-ok c =
     let refusal = ap (λ (n : Hosted). task_refusal (row_at n c.args.job) c.args.task) c.self.view_is ∙ sym c.task_refusal.ensures ∙ c.in-Some.is in
     subst (λ given. NodeStep c.args.self.now e given c.args.self.now) (sym (c.of_row.ensures.given ∙ ap with_no_notes c.only-outcome.ensures))
     (subst (λ node. NodeStep node e (with_no_notes (only (reply.Refused c.in-Some.refusal))) node) c.self.view_is
-    (task_refused c.self.inside.number c.self.inside.admission c.self.inside.works c.self.inside.hands c.self.invariant.table c.args.job c.args.session c.args.task c.self.inside.rows.entries c.in-Some.refusal refusal))
+    (task_refused c.self.inside.number c.self.inside.admission c.self.inside.works c.self.inside.grants c.self.invariant.table c.args.job c.args.session c.args.task c.self.inside.rows.entries c.in-Some.refusal refusal))
 
 pub returns-in_err-outcome-clause-err : goal.returns-in_err-outcome-clause-err
 returns-in_err-outcome-clause-err c =
     let rows = c.self.inside.rows.entries in
     let found = sym c.get_mut.ensures.value ∙ ap option_copied_mut c.in-Some-get_mut.is in
     let wrote = c.get_mut.follows.holds c.end_task.new.self in
-    always_err c.from_residual-in_err-outcome.result (ap (node_of c.self.inside.number c.self.inside.admission c.self.inside.works c.self.inside.hands)
+    always_err c.from_residual-in_err-outcome.result (ap (node_of c.self.inside.number c.self.inside.admission c.self.inside.works c.self.inside.grants)
     (wrote.0 ∙ ap (set_value (same_job c.args.job) rows) c.in_err-outcome.ensures.err ∙ set_value_same (same_job c.args.job) rows c.in-Some-get_mut.row.now found) ∙ c.self.view_is)
 
 pub invariant_of-self-2 : goal.invariant_of-self-2
@@ -53,7 +53,7 @@ invariant_of-self-2 c =
     let test = is_of_task c.args.job.0 c.args.task in
     record {
       jobs = record { jobs = ap map_keys wrote.0 ∙ keys-set_value (same_job c.args.job) rows c.end_task.new.self ∙ c.self.invariant.jobs.jobs; within = c.self.invariant.jobs.within };
-      table = subst AreHands (sym (c.take_out.ensures.left test c.in_ok-ends.ensures.found)) (left_are_hands test c.self.inside.hands c.self.invariant.table);
+      table = subst AreGrants (sym (c.take_out.ensures.left test c.in_ok-ends.ensures.found)) (left_are_grants test c.self.inside.grants c.self.invariant.table);
     }
 
 pub returns-clause-ok : goal.returns-clause-ok
@@ -67,20 +67,20 @@ returns-clause-ok c =
     let outcome = c.in_ok-outcome.outcome in
     let e = Own (event.Call job c.args.session (command.EndTask task)) in
     let test = is_of_task job.0 task in
-    let ended = hands_ended test c.self.inside.hands in
+    let ended = grants_ended test c.self.inside.grants in
     let found = sym c.get_mut.ensures.value ∙ ap option_copied_mut c.in-Some-get_mut.is in
     let passed : end_task_check row task ≡ None =
     ap (λ o. task_refusal o task) (sym found) ∙ ap (λ (n : Hosted). task_refusal (row_at n job) task) c.self.view_is ∙ sym c.task_refusal.ensures ∙ c.in_default.is in
     let ok : outcome.reply ≡ reply.Ok = c.in_ok-outcome.ensures.reply ∙ ap (λ o. option_map_or reply.Refused o reply.Ok) passed in
-    let told : Reply (List ℕ) → List Hand → NodeGiven = λ reply ended. with_ends (record { reply = reply; posts = outcome.messages; erased = keys_of outcome.erase }) ended in
-    let at_end : List Hand → Hosted = λ hands. node_of c.self.inside.number c.self.inside.admission c.self.inside.works hands new in
-    subst (λ given. NodeStep c.args.self.now e given (at_end c.take_out.new.self)) (sym (c.with_ends.ensures.given ∙ (λ i. told (ok i) ((c.hands-2.ensures ∙ ap hands_sorted c.in_ok-ends.ensures.found) i))))
-    (subst (λ hands. NodeStep c.args.self.now e (told reply.Ok ended) (at_end hands)) (sym (c.take_out.ensures.left test c.in_ok-ends.ensures.found))
-    (subst (λ old. NodeStep old e (told reply.Ok ended) (at_end (hands_left test c.self.inside.hands))) c.self.view_is
-    (task_steps c.self.inside.number c.self.inside.admission c.self.inside.works c.self.inside.hands c.self.invariant.table job c.args.session task rows new row after outcome.messages (keys_of outcome.erase)
+    let response : Reply (List ℕ) → List StandingGrant → NodeGiven = λ reply ended. with_ends (record { reply = reply; posts = outcome.messages; erased = keys_of outcome.erase }) ended in
+    let at_end : List StandingGrant → Hosted = λ grants. node_of c.self.inside.number c.self.inside.admission c.self.inside.works grants new in
+    subst (λ given. NodeStep c.args.self.now e given (at_end c.take_out.new.self)) (sym (c.with_ends.ensures.given ∙ (λ i. response (ok i) ((c.grants-2.ensures ∙ ap grants_sorted c.in_ok-ends.ensures.found) i))))
+    (subst (λ grants. NodeStep c.args.self.now e (response reply.Ok ended) (at_end grants)) (sym (c.take_out.ensures.left test c.in_ok-ends.ensures.found))
+    (subst (λ old. NodeStep old e (response reply.Ok ended) (at_end (grants_left test c.self.inside.grants))) c.self.view_is
+    (task_steps c.self.inside.number c.self.inside.admission c.self.inside.works c.self.inside.grants c.self.invariant.table job c.args.session task rows new row after outcome.messages (keys_of outcome.erase)
     found ((c.get_mut.follows.holds after).3 (ap is_some found)).0 passed
     (λ beside contents shown.
-    subst (λ told. RowStep c.self.inside.number row beside contents (input.Call c.args.session (command.EndTask task)) (record { reply = told; posts = outcome.messages; erased = keys_of outcome.erase }) after (beside_after row task beside)) ok
+    subst (λ response. RowStep c.self.inside.number row beside contents (input.Call c.args.session (command.EndTask task)) (record { reply = response; posts = outcome.messages; erased = keys_of outcome.erase }) after (beside_after row task beside)) ok
     (c.in_ok-outcome.ensures.ok beside contents shown)))))
 
 pub returns-clause-bounded : goal.returns-clause-bounded
@@ -97,9 +97,9 @@ returns-clause-grantees c =
     let passed : end_task_check c.in-Some-get_mut.row.now task ≡ None =
     ap (λ o. task_refusal o task) (sym found) ∙ ap (λ (n : Hosted). task_refusal (row_at n job) task) c.self.view_is ∙ sym c.task_refusal.ensures ∙ c.in_default.is in
     let ok = ap (λ g. g.reply) c.with_ends.ensures.given ∙ c.in_ok-outcome.ensures.reply ∙ ap (λ o. option_map_or reply.Refused o reply.Ok) passed in
-    subst (λ told. AreTakers c.args.self.now.hands (event.Call job c.args.session (command.EndTask task)) told (map (λ (note : Note). note.job) c.with_ends.result.notes)) (sym ok)
-    (grantees_noted c.with_ends.result.notes c.hands-2.result.now (ap (λ g. g.notes) c.with_ends.ensures.given)
-    ∙ ap grantees_told (c.hands-2.ensures ∙ ap hands_sorted c.in_ok-ends.ensures.found ∙ ap (λ (n : Hosted). hands_ended (is_of_task job.0 task) n.hands) c.self.view_is))
+    subst (λ response. AreTakers c.args.self.now.grants (event.Call job c.args.session (command.EndTask task)) response (map (λ (note : Note). note.job) c.with_ends.result.notes)) (sym ok)
+    (grantees_noted c.with_ends.result.notes c.grants-2.result.now (ap (λ g. g.notes) c.with_ends.ensures.given)
+    ∙ ap grantees_in (c.grants-2.ensures ∙ ap grants_sorted c.in_ok-ends.ensures.found ∙ ap (λ (n : Hosted). grants_ended (is_of_task job.0 task) n.grants) c.self.view_is))
 
 pub returns-in_err-ends-clause-memory_last : goal.returns-in_err-ends-clause-memory_last
 returns-in_err-ends-clause-memory_last c =

@@ -16,6 +16,6 @@ invariant_of-self c = record {
 pub returns-clause-views : goal.returns-clause-views
 returns-clause-views c q view =
     let a = c.self.inside.admission in
-    subst (λ old. Shows (node_of c.self.inside.number c.enter.new.self c.self.inside.works c.self.inside.hands c.self.inside.rows.entries) q view ↔ Shows old q view) c.self.view_is
-    (entered_shows c.self.inside.number a c.enter.new.self c.self.inside.works c.self.inside.hands c.self.inside.rows.entries
+    subst (λ old. Shows (node_of c.self.inside.number c.enter.new.self c.self.inside.works c.self.inside.grants c.self.inside.rows.entries) q view ↔ Shows old q view) c.self.view_is
+    (entered_shows c.self.inside.number a c.enter.new.self c.self.inside.works c.self.inside.grants c.self.inside.rows.entries
     (either_way (λ b. b.greatest ≡ a.greatest) c.enter.result a c.enter.new.self (entered a c.args.job) c.enter.ensures.ok c.enter.ensures.err refl (greatest_stays a c.args.job)) q view)

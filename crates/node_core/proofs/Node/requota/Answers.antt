@@ -31,7 +31,7 @@ returns-in_default-requota-clause-err c =
     let rows = c.self.inside.rows.entries in
     let found = sym c.get_mut.ensures.value ∙ ap option_copied_mut c.in-Some-get_mut.is in
     let wrote = c.get_mut.follows.holds c.requota.new.self in
-    ap (node_of c.self.inside.number c.self.inside.admission c.self.inside.works c.self.inside.hands)
+    ap (node_of c.self.inside.number c.self.inside.admission c.self.inside.works c.self.inside.grants)
     (wrote.0 ∙ ap (set_value (same_job c.args.job) rows) c.in_default-requota.ensures.err ∙ set_value_same (same_job c.args.job) rows c.in-Some-get_mut.own_row.now found) ∙ c.self.view_is
 
 pub returns-clause-ok : goal.returns-clause-ok
@@ -40,13 +40,13 @@ returns-clause-ok c =
     let new = (c.get_mut.follows.lender c.requota.new.self).entries in
     let found = sym c.get_mut.ensures.value ∙ ap option_copied_mut c.in-Some-get_mut.is in
     let wrote = c.get_mut.follows.holds c.requota.new.self in
-    let after : Hosted = node_of c.self.inside.number c.resize.new.self c.self.inside.works c.self.inside.hands new in
-    let none : requota_refusal (node_of c.self.inside.number c.self.inside.admission c.self.inside.works c.self.inside.hands rows) c.args.job c.args.quota ≡ None =
+    let after : Hosted = node_of c.self.inside.number c.resize.new.self c.self.inside.works c.self.inside.grants new in
+    let none : requota_refusal (node_of c.self.inside.number c.self.inside.admission c.self.inside.works c.self.inside.grants rows) c.args.job c.args.quota ≡ None =
     ap (λ n. requota_refusal n c.args.job c.args.quota) c.self.view_is ∙ sym c.requota_check.ensures.refusal ∙ c.in_default.is in
-    let shown : (view : View) → Shows (node_of c.self.inside.number c.self.inside.admission c.self.inside.works c.self.inside.hands rows) c.args.job.0 view → None ≡ requota_check c.self.inside.admission view c.args.job c.args.quota =
+    let shown : (view : View) → Shows (node_of c.self.inside.number c.self.inside.admission c.self.inside.works c.self.inside.grants rows) c.args.job.0 view → None ≡ requota_check c.self.inside.admission view c.args.job c.args.quota =
     subst (λ (n : Hosted). (view : View) → Shows n c.args.job.0 view → None ≡ requota_check n.admissions view c.args.job c.args.quota) (sym c.self.view_is)
     (λ view h. sym c.in_default.is ∙ c.requota_check.ensures.shown view h) in
     subst (λ given. NodeStepOne c.args.self.now (event.Requota c.args.job c.args.quota) given after) (sym c.only-2.ensures)
     (subst (λ old. NodeStepOne old (event.Requota c.args.job c.args.quota) (only reply.Ok) after) c.self.view_is
-    (requota_steps c.self.inside.number c.self.inside.admission c.resize.new.self c.self.inside.works c.self.inside.hands c.self.invariant.table c.args.job c.args.quota rows new c.in-Some-get_mut.own_row.now c.requota.new.self
+    (requota_steps c.self.inside.number c.self.inside.admission c.resize.new.self c.self.inside.works c.self.inside.grants c.self.invariant.table c.args.job c.args.quota rows new c.in-Some-get_mut.own_row.now c.requota.new.self
     found (wrote.3 (ap is_some found)).0 c.in-Ok-resize.ensures.ok c.in-Ok-resize.ensures.lives c.in-Ok.ensures.ok none shown))

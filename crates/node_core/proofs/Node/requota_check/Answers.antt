@@ -14,7 +14,7 @@ use Rattle.node_core.proofs.Node.requota_check.Goals as goal
 pub returns-in_default-clause-shown : goal.returns-in_default-clause-shown
 returns-in_default-clause-shown c =
     subst (λ (n : Hosted). (view : View) → Shows n c.args.job.0 view → Some NotAdmitted ≡ requota_check n.admissions view c.args.job c.args.quota) c.self.view_is
-    (λ view h. not_live c.self.inside.number c.self.inside.admission c.self.inside.works c.self.inside.hands c.self.inside.rows.entries c.self.invariant.jobs c.args.job c.args.quota view
+    (λ view h. not_live c.self.inside.number c.self.inside.admission c.self.inside.works c.self.inside.grants c.self.inside.rows.entries c.self.invariant.jobs c.args.job c.args.quota view
     (sym c.get.ensures.value ∙ ap option_copied c.in_default.is))
 
 pub returns-in-Some-requota_check-clause-refusal : goal.returns-in-Some-requota_check-clause-refusal
@@ -27,7 +27,7 @@ pub returns-in-Some-requota_check-clause-shown : goal.returns-in-Some-requota_ch
 returns-in-Some-requota_check-clause-shown c =
     subst (λ (n : Hosted). (view : View) → Shows n c.args.job.0 view → Some c.in-Some-requota_check.refusal ≡ requota_check n.admissions view c.args.job c.args.quota) c.self.view_is
     (λ view h. ap (λ o. refused_or o (resize_check c.self.inside.admission c.args.job c.args.quota)) (sym c.in-Some-requota_check.is)
-    ∙ by_row c.self.inside.number c.self.inside.admission c.self.inside.works c.self.inside.hands c.self.inside.rows.entries c.self.invariant.jobs c.args.job c.args.quota
+    ∙ by_row c.self.inside.number c.self.inside.admission c.self.inside.works c.self.inside.grants c.self.inside.rows.entries c.self.invariant.jobs c.args.job c.args.quota
     c.in-Some.row.now (sym c.get.ensures.value ∙ ap option_copied c.in-Some.is) c.requota_check.result c.requota_check.ensures.store view h)
 
 pub returns-clause-refusal : goal.returns-clause-refusal
@@ -41,5 +41,5 @@ pub returns-clause-shown : goal.returns-clause-shown
 returns-clause-shown c =
     subst (λ (n : Hosted). (view : View) → Shows n c.args.job.0 view → c.resize_check.result ≡ requota_check n.admissions view c.args.job c.args.quota) c.self.view_is
     (λ view h. c.resize_check.ensures ∙ ap (λ o. refused_or o (resize_check c.self.inside.admission c.args.job c.args.quota)) (sym c.in_default-requota_check.is)
-    ∙ by_row c.self.inside.number c.self.inside.admission c.self.inside.works c.self.inside.hands c.self.inside.rows.entries c.self.invariant.jobs c.args.job c.args.quota
+    ∙ by_row c.self.inside.number c.self.inside.admission c.self.inside.works c.self.inside.grants c.self.inside.rows.entries c.self.invariant.jobs c.args.job c.args.quota
     c.in-Some.row.now (sym c.get.ensures.value ∙ ap option_copied c.in-Some.is) c.requota_check.result c.requota_check.ensures.store view h)

@@ -7,5 +7,5 @@ use Rattle.node_core.proofs.Node.sees.Goals as goal
 
 pub returns : goal.returns
 returns c =
-    c.is_some.ensures ∙ ap is_some c.seen_by.ensures.hand ∙ found_any (shows c.args.id.now c.args.job.0) c.self.inside.hands
-    ∙ ap (λ (n : Hosted). list_any (shows c.args.id.now c.args.job.0) n.hands) c.self.view_is
+    c.is_some.ensures ∙ ap is_some c.seen_by.ensures.grant ∙ found_any (shows c.args.id.now c.args.job.0) c.self.inside.grants
+    ∙ ap (λ (n : Hosted). list_any (shows c.args.id.now c.args.job.0) n.grants) c.self.view_is

@@ -7,8 +7,8 @@ use Rattle.node_core.specs.Hosted.{Hosted, Shows}
 use Rattle.node_core.proofs.Asking.{live-is, usage_told}
 use Rattle.node_core.proofs.Node.usage.Goals as goal
 
-pub returns-in-Some-clause-told : goal.returns-in-Some-clause-told
-returns-in-Some-clause-told c = subst (λ node. (view : View) → Shows node c.args.job.0 view → c.usage.result ≡ usage_of view.shape) c.self.view_is (λ view h.
+pub returns-in-Some-clause-response : goal.returns-in-Some-clause-response
+returns-in-Some-clause-response c = subst (λ node. (view : View) → Shows node c.args.job.0 view → c.usage.result ≡ usage_of view.shape) c.self.view_is (λ view h.
     let found = sym c.get.ensures.value ∙ ap option_copied c.in-Some.is in
     usage_told _ c.args.job c.in-Some.row.now found view h c.usage.result c.usage.ensures.shown)
 

@@ -8,19 +8,19 @@ use Rattle.obj_id.specs.declared.commands.Command.TheVariants as command
 use Rattle.obj_id.specs.declared.refusals.Refusal.TheVariants.{NotGranted}
 use Rattle.private_store.specs.declared.schedules.Event.TheVariants as event
 use Rattle.private_store.specs.declared.schedules.NodeEvent.TheVariants.{Own}
-use Rattle.private_store.specs.rules.Hands.{Hand, hands_ended, hands_left, is_withdrawn}
+use Rattle.private_store.specs.rules.Grants.{StandingGrant, grants_ended, grants_left, is_withdrawn}
 use Rattle.private_store.specs.rules.Jobs.{same_job}
-use Rattle.grants.specs.Table.{AreHands, is_first}
-use Rattle.grants.proofs.ForCallers.{left_are_hands, few_end}
+use Rattle.grants.specs.Table.{AreGrants, is_first}
+use Rattle.grants.proofs.ForCallers.{left_are_grants, few_end}
 use Rattle.node_table.specs.Outcomes.{row_given_of}
 use Rattle.node_core.specs.declared.outcome.Note.{Note}
-use Rattle.node_core.specs.Foreseen.{grantees_told, AreTakers}
+use Rattle.node_core.specs.Foreseen.{grantees_in, AreTakers}
 use Rattle.node_core.specs.Hosted.{Hosted, bytes_here}
 use Rattle.node_core.specs.Outcomes.{with_ends}
 use Rattle.node_core.specs.Steps.{NodeStep}
 use Rattle.node_core.proofs.Calling.{always_err}
 use Rattle.node_core.proofs.Giving.{no_row_steps, row_stays_steps, unrefused}
-use Rattle.node_core.proofs.HandCommands.{refused_withdraw}
+use Rattle.node_core.proofs.GrantCommands.{refused_withdraw}
 use Rattle.node_core.proofs.Small.{grantees_noted}
 use Rattle.node_core.proofs.Views.{node_of}
 use Rattle.node_core.proofs.Withdrawing.{withdraw_steps}
@@ -32,10 +32,10 @@ returns-in_default-clause-ok c =
     let rows = c.get_mut.follows.lender-at-none.entries in
     let same = ap (λ r. r.entries) c.get_mut.follows.holds-at-none in
     let none = ap (lookup (same_job c.args.job)) same ∙ sym c.get_mut.ensures.value ∙ ap option_copied_mut c.in_default.is in
-    let all = node_of c.self.inside.number c.self.inside.admission c.self.inside.works c.self.inside.hands in
+    let all = node_of c.self.inside.number c.self.inside.admission c.self.inside.works c.self.inside.grants in
     subst (λ given. NodeStep c.args.self.now e given (all rows)) (sym c.refused.ensures.given)
     (subst (λ old. NodeStep old e _ (all rows)) (ap all same ∙ c.self.view_is)
-    (no_row_steps c.self.inside.number c.self.inside.admission c.self.inside.works c.self.inside.hands c.self.invariant.table c.args.job c.args.session (command.Withdraw c.args.id.now c.args.target) rows none))
+    (no_row_steps c.self.inside.number c.self.inside.admission c.self.inside.works c.self.inside.grants c.self.invariant.table c.args.job c.args.session (command.Withdraw c.args.id.now c.args.target) rows none))
 
 pub returns-then-not-has_given-clause-ok : goal.returns-then-not-has_given-clause-ok
 returns-then-not-has_given-clause-ok c =
@@ -45,19 +45,19 @@ returns-then-not-has_given-clause-ok c =
     let new = (c.get_mut.follows.lender row).entries in
     let found = sym c.get_mut.ensures.value ∙ ap option_copied_mut c.in-Some.is in
     let wrote = c.get_mut.follows.holds row in
-    let all = node_of c.self.inside.number c.self.inside.admission c.self.inside.works c.self.inside.hands in
+    let all = node_of c.self.inside.number c.self.inside.admission c.self.inside.works c.self.inside.grants in
     let check = ap (λ b. cond b None (Some NotGranted)) (sym c.has_given.ensures ∙ c.if-not-has_given.true) in
     subst (λ given. NodeStep c.args.self.now e given (all new)) (sym c.refused-then-not-has_given.ensures.given)
     (subst (λ old. NodeStep old e _ (all new)) c.self.view_is
-    (row_stays_steps c.self.inside.number c.self.inside.admission c.self.inside.works c.self.inside.hands c.self.invariant.table c.args.job c.args.session (command.Withdraw c.args.id.now c.args.target)
+    (row_stays_steps c.self.inside.number c.self.inside.admission c.self.inside.works c.self.inside.grants c.self.invariant.table c.args.job c.args.session (command.Withdraw c.args.id.now c.args.target)
     rows new row NotGranted found (wrote.3 (ap is_some found)).0
-    (λ contents own shown. refused_withdraw c.self.inside.number c.self.inside.works c.self.inside.hands (bytes_here rows) c.args.job row contents c.args.session c.args.id.now c.args.target own shown NotGranted check)))
+    (λ contents own shown. refused_withdraw c.self.inside.number c.self.inside.works c.self.inside.grants (bytes_here rows) c.args.job row contents c.args.session c.args.id.now c.args.target own shown NotGranted check)))
 
 pub returns-in_err-notes-clause-memory_last : goal.returns-in_err-notes-clause-memory_last
 returns-in_err-notes-clause-memory_last c =
     let stands = ap (λ b. cond b None (Some NotGranted)) (sym c.has_given.ensures ∙ c.if-not-has_given.false) in
     always_err c.from_residual.result
-    (unrefused c.self.inside.number c.self.inside.admission c.self.inside.works c.self.inside.hands c.self.invariant.table c.args.job c.args.session (command.Withdraw c.args.id.now c.args.target)
+    (unrefused c.self.inside.number c.self.inside.admission c.self.inside.works c.self.inside.grants c.self.invariant.table c.args.job c.args.session (command.Withdraw c.args.id.now c.args.target)
     c.self.inside.rows.entries c.in-Some.row.now c.args.self.now c.self.view_is (sym c.get_mut.ensures.value ∙ ap option_copied_mut c.in-Some.is) (record { own = refl; passed = refl; grows = refl }) stands (λ own. tt))
 
 pub returns-in_err-notes-clause-err : goal.returns-in_err-notes-clause-err
@@ -66,12 +66,12 @@ returns-in_err-notes-clause-err c =
     let found = sym c.get_mut.ensures.value ∙ ap option_copied_mut c.in-Some.is in
     let wrote = c.get_mut.follows.holds c.in-Some.row.now in
     always_err c.from_residual.result
-    (ap (node_of c.self.inside.number c.self.inside.admission c.self.inside.works c.self.inside.hands) (wrote.0 ∙ set_value_same (same_job c.args.job) rows c.in-Some.row.now found) ∙ c.self.view_is)
+    (ap (node_of c.self.inside.number c.self.inside.admission c.self.inside.works c.self.inside.grants) (wrote.0 ∙ set_value_same (same_job c.args.job) rows c.in-Some.row.now found) ∙ c.self.view_is)
 
 pub returns-in_default-withdraw-clause-memory_last : goal.returns-in_default-withdraw-clause-memory_last
 returns-in_default-withdraw-clause-memory_last c =
     let stands = ap (λ b. cond b None (Some NotGranted)) (sym c.has_given.ensures ∙ c.if-not-has_given.false) in
-    unrefused c.self.inside.number c.self.inside.admission c.self.inside.works c.self.inside.hands c.self.invariant.table c.args.job c.args.session (command.Withdraw c.args.id.now c.args.target)
+    unrefused c.self.inside.number c.self.inside.admission c.self.inside.works c.self.inside.grants c.self.invariant.table c.args.job c.args.session (command.Withdraw c.args.id.now c.args.target)
     c.self.inside.rows.entries c.in-Some.row.now c.args.self.now c.self.view_is (sym c.get_mut.ensures.value ∙ ap option_copied_mut c.in-Some.is) (record { own = refl; passed = refl; grows = refl }) stands (λ own. tt)
 
 pub returns-in_default-withdraw-clause-err : goal.returns-in_default-withdraw-clause-err
@@ -83,8 +83,8 @@ returns-in_default-withdraw-clause-err c =
 
 pub with_ends-requires-clause-room : goal.with_ends-requires-clause-room
 with_ends-requires-clause-room c =
-    let few = few_end (is_withdrawn c.args.job.0 c.args.id.now c.args.target.0) c.self.inside.hands in
-    let same = ap length (c.as_slice.ensures ∙ c.in-Ok.ensures.told) in
+    let few = few_end (is_withdrawn c.args.job.0 c.args.id.now c.args.target.0) c.self.inside.grants in
+    let same = ap length (c.as_slice.ensures ∙ c.in-Ok.ensures.response) in
     omega (arith, few, same, c.in_ok-notes.ensures.len, c.in_ok-notes.ensures.capacity, c.len.ensures)
 
 pub invariant_of-self-2 : goal.invariant_of-self-2
@@ -95,7 +95,7 @@ invariant_of-self-2 c =
         jobs = ap keys_of (c.get_mut.follows.holds c.let_go-outcome.new.row).0 ∙ keys-set_value (same_job c.args.job) rows c.let_go-outcome.new.row ∙ c.self.invariant.jobs.jobs;
         within = c.self.invariant.jobs.within;
       };
-      table = subst AreHands (sym c.in-Ok.ensures.ok) (left_are_hands (is_withdrawn c.args.job.0 c.args.id.now c.args.target.0) c.self.inside.hands c.self.invariant.table);
+      table = subst AreGrants (sym c.in-Ok.ensures.ok) (left_are_grants (is_withdrawn c.args.job.0 c.args.id.now c.args.target.0) c.self.inside.grants c.self.invariant.table);
     }
 
 pub returns-clause-ok : goal.returns-clause-ok
@@ -108,18 +108,18 @@ returns-clause-ok c =
     let stands = ap (λ b. cond b None (Some NotGranted)) (sym c.has_given.ensures ∙ c.if-not-has_given.false) in
     let says = c.is_granted-granted.ensures ∙ ap (list_any (is_first c.args.id.now)) c.in-Ok.ensures.ok in
     let test = is_withdrawn c.args.job.0 c.args.id.now c.args.target.0 in
-    let given = with_ends (row_given_of c.let_go-outcome.result) (hands_ended test c.self.inside.hands) in
-    let all : List Hand → Hosted = λ hands. node_of c.self.inside.number c.self.inside.admission c.self.inside.works hands new in
-    subst (λ given. NodeStep c.args.self.now e given (all c.withdraw.new.self)) (sym (c.with_ends.ensures.given ∙ ap (with_ends (row_given_of c.let_go-outcome.result)) (c.as_slice.ensures ∙ c.in-Ok.ensures.told)))
-    (subst (λ hands. NodeStep c.args.self.now e given (all hands)) (sym c.in-Ok.ensures.ok)
-    (subst (λ old. NodeStep old e given (all (hands_left test c.self.inside.hands))) c.self.view_is
-    (withdraw_steps c.self.inside.number c.self.inside.admission c.self.inside.works c.self.inside.hands c.self.invariant.table c.args.job c.args.session c.args.id.now c.args.target
+    let given = with_ends (row_given_of c.let_go-outcome.result) (grants_ended test c.self.inside.grants) in
+    let all : List StandingGrant → Hosted = λ grants. node_of c.self.inside.number c.self.inside.admission c.self.inside.works grants new in
+    subst (λ given. NodeStep c.args.self.now e given (all c.withdraw.new.self)) (sym (c.with_ends.ensures.given ∙ ap (with_ends (row_given_of c.let_go-outcome.result)) (c.as_slice.ensures ∙ c.in-Ok.ensures.response)))
+    (subst (λ grants. NodeStep c.args.self.now e given (all grants)) (sym c.in-Ok.ensures.ok)
+    (subst (λ old. NodeStep old e given (all (grants_left test c.self.inside.grants))) c.self.view_is
+    (withdraw_steps c.self.inside.number c.self.inside.admission c.self.inside.works c.self.inside.grants c.self.invariant.table c.args.job c.args.session c.args.id.now c.args.target
     rows new c.in-Some.row.now c.let_go-outcome.new.row (row_given_of c.let_go-outcome.result) c.let_go-outcome.ensures.reply c.is_granted-granted.result found (wrote.3 (ap is_some found)).0 stands says c.let_go-outcome.ensures.step)))
 
 pub returns-clause-grantees : goal.returns-clause-grantees
 returns-clause-grantees c =
     let e = event.Call c.args.job c.args.session (command.Withdraw c.args.id.now c.args.target) in
     let test = is_withdrawn c.args.job.0 c.args.id.now c.args.target.0 in
-    subst (λ told. AreTakers c.args.self.now.hands e told (map (λ (note : Note). note.job) c.with_ends.result.notes)) (sym (ap (λ g. g.reply) c.with_ends.ensures.given ∙ c.let_go-outcome.ensures.reply))
+    subst (λ response. AreTakers c.args.self.now.grants e response (map (λ (note : Note). note.job) c.with_ends.result.notes)) (sym (ap (λ g. g.reply) c.with_ends.ensures.given ∙ c.let_go-outcome.ensures.reply))
     (grantees_noted c.with_ends.result.notes c.as_slice.result.now (ap (λ g. g.notes) c.with_ends.ensures.given)
-    ∙ ap grantees_told (c.as_slice.ensures ∙ c.in-Ok.ensures.told ∙ ap (λ (n : Hosted). hands_ended test n.hands) c.self.view_is))
+    ∙ ap grantees_in (c.as_slice.ensures ∙ c.in-Ok.ensures.response ∙ ap (λ (n : Hosted). grants_ended test n.grants) c.self.view_is))

@@ -5,15 +5,15 @@ use Rattle.obj_id.specs.declared.messages.Arrival.TheVariants as arrival
 use Rattle.private_store.specs.declared.inputs.Input.TheVariants as input
 use Rattle.private_store.specs.declared.inputs.Judged.TheVariants as judged
 use Rattle.private_store.specs.rules.Contents.{Contents, judge, source_in}
-use Rattle.private_store.specs.rules.Hands.{Hand}
+use Rattle.private_store.specs.rules.Grants.{StandingGrant}
 use Rattle.node_table.specs.Outcomes.{row_given_of}
 use Rattle.node_table.specs.Row.{beside_of}
 use Rattle.node_table.specs.Shown.{seen, IsShown, RowStep}
 use Rattle.node_core.proofs.arrivals.deliver.Goals as goal
 
 pub returns-in-Located-clause-ok : goal.returns-in-Located-clause-ok
-returns-in-Located-clause-ok c hands bytes contents shown =
-    let beside = beside_of c.args.works.now hands bytes c.args.row.now.job in
+returns-in-Located-clause-ok c grants bytes contents shown =
+    let beside = beside_of c.args.works.now grants bytes c.args.row.now.job in
     subst (λ a. RowStep c.args.node c.args.row.now beside contents (input.Arrive a) (row_given_of c.only-outcome.result) c.located.new.self beside)
     (ap (arrival.Located c.in-Located.id c.in-Located.number) c.as_slice-entries.ensures ∙ sym c.in-Located.is)
     (subst (λ given. RowStep c.args.node c.args.row.now beside contents (input.Arrive (arrival.Located c.in-Located.id c.in-Located.number c.as_slice-entries.result.now)) given c.located.new.self beside) (sym c.only-outcome.ensures)
@@ -22,19 +22,19 @@ returns-in-Located-clause-ok c hands bytes contents shown =
 pub returns-in-FromPeer-clause-ok : goal.returns-in-FromPeer-clause-ok
 returns-in-FromPeer-clause-ok c =
     let row = c.args.row.now in
-    subst (λ a. IfOk c.deliver_from.result (λ o. (hands : List Hand) (bytes : ObjectId → List ℕ) (contents : Contents) → IsShown row (beside_of c.args.works.now hands bytes row.job) contents
-    → RowStep c.args.node row (beside_of c.args.works.now hands bytes row.job) contents (input.Arrive a) (row_given_of o.0) c.deliver_from.new.row (beside_of c.deliver_from.new.works hands bytes row.job)))
+    subst (λ a. IfOk c.deliver_from.result (λ o. (grants : List StandingGrant) (bytes : ObjectId → List ℕ) (contents : Contents) → IsShown row (beside_of c.args.works.now grants bytes row.job) contents
+    → RowStep c.args.node row (beside_of c.args.works.now grants bytes row.job) contents (input.Arrive a) (row_given_of o.0) c.deliver_from.new.row (beside_of c.deliver_from.new.works grants bytes row.job)))
     (sym c.in-FromPeer.is) c.deliver_from.ensures.ok
 
 pub returns-in-Located-clause-judged : goal.returns-in-Located-clause-judged
-returns-in-Located-clause-judged c hands bytes contents shown =
+returns-in-Located-clause-judged c grants bytes contents shown =
     let row = c.args.row.now in
     ap (judged.Located c.in-Located.id c.in-Located.number) (c.source_in.ensures ∙ ap (source_in c.args.node) c.as_slice-entries.ensures)
-    ∙ ap (λ a. judge c.args.node (seen row (beside_of c.args.works.now hands bytes row.job) contents) (input.Arrive a)) (sym c.in-Located.is)
+    ∙ ap (λ a. judge c.args.node (seen row (beside_of c.args.works.now grants bytes row.job) contents) (input.Arrive a)) (sym c.in-Located.is)
 
 pub returns-in-FromPeer-clause-judged : goal.returns-in-FromPeer-clause-judged
 returns-in-FromPeer-clause-judged c =
     let row = c.args.row.now in
-    subst (λ a. IfOk c.deliver_from.result (λ o. (hands : List Hand) (bytes : ObjectId → List ℕ) (contents : Contents) → IsShown row (beside_of c.args.works.now hands bytes row.job) contents
-    → o.1 ≡ judge c.args.node (seen row (beside_of c.args.works.now hands bytes row.job) contents) (input.Arrive a)))
+    subst (λ a. IfOk c.deliver_from.result (λ o. (grants : List StandingGrant) (bytes : ObjectId → List ℕ) (contents : Contents) → IsShown row (beside_of c.args.works.now grants bytes row.job) contents
+    → o.1 ≡ judge c.args.node (seen row (beside_of c.args.works.now grants bytes row.job) contents) (input.Arrive a)))
     (sym c.in-FromPeer.is) c.deliver_from.ensures.judged

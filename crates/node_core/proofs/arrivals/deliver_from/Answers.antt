@@ -10,39 +10,39 @@ use Rattle.node_table.specs.Shown.{seen, RowStep}
 use Rattle.node_core.proofs.arrivals.deliver_from.Goals as goal
 
 pub returns-in_ok-outcome-in-Pull-clause-ok : goal.returns-in_ok-outcome-in-Pull-clause-ok
-returns-in_ok-outcome-in-Pull-clause-ok c hands bytes contents shown =
-    let beside = beside_of c.args.works.now hands bytes c.args.row.now.job in
-    let after = beside_of c.serve_pull.new.works hands bytes c.args.row.now.job in
+returns-in_ok-outcome-in-Pull-clause-ok c grants bytes contents shown =
+    let beside = beside_of c.args.works.now grants bytes c.args.row.now.job in
+    let after = beside_of c.serve_pull.new.works grants bytes c.args.row.now.job in
     subst (λ m. RowStep c.args.node c.args.row.now beside contents (input.Arrive (arrival.FromPeer c.args.from m)) (row_given_of c.in_ok-outcome-in-Pull.outcome) c.serve_pull.new.self after)
-    (ap (peer.Pull c.in-Pull.id c.in-Pull.number c.in-Pull.length c.in-Pull.digest) c.as_slice.ensures ∙ sym c.in-Pull.is) (c.in_ok-outcome-in-Pull.ensures.ok hands bytes contents shown)
+    (ap (peer.Pull c.in-Pull.id c.in-Pull.number c.in-Pull.length c.in-Pull.digest) c.as_slice.ensures ∙ sym c.in-Pull.is) (c.in_ok-outcome-in-Pull.ensures.ok grants bytes contents shown)
 
 pub returns-in_ok-outcome-in-Pull-clause-judged : goal.returns-in_ok-outcome-in-Pull-clause-judged
-returns-in_ok-outcome-in-Pull-clause-judged c hands bytes contents shown =
-    let beside = beside_of c.args.works.now hands bytes c.args.row.now.job in
+returns-in_ok-outcome-in-Pull-clause-judged c grants bytes contents shown =
+    let beside = beside_of c.args.works.now grants bytes c.args.row.now.job in
     ap (judged.Pull c.in-Pull.id c.in-Pull.number) (c.pull_matches-matches.ensures beside contents shown)
     ∙ ap (λ m. judge c.args.node (seen c.args.row.now beside contents) (input.Arrive (arrival.FromPeer c.args.from m))) (sym c.in-Pull.is)
 
 pub returns-in_ok-taken-in-Chunk-clause-ok : goal.returns-in_ok-taken-in-Chunk-clause-ok
-returns-in_ok-taken-in-Chunk-clause-ok c hands bytes contents shown =
-    let beside = beside_of c.args.works.now hands bytes c.args.row.now.job in
+returns-in_ok-taken-in-Chunk-clause-ok c grants bytes contents shown =
+    let beside = beside_of c.args.works.now grants bytes c.args.row.now.job in
     subst (λ m. RowStep c.args.node c.args.row.now beside contents (input.Arrive (arrival.FromPeer c.args.from m)) (row_given_of c.in_ok-taken-in-Chunk.taken.outcome) c.chunk.new.self beside)
     (ap (peer.Chunk c.in-Chunk.id c.in-Chunk.number c.in-Chunk.index) c.deref.ensures ∙ sym c.in-Chunk.is) (c.in_ok-taken-in-Chunk.ensures.ok beside contents shown)
 
 pub returns-in_ok-taken-in-Chunk-clause-judged : goal.returns-in_ok-taken-in-Chunk-clause-judged
-returns-in_ok-taken-in-Chunk-clause-judged c hands bytes contents shown =
-    let beside = beside_of c.args.works.now hands bytes c.args.row.now.job in
+returns-in_ok-taken-in-Chunk-clause-judged c grants bytes contents shown =
+    let beside = beside_of c.args.works.now grants bytes c.args.row.now.job in
     ap (judged.Chunk c.in-Chunk.id c.in-Chunk.number c.in-Chunk.index c.args.from)
     (c.in_ok-taken-in-Chunk.ensures.verdict beside contents shown
     ∙ ap (λ bs. chunk_verdict (seen c.args.row.now beside contents) c.in-Chunk.id c.in-Chunk.number c.in-Chunk.index bs c.args.from) c.deref.ensures)
     ∙ ap (λ m. judge c.args.node (seen c.args.row.now beside contents) (input.Arrive (arrival.FromPeer c.args.from m))) (sym c.in-Chunk.is)
 
 pub returns-in_ok-outcome-in-NotHere-clause-ok : goal.returns-in_ok-outcome-in-NotHere-clause-ok
-returns-in_ok-outcome-in-NotHere-clause-ok c hands bytes contents shown =
-    let beside = beside_of c.args.works.now hands bytes c.args.row.now.job in
+returns-in_ok-outcome-in-NotHere-clause-ok c grants bytes contents shown =
+    let beside = beside_of c.args.works.now grants bytes c.args.row.now.job in
     subst (λ m. RowStep c.args.node c.args.row.now beside contents (input.Arrive (arrival.FromPeer c.args.from m)) (row_given_of c.in_ok-outcome-in-NotHere.outcome) c.not_here.new.self beside)
     (sym c.in-NotHere.is) (c.in_ok-outcome-in-NotHere.ensures.ok c.args.node beside contents shown)
 
 pub returns-in_ok-outcome-in-NotHere-clause-judged : goal.returns-in_ok-outcome-in-NotHere-clause-judged
-returns-in_ok-outcome-in-NotHere-clause-judged c hands bytes contents shown =
-    let beside = beside_of c.args.works.now hands bytes c.args.row.now.job in
+returns-in_ok-outcome-in-NotHere-clause-judged c grants bytes contents shown =
+    let beside = beside_of c.args.works.now grants bytes c.args.row.now.job in
     ap (λ m. judge c.args.node (seen c.args.row.now beside contents) (input.Arrive (arrival.FromPeer c.args.from m))) (sym c.in-NotHere.is)

@@ -8,21 +8,21 @@ use Rattle.node_core.proofs.Calling.{if_ok}
 use Rattle.node_core.proofs.calls.answer.Goals as goal
 
 pub returns-in-Write-clause-ok : goal.returns-in-Write-clause-ok
-returns-in-Write-clause-ok c node job owned hands bytes contents own h =
+returns-in-Write-clause-ok c node job owned grants bytes contents own h =
     let mine = ap (λ n. c.in-Write.id.job.0 == n) own ∙ ap (is_own job) (sym c.in-Write.is) ∙ owned in
     let same = c.in-Write.is ∙ ap (λ bs. command.Write c.in-Write.id c.in-Write.offset bs) (sym c.deref.ensures) in
-    subst (λ d. RowStep node c.args.row.now (beside_of c.args.works.now hands bytes job) contents (input.Call c.args.session d) (only c.write.result) c.write.new.self (beside_of c.args.works.now hands bytes job)) (sym same)
-    (c.write.ensures node (beside_of c.args.works.now hands bytes job) contents mine h)
+    subst (λ d. RowStep node c.args.row.now (beside_of c.args.works.now grants bytes job) contents (input.Call c.args.session d) (only c.write.result) c.write.new.self (beside_of c.args.works.now grants bytes job)) (sym same)
+    (c.write.ensures node (beside_of c.args.works.now grants bytes job) contents mine h)
 
 pub returns-in-Read-clause-ok : goal.returns-in-Read-clause-ok
 returns-in-Read-clause-ok c =
-    if_ok c.read.result c.read.ensures.ok (λ reply told node job owned hands bytes contents own h.
+    if_ok c.read.result c.read.ensures.ok (λ reply response node job owned grants bytes contents own h.
     let mine = ap (λ n. c.in-Read.id.job.0 == n) own ∙ ap (is_own job) (sym c.in-Read.is) ∙ owned in
-    subst (λ d. RowStep node c.args.row.now (beside_of c.args.works.now hands bytes job) contents (input.Call c.args.session d) (only reply) c.args.row.now (beside_of c.args.works.now hands bytes job)) (sym c.in-Read.is)
-    (told node (beside_of c.args.works.now hands bytes job) contents mine h))
+    subst (λ d. RowStep node c.args.row.now (beside_of c.args.works.now grants bytes job) contents (input.Call c.args.session d) (only reply) c.args.row.now (beside_of c.args.works.now grants bytes job)) (sym c.in-Read.is)
+    (response node (beside_of c.args.works.now grants bytes job) contents mine h))
 
 pub returns-in-Usage-clause-ok : goal.returns-in-Usage-clause-ok
-returns-in-Usage-clause-ok c node job owned hands bytes contents own h =
-    subst (λ d. RowStep node c.args.row.now (beside_of c.args.works.now hands bytes job) contents (input.Call c.args.session d) (only c.tell_usage.result) c.args.row.now (beside_of c.args.works.now hands bytes job)) (sym c.in-Usage.is)
-    (subst (λ n. RowStep node c.args.row.now (beside_of c.args.works.now hands bytes n) contents (input.Call c.args.session command.Usage) (only c.tell_usage.result) c.args.row.now (beside_of c.args.works.now hands bytes n)) own
-    (c.tell_usage.ensures node c.args.session hands bytes contents (subst (λ n. IsShown c.args.row.now (beside_of c.args.works.now hands bytes n) contents) (sym own) h)))
+returns-in-Usage-clause-ok c node job owned grants bytes contents own h =
+    subst (λ d. RowStep node c.args.row.now (beside_of c.args.works.now grants bytes job) contents (input.Call c.args.session d) (only c.tell_usage.result) c.args.row.now (beside_of c.args.works.now grants bytes job)) (sym c.in-Usage.is)
+    (subst (λ n. RowStep node c.args.row.now (beside_of c.args.works.now grants bytes n) contents (input.Call c.args.session command.Usage) (only c.tell_usage.result) c.args.row.now (beside_of c.args.works.now grants bytes n)) own
+    (c.tell_usage.ensures node c.args.session grants bytes contents (subst (λ n. IsShown c.args.row.now (beside_of c.args.works.now grants bytes n) contents) (sym own) h)))

@@ -16,18 +16,18 @@ use Rattle.node_core.proofs.Lines.{asked_nothing}
 use Rattle.node_core.proofs.calls.carry_out.Goals as goal
 
 pub returns-then-not-is_own-clause-ok : goal.returns-then-not-is_own-clause-ok
-returns-then-not-is_own-clause-ok c hands bytes contents own h =
-    subst (λ told. RowStep c.args.node c.args.row.now (beside_of c.args.works.now hands bytes c.args.job.0) contents (input.Call c.args.session c.args.command.now) told c.args.row.now (beside_of c.args.works.now hands bytes c.args.job.0))
+returns-then-not-is_own-clause-ok c grants bytes contents own h =
+    subst (λ response. RowStep c.args.node c.args.row.now (beside_of c.args.works.now grants bytes c.args.job.0) contents (input.Call c.args.session c.args.command.now) response c.args.row.now (beside_of c.args.works.now grants bytes c.args.job.0))
     (sym c.only.ensures)
-    (not_granted c.args.node c.args.job.0 c.args.row.now (beside_of c.args.works.now hands bytes c.args.job.0) c.args.session contents own h c.args.command.now (sym c.is_own.ensures ∙ c.if-not-is_own.true))
+    (not_granted c.args.node c.args.job.0 c.args.row.now (beside_of c.args.works.now grants bytes c.args.job.0) c.args.session contents own h c.args.command.now (sym c.is_own.ensures ∙ c.if-not-is_own.true))
 
 pub returns-in-Create-clause-ok : goal.returns-in-Create-clause-ok
 returns-in-Create-clause-ok c =
-    if_ok c.create.result c.create.ensures.ok (λ o told hands bytes contents own h.
+    if_ok c.create.result c.create.ensures.ok (λ o response grants bytes contents own h.
     let mine = ap (λ n. c.in-Create.id.job.0 == n) own ∙ ap (is_own c.args.job.0) (sym c.in-Create.is) ∙ sym c.is_own.ensures ∙ c.if-not-is_own.false in
-    subst (λ d. RowStep c.args.node c.args.row.now (beside_of c.args.works.now hands bytes c.args.job.0) contents (input.Call c.args.session d) (row_given_of o) c.create.new.self (beside_of c.create.new.works hands bytes c.args.job.0)) (sym c.in-Create.is)
-    (subst (λ n. RowStep c.args.node c.args.row.now (beside_of c.args.works.now hands bytes n) contents (input.Call c.args.session (command.Create c.in-Create.id c.in-Create.kind c.in-Create.len)) (row_given_of o) c.create.new.self (beside_of c.create.new.works hands bytes n)) own
-    (told c.args.session hands bytes contents mine (subst (λ n. IsShown c.args.row.now (beside_of c.args.works.now hands bytes n) contents) (sym own) h))))
+    subst (λ d. RowStep c.args.node c.args.row.now (beside_of c.args.works.now grants bytes c.args.job.0) contents (input.Call c.args.session d) (row_given_of o) c.create.new.self (beside_of c.create.new.works grants bytes c.args.job.0)) (sym c.in-Create.is)
+    (subst (λ n. RowStep c.args.node c.args.row.now (beside_of c.args.works.now grants bytes n) contents (input.Call c.args.session (command.Create c.in-Create.id c.in-Create.kind c.in-Create.len)) (row_given_of o) c.create.new.self (beside_of c.create.new.works grants bytes n)) own
+    (response c.args.session grants bytes contents mine (subst (λ n. IsShown c.args.row.now (beside_of c.args.works.now grants bytes n) contents) (sym own) h))))
 
 pub returns-in-Create-clause-line : goal.returns-in-Create-clause-line
 returns-in-Create-clause-line c =
@@ -36,11 +36,11 @@ returns-in-Create-clause-line c =
 
 pub returns-in-Get-clause-ok : goal.returns-in-Get-clause-ok
 returns-in-Get-clause-ok c =
-    if_ok c.get.result c.get.ensures.ok (λ o told hands bytes contents own h.
+    if_ok c.get.result c.get.ensures.ok (λ o response grants bytes contents own h.
     let mine = ap (λ n. c.in-Get.id.job.0 == n) own ∙ ap (is_own c.args.job.0) (sym c.in-Get.is) ∙ sym c.is_own.ensures ∙ c.if-not-is_own.false in
-    subst (λ d. RowStep c.args.node c.args.row.now (beside_of c.args.works.now hands bytes c.args.job.0) contents (input.Call c.args.session d) (row_given_of o) c.get.new.self (beside_of c.get.new.works hands bytes c.args.job.0)) (sym c.in-Get.is)
-    (subst (λ n. RowStep c.args.node c.args.row.now (beside_of c.args.works.now hands bytes n) contents (input.Call c.args.session (command.Get c.in-Get.id)) (row_given_of o) c.get.new.self (beside_of c.get.new.works hands bytes n)) own
-    (told hands bytes contents mine (subst (λ n. IsShown c.args.row.now (beside_of c.args.works.now hands bytes n) contents) (sym own) h))))
+    subst (λ d. RowStep c.args.node c.args.row.now (beside_of c.args.works.now grants bytes c.args.job.0) contents (input.Call c.args.session d) (row_given_of o) c.get.new.self (beside_of c.get.new.works grants bytes c.args.job.0)) (sym c.in-Get.is)
+    (subst (λ n. RowStep c.args.node c.args.row.now (beside_of c.args.works.now grants bytes n) contents (input.Call c.args.session (command.Get c.in-Get.id)) (row_given_of o) c.get.new.self (beside_of c.get.new.works grants bytes n)) own
+    (response grants bytes contents mine (subst (λ n. IsShown c.args.row.now (beside_of c.args.works.now grants bytes n) contents) (sym own) h))))
 
 pub returns-in-Get-clause-line : goal.returns-in-Get-clause-line
 returns-in-Get-clause-line c =
@@ -49,7 +49,7 @@ returns-in-Get-clause-line c =
 
 pub returns-in_default-clause-ok : goal.returns-in_default-clause-ok
 returns-in_default-clause-ok c =
-    if_ok c.carry_out_without_work.result c.carry_out_without_work.ensures.ok (λ o told. told c.args.job.0 (sym c.is_own.ensures ∙ c.if-not-is_own.false))
+    if_ok c.carry_out_without_work.result c.carry_out_without_work.ensures.ok (λ o response. response c.args.job.0 (sym c.is_own.ensures ∙ c.if-not-is_own.false))
 
 pub returns-in_default-clause-line : goal.returns-in_default-clause-line
 returns-in_default-clause-line c = always_ok c.carry_out_without_work.result (asked_nothing c.args.works.now c.args.job)

@@ -14,8 +14,8 @@ use Rattle.node_journal.proofs.Rooms.{all_few}
 use Rattle.node_journal.proofs.Telling.{told_alike}
 use Rattle.node_journal.proofs.kept.record.Goals as goal
 
-pub bases_of-requires-clause-told : goal.bases_of-requires-clause-told
-bases_of-requires-clause-told c = told_alike c.args.node.now _ _ _ refl c.in_ok-reserve.ensures.journals c.requires.told
+pub bases_of-requires-clause-response : goal.bases_of-requires-clause-response
+bases_of-requires-clause-response c = told_alike c.args.node.now _ _ _ refl c.in_ok-reserve.ensures.journals c.requires.response
 
 pub bases_of-requires-clause-few : goal.bases_of-requires-clause-few
 bases_of-requires-clause-few c = λ job. subst (λ (j : Journal). length j.list ≤ most_lines) (sym (c.in_ok-reserve.ensures.journals job)) (c.requires.few job)
@@ -23,10 +23,10 @@ bases_of-requires-clause-few c = λ job. subst (λ (j : Journal). length j.list 
 pub add_notes-requires : goal.add_notes-requires
 add_notes-requires c =
     let e = c.args.event.now in
-    let hands = c.args.node.now.hands in
+    let grants = c.args.node.now.grants in
     let reply = c.in_ok-outcome.outcome.reply in
-    room_left c.as_slice-4.result.now c.as_slice-2.result.now hands e reply (spare_of c.reserve.new.self) (spare_of c.add.new.self)
-    (subst (λ notes. AreTakers hands e reply (map (λ (note : Note). note.job) notes)) (sym c.as_slice-4.ensures) c.in_ok-outcome.ensures.grantees)
+    room_left c.as_slice-4.result.now c.as_slice-2.result.now grants e reply (spare_of c.reserve.new.self) (spare_of c.add.new.self)
+    (subst (λ notes. AreTakers grants e reply (map (λ (note : Note). note.job) notes)) (sym c.as_slice-4.ensures) c.in_ok-outcome.ensures.grantees)
     (c.as_slice-2.ensures ∙ c.in_ok-grantees.ensures.grantees) c.in_ok-reserve.ensures.room
     (λ other. omega (arith, c.fold_all.ensures.spare other, c.add.ensures.spare other))
 
@@ -56,5 +56,5 @@ returns-clause-few c = λ job.
     let e = c.args.event.now in
     let outcome = c.in_ok-outcome.outcome in
     let some = subst (λ (ts : List JobNo). length ts < most_lines) (c.as_slice.ensures ∙ c.in_ok-grantees.ensures.grantees) (omega arith) in
-    all_few (job_at c.args.node.now.works.works (Own e)) c.args.node.now.hands e outcome.reply c.args.number job outcome.notes (journal_of c.args.logs.now job) (journal_of c.add_notes.new.self job)
+    all_few (job_at c.args.node.now.works.works (Own e)) c.args.node.now.grants e outcome.reply c.args.number job outcome.notes (journal_of c.args.logs.now job) (journal_of c.add_notes.new.self job)
     (line.Entry (entry_for c.args.number (event_name (Own c.args.event.now)) outcome.judged outcome.reply)) c.in_ok-outcome.ensures.grantees some (returns-clause-logs c job)

@@ -10,8 +10,8 @@ use Rattle.node_journal.proofs.Rooms.{arrival_few}
 use Rattle.node_journal.proofs.Telling.{told_alike}
 use Rattle.node_journal.proofs.kept.record_arrival.Goals as goal
 
-pub bases_of-requires-clause-told : goal.bases_of-requires-clause-told
-bases_of-requires-clause-told c = told_alike c.args.node.now _ _ _ refl c.in_ok-reserve.ensures.journals c.requires.told
+pub bases_of-requires-clause-response : goal.bases_of-requires-clause-response
+bases_of-requires-clause-response c = told_alike c.args.node.now _ _ _ refl c.in_ok-reserve.ensures.journals c.requires.response
 
 pub bases_of-requires-clause-few : goal.bases_of-requires-clause-few
 bases_of-requires-clause-few c = λ job. subst (λ (j : Journal). length j.list ≤ most_lines) (sym (c.in_ok-reserve.ensures.journals job)) (c.requires.few job)

@@ -7,4 +7,4 @@ pub returns : goal.returns
 returns g c agrees =
     let kept = c.args.kept.now in
     let receipt = c.args.receipt.now in
-    receipt_due kept.node (journal_of kept.logs) receipt.job.0 (receipt.node == kept.number) receipt.entry kept.told agrees
+    receipt_due kept.node (journal_of kept.logs) receipt.job.0 (receipt.node == kept.number) receipt.entry kept.response agrees

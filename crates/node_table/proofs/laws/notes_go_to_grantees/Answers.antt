@@ -5,4 +5,4 @@ pub returns-clause-ended : goal.returns-clause-ended
 returns-clause-ended c job ended = ends_of job ended
 
 pub returns-clause-given : goal.returns-clause-given
-returns-clause-given c bytes hands id grantor grantee = received_is bytes hands id grantor grantee
+returns-clause-given c bytes grants id grantor grantee = received_is bytes grants id grantor grantee

@@ -4,10 +4,10 @@ use Rattle.node_table.proofs.Notes.{row_ends, bare_ends, none_given}
 use Rattle.node_table.proofs.laws.what_is_left_stands_beside.Goals as goal
 
 pub returns-clause-row : goal.returns-clause-row
-returns-clause-row c hands bytes test are node line row view h = row_ends hands bytes test are node line row view h
+returns-clause-row c grants bytes test are node line row view h = row_ends grants bytes test are node line row view h
 
 pub returns-clause-bare : goal.returns-clause-bare
-returns-clause-bare c hands bytes test are node job life none = bare_ends hands bytes test are node job life none
+returns-clause-bare c grants bytes test are node job life none = bare_ends grants bytes test are node job life none
 
 pub returns-clause-none : goal.returns-clause-none
-returns-clause-none c hands test are job none = none_given hands (λ id. []) test are 0 job live none
+returns-clause-none c grants test are job none = none_given grants (λ id. []) test are 0 job live none

@@ -3,7 +3,7 @@ use Rattle.std.proofs.lemmas.List.{drop_all, drop_more}
 use Rattle.private_store.specs.rules.Tables.{at}
 use Rattle.lru_evictor.specs.Orders.{order_ids}
 use Rattle.node_table.specs.Evicting.{without_missing}
-use Rattle.node_table.specs.InSync.{is_in_sync_but, InSyncBut}
+use Rattle.node_table.specs.InSync.{is_in_sync_except, InSyncExcept}
 use Rattle.node_table.proofs.Evicting.{missing-more, missing-stays, missing-none, not_there, is_there}
 use Rattle.node_table.proofs.FollowsCopies.{all_others}
 use Rattle.node_table.proofs.syncing.forget_missing.Goals as goal
@@ -21,14 +21,14 @@ loop-id-preserved c =
             ∙ ap (without_missing c.args.copies.now rest) w.forget.ensures.ids
             ∙ missing-more c.args.copies.now c.id-item.result rest (order_ids c.loop-id.order) (not_there (at c.args.copies.now c.id-item.result) (sym c.has.ensures ∙ w.if-not-has.true)) ∙ whole;
         followed = λ spared h.
-            let test = is_in_sync_but spared c.args.copies.now in
-            subst (InSyncBut spared c.args.copies.now) (sym w.order-is) (w.forget.ensures.infos test (all_others c.id-item.result test c.loop-id.order (c.loop-id.invariant.followed spared h)));
+            let test = is_in_sync_except spared c.args.copies.now in
+            subst (InSyncExcept spared c.args.copies.now) (sym w.order-is) (w.forget.ensures.infos test (all_others c.id-item.result test c.loop-id.order (c.loop-id.invariant.followed spared h)));
       }
       | else-not-has w ↦ record {
         ids =
             ap (λ o. without_missing c.args.copies.now rest (order_ids o)) w.order-is
             ∙ missing-stays c.args.copies.now c.id-item.result rest (order_ids c.loop-id.order) (is_there (at c.args.copies.now c.id-item.result) (sym c.has.ensures ∙ w.if-not-has.false)) ∙ whole;
-        followed = λ spared h. subst (InSyncBut spared c.args.copies.now) (sym w.order-is) (c.loop-id.invariant.followed spared h);
+        followed = λ spared h. subst (InSyncExcept spared c.args.copies.now) (sym w.order-is) (c.loop-id.invariant.followed spared h);
       }
     ]
 

@@ -1,7 +1,7 @@
 use Rattle.std.proofs.Common.{◌∷◌, ◌+◌, drop, sym, ap, subst, ◌∙◌}
 use Rattle.std.proofs.lemmas.List.{drop_all, drop_more}
 use Rattle.lru_evictor.specs.Orders.{AllPass}
-use Rattle.node_table.proofs.FollowsCopies.{is_waiting, waits, told}
+use Rattle.node_table.proofs.FollowsCopies.{is_waiting, waits, response}
 use Rattle.node_table.proofs.syncing.sync_each.Goals as goal
 
 pub loop-id-preserved : goal.loop-id-preserved
@@ -11,7 +11,7 @@ loop-id-preserved c =
     record {
       ids = c.set_info.ensures.ids ∙ c.loop-id.invariant.ids;
       followed = λ spared h.
-          told c.id-item.result rest spared c.args.copies.now c.eviction_info.result c.eviction_info.ensures c.loop-id.order c.set_info.new.self c.set_info.ensures.infos
+          response c.id-item.result rest spared c.args.copies.now c.eviction_info.result c.eviction_info.ensures c.loop-id.order c.set_info.new.self c.set_info.ensures.infos
           (subst (λ ids. AllPass (is_waiting ids spared c.args.copies.now) c.loop-id.order) next (c.loop-id.invariant.followed spared h));
     }
 

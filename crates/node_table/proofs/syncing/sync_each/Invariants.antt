@@ -4,7 +4,7 @@ use Rattle.lru_evictor.specs.Orders.{order_ids, AllPass}
 use Rattle.node_table.proofs.FollowsCopies.{is_waiting}
 use Rattle.node_table.proofs.syncing.sync_each.Given as goal
 
--- those that are left are to be told of
+-- those that are left are still to be passed on
 abbrev pub invariant-loop-id : goal.invariant-loop-id
 invariant-loop-id l = record {
   ids : order_ids l.order ≡ order_ids l.initial.order;

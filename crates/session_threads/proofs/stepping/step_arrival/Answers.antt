@@ -9,19 +9,19 @@ returns-in-Ok-clause-once g c a is =
     let old = c.args.kept.now in
     let made = c.in-Ok.made in
     let done = rw c.in-Ok.is at c.arrive.ensures in
-    let told = c.finish_step.ensures in
-    let kept = ap (λ r. r.entry) told.receipt ∙ done.receipt.2 a is in
+    let response = c.finish_step.ensures in
+    let kept = ap (λ r. r.entry) response.receipt ∙ done.receipt.2 a is in
     record {
       step = record {
         given = node_given_of made.outcome;
         was = made.outcome.judged;
-        answer = sym told.reply;
-        posts = sym told.mail;
+        answer = sym response.reply;
+        posts = sym response.mail;
         node = done.node a is;
         count = done.count;
         journals = done.journal a is;
-        of_job = ap (λ r. r.job.0) told.receipt ∙ done.receipt.1;
-        entry = kept ∙ ap (entry_for _ _ made.outcome.judged) (sym told.reply);
+        of_job = ap (λ r. r.job.0) response.receipt ∙ done.receipt.1;
+        entry = kept ∙ ap (entry_for _ _ made.outcome.judged) (sym response.reply);
       };
-      entered = (λ i. is_entered a (told.reply i) (kept i).input) ∙ done.entered a is;
+      entered = (λ i. is_entered a (response.reply i) (kept i).input) ∙ done.entered a is;
     }

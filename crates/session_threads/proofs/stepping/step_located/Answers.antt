@@ -5,7 +5,7 @@ pub returns-in-Ok-clause-once : goal.returns-in-Ok-clause-once
 returns-in-Ok-clause-once g c found a is =
     let stepped = c.in-Ok.stepped in
     record {
-      told = stepped.reply;
+      response = stepped.reply;
       sent = posts_left stepped.mail;
       witness = record { job = stepped.receipt.job; entry = stepped.receipt.entry };
       arrival = c.in-Ok.ensures.once a is;

@@ -3,10 +3,10 @@ use Rattle.store_program.proofs.serving.serve_line.Goals as goal
 
 pub returns-in-Ok-clause-ok : goal.returns-in-Ok-clause-ok
 returns-in-Ok-clause-ok g c =
-    let told = c.in-Ok.ensures.ok in
+    let response = c.in-Ok.ensures.ok in
     record {
-      obeyed = record { text = c.in-Some-eq10-default.text.now; node = c.in-Ok-Some-Change.node; change = c.in-Ok-Some-Change.change; reply = told.reply };
+      obeyed = record { text = c.in-Some-eq10-default.text.now; node = c.in-Ok-Some-Change.node; change = c.in-Ok-Some-Change.change; reply = response.reply };
       is_text = search rules;
       spelled = search rules;
-      written = told.written;
+      written = response.written;
     }

@@ -23,15 +23,15 @@ pub returns-in-Ok-false-serve_line : goal.returns-in-Ok-false-serve_line
 returns-in-Ok-false-serve_line g c =
     let w = g.O.Write.contents c.loop-number.writer in
     let w1 = g.O.Write.contents c.serve_line.new.writer in
-    let told = subst (λ go. ServesLine c.args.count c.deref.result.now w w1 go) c.in-Ok-false-serve_line.field-0-test c.in-Ok-false-serve_line.ensures.ok in
-    closed _ _ _ _ _ _ c.loop-number.invariant _ _ c.next_line.ensures.consumed _ w1 (subst (λ b. b ≡ close_line) c.deref.ensures.value told.0) told.1
+    let response = subst (λ go. ServesLine c.args.count c.deref.result.now w w1 go) c.in-Ok-false-serve_line.field-0-test c.in-Ok-false-serve_line.ensures.ok in
+    closed _ _ _ _ _ _ c.loop-number.invariant _ _ c.next_line.ensures.consumed _ w1 (subst (λ b. b ≡ close_line) c.deref.ensures.value response.0) response.1
 
 pub loop-number-preserved : goal.loop-number-preserved
 loop-number-preserved g c =
     let w = g.O.Write.contents c.loop-number.writer in
     let w1 = g.O.Write.contents c.serve_line.new.writer in
-    let told = subst (λ go. ServesLine c.args.count c.deref.result.now w w1 go) c.in-Ok-true-serve_line.field-0-test c.in-Ok-true-serve_line.ensures.ok in
-    line_more _ _ _ _ _ _ c.loop-number.invariant _ _ c.next_line.ensures.consumed w1 (subst (λ b. CarriesOut c.args.count b w w1) c.deref.ensures.value told)
+    let response = subst (λ go. ServesLine c.args.count c.deref.result.now w w1 go) c.in-Ok-true-serve_line.field-0-test c.in-Ok-true-serve_line.ensures.ok in
+    line_more _ _ _ _ _ _ c.loop-number.invariant _ _ c.next_line.ensures.consumed w1 (subst (λ b. CarriesOut c.args.count b w w1) c.deref.ensures.value response)
 
 pub returns : goal.returns
 returns g c = too_many _ _ _ _ _ _ c.loop-number.invariant _

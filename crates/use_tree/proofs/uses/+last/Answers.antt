@@ -22,7 +22,7 @@ last-right-requires t c = (
   let n = c.deref-node.result.now in
       let is = items_at turn_of IsAnyUse AreClassesOf c.args.tree.now c.in-Fork.here n c.in-Fork.is c.deref-node.ensures in
       let rising = subst AreUsesRising is c.requires.rising in
-      let m = told_at turn_of IsAnyUse AreClassesOf c.args.tree.now c.in-Fork.here n c.in-Fork.is c.deref-node.ensures c.requires.told in
+      let m = told_at turn_of IsAnyUse AreClassesOf c.args.tree.now c.in-Fork.here n c.in-Fork.is c.deref-node.ensures c.requires.summarized in
       (m.3, rising_back turn_of (items n.left) (items n.right) rising.1),
 )
 
@@ -40,7 +40,7 @@ last-left-requires t c = (
   let n = c.deref-node.result.now in
       let is = items_at turn_of IsAnyUse AreClassesOf c.args.tree.now c.in-Fork.here n c.in-Fork.is c.deref-node.ensures in
       let rising = subst AreUsesRising is c.requires.rising in
-      let m = told_at turn_of IsAnyUse AreClassesOf c.args.tree.now c.in-Fork.here n c.in-Fork.is c.deref-node.ensures c.requires.told in
+      let m = told_at turn_of IsAnyUse AreClassesOf c.args.tree.now c.in-Fork.here n c.in-Fork.is c.deref-node.ensures c.requires.summarized in
       (m.2, rising_front turn_of (items n.left) (items n.right) rising.1),
 )
 

@@ -9,20 +9,20 @@ use Rattle.world_core.proofs.World.deliver.Goals as goal
 
 pub returns-in_default-clause-ok : goal.returns-in_default-clause-ok
 returns-in_default-clause-ok c =
-    subst (λ told. WorldStep c.args.self.now c.args.self.now (steps.Deliver c.args.job c.args.from c.args.to c.args.number c.args.damaged) told) (sym (ap (λ s. s.answer) c.alone.ensures))
+    subst (λ response. WorldStep c.args.self.now c.args.self.now (steps.Deliver c.args.job c.args.from c.args.to c.args.number c.args.damaged) response) (sym (ap (λ s. s.answer) c.alone.ensures))
     (none_delivered _ c.args.self.now c.self.view_is c.args.job c.args.from c.args.to c.args.number c.args.damaged (option_copied c.find.result) c.find.ensures (ap option_copied c.in_default.is))
 
 pub returns-in-Node-clause-ok : goal.returns-in-Node-clause-ok
 returns-in-Node-clause-ok c =
-    if_ok c.hand_to_node.result c.hand_to_node.ensures.ok (λ s k.
+    if_ok c.deliver_to_node.result c.deliver_to_node.ensures.ok (λ s k.
     one_delivered _ c.args.self.now c.self.view_is c.args.job c.args.from c.args.to c.args.number c.args.damaged (option_copied c.find.result) c.find.ensures
-    c.in-Some.sent.now (ap option_copied c.in-Some.is) c.hand_to_node.new.self c.in_ok-message.message s.answer (places.Node c.in-Node.place) c.in_ok-message.ensures c.in-Node.is k)
+    c.in-Some.sent.now (ap option_copied c.in-Some.is) c.deliver_to_node.new.self c.in_ok-message.message s.answer (places.Node c.in-Node.place) c.in_ok-message.ensures c.in-Node.is k)
 
 pub returns-in_ok-answer-in-Directory-clause-ok : goal.returns-in_ok-answer-in-Directory-clause-ok
 returns-in_ok-answer-in-Directory-clause-ok c =
-    subst (λ told. WorldStep c.args.self.now c.hand_to_directory.new.self (steps.Deliver c.args.job c.args.from c.args.to c.args.number c.args.damaged) told) (sym (ap (λ s. s.answer) c.alone-in-Directory.ensures))
+    subst (λ response. WorldStep c.args.self.now c.deliver_to_directory.new.self (steps.Deliver c.args.job c.args.from c.args.to c.args.number c.args.damaged) response) (sym (ap (λ s. s.answer) c.alone-in-Directory.ensures))
     (one_delivered _ c.args.self.now c.self.view_is c.args.job c.args.from c.args.to c.args.number c.args.damaged (option_copied c.find.result) c.find.ensures
-    c.in-Some.sent.now (ap option_copied c.in-Some.is) c.hand_to_directory.new.self c.in_ok-message.message c.in_ok-answer-in-Directory.answer places.Directory c.in_ok-message.ensures c.in-Directory.is
+    c.in-Some.sent.now (ap option_copied c.in-Some.is) c.deliver_to_directory.new.self c.in_ok-message.message c.in_ok-answer-in-Directory.answer places.Directory c.in_ok-message.ensures c.in-Directory.is
     c.in_ok-answer-in-Directory.ensures.ok)
 
 pub returns-in_default-clause-kept : goal.returns-in_default-clause-kept
@@ -32,11 +32,11 @@ returns-in_default-clause-kept c =
 
 pub returns-in-Node-clause-kept : goal.returns-in-Node-clause-kept
 returns-in-Node-clause-kept c =
-    if_ok c.hand_to_node.result c.hand_to_node.ensures.kept (λ s k.
-    subst (λ t. IsNoted c.args.self.now c.hand_to_node.new.self s.judged s.notes (steps.Deliver c.args.job c.args.from t c.args.number c.args.damaged) s.answer) (sym c.in-Node.is) (k c.args.number c.args.damaged))
+    if_ok c.deliver_to_node.result c.deliver_to_node.ensures.kept (λ s k.
+    subst (λ t. IsNoted c.args.self.now c.deliver_to_node.new.self s.judged s.notes (steps.Deliver c.args.job c.args.from t c.args.number c.args.damaged) s.answer) (sym c.in-Node.is) (k c.args.number c.args.damaged))
 
 pub returns-in_ok-answer-in-Directory-clause-kept : goal.returns-in_ok-answer-in-Directory-clause-kept
 returns-in_ok-answer-in-Directory-clause-kept c =
-    subst (λ s. IsNoted c.args.self.now c.hand_to_directory.new.self s.judged s.notes (steps.Deliver c.args.job c.args.from c.args.to c.args.number c.args.damaged) s.answer) (sym c.alone-in-Directory.ensures)
-    (subst (λ t. IsNoted c.args.self.now c.hand_to_directory.new.self None [] (steps.Deliver c.args.job c.args.from t c.args.number c.args.damaged) c.in_ok-answer-in-Directory.answer) (sym c.in-Directory.is)
+    subst (λ s. IsNoted c.args.self.now c.deliver_to_directory.new.self s.judged s.notes (steps.Deliver c.args.job c.args.from c.args.to c.args.number c.args.damaged) s.answer) (sym c.alone-in-Directory.ensures)
+    (subst (λ t. IsNoted c.args.self.now c.deliver_to_directory.new.self None [] (steps.Deliver c.args.job c.args.from t c.args.number c.args.damaged) c.in_ok-answer-in-Directory.answer) (sym c.in-Directory.is)
     (tells_directory c.args.job c.args.from c.args.number c.args.damaged c.in_ok-answer-in-Directory.answer (record { none = refl; nobody = refl; nodes = nodes_stay _ _ _ places.Directory _ _ _ refl c.in_ok-answer-in-Directory.ensures.ok })))

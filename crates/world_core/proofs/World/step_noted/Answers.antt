@@ -16,7 +16,7 @@ returns-clause-count c = turn_count c.args.self.now _ c.args.step.now _ c.in-Ok.
 pub returns-in_default-clause-after : goal.returns-in_default-clause-after
 returns-in_default-clause-after c = λ nodes memory history h.
     world_after nodes memory history c.args.self.now _ c.args.step.now h c.requires _
-    (subst (λ told. WorldStep c.args.self.now c.turn.new.self c.args.step.now told) (sym (ap (λ s. s.answer) c.without_memory.ensures)) (wants c.args.step.now c.in_default.ensures.err))
+    (subst (λ response. WorldStep c.args.self.now c.turn.new.self c.args.step.now response) (sym (ap (λ s. s.answer) c.without_memory.ensures)) (wants c.args.step.now c.in_default.ensures.err))
 
 pub returns-in_default-clause-kept : goal.returns-in_default-clause-kept
 returns-in_default-clause-kept c =

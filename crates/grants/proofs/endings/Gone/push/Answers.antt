@@ -1,16 +1,16 @@
 use Rattle.std.proofs.Common.{◌++◌, ◌∷◌, [], true, cond, ap, subst, sym, ◌∙◌}
 use Rattle.std.specs.Prelude.{if◌then◌else◌, is_ok}
 use Rattle.std.specs.List.{list_any}
-use Rattle.private_store.specs.rules.Hands.{Hand}
+use Rattle.private_store.specs.rules.Grants.{StandingGrant}
 use Rattle.grants.specs.Links.{same_grant_link, AreLinked}
 use Rattle.grants.proofs.Linked.{linked_more}
 use Rattle.grants.proofs.endings.Gone.push.Goals as goal
 
 pub invariant_of-self-2 : goal.invariant_of-self-2
 invariant_of-self-2 c =
-    let hand : Hand = c.args.hand in
+    let grant : StandingGrant = c.args.grant in
     let items = c.reserve.new.self.items in
-    let pushed = c.push.ensures.items ∙ ap (λ r. if is_ok r then items ++ hand ∷ [] else items) c.unwrap.ensures ∙ ap (λ hs. hs ++ hand ∷ []) c.reserve.ensures.items in
+    let pushed = c.push.ensures.items ∙ ap (λ r. if is_ok r then items ++ grant ∷ [] else items) c.unwrap.ensures ∙ ap (λ hs. hs ++ grant ∷ []) c.reserve.ensures.items in
     subst (λ hs. AreLinked hs c.insert.new.self.keys) (sym pushed)
-    (linked_more hand c.self.inside.hands.items c.self.inside.links.keys c.self.invariant c.insert.new.self.keys
+    (linked_more grant c.self.inside.grants.items c.self.inside.links.keys c.self.invariant c.insert.new.self.keys
     (λ q. c.in_ok-insert.ensures.updates.0 q ∙ ap (λ k. cond (same_grant_link k q) true (list_any (same_grant_link q) c.self.inside.links.keys)) c.link.ensures))

@@ -14,5 +14,5 @@ invariant_of-self-2 g c =
       named = old.named;
       numbered = λ job. fold_numbered old.count (c.args.job.0 == job) _ _ (is job) (old.numbered job);
       few = λ job. fold_few (c.args.job.0 == job) _ _ (is job) (old.few job);
-      told = all_folded old.node _ _ (λ job. c.args.job.0 == job) is old.told;
+      response = all_folded old.node _ _ (λ job. c.args.job.0 == job) is old.response;
     }

@@ -10,5 +10,5 @@ invariant_of-self g c =
       named = ap (λ n. n.number) c.compare.ensures ∙ old.named;
       numbered = old.numbered;
       few = old.few;
-      told = rw c.compare.ensures old.told;
+      response = rw c.compare.ensures old.response;
     }

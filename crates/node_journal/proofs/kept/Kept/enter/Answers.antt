@@ -12,7 +12,7 @@ invariant_of-self g c =
       named = entered_same _ old.node _ _ (λ n. n.number) refl done.ok done.err ∙ old.named;
       numbered = old.numbered;
       few = old.few;
-      told = told_entered old.node _ _ (entered_same _ old.node _ _ (λ n. n.works) refl done.ok done.err) done.views old.told;
+      response = told_entered old.node _ _ (entered_same _ old.node _ _ (λ n. n.works) refl done.ok done.err) done.views old.response;
     }
 
 pub invariant_of-self-2 : goal.invariant_of-self-2
@@ -25,5 +25,5 @@ invariant_of-self-2 g c =
       named = entered_same _ old.node _ _ (λ n. n.number) refl done.ok done.err ∙ old.named;
       numbered = old.numbered;
       few = old.few;
-      told = told_entered old.node _ _ (entered_same _ old.node _ _ (λ n. n.works) refl done.ok done.err) done.views old.told;
+      response = told_entered old.node _ _ (entered_same _ old.node _ _ (λ n. n.works) refl done.ok done.err) done.views old.response;
     }

@@ -9,5 +9,5 @@ invariant_of-self g c =
       named = old.named;
       numbered = λ job. rw c.in_turn.ensures (old.numbered job);
       few = λ job. rw c.in_turn.ensures (old.few job);
-      told = rw c.in_turn.ensures old.told;
+      response = rw c.in_turn.ensures old.response;
     }

@@ -14,5 +14,5 @@ invariant_of-result g c =
       named = c.new.ensures.number;
       numbered = λ job. none_numbered job _ (none job);
       few = λ job. subst (λ (j : Journal). length j.list ≤ most_lines) (sym (none job)) (omega arith);
-      told = told_at_first c.new.result _ c.new.ensures.works c.new.ensures.shows none;
+      response = told_at_first c.new.result _ c.new.ensures.works c.new.ensures.shows none;
     }

@@ -10,5 +10,5 @@ invariant_of-self g c =
       named = ap (λ n. n.number) c.prepare.ensures ∙ old.named;
       numbered = old.numbered;
       few = old.few;
-      told = rw c.prepare.ensures old.told;
+      response = rw c.prepare.ensures old.response;
     }

@@ -10,5 +10,5 @@ invariant_of-self g c =
       named = ap (λ n. n.number) c.share_copy.ensures ∙ old.named;
       numbered = old.numbered;
       few = old.few;
-      told = rw c.share_copy.ensures old.told;
+      response = rw c.share_copy.ensures old.response;
     }

@@ -17,7 +17,7 @@ invariant_of-self g c =
       named = ap (λ n. n.number) left.err ∙ old.named;
       numbered = λ job. subst (AreEntriesNumbered old.count) (sym (left.unchanged job)) (old.numbered job);
       few = λ job. subst (λ (j : Journal). length j.list ≤ most_lines) (sym (left.unchanged job)) (old.few job);
-      told = told_alike old.node _ _ _ left.err left.unchanged old.told;
+      response = told_alike old.node _ _ _ left.err left.unchanged old.response;
     }
 
 pub invariant_of-self-2 : goal.invariant_of-self-2
@@ -31,14 +31,14 @@ invariant_of-self-2 g c =
       named = done.node.number ∙ old.named;
       numbered = λ job. all_numbered old.count job (job_at old.node.works.works (Own e) == job) (is_folded_by old.node (Own e) job (list_of old.logs job)) _ _ _ _ refl (done.logs job) (old.numbered job);
       few = done.few;
-      told = all_told old.node _ e _ (old.count + 1) done.node _ done.judged _ _ (λ job. is_folded_by old.node (Own e) job (list_of old.logs job)) done.logs old.told;
+      response = all_told old.node _ e _ (old.count + 1) done.node _ done.judged _ _ (λ job. is_folded_by old.node (Own e) job (list_of old.logs job)) done.logs old.response;
     }
 
 pub returns-clause-answered : goal.returns-clause-answered
 returns-clause-answered g c = λ call.
     let old = c.args.self.now in
     let done = c.in_ok-outcome.ensures in
-    call_never_wants old.node _ c.args.event.now _ (old.count + 1) done.node _ done.judged _ call old.told
+    call_never_wants old.node _ c.args.event.now _ (old.count + 1) done.node _ done.judged _ call old.response
 
 pub returns-clause-small : goal.returns-clause-small
-returns-clause-small g c = λ call. call_small c.args.self.now.node c.args.event.now _ _ c.in_ok-outcome.ensures.small call c.args.self.now.told
+returns-clause-small g c = λ call. call_small c.args.self.now.node c.args.event.now _ _ c.in_ok-outcome.ensures.small call c.args.self.now.response

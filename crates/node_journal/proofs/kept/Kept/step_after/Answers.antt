@@ -17,10 +17,10 @@ returns-clause-later g c =
       | in-No w ↦ true_false (sym c.if-matches.false ∙ w.matches-is)
       | in_default w ↦
           let agreed : agreement here shown.entry journal ≢ No = λ e. w.in_default.not-No (c.agrees.ensures ∙ e) in
-          let told = c.in_ok-step.ensures.receipt in (
-            told.0 ∙ sym (same_here shown.node old.number (agreed_here here shown.entry journal agreed)),
+          let response = c.in_ok-step.ensures.receipt in (
+            response.0 ∙ sym (same_here shown.node old.number (agreed_here here shown.entry journal agreed)),
             less_than_next shown.entry.number old.count _ _
                 (agreed_within old.count shown.entry here journal (old.numbered shown.job.0) agreed)
-                told.2 refl,
+                response.2 refl,
           )
     ]

@@ -16,5 +16,5 @@ invariant_of-self g c =
       named = old.named;
       numbered = λ job. sweep_numbered old.count (made job) _ _ (is job) (old.numbered job);
       few = λ job. sweep_few (made job) _ _ (is job) (old.few job);
-      told = all_swept old.node _ _ made is old.told;
+      response = all_swept old.node _ _ made is old.response;
     }

@@ -10,5 +10,5 @@ invariant_of-self g c =
       named = ap (λ n. n.number) c.take_gone.ensures ∙ old.named;
       numbered = old.numbered;
       few = old.few;
-      told = rw c.take_gone.ensures old.told;
+      response = rw c.take_gone.ensures old.response;
     }

@@ -18,7 +18,7 @@ invariant_of-self g c =
       named = ap (λ n. n.number) left.err ∙ old.named;
       numbered = λ job. subst (AreEntriesNumbered old.count) (sym (left.unchanged job)) (old.numbered job);
       few = λ job. subst (λ (j : Journal). length j.list ≤ most_lines) (sym (left.unchanged job)) (old.few job);
-      told = told_alike old.node _ _ _ left.err left.unchanged old.told;
+      response = told_alike old.node _ _ _ left.err left.unchanged old.response;
     }
 
 pub invariant_of-self-2 : goal.invariant_of-self-2
@@ -33,10 +33,10 @@ invariant_of-self-2 g c =
       named = done.node.number ∙ old.named;
       numbered = λ job. all_numbered old.count job (to.0 == job) (is_folded_by old.node (Arrive to a) job (list_of old.logs job)) _ _ _ _ refl (done.logs job) (old.numbered job);
       few = done.few;
-      told = arrival_told old.node _ to a _ (old.count + 1) done.node _ done.judged done.stale (ap inputs_noted done.silent) _ _ (λ job. is_folded_by old.node (Arrive to a) job (list_of old.logs job)) done.logs old.told;
+      response = arrival_told old.node _ to a _ (old.count + 1) done.node _ done.judged done.stale (ap inputs_noted done.silent) _ _ (λ job. is_folded_by old.node (Arrive to a) job (list_of old.logs job)) done.logs old.response;
     }
 
 pub returns-clause-entered : goal.returns-clause-entered
 returns-clause-entered g c =
     let done = c.in_ok-outcome.ensures in
-    entry_is_of c.args.self.now.node c.args.job c.args.arrival.now _ _ _ done.judged c.args.self.now.told
+    entry_is_of c.args.self.now.node c.args.job c.args.arrival.now _ _ _ done.judged c.args.self.now.response

@@ -1,7 +1,7 @@
 use Rattle.std.proofs.Common.{[], refl, sym, subst, ◌∙◌}
 use Rattle.std.specs.Map.{keys_of}
 use Rattle.lru_evictor.specs.Orders.{AllPass}
-use Rattle.node_table.proofs.FollowsCopies.{is_waiting, waits_for_all, told}
+use Rattle.node_table.proofs.FollowsCopies.{is_waiting, waits_for_all, response}
 use Rattle.node_table.proofs.copies.Copies.sync_all.Goals as goal
 
 pub loop-id-init : goal.loop-id-init
@@ -15,7 +15,7 @@ pub loop-id-preserved : goal.loop-id-preserved
 loop-id-preserved c = record {
   ids = c.set_info.ensures.ids ∙ c.loop-id.invariant.ids;
   followed = λ before none keep h.
-      told c.in-Some.id.now (keys_of c.next.new.self) [] c.args.self.now c.eviction_info.result c.eviction_info.ensures c.loop-id.order c.set_info.new.self c.set_info.ensures.infos
+      response c.in-Some.id.now (keys_of c.next.new.self) [] c.args.self.now c.eviction_info.result c.eviction_info.ensures c.loop-id.order c.set_info.new.self c.set_info.ensures.infos
       (subst (λ es. AllPass (is_waiting (keys_of es) [] c.args.self.now) c.loop-id.order) c.in-Some.ensures.steps (c.loop-id.invariant.followed before none keep h));
 }
 

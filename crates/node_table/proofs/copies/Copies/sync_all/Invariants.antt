@@ -7,7 +7,7 @@ use Rattle.node_table.specs.CopyViews.{CopyView}
 use Rattle.node_table.proofs.FollowsCopies.{is_waiting}
 use Rattle.node_table.proofs.copies.Copies.sync_all.Given as goal
 
--- those that are left are to be told of
+-- those that are left are still to be passed on
 abbrev pub invariant-loop-id : goal.invariant-loop-id
 invariant-loop-id l = record {
   ids : order_ids l.order ≡ order_ids l.initial.order;

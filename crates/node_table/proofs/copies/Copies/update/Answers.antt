@@ -54,10 +54,10 @@ returns-clause-copies g c f same =
 
 pub returns-clause-eviction_info : goal.returns-clause-eviction_info
 returns-clause-eviction_info g c =
-    ap (λ a. a.eviction_info) c.after_change-told.ensures
+    ap (λ a. a.eviction_info) c.after_change-response.ensures
     ∙ sym (checked_written standing_told c.args.id.now c.self.inside.by_id.entries _ c.in-Some.copy.now c.change.new.arg2 (sym c.get_mut.ensures.value ∙ ap option_copied_mut c.in-Some.is) (c.get_mut.follows.holds c.change.new.arg2).0)
 
 pub returns-clause-over : goal.returns-clause-over
 returns-clause-over g c =
-    ap (λ a. a.over) c.after_change-told.ensures
+    ap (λ a. a.over) c.after_change-response.ensures
     ∙ sym (checked_written over_told c.args.id.now c.self.inside.by_id.entries _ c.in-Some.copy.now c.change.new.arg2 (sym c.get_mut.ensures.value ∙ ap option_copied_mut c.in-Some.is) (c.get_mut.follows.holds c.change.new.arg2).0)

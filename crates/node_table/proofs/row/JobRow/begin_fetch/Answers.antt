@@ -19,7 +19,7 @@ use Rattle.node_table.proofs.row.JobRow.begin_fetch.Goals as goal
 
 pub returns-in-Some-clause-ok : goal.returns-in-Some-clause-ok
 returns-in-Some-clause-ok c session beside contents mine h =
-    subst (λ told. RowStep c.args.node c.args.self.now beside contents (input.Call session (command.Get c.args.id.now)) told c.args.self.now beside) (sym c.only.ensures)
+    subst (λ response. RowStep c.args.node c.args.self.now beside contents (input.Call session (command.Get c.args.id.now)) response c.args.self.now beside) (sym c.only.ensures)
     (fetch_refused c.args.node c.args.self.now beside contents session c.args.id.now mine c.requires.alive h c.requires.none c.in-Some.refusal
     (ap (λ n. fetch_check c.args.self.now.copies n) (sym c.fetches_begun-begun.ensures) ∙ ap (λ t. fetch_check t c.fetches_begun-begun.result) (sym c.copies.ensures.copies) ∙ sym c.fetch_check.ensures ∙ c.in-Some.is))
 

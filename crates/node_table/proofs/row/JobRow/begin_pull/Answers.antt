@@ -47,27 +47,27 @@ pull_in_place-requires-clause-waits c =
 
 pub returns-in-Place-clause-ok : goal.returns-in-Place-clause-ok
 returns-in-Place-clause-ok c =
-    each_ok c.pull_in_place.result (λ o told session hands bytes contents mine h.
+    each_ok c.pull_in_place.result (λ o response session grants bytes contents mine h.
     let own = c.job.ensures.value ∙ own_job c.args.id.now.job c.args.self.now.job mine in
     let kept = subst (λ m. WaitsForPlace m c.args.self.now c.args.works.now c.length-len.result c.room_for.new.self c.room_for.new.works) c.in-Place.is c.in_ok-placement.ensures.place in
-    let makes = subst (λ m. IsRoomMade m c.args.self.now (beside_of c.args.works.now hands bytes c.args.self.now.job) contents c.length-len.result c.room_for.new.self (beside_of c.room_for.new.works hands bytes c.args.self.now.job)) c.in-Place.is (c.in_ok-placement.ensures.ok hands bytes contents own h) in
-    subst (λ w. RowStep c.args.node c.args.self.now (beside_of c.args.works.now hands bytes c.args.self.now.job) contents (input.Call session (command.Get c.args.id.now)) (row_given_of o) c.pull_in_place.new.self (beside_of w hands bytes c.args.self.now.job)) (sym kept.1)
-    (subst (λ r. (c.args.id.now.job.0 == r.job) ≡ true → IsShown r (beside_of c.args.works.now hands bytes c.args.self.now.job) contents → MakesPlace (make_room r.order (shape_of r (beside_of c.args.works.now hands bytes c.args.self.now.job)) c.length-len.result) (shape_of r (beside_of c.args.works.now hands bytes c.args.self.now.job)) c.length-len.result c.in-Place.placement.victims
-    → RowStep c.args.node r (beside_of c.args.works.now hands bytes c.args.self.now.job) contents (input.Call session (command.Get c.args.id.now)) (row_given_of o) c.pull_in_place.new.self (beside_of c.args.works.now hands bytes c.args.self.now.job)) kept.0 (told session (beside_of c.args.works.now hands bytes c.args.self.now.job) contents) mine h
+    let makes = subst (λ m. IsRoomMade m c.args.self.now (beside_of c.args.works.now grants bytes c.args.self.now.job) contents c.length-len.result c.room_for.new.self (beside_of c.room_for.new.works grants bytes c.args.self.now.job)) c.in-Place.is (c.in_ok-placement.ensures.ok grants bytes contents own h) in
+    subst (λ w. RowStep c.args.node c.args.self.now (beside_of c.args.works.now grants bytes c.args.self.now.job) contents (input.Call session (command.Get c.args.id.now)) (row_given_of o) c.pull_in_place.new.self (beside_of w grants bytes c.args.self.now.job)) (sym kept.1)
+    (subst (λ r. (c.args.id.now.job.0 == r.job) ≡ true → IsShown r (beside_of c.args.works.now grants bytes c.args.self.now.job) contents → MakesPlace (make_room r.order (shape_of r (beside_of c.args.works.now grants bytes c.args.self.now.job)) c.length-len.result) (shape_of r (beside_of c.args.works.now grants bytes c.args.self.now.job)) c.length-len.result c.in-Place.placement.victims
+    → RowStep c.args.node r (beside_of c.args.works.now grants bytes c.args.self.now.job) contents (input.Call session (command.Get c.args.id.now)) (row_given_of o) c.pull_in_place.new.self (beside_of c.args.works.now grants bytes c.args.self.now.job)) kept.0 (response session (beside_of c.args.works.now grants bytes c.args.self.now.job) contents) mine h
     makes)) c.pull_in_place.ensures.ok
 
-pub returns-in-Told-clause-ok : goal.returns-in-Told-clause-ok
-returns-in-Told-clause-ok c =
+pub returns-in-Refused-clause-ok : goal.returns-in-Refused-clause-ok
+returns-in-Refused-clause-ok c =
     let k = c.in-Some.copy.now in
     let found = ap (λ t. at t c.args.id.now) (sym c.copies.ensures.copies) ∙ sym c.get.ensures ∙ ap option_copied c.in-Some.is in
     let st = seen_at c.args.self.now.copies c.args.id.now Fetching k found c.requires.visible in
     let z = sized_at c.args.self.now c.args.id.now k found c.requires.sized in
-    each_ok c.refuse.result (λ o said session hands bytes contents mine h.
+    each_ok c.refuse.result (λ o said session grants bytes contents mine h.
     let own = c.job.ensures.value ∙ own_job c.args.id.now.job c.args.self.now.job mine in
-    let made = subst (λ m. IsRoomMade m c.args.self.now (beside_of c.args.works.now hands bytes c.args.self.now.job) contents c.length-len.result c.room_for.new.self (beside_of c.room_for.new.works hands bytes c.args.self.now.job)) c.in-Told.is (c.in_ok-placement.ensures.ok hands bytes contents own h) in
-    let tells = subst (λ n. TellsRoom c.args.self.now (beside_of c.args.works.now hands bytes c.args.self.now.job) contents n c.in-Told.refusal c.room_for.new.self (beside_of c.room_for.new.works hands bytes c.args.self.now.job)) c.length-len.ensures made in
-    subst (λ t. RowStep c.args.node c.args.self.now (beside_of c.args.works.now hands bytes c.args.self.now.job) contents (input.Call session (command.Get c.args.id.now)) t c.room_for.new.self (beside_of c.room_for.new.works hands bytes c.args.self.now.job)) (sym said)
-    (tells.tells c.args.node (input.Call session (command.Get c.args.id.now)) (f c.args.node c.args.self.now (beside_of c.args.works.now hands bytes c.args.self.now.job) contents h (input.Call session (command.Get c.args.id.now)) (quiet_get c.args.node c.args.self.now (beside_of c.args.works.now hands bytes c.args.self.now.job) contents session c.args.id.now) c.args.id.now k found st.1 z.fetch z.source z.fetched z.is z.fine (phase_is c.args.node c.args.self.now (beside_of c.args.works.now hands bytes c.args.self.now.job) contents session c.args.id.now mine c.requires.alive h k found st.0 st.1 z.fetch z.fetched (sized z.source) z.is)) (quiet_get c.args.node c.args.self.now (beside_of c.args.works.now hands bytes c.args.self.now.job) contents session c.args.id.now) (λ none. by_room c.args.node c.args.self.now (beside_of c.args.works.now hands bytes c.args.self.now.job) contents h (input.Call session (command.Get c.args.id.now)) (quiet_get c.args.node c.args.self.now (beside_of c.args.works.now hands bytes c.args.self.now.job) contents session c.args.id.now) c.args.id.now k found st.1 z.fetch z.source z.fetched z.is z.fine (phase_is c.args.node c.args.self.now (beside_of c.args.works.now hands bytes c.args.self.now.job) contents session c.args.id.now mine c.requires.alive h k found st.0 st.1 z.fetch z.fetched (sized z.source) z.is)))) c.refuse.ensures.ok
+    let made = subst (λ m. IsRoomMade m c.args.self.now (beside_of c.args.works.now grants bytes c.args.self.now.job) contents c.length-len.result c.room_for.new.self (beside_of c.room_for.new.works grants bytes c.args.self.now.job)) c.in-Refused.is (c.in_ok-placement.ensures.ok grants bytes contents own h) in
+    let tells = subst (λ n. TellsRoom c.args.self.now (beside_of c.args.works.now grants bytes c.args.self.now.job) contents n c.in-Refused.refusal c.room_for.new.self (beside_of c.room_for.new.works grants bytes c.args.self.now.job)) c.length-len.ensures made in
+    subst (λ t. RowStep c.args.node c.args.self.now (beside_of c.args.works.now grants bytes c.args.self.now.job) contents (input.Call session (command.Get c.args.id.now)) t c.room_for.new.self (beside_of c.room_for.new.works grants bytes c.args.self.now.job)) (sym said)
+    (tells.tells c.args.node (input.Call session (command.Get c.args.id.now)) (f c.args.node c.args.self.now (beside_of c.args.works.now grants bytes c.args.self.now.job) contents h (input.Call session (command.Get c.args.id.now)) (quiet_get c.args.node c.args.self.now (beside_of c.args.works.now grants bytes c.args.self.now.job) contents session c.args.id.now) c.args.id.now k found st.1 z.fetch z.source z.fetched z.is z.fine (phase_is c.args.node c.args.self.now (beside_of c.args.works.now grants bytes c.args.self.now.job) contents session c.args.id.now mine c.requires.alive h k found st.0 st.1 z.fetch z.fetched (sized z.source) z.is)) (quiet_get c.args.node c.args.self.now (beside_of c.args.works.now grants bytes c.args.self.now.job) contents session c.args.id.now) (λ none. by_room c.args.node c.args.self.now (beside_of c.args.works.now grants bytes c.args.self.now.job) contents h (input.Call session (command.Get c.args.id.now)) (quiet_get c.args.node c.args.self.now (beside_of c.args.works.now grants bytes c.args.self.now.job) contents session c.args.id.now) c.args.id.now k found st.1 z.fetch z.source z.fetched z.is z.fine (phase_is c.args.node c.args.self.now (beside_of c.args.works.now grants bytes c.args.self.now.job) contents session c.args.id.now mine c.requires.alive h k found st.0 st.1 z.fetch z.fetched (sized z.source) z.is)))) c.refuse.ensures.ok
 
 pub pull_in_place-requires-clause-may_go : goal.pull_in_place-requires-clause-may_go
 pull_in_place-requires-clause-may_go c =

@@ -16,29 +16,29 @@ use Rattle.node_table.proofs.MemoryLast.{create_due}
 use Rattle.node_table.proofs.row.JobRow.create.Goals as goal
 
 pub returns-in-Some-clause-ok : goal.returns-in-Some-clause-ok
-returns-in-Some-clause-ok c = each_ok c.refuse.result (λ o said session hands bytes contents mine h.
-    subst (λ t. RowStep c.args.node c.args.self.now (beside_of c.args.works.now hands bytes c.args.self.now.job) contents (input.Call session (command.Create c.args.id.now c.args.kind c.args.len)) t c.args.self.now (beside_of c.args.works.now hands bytes c.args.self.now.job)) (sym said)
-    (create_refused c.args.node c.args.self.now (beside_of c.args.works.now hands bytes c.args.self.now.job) contents session c.args.id.now c.args.kind c.args.len mine h c.in-Some.refusal (sym c.create_check.ensures ∙ c.in-Some.is))) c.refuse.ensures.ok
+returns-in-Some-clause-ok c = each_ok c.refuse.result (λ o said session grants bytes contents mine h.
+    subst (λ t. RowStep c.args.node c.args.self.now (beside_of c.args.works.now grants bytes c.args.self.now.job) contents (input.Call session (command.Create c.args.id.now c.args.kind c.args.len)) t c.args.self.now (beside_of c.args.works.now grants bytes c.args.self.now.job)) (sym said)
+    (create_refused c.args.node c.args.self.now (beside_of c.args.works.now grants bytes c.args.self.now.job) contents session c.args.id.now c.args.kind c.args.len mine h c.in-Some.refusal (sym c.create_check.ensures ∙ c.in-Some.is))) c.refuse.ensures.ok
 
 pub returns-in-Place-clause-ok : goal.returns-in-Place-clause-ok
-returns-in-Place-clause-ok c = each_ok c.create_in_place.result (λ o told session hands bytes contents mine h.
+returns-in-Place-clause-ok c = each_ok c.create_in_place.result (λ o response session grants bytes contents mine h.
     let own = c.job.ensures.value ∙ own_job c.args.id.now.job c.args.self.now.job mine in
     let kept = subst (λ m. WaitsForPlace m c.args.self.now c.args.works.now c.args.len c.room_for.new.self c.room_for.new.works) c.in-Place.is c.in_ok-placement.ensures.place in
-    let makes = subst (λ m. IsRoomMade m c.args.self.now (beside_of c.args.works.now hands bytes c.args.self.now.job) contents c.args.len c.room_for.new.self (beside_of c.room_for.new.works hands bytes c.args.self.now.job)) c.in-Place.is (c.in_ok-placement.ensures.ok hands bytes contents own h) in
-    subst (λ w. RowStep c.args.node c.args.self.now (beside_of c.args.works.now hands bytes c.args.self.now.job) contents (input.Call session (command.Create c.args.id.now c.args.kind c.args.len)) (row_given_of o) c.create_in_place.new.self (beside_of w hands bytes c.args.self.now.job)) (sym kept.1)
-    (subst (λ r. (c.args.id.now.job.0 == r.job) ≡ true → IsShown r (beside_of c.args.works.now hands bytes c.args.self.now.job) contents → MakesPlace (make_room r.order (shape_of r (beside_of c.args.works.now hands bytes c.args.self.now.job)) c.args.len) (shape_of r (beside_of c.args.works.now hands bytes c.args.self.now.job)) c.args.len c.in-Place.placement.victims
-    → RowStep c.args.node r (beside_of c.args.works.now hands bytes c.args.self.now.job) contents (input.Call session (command.Create c.args.id.now c.args.kind c.args.len)) (row_given_of o) c.create_in_place.new.self (beside_of c.args.works.now hands bytes c.args.self.now.job)) kept.0 (told session (beside_of c.args.works.now hands bytes c.args.self.now.job) contents) mine h
+    let makes = subst (λ m. IsRoomMade m c.args.self.now (beside_of c.args.works.now grants bytes c.args.self.now.job) contents c.args.len c.room_for.new.self (beside_of c.room_for.new.works grants bytes c.args.self.now.job)) c.in-Place.is (c.in_ok-placement.ensures.ok grants bytes contents own h) in
+    subst (λ w. RowStep c.args.node c.args.self.now (beside_of c.args.works.now grants bytes c.args.self.now.job) contents (input.Call session (command.Create c.args.id.now c.args.kind c.args.len)) (row_given_of o) c.create_in_place.new.self (beside_of w grants bytes c.args.self.now.job)) (sym kept.1)
+    (subst (λ r. (c.args.id.now.job.0 == r.job) ≡ true → IsShown r (beside_of c.args.works.now grants bytes c.args.self.now.job) contents → MakesPlace (make_room r.order (shape_of r (beside_of c.args.works.now grants bytes c.args.self.now.job)) c.args.len) (shape_of r (beside_of c.args.works.now grants bytes c.args.self.now.job)) c.args.len c.in-Place.placement.victims
+    → RowStep c.args.node r (beside_of c.args.works.now grants bytes c.args.self.now.job) contents (input.Call session (command.Create c.args.id.now c.args.kind c.args.len)) (row_given_of o) c.create_in_place.new.self (beside_of c.args.works.now grants bytes c.args.self.now.job)) kept.0 (response session (beside_of c.args.works.now grants bytes c.args.self.now.job) contents) mine h
     makes)) c.create_in_place.ensures.ok
 
-pub returns-in-Told-clause-ok : goal.returns-in-Told-clause-ok
-returns-in-Told-clause-ok c = each_ok c.refuse-in-Told.result (λ o said session hands bytes contents mine h.
+pub returns-in-Refused-clause-ok : goal.returns-in-Refused-clause-ok
+returns-in-Refused-clause-ok c = each_ok c.refuse-in-Refused.result (λ o said session grants bytes contents mine h.
     let passed = sym c.create_check.ensures ∙ c.in_default.is in
     let own = c.job.ensures.value ∙ own_job c.args.id.now.job c.args.self.now.job mine in
-    let made = subst (λ m. IsRoomMade m c.args.self.now (beside_of c.args.works.now hands bytes c.args.self.now.job) contents c.args.len c.room_for.new.self (beside_of c.room_for.new.works hands bytes c.args.self.now.job)) c.in-Told.is (c.in_ok-placement.ensures.ok hands bytes contents own h) in
-    subst (λ t. RowStep c.args.node c.args.self.now (beside_of c.args.works.now hands bytes c.args.self.now.job) contents (input.Call session (command.Create c.args.id.now c.args.kind c.args.len)) t c.room_for.new.self (beside_of c.room_for.new.works hands bytes c.args.self.now.job)) (sym said)
-    (made.tells c.args.node (x c.args.node c.args.self.now (beside_of c.args.works.now hands bytes c.args.self.now.job) contents session c.args.id.now c.args.kind c.args.len mine h)
-    (created c.args.id.now c.args.kind c.args.len) (quiet c.args.node c.args.self.now (beside_of c.args.works.now hands bytes c.args.self.now.job) contents session c.args.id.now c.args.kind c.args.len mine h)
-    (λ none. by_room c.args.node c.args.self.now (beside_of c.args.works.now hands bytes c.args.self.now.job) contents session c.args.id.now c.args.kind c.args.len mine h passed))) c.refuse-in-Told.ensures.ok
+    let made = subst (λ m. IsRoomMade m c.args.self.now (beside_of c.args.works.now grants bytes c.args.self.now.job) contents c.args.len c.room_for.new.self (beside_of c.room_for.new.works grants bytes c.args.self.now.job)) c.in-Refused.is (c.in_ok-placement.ensures.ok grants bytes contents own h) in
+    subst (λ t. RowStep c.args.node c.args.self.now (beside_of c.args.works.now grants bytes c.args.self.now.job) contents (input.Call session (command.Create c.args.id.now c.args.kind c.args.len)) t c.room_for.new.self (beside_of c.room_for.new.works grants bytes c.args.self.now.job)) (sym said)
+    (made.tells c.args.node (x c.args.node c.args.self.now (beside_of c.args.works.now grants bytes c.args.self.now.job) contents session c.args.id.now c.args.kind c.args.len mine h)
+    (created c.args.id.now c.args.kind c.args.len) (quiet c.args.node c.args.self.now (beside_of c.args.works.now grants bytes c.args.self.now.job) contents session c.args.id.now c.args.kind c.args.len mine h)
+    (λ none. by_room c.args.node c.args.self.now (beside_of c.args.works.now grants bytes c.args.self.now.job) contents session c.args.id.now c.args.kind c.args.len mine h passed))) c.refuse-in-Refused.ensures.ok
 
 pub create_in_place-requires-clause-may_go : goal.create_in_place-requires-clause-may_go
 create_in_place-requires-clause-may_go c =

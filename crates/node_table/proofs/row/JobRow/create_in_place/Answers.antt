@@ -46,8 +46,8 @@ returns-clause-bounded c =
     let few = c.requires.may_go.few in
     let sent = length-removals c.args.node c.copies.result.now c.as_slice-victims.result.now in
     let same = ap length c.as_slice-victims.ensures in
-    let told = ap length c.in_ok-messages.ensures in
-    omega (arith, few, sent, same, told)
+    let response = ap length c.in_ok-messages.ensures in
+    omega (arith, few, sent, same, response)
 
 pub replace_copies-requires-clause-some : goal.replace_copies-requires-clause-some
 replace_copies-requires-clause-some c = some_bytes c.args.self.now.window.quota c.args.len (size_of c.args.self.now c.args.id.now c.args.len c.requires.checked)

@@ -13,7 +13,7 @@ use Rattle.node_table.proofs.row.JobRow.delete.Goals as goal
 
 pub returns-in-Err-clause-ok : goal.returns-in-Err-clause-ok
 returns-in-Err-clause-ok c beside contents mine h =
-    subst (λ told. RowStep c.args.node c.args.self.now beside contents (input.Call c.args.session (command.Delete c.args.id.now)) told c.args.self.now beside) (sym c.only.ensures)
+    subst (λ response. RowStep c.args.node c.args.self.now beside contents (input.Call c.args.session (command.Delete c.args.id.now)) response c.args.self.now beside) (sym c.only.ensures)
     (delete_refused c.args.node c.args.self.now beside contents c.args.session c.args.id.now mine h c.in-Err.refusal
     (ap (λ t. delete_check t c.args.id.now) (sym c.copies.ensures.copies) ∙ c.in-Err.ensures.refused))
 

@@ -1,13 +1,13 @@
 use Rattle.std.proofs.Common.{◌∷◌, ◌+◌, ◌++◌, drop, fold, map, refl, sym, ap, ◌∙◌, arith}
 use Rattle.std.proofs.lemmas.List.{append-nil, append_assoc, drop_all, drop_more}
 use Rattle.obj_id.specs.declared.commands.OwnItem.{OwnItem}
-use Rattle.node_table.specs.EndingTasks.{doomed_row, doom_posts, told_each}
+use Rattle.node_table.specs.EndingTasks.{doomed_row, doom_posts, posts_of_each}
 use Rattle.node_table.proofs.row.JobRow.doom_each.Goals as goal
 
 pub loop-item-init : goal.loop-item-init
 loop-item-init c = record {
   row = refl;
-  told = refl;
+  response = refl;
   few = omega arith;
   room = c.requires;
   grows = omega arith;
@@ -23,8 +23,8 @@ loop-item-preserved c =
     record {
       row = ap (λ r. fold (doomed_row c.args.task) r rest) c.doom_one.ensures.row
           ∙ ap (λ xs. fold (doomed_row c.args.task) c.loop-item.self (map (λ (item : OwnItem). item.id) xs)) (sym next) ∙ c.loop-item.invariant.row;
-      told = (λ i. c.doom_one.ensures.told i ++ told_each (doomed_row c.args.task) (doom_posts c.args.node c.args.task) (c.doom_one.ensures.row i) rest) ∙ append_assoc c.loop-item.messages.items _ _
-          ∙ ap (λ xs. c.loop-item.messages.items ++ told_each (doomed_row c.args.task) (doom_posts c.args.node c.args.task) c.loop-item.self (map (λ (item : OwnItem). item.id) xs)) (sym next) ∙ c.loop-item.invariant.told;
+      response = (λ i. c.doom_one.ensures.response i ++ posts_of_each (doomed_row c.args.task) (doom_posts c.args.node c.args.task) (c.doom_one.ensures.row i) rest) ∙ append_assoc c.loop-item.messages.items _ _
+          ∙ ap (λ xs. c.loop-item.messages.items ++ posts_of_each (doomed_row c.args.task) (doom_posts c.args.node c.args.task) c.loop-item.self (map (λ (item : OwnItem). item.id) xs)) (sym next) ∙ c.loop-item.invariant.response;
       few = omega (arith, c.doom_one.ensures.len, c.loop-item.invariant.few);
       room = c.loop-item.invariant.room;
       grows = omega (arith, c.doom_one.ensures.capacity, c.loop-item.invariant.grows);
@@ -34,7 +34,7 @@ pub returns-clause-row : goal.returns-clause-row
 returns-clause-row c =
     ap (λ xs. fold (doomed_row c.args.task) c.loop-item.self (map (λ (item : OwnItem). item.id) xs)) (sym (drop_all c.loop-item.item-index c.args.items.now c.loop-item-test.false)) ∙ c.loop-item.invariant.row
 
-pub returns-clause-told : goal.returns-clause-told
-returns-clause-told c =
+pub returns-clause-response : goal.returns-clause-response
+returns-clause-response c =
     sym (append-nil c.loop-item.messages.items)
-    ∙ ap (λ xs. c.loop-item.messages.items ++ told_each (doomed_row c.args.task) (doom_posts c.args.node c.args.task) c.loop-item.self (map (λ (item : OwnItem). item.id) xs)) (sym (drop_all c.loop-item.item-index c.args.items.now c.loop-item-test.false)) ∙ c.loop-item.invariant.told
+    ∙ ap (λ xs. c.loop-item.messages.items ++ posts_of_each (doomed_row c.args.task) (doom_posts c.args.node c.args.task) c.loop-item.self (map (λ (item : OwnItem). item.id) xs)) (sym (drop_all c.loop-item.item-index c.args.items.now c.loop-item-test.false)) ∙ c.loop-item.invariant.response

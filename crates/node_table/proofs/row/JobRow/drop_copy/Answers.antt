@@ -34,4 +34,4 @@ returns-clause-row c =
     (λ i. row_of (window i) (c.take-copy.ensures.copies i) (c.forget.ensures.ids i)) ∙ ap (λ r. dropped r c.args.id.now) c.self.view_is
   where
     row_of : Region → ById CopyView → List ObjectId → Row
-    row_of window copies order = record { job = c.self.inside.job.0; window = window; device = c.self.inside.device; copies = copies; order = order; fetches_begun = c.self.inside.fetches_begun; spill_failed = c.self.inside.spill_failed; ended_tasks = c.self.inside.ended_tasks.keys }
+    row_of window copies order = record { job = c.self.inside.job.0; window = window; device = c.self.inside.device_quota; copies = copies; order = order; fetches_begun = c.self.inside.fetches_begun; spill_failed = c.self.inside.spill_failed; ended_tasks = c.self.inside.ended_tasks.keys }

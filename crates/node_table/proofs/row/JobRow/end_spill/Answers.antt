@@ -22,5 +22,5 @@ returns c =
     row_with : Bool → Row
     row_with b =
         with_copy (after_write c.args.number c.args.failed)
-        (record { job = c.self.inside.job.0; window = c.self.inside.window; device = c.self.inside.device; copies = c.self.inside.copies; order = order_ids c.self.inside.order; fetches_begun = c.self.inside.fetches_begun; spill_failed = b; ended_tasks = c.self.inside.ended_tasks.keys })
+        (record { job = c.self.inside.job.0; window = c.self.inside.window; device = c.self.inside.device_quota; copies = c.self.inside.copies; order = order_ids c.self.inside.order; fetches_begun = c.self.inside.fetches_begun; spill_failed = b; ended_tasks = c.self.inside.ended_tasks.keys })
         c.args.id.now

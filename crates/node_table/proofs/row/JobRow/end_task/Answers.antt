@@ -3,7 +3,7 @@ use Rattle.obj_id.specs.declared.commands.Command.TheVariants as command
 use Rattle.obj_id.specs.declared.commands.OwnItem.{OwnItem}
 use Rattle.obj_id.specs.declared.commands.Reply.TheVariants as reply
 use Rattle.private_store.specs.declared.inputs.Input.TheVariants as input
-use Rattle.node_table.specs.EndingTasks.{beside_after, doomed_row, doom_posts, given_up_row, give_up_posts, told_each, keys_of_copies, gone_keys}
+use Rattle.node_table.specs.EndingTasks.{beside_after, doomed_row, doom_posts, given_up_row, give_up_posts, posts_of_each, keys_of_copies, gone_keys}
 use Rattle.node_table.specs.Shown.{RowStep}
 use Rattle.node_table.specs.Usages.{own_item_of}
 use Rattle.node_table.proofs.EndingTasks.{end_task_refused, end_task_done, given}
@@ -12,7 +12,7 @@ use Rattle.node_table.proofs.row.JobRow.end_task.Goals as goal
 
 pub returns-in-Some-clause-ok : goal.returns-in-Some-clause-ok
 returns-in-Some-clause-ok c beside contents h =
-    subst (λ told. RowStep c.args.node c.args.self.now beside contents (input.Call c.args.session (command.EndTask c.args.task)) told c.args.self.now (beside_after c.args.self.now c.args.task beside)) (sym c.only.ensures)
+    subst (λ response. RowStep c.args.node c.args.self.now beside contents (input.Call c.args.session (command.EndTask c.args.task)) response c.args.self.now (beside_after c.args.self.now c.args.task beside)) (sym c.only.ensures)
     (end_task_refused c.args.node c.args.self.now beside contents c.args.session c.args.task h c.in-Some.refusal (sym c.end_task_check.ensures ∙ c.in-Some.is))
 
 pub returns-clause-ok : goal.returns-clause-ok
@@ -28,8 +28,8 @@ returns-clause-ok c beside contents h =
     let e0 = c.in_ok-remember_end.ensures.ok in
     let e1 = c.doom_each.ensures.row ∙ (λ i. fold (doomed_row task) (e0 i) (ids-3 i)) in
     let e2 = c.give_up_each.ensures.row ∙ (λ i. fold (given_up_row task) (e1 i) (ids-4 i)) in
-    let first = c.doom_each.ensures.told ∙ (λ i. c.in_ok-messages.ensures.items i ++ told_each (doomed_row task) (doom_posts node task) (e0 i) (ids-3 i)) in
-    let posts = c.from_vec.ensures ∙ c.give_up_each.ensures.told ∙ (λ i. first i ++ told_each (given_up_row task) (give_up_posts node task) (e1 i) (ids-4 i)) in
+    let first = c.doom_each.ensures.response ∙ (λ i. c.in_ok-messages.ensures.items i ++ posts_of_each (doomed_row task) (doom_posts node task) (e0 i) (ids-3 i)) in
+    let posts = c.from_vec.ensures ∙ c.give_up_each.ensures.response ∙ (λ i. first i ++ posts_of_each (given_up_row task) (give_up_posts node task) (e1 i) (ids-4 i)) in
     let erased = c.from_vec-2.ensures ∙ c.push_gone.ensures ∙ (λ i. c.in_ok-erased.ensures.items i ++ gone_keys (e2 i) (keys i)) in
     subst (λ g. RowStep node row beside contents (input.Call c.args.session (command.EndTask task)) g c.give_up_each.new.self (beside_after row task beside)) (sym (λ i. record { reply = reply.Ok; posts = posts i; erased = erased i }))
     (subst (λ r. RowStep node row beside contents (input.Call c.args.session (command.EndTask task)) (given node row beside contents c.args.session task h) r (beside_after row task beside)) (sym e2)

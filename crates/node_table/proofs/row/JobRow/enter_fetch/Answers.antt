@@ -40,4 +40,4 @@ returns-then-is_err-clause-err c =
     ∙ ap (λ o. row_of c.self.inside.copies (order_ids o)) undone ∙ c.self.view_is
   where
     row_of : ById CopyView → List ObjectId → Row
-    row_of copies order = record { job = c.self.inside.job.0; window = c.self.inside.window; device = c.self.inside.device; copies = copies; order = order; fetches_begun = c.self.inside.fetches_begun; spill_failed = c.self.inside.spill_failed; ended_tasks = c.self.inside.ended_tasks.keys }
+    row_of copies order = record { job = c.self.inside.job.0; window = c.self.inside.window; device = c.self.inside.device_quota; copies = copies; order = order; fetches_begun = c.self.inside.fetches_begun; spill_failed = c.self.inside.spill_failed; ended_tasks = c.self.inside.ended_tasks.keys }

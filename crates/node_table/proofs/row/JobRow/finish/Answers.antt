@@ -9,17 +9,17 @@ use Rattle.node_table.proofs.Answering.{finish_done, finish_judged}
 use Rattle.node_table.proofs.row.JobRow.finish.Goals as goal
 
 pub returns-in-Ok-clause-step : goal.returns-in-Ok-clause-step
-returns-in-Ok-clause-step c passed node hands bytes contents h =
-    let before = beside_of c.args.works.now hands bytes c.args.self.now.job in
-    let after = beside_of c.finish.new.self hands bytes c.args.self.now.job in
+returns-in-Ok-clause-step c passed node grants bytes contents h =
+    let before = beside_of c.args.works.now grants bytes c.args.self.now.job in
+    let after = beside_of c.finish.new.self grants bytes c.args.self.now.job in
     subst (λ g. RowStep node c.args.self.now before contents (input.Answer c.args.number c.args.answer.now) g c.settle_after-outcome.new.self after)
     (sym (c.settle_after-outcome.ensures.given ∙ ap (λ posts. record { reply = reply.Ok; posts = posts; erased = keys_settled c.end_work-verdict.new.self c.in-Ok.asked.id }) c.new.ensures))
     (subst (λ r. RowStep node c.args.self.now before contents (input.Answer c.args.number c.args.answer.now) (record { reply = reply.Ok; posts = []; erased = keys_settled c.end_work-verdict.new.self c.in-Ok.asked.id }) r after)
     (sym c.settle_after-outcome.ensures.row)
-    (finish_done node c.args.self.now c.args.works.now c.finish.new.self hands bytes contents h c.args.number c.args.answer.now c.in-Ok.asked (subst (λ job. Finishes c.args.works.now job c.args.number c.in-Ok.asked c.finish.new.self) c.job.ensures c.in-Ok.ensures.ok)
+    (finish_done node c.args.self.now c.args.works.now c.finish.new.self grants bytes contents h c.args.number c.args.answer.now c.in-Ok.asked (subst (λ job. Finishes c.args.works.now job c.args.number c.in-Ok.asked c.finish.new.self) c.job.ensures c.in-Ok.ensures.ok)
     c.end_work-verdict.ensures.placed c.end_work-verdict.new.self c.end_work-verdict.ensures.row))
 
 pub returns-in-Ok-clause-verdict : goal.returns-in-Ok-clause-verdict
-returns-in-Ok-clause-verdict c passed hands bytes contents h =
-    finish_judged 0 c.args.self.now c.args.works.now c.finish.new.self hands bytes contents h c.args.number c.args.answer.now c.in-Ok.asked (subst (λ job. Finishes c.args.works.now job c.args.number c.in-Ok.asked c.finish.new.self) c.job.ensures c.in-Ok.ensures.ok)
+returns-in-Ok-clause-verdict c passed grants bytes contents h =
+    finish_judged 0 c.args.self.now c.args.works.now c.finish.new.self grants bytes contents h c.args.number c.args.answer.now c.in-Ok.asked (subst (λ job. Finishes c.args.works.now job c.args.number c.in-Ok.asked c.finish.new.self) c.job.ensures c.in-Ok.ensures.ok)
     c.end_work-verdict.result c.end_work-verdict.ensures.verdict

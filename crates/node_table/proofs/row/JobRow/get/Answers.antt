@@ -11,21 +11,21 @@ use Rattle.node_table.proofs.Getting.{each_ok, always_err, gone_told}
 use Rattle.node_table.proofs.row.JobRow.get.Goals as goal
 
 pub returns-in-Some-clause-ok : goal.returns-in-Some-clause-ok
-returns-in-Some-clause-ok c hands bytes contents mine h =
-    let beside = beside_of c.args.works.now hands bytes c.args.self.now.job in
-    subst (λ told. RowStep c.args.node c.args.self.now beside contents (input.Call c.args.session (command.Get c.args.id.now)) told c.get_sealed.new.self beside) (sym c.only.ensures)
+returns-in-Some-clause-ok c grants bytes contents mine h =
+    let beside = beside_of c.args.works.now grants bytes c.args.self.now.job in
+    subst (λ response. RowStep c.args.node c.args.self.now beside contents (input.Call c.args.session (command.Get c.args.id.now)) response c.get_sealed.new.self beside) (sym c.only.ensures)
     ((rw c.in-Some.is at c.in_ok-reply.ensures.some) c.args.node beside contents mine h)
 
 pub returns-clause-ok : goal.returns-clause-ok
 returns-clause-ok c =
-    each_ok c.get_unsealed.result (λ o told hands bytes. subst (λ (row : Row). (contents : Contents) → (c.args.id.now.job.0 == row.job) ≡ true → IsShown row (beside_of c.args.works.now hands bytes row.job) contents
-    → RowStep c.args.node row (beside_of c.args.works.now hands bytes row.job) contents (input.Call c.args.session (command.Get c.args.id.now)) (row_given_of o) c.get_unsealed.new.self (beside_of c.get_unsealed.new.works hands bytes row.job))
-    (rw c.in_default.is at c.in_ok-reply.ensures.same) (told c.args.session hands bytes)) c.get_unsealed.ensures.ok
+    each_ok c.get_unsealed.result (λ o response grants bytes. subst (λ (row : Row). (contents : Contents) → (c.args.id.now.job.0 == row.job) ≡ true → IsShown row (beside_of c.args.works.now grants bytes row.job) contents
+    → RowStep c.args.node row (beside_of c.args.works.now grants bytes row.job) contents (input.Call c.args.session (command.Get c.args.id.now)) (row_given_of o) c.get_unsealed.new.self (beside_of c.get_unsealed.new.works grants bytes row.job))
+    (rw c.in_default.is at c.in_ok-reply.ensures.same) (response c.args.session grants bytes)) c.get_unsealed.ensures.ok
 
 pub returns-then-has_ended-clause-ok : goal.returns-then-has_ended-clause-ok
 returns-then-has_ended-clause-ok c =
-    each_ok c.refuse.result (λ o said hands bytes contents mine h.
-    let beside = beside_of c.args.works.now hands bytes c.args.self.now.job in
+    each_ok c.refuse.result (λ o said grants bytes contents mine h.
+    let beside = beside_of c.args.works.now grants bytes c.args.self.now.job in
     subst (λ t. RowStep c.args.node c.args.self.now beside contents (input.Call c.args.session (command.Get c.args.id.now)) t c.args.self.now beside) (sym said)
     (gone_told c.args.node c.args.self.now beside contents c.args.session c.args.id.now mine h
     (ap (is_remembered c.args.self.now.ended_tasks) (sym c.task.ensures) ∙ sym c.has_ended.ensures ∙ c.if-has_ended.true))) c.refuse.ensures.ok

@@ -18,12 +18,12 @@ pub returns-in-Some-clause-ok : goal.returns-in-Some-clause-ok
 returns-in-Some-clause-ok c =
     let v = some_at c.args.self.now.copies c.args.id.now Away c.requires.visible in
     let faulty = sym (ap (option_and_then (λ (k : CopyView). k.copy.fault)) v.found) ∙ ap (λ t. fault_at t c.args.id.now) (sym c.copies.ensures.copies) ∙ sym c.fault.ensures ∙ c.in-Some.is in
-    each_ok c.refuse.result (λ o said session hands bytes contents mine h.
-    let beside = beside_of c.args.works.now hands bytes c.args.self.now.job in
+    each_ok c.refuse.result (λ o said session grants bytes contents mine h.
+    let beside = beside_of c.args.works.now grants bytes c.args.self.now.job in
     subst (λ g. RowStep c.args.node c.args.self.now beside contents (input.Call session (command.Get c.args.id.now)) g c.apply.new.self beside) (sym (said ∙ ap (λ r. only (reply.Refused r)) c.refusal.ensures))
     (subst (λ row. RowStep c.args.node c.args.self.now beside contents (input.Call session (command.Get c.args.id.now)) (only (reply.Refused (refusal_of c.in-Some.fault))) row beside) (sym c.apply.ensures.row)
     (told_once c.args.node c.args.self.now beside contents session c.args.id.now mine c.requires.alive h v.k v.found v.stays v.is c.in-Some.fault faulty))) c.refuse.ensures.ok
 
 pub returns-in-None-clause-ok : goal.returns-in-None-clause-ok
-returns-in-None-clause-ok c = each_ok c.restore.result (λ o told session hands bytes contents mine h.
-    told session hands bytes contents (c.job.ensures.value ∙ own_job c.args.id.now.job c.args.self.now.job mine) mine c.requires.alive h) c.restore.ensures.ok
+returns-in-None-clause-ok c = each_ok c.restore.result (λ o response session grants bytes contents mine h.
+    response session grants bytes contents (c.job.ensures.value ∙ own_job c.args.id.now.job c.args.self.now.job mine) mine c.requires.alive h) c.restore.ensures.ok

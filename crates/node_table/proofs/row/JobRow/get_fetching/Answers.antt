@@ -25,30 +25,30 @@ returns-in_default-fetch-clause-ok c =
     let found = ap (λ t. at t c.args.id.now) (sym c.copies.ensures.copies) ∙ sym c.get.ensures ∙ ap option_copied c.in-Some.is in
     let st = seen_at c.args.self.now.copies c.args.id.now Fetching k found c.requires.visible in
     let none = sym c.fetch.ensures ∙ ap (λ o. option_map store_fetch_of (option_copied o)) c.in_default-fetch.is in
-    each_ok c.refuse.result (λ o said session hands bytes contents mine h.
-    let beside = beside_of c.args.works.now hands bytes c.args.self.now.job in
+    each_ok c.refuse.result (λ o said session grants bytes contents mine h.
+    let beside = beside_of c.args.works.now grants bytes c.args.self.now.job in
     subst (λ g. RowStep c.args.node c.args.self.now beside contents (input.Call session (command.Get c.args.id.now)) g c.args.self.now beside) (sym said)
     (unfetched_told c.args.node c.args.self.now beside contents session c.args.id.now mine c.requires.alive h k found st.0 st.1 none)) c.refuse.ensures.ok
 
 pub returns-in_ok-locate-in-Locating-clause-ok : goal.returns-in_ok-locate-in-Locating-clause-ok
-returns-in_ok-locate-in-Locating-clause-ok c session hands bytes contents mine h =
+returns-in_ok-locate-in-Locating-clause-ok c session grants bytes contents mine h =
     let k = c.in-Some.copy.now in
     let found = ap (λ t. at t c.args.id.now) (sym c.copies.ensures.copies) ∙ sym c.get.ensures ∙ ap option_copied c.in-Some.is in
     let st = seen_at c.args.self.now.copies c.args.id.now Fetching k found c.requires.visible in
     let fetched = sym c.fetch.ensures ∙ ap (λ o. option_map store_fetch_of (option_copied o)) c.in-Some-fetch.is in
-    let beside = beside_of c.args.works.now hands bytes c.args.self.now.job in
+    let beside = beside_of c.args.works.now grants bytes c.args.self.now.job in
     subst (λ g. RowStep c.args.node c.args.self.now beside contents (input.Call session (command.Get c.args.id.now)) g c.args.self.now beside) (sym c.pending.ensures)
     (located_again c.args.node c.args.self.now beside contents session c.args.id.now mine c.requires.alive h k found st.0 st.1 (store_fetch_of c.in-Some-fetch.fetch.now) fetched
     (sym c.stage.ensures ∙ ap (λ stage. phase_of stage (missing_of c.in-Some-fetch.fetch.now.phase)) c.in-Locating.is) c.in_ok-locate-in-Locating.field-0
     (c.in_ok-locate-in-Locating.ensures ∙ ap (λ n. to_directory (Locate c.args.id.now c.args.node n)) c.number.ensures))
 
 pub returns-in_ok-pull-in-Pulling-clause-ok : goal.returns-in_ok-pull-in-Pulling-clause-ok
-returns-in_ok-pull-in-Pulling-clause-ok c session hands bytes contents mine h =
+returns-in_ok-pull-in-Pulling-clause-ok c session grants bytes contents mine h =
     let k = c.in-Some.copy.now in
     let found = ap (λ t. at t c.args.id.now) (sym c.copies.ensures.copies) ∙ sym c.get.ensures ∙ ap option_copied c.in-Some.is in
     let st = seen_at c.args.self.now.copies c.args.id.now Fetching k found c.requires.visible in
     let fetched = sym c.fetch.ensures ∙ ap (λ o. option_map store_fetch_of (option_copied o)) c.in-Some-fetch.is in
-    let beside = beside_of c.args.works.now hands bytes c.args.self.now.job in
+    let beside = beside_of c.args.works.now grants bytes c.args.self.now.job in
     subst (λ g. RowStep c.args.node c.args.self.now beside contents (input.Call session (command.Get c.args.id.now)) g c.args.self.now beside) (sym c.pending-in-Pulling.ensures)
     (pulled_again c.args.node c.args.self.now beside contents session c.args.id.now mine c.requires.alive h k found st.0 st.1 (store_fetch_of c.in-Some-fetch.fetch.now) fetched
     c.in-Pulling.source (missing_of c.in-Some-fetch.fetch.now.phase) (sym c.stage.ensures ∙ ap (λ stage. phase_of stage (missing_of c.in-Some-fetch.fetch.now.phase)) c.in-Pulling.is) c.in_ok-pull-in-Pulling.field-0 c.in_ok-pull-in-Pulling.ensures)
@@ -70,7 +70,7 @@ tell_failed-requires-clause-failed c k found =
     subst (λ (z : CopyView). IsInPhase z.copy (failed c.in-Failed.fault)) same (record { fetch = store_fetch_of c.in-Some-fetch.fetch.now; found = fetched; is = sym c.stage.ensures ∙ ap (λ stage. phase_of stage (missing_of c.in-Some-fetch.fetch.now.phase)) c.in-Failed.is })
 
 pub returns-in-Failed-clause-ok : goal.returns-in-Failed-clause-ok
-returns-in-Failed-clause-ok c session hands bytes contents mine h = c.tell_failed.ensures.step c.args.node session (beside_of c.args.works.now hands bytes c.args.self.now.job) contents mine h
+returns-in-Failed-clause-ok c session grants bytes contents mine h = c.tell_failed.ensures.step c.args.node session (beside_of c.args.works.now grants bytes c.args.self.now.job) contents mine h
 
 pub returns-in_err-locate-in-Locating-clause-memory_last : goal.returns-in_err-locate-in-Locating-clause-memory_last
 returns-in_err-locate-in-Locating-clause-memory_last c =

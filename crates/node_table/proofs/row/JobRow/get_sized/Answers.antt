@@ -17,8 +17,8 @@ returns-then-not-may_have-clause-ok c =
     let v = some_at c.args.self.now.copies c.args.id.now Fetching c.requires.visible in
     let p = c.requires.sized v.k v.found in
     let bad = ap (is_size c.args.self.now.window.quota) (sym (c.requires.length v.k v.found)) ∙ ap (λ w. is_size w c.args.len) (ap (λ w. w.quota) (sym c.window.ensures)) ∙ sym c.may_have.ensures ∙ c.if-not-may_have.true in
-    each_ok c.refuse.result (λ o said session hands bytes contents mine h.
-    let beside = beside_of c.args.works.now hands bytes c.args.self.now.job in
+    each_ok c.refuse.result (λ o said session grants bytes contents mine h.
+    let beside = beside_of c.args.works.now grants bytes c.args.self.now.job in
     subst (λ g. RowStep c.args.node c.args.self.now beside contents (input.Call session (command.Get c.args.id.now)) g c.args.self.now beside) (sym said)
     (bad_size c.args.node c.args.self.now beside contents session c.args.id.now mine c.requires.alive h v.k v.found v.stays v.is p.1.fetch p.1.found p.0 p.1.is bad)) c.refuse.ensures.ok
 

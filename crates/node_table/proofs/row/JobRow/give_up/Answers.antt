@@ -14,7 +14,7 @@ use Rattle.node_table.proofs.row.JobRow.give_up.Goals as goal
 
 pub returns-in-Err-clause-ok : goal.returns-in-Err-clause-ok
 returns-in-Err-clause-ok c beside contents mine h =
-    subst (λ told. RowStep c.args.node c.args.self.now beside contents (input.Call c.args.session (command.GiveUp c.args.id.now c.args.task)) told c.args.self.now beside) (sym c.only.ensures)
+    subst (λ response. RowStep c.args.node c.args.self.now beside contents (input.Call c.args.session (command.GiveUp c.args.id.now c.args.task)) response c.args.self.now beside) (sym c.only.ensures)
     (give_up_refused c.args.node c.args.self.now beside contents c.args.session c.args.id.now mine h c.args.task c.in-Err.refusal
     (ap (λ t. give_up_check t c.args.id.now c.args.task) (sym c.copies.ensures.copies) ∙ c.in-Err.ensures.refused))
 

@@ -12,8 +12,8 @@ use Rattle.node_table.proofs.Planning.{asks-kind, asks-numbers, all_listed, plac
 use Rattle.node_table.proofs.row.JobRow.plan_room.Goals as goal
 
 pub returns-in-Some-clause-plan : goal.returns-in-Some-clause-plan
-returns-in-Some-clause-plan c hands bytes contents own h =
-    sym (place_exit c.args.self.now (beside_of c.args.works.now hands bytes c.args.self.now.job) contents h c.copies.ensures.placed c.args.len c.window.result.now c.window.ensures c.in-Some.offset (sym c.search.ensures.offset ∙ c.in-Some.is))
+returns-in-Some-clause-plan c grants bytes contents own h =
+    sym (place_exit c.args.self.now (beside_of c.args.works.now grants bytes c.args.self.now.job) contents h c.copies.ensures.placed c.args.len c.window.result.now c.window.ensures c.in-Some.offset (sym c.search.ensures.offset ∙ c.in-Some.is))
 
 pub returns-in-Some-clause-fits : goal.returns-in-Some-clause-fits
 returns-in-Some-clause-fits c offset fits =
@@ -29,11 +29,11 @@ returns-clause-fits c offset fits =
     (c.plan-plan.ensures.room (fits-kind c.asked.result c.spill_failed-failed.result 0 c.plan-plan.result offset (sym (c.room_plan.ensures 0) ∙ fits))))
 
 pub returns-clause-plan : goal.returns-clause-plan
-returns-clause-plan c hands bytes contents own h =
-    let beside = beside_of c.args.works.now hands bytes c.args.self.now.job in
+returns-clause-plan c grants bytes contents own h =
+    let beside = beside_of c.args.works.now grants bytes c.args.self.now.job in
     plan_exit c.args.self.now beside contents h c.copies.ensures.placed c.args.len c.args.job own
-    c.args.self.now.window refl c.args.self.now.copies refl c.device.result c.device_bytes.result c.in_flight.result
-    c.device.ensures (c.device_bytes.ensures ∙ ap (total device_bytes) c.copies.ensures.copies) c.args.works.now refl refl c.in_flight.ensures
+    c.args.self.now.window refl c.args.self.now.copies refl c.device_quota.result c.device_bytes.result c.in_flight.result
+    c.device_quota.ensures (c.device_bytes.ensures ∙ ap (total device_bytes) c.copies.ensures.copies) c.args.works.now refl refl c.in_flight.ensures
     c.plan-plan.result (λ store described. c.plan-plan.ensures.plan store (all_listed c.args.self.now beside contents h c.copies.ensures.placed c.args.len) described) c.asked.result c.asked.ensures.last c.spill_failed-failed.result c.spill_failed-failed.ensures c.room_plan.result c.room_plan.ensures
 
 pub returns-clause-asks : goal.returns-clause-asks

@@ -58,9 +58,9 @@ returns-clause-bounded c =
     let few = c.requires.may_go.few in
     let sent = length-removals c.args.node c.copies.result.now c.as_slice-victims.result.now in
     let same = ap length c.as_slice-victims.ensures in
-    let told = ap length c.in_ok-messages.ensures in
+    let response = ap length c.in_ok-messages.ensures in
     let all = ap (λ (g : RowGiven). length g.posts) c.pending.ensures ∙ ap length c.in_ok-push.ensures.ok ∙ length_more c.in_ok-messages.messages c.in_ok-question.field-0 in
-    omega (arith, few, sent, same, told, all)
+    omega (arith, few, sent, same, response, all)
 
 pub place_copy-requires-clause-some : goal.place_copy-requires-clause-some
 place_copy-requires-clause-some c =

@@ -10,11 +10,11 @@ use Rattle.node_table.proofs.row.JobRow.remember_end.Goals as goal
 
 pub invariant_of-self-2 : goal.invariant_of-self-2
 invariant_of-self-2 c = (
-  subst (λ t. ArePlaced c.self.inside.window.placed (place_of t)) (sym c.end_hands.ensures)
+  subst (λ t. ArePlaced c.self.inside.window.placed (place_of t)) (sym c.end_grants.ensures)
       (ended_placed c.args.task c.self.inside.window.placed c.self.inside.copies c.self.invariant.0),
   c.sync_all.ensures.infos c.self.inside.copies
-      (none_gone (ended c.args.task) c.self.inside.copies c.end_hands.new.self (λ x. ap (λ t. at t x) c.end_hands.ensures ∙ at-ended c.args.task c.self.inside.copies x))
-      (all_keep (ended c.args.task) (λ x. lies_keeps (ended c.args.task x) (ended-place c.args.task x)) c.self.inside.copies c.end_hands.new.self (λ x. ap (λ t. at t x) c.end_hands.ensures ∙ at-ended c.args.task c.self.inside.copies x)) c.self.invariant.1,
+      (none_gone (ended c.args.task) c.self.inside.copies c.end_grants.new.self (λ x. ap (λ t. at t x) c.end_grants.ensures ∙ at-ended c.args.task c.self.inside.copies x))
+      (all_keep (ended c.args.task) (λ x. lies_keeps (ended c.args.task x) (ended-place c.args.task x)) c.self.inside.copies c.end_grants.new.self (λ x. ap (λ t. at t x) c.end_grants.ensures ∙ at-ended c.args.task c.self.inside.copies x)) c.self.invariant.1,
 )
 
 pub returns-clause-ok : goal.returns-clause-ok
@@ -24,8 +24,8 @@ returns-clause-ok c =
     (λ i. record {
       job = c.self.inside.job.0;
       window = c.self.inside.window;
-      device = c.self.inside.device;
-      copies = c.end_hands.ensures i;
+      device = c.self.inside.device_quota;
+      copies = c.end_grants.ensures i;
       order = c.sync_all.ensures.ids i;
       fetches_begun = c.self.inside.fetches_begun;
       spill_failed = c.self.inside.spill_failed;

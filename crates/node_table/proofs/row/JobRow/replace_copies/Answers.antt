@@ -13,7 +13,7 @@ use Rattle.node_table.specs.CopyViews.{CopyView, new_copy_view}
 use Rattle.node_table.specs.Row.{Row, place_of, ArePlaced}
 use Rattle.node_table.proofs.Changes.{put_back}
 use Rattle.node_table.proofs.Replacing.{forgotten, new_lies, replaced_placed, alone}
-use Rattle.node_table.specs.InSync.{is_in_sync, InSync, InSyncBut}
+use Rattle.node_table.specs.InSync.{is_in_sync, InSync, InSyncExcept}
 use Rattle.node_table.proofs.FollowsCopies.{put_but, removed_but, others_still, one_spared, entered_unknown, placed_unknown}
 use Rattle.node_table.proofs.row.JobRow.replace_copies.Goals as goal
 use Rattle.node_table.proofs.row.JobRow.replace_copies.Goals.{then-entered, else-entered}
@@ -33,7 +33,7 @@ returns-in_default-clause-err c =
     (λ i. row_of (back i) (order_ids (c.in_default.ensures.err i))) ∙ c.self.view_is
   where
     row_of : ById CopyView → List ObjectId → Row
-    row_of copies order = record { job = c.self.inside.job.0; window = c.self.inside.window; device = c.self.inside.device; copies = copies; order = order; fetches_begun = c.self.inside.fetches_begun; spill_failed = c.self.inside.spill_failed; ended_tasks = c.self.inside.ended_tasks.keys }
+    row_of copies order = record { job = c.self.inside.job.0; window = c.self.inside.window; device = c.self.inside.device_quota; copies = copies; order = order; fetches_begun = c.self.inside.fetches_begun; spill_failed = c.self.inside.spill_failed; ended_tasks = c.self.inside.ended_tasks.keys }
 
 pub invariant_of-self-then-entered : goal.invariant_of-self-then-entered
 invariant_of-self-then-entered c =
@@ -71,7 +71,7 @@ returns-after-entered-clause-err c =
     undone
   where
     row_of : Region → ById CopyView → List ObjectId → Row
-    row_of window copies order = record { job = c.self.inside.job.0; window = window; device = c.self.inside.device; copies = copies; order = order; fetches_begun = c.self.inside.fetches_begun; spill_failed = c.self.inside.spill_failed; ended_tasks = c.self.inside.ended_tasks.keys }
+    row_of window copies order = record { job = c.self.inside.job.0; window = window; device = c.self.inside.device_quota; copies = copies; order = order; fetches_begun = c.self.inside.fetches_begun; spill_failed = c.self.inside.spill_failed; ended_tasks = c.self.inside.ended_tasks.keys }
 
 pub invariant_of-self-in-Ok-replace : goal.invariant_of-self-in-Ok-replace
 invariant_of-self-in-Ok-replace c =
@@ -88,9 +88,9 @@ invariant_of-self-in-Ok-replace c =
     let fresh = ap (lookup (nat_eq c.in-Ok-replace.extent.offset)) (sym left_then) ∙ c.in-Ok-replace.ensures.fresh in
     let nowhere = ap (option_and_then (λ (k : CopyView). extent_of k.copy)) none in
     let put = put_but c.self.inside.copies c.insert.new.self c.args.id.now _ c.in_ok-insert.ensures.ok in
-    let unknown : InSyncBut (c.args.id.now ∷ []) c.insert.new.self c.enter_new.new.self = elim c.in-Ok.entered as (λ b. c.in-Ok.entered ≡ b → InSyncBut (c.args.id.now ∷ []) c.insert.new.self c.enter_new.new.self) [
+    let unknown : InSyncExcept (c.args.id.now ∷ []) c.insert.new.self c.enter_new.new.self = elim c.in-Ok.entered as (λ b. c.in-Ok.entered ≡ b → InSyncExcept (c.args.id.now ∷ []) c.insert.new.self c.enter_new.new.self) [
       | true ↦ λ entered. entered_unknown c.args.id.now c.self.inside.copies c.insert.new.self put none c.self.inside.order c.enter_new.new.self (c.in-Ok.ensures.infos entered) c.self.invariant.1
-      | false ↦ λ there. subst (InSyncBut (c.args.id.now ∷ []) c.insert.new.self) (sym (c.in-Ok.ensures.same there)) (placed_unknown c.args.id.now c.self.inside.copies c.insert.new.self put nowhere c.self.inside.order c.self.invariant.1)
+      | false ↦ λ there. subst (InSyncExcept (c.args.id.now ∷ []) c.insert.new.self) (sym (c.in-Ok.ensures.same there)) (placed_unknown c.args.id.now c.self.inside.copies c.insert.new.self put nowhere c.self.inside.order c.self.invariant.1)
     ] refl in
     let there = new_lies c.self.inside.copies c.self.inside.window.placed c.self.invariant.0 c.args.placement.now.victims c.args.id.now (new_copy_view c.args.kind c.args.len c.in-Ok-replace.extent.offset) c.args.len c.in-Ok-replace.extent.offset nowhere c.requires.stays refl fresh in
     let now_lie : ArePlaced c.replace.new.self.placed (place_of c.evict_for.new.copies) = subst (λ t. ArePlaced c.replace.new.self.placed (place_of t)) (sym copies)
@@ -128,7 +128,7 @@ returns-in-Ok-replace-clause-ok c unlisted =
     region placed = record c.self.inside.window { placed = placed }
 
     row_of : Region → ById CopyView → List ObjectId → Row
-    row_of window copies order = record { job = c.self.inside.job.0; window = window; device = c.self.inside.device; copies = copies; order = order; fetches_begun = c.self.inside.fetches_begun; spill_failed = c.self.inside.spill_failed; ended_tasks = c.self.inside.ended_tasks.keys }
+    row_of window copies order = record { job = c.self.inside.job.0; window = window; device = c.self.inside.device_quota; copies = copies; order = order; fetches_begun = c.self.inside.fetches_begun; spill_failed = c.self.inside.spill_failed; ended_tasks = c.self.inside.ended_tasks.keys }
 
 pub returns-in-Ok-replace-clause-small : goal.returns-in-Ok-replace-clause-small
 returns-in-Ok-replace-clause-small c = omega (arith, c.in-Ok-replace.ensures.small)

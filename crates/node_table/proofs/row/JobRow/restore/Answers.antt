@@ -46,9 +46,9 @@ pub returns-then-in_flight-ge-MOST_WORKS-clause-ok : goal.returns-then-in_flight
 returns-then-in_flight-ge-MOST_WORKS-clause-ok c =
     let v = some_at c.args.self.now.copies c.args.id.now Away c.requires.visible in
     let sound = sym (ap (option_and_then (λ (k : CopyView). k.copy.fault)) v.found) ∙ c.requires.sound in
-    each_ok c.refuse.result (λ o said session hands bytes contents own mine alive h.
-    subst (λ t. RowStep c.args.node c.args.self.now (beside_of c.args.works.now hands bytes c.args.self.now.job) contents (input.Call session (command.Get c.args.id.now)) t c.args.self.now (beside_of c.args.works.now hands bytes c.args.self.now.job)) (sym said)
-    (busy_told c.args.node c.args.self.now (beside_of c.args.works.now hands bytes c.args.self.now.job) contents session c.args.id.now mine alive h v.k v.found v.stays v.is sound
+    each_ok c.refuse.result (λ o said session grants bytes contents own mine alive h.
+    subst (λ t. RowStep c.args.node c.args.self.now (beside_of c.args.works.now grants bytes c.args.self.now.job) contents (input.Call session (command.Get c.args.id.now)) t c.args.self.now (beside_of c.args.works.now grants bytes c.args.self.now.job)) (sym said)
+    (busy_told c.args.node c.args.self.now (beside_of c.args.works.now grants bytes c.args.self.now.job) contents session c.args.id.now mine alive h v.k v.found v.stays v.is sound
     (all_works c.args.works.now c.args.job c.args.self.now.job own (subst (λ m. most_works ≤ m) c.in_flight.ensures c.if-in_flight-ge-MOST_WORKS.true)))) c.refuse.ensures.ok
 
 pub restore_by-requires-clause-numbered : goal.restore_by-requires-clause-numbered
@@ -66,10 +66,10 @@ returns-then-asked-clause-ok c =
     let found = ap (λ t. at t c.args.id.now) (sym c.copies.ensures.copies) ∙ sym c.get.ensures ∙ ap option_copied c.in-Some.is in
     let st = seen_at c.args.self.now.copies c.args.id.now Away k found c.requires.visible in
     let sound = sym (ap (option_and_then (λ (k : CopyView). k.copy.fault)) found) ∙ c.requires.sound in
-    each_ok c.refuse-then-asked.result (λ o said session hands bytes contents own mine alive h.
-    let beside = beside_of c.args.works.now hands bytes c.args.self.now.job in
+    each_ok c.refuse-then-asked.result (λ o said session grants bytes contents own mine alive h.
+    let beside = beside_of c.args.works.now grants bytes c.args.self.now.job in
     let place = place_planned_by c.args.self.now beside contents h c.length-len.result
-    (ap makes_place (sym (c.plan_room-plan.ensures.plan hands bytes contents own h)) ∙ sym c.makes_place.ensures ∙ c.if-makes_place.true) in
+    (ap makes_place (sym (c.plan_room-plan.ensures.plan grants bytes contents own h)) ∙ sym c.makes_place.ensures ∙ c.if-makes_place.true) in
     subst (λ g. RowStep c.args.node c.args.self.now beside contents (input.Call session (command.Get c.args.id.now)) g c.plan_room-plan.new.self beside) (sym said)
     (subst (λ row. RowStep c.args.node c.args.self.now beside contents (input.Call session (command.Get c.args.id.now)) (only (reply.Refused TooMany)) row beside) (sym c.plan_room-plan.ensures.same)
     (too_many_told c.args.node c.args.self.now beside contents session c.args.id.now mine alive h k found st.0 st.1 sound
@@ -78,11 +78,11 @@ returns-then-asked-clause-ok c =
     (no_number c.args.works.now c.args.job c.args.self.now.job own (sym c.asked-asked.ensures.last ∙ c.if-asked.true))))) c.refuse-then-asked.ensures.ok
 
 pub returns-clause-ok : goal.returns-clause-ok
-returns-clause-ok c = each_ok c.restore_by.result (λ o told session hands bytes contents own mine alive h.
-    subst (λ (r : Row). c.args.job ≡ record { 0 = r.job } → (c.args.id.now.job.0 == r.job) ≡ true → is_remembered r.ended_tasks c.args.id.now.task ≡ false → IsShown r (beside_of c.args.works.now hands bytes r.job) contents
-    → c.plan_room-plan.result ≡ planned_by r.order (shape_of r (beside_of c.args.works.now hands bytes r.job)) c.length-len.result
-    → RowStep c.args.node r (beside_of c.args.works.now hands bytes r.job) contents (input.Call session (command.Get c.args.id.now)) (row_given_of o) c.restore_by.new.self (beside_of c.restore_by.new.works hands bytes r.job)) c.plan_room-plan.ensures.same
-    (told session hands bytes contents) own mine alive h (c.plan_room-plan.ensures.plan hands bytes contents own h)) c.restore_by.ensures.ok
+returns-clause-ok c = each_ok c.restore_by.result (λ o response session grants bytes contents own mine alive h.
+    subst (λ (r : Row). c.args.job ≡ record { 0 = r.job } → (c.args.id.now.job.0 == r.job) ≡ true → is_remembered r.ended_tasks c.args.id.now.task ≡ false → IsShown r (beside_of c.args.works.now grants bytes r.job) contents
+    → c.plan_room-plan.result ≡ planned_by r.order (shape_of r (beside_of c.args.works.now grants bytes r.job)) c.length-len.result
+    → RowStep c.args.node r (beside_of c.args.works.now grants bytes r.job) contents (input.Call session (command.Get c.args.id.now)) (row_given_of o) c.restore_by.new.self (beside_of c.restore_by.new.works grants bytes r.job)) c.plan_room-plan.ensures.same
+    (response session grants bytes contents) own mine alive h (c.plan_room-plan.ensures.plan grants bytes contents own h)) c.restore_by.ensures.ok
 
 pub returns-clause-bounded : goal.returns-clause-bounded
 returns-clause-bounded c = subst (λ (r : Row). IfOk c.restore_by.result (λ o. length o.messages ≤ length r.copies + 1)) c.plan_room-plan.ensures.same c.restore_by.ensures.bounded
@@ -100,7 +100,7 @@ returns-clause-memory_last c =
     let same : c.args.job ≡ c.args.id.now.job = own ∙ sym (own_job c.args.id.now.job c.args.self.now.job mine) in
     restore_due c.args.node c.args.self.now c.args.works.now c.args.id.now alive k found st.0 st.1 sound
     (subst (λ j. in_flight c.args.works.now j < most_works) same (subst (λ m. m < most_works) c.in_flight.ensures c.if-in_flight-ge-MOST_WORKS.false)) c.length-len.result c.length-len.ensures
-    c.plan_room-plan.result (λ hands bytes contents h. c.plan_room-plan.ensures.plan hands bytes contents own h) (λ makes.
+    c.plan_room-plan.result (λ grants bytes contents h. c.plan_room-plan.ensures.plan grants bytes contents own h) (λ makes.
     ap (λ j. has_numbers (used_by c.args.works.now j) 1) (sym same) ∙ ap (λ n. has_numbers n 1) (sym c.asked-asked.ensures.last)
     ∙ numbers_left c.makes_place.result c.asked-asked.result c.else-makes_place.either c.asked-asked.type_inv (c.makes_place.ensures ∙ makes)) may mine) c.restore_by.ensures.memory_last
 

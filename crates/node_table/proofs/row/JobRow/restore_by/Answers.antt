@@ -60,30 +60,30 @@ restore_in_place-requires-clause-may_go c =
     subst (λ (r : Row). MayGo r.copies c.in-Place.placement.victims) (sym kept.0) kept.2
 
 pub returns-in-Place-clause-ok : goal.returns-in-Place-clause-ok
-returns-in-Place-clause-ok c = each_ok c.restore_in_place.result (λ o told session hands bytes contents own mine alive h is_plan.
+returns-in-Place-clause-ok c = each_ok c.restore_in_place.result (λ o response session grants bytes contents own mine alive h is_plan.
     let kept = subst (λ m. WaitsForPlace m c.args.self.now c.args.works.now c.args.len c.room_by.new.self c.room_by.new.works) c.in-Place.is c.in_ok-placement.ensures.place in
-    let makes = subst (λ m. IsRoomMade m c.args.self.now (beside_of c.args.works.now hands bytes c.args.self.now.job) contents c.args.len c.room_by.new.self (beside_of c.room_by.new.works hands bytes c.args.self.now.job)) c.in-Place.is (c.in_ok-placement.ensures.ok hands bytes contents own h is_plan) in
-    subst (λ w. c.args.job ≡ record { 0 = c.args.self.now.job } → (c.args.id.now.job.0 == c.args.self.now.job) ≡ true → is_remembered c.args.self.now.ended_tasks c.args.id.now.task ≡ false → IsShown c.args.self.now (beside_of w hands bytes c.args.self.now.job) contents
-    → MakesPlace (make_room c.args.self.now.order (shape_of c.args.self.now (beside_of w hands bytes c.args.self.now.job)) c.args.len) (shape_of c.args.self.now (beside_of w hands bytes c.args.self.now.job)) c.args.len c.in-Place.placement.victims
-    → RowStep c.args.node c.args.self.now (beside_of w hands bytes c.args.self.now.job) contents (input.Call session (command.Get c.args.id.now)) (row_given_of o) c.restore_in_place.new.self (beside_of c.restore_in_place.new.works hands bytes c.args.self.now.job)) kept.1
-    (subst (λ r. c.args.job ≡ record { 0 = r.job } → (c.args.id.now.job.0 == r.job) ≡ true → is_remembered r.ended_tasks c.args.id.now.task ≡ false → IsShown r (beside_of c.room_by.new.works hands bytes r.job) contents
-    → MakesPlace (make_room r.order (shape_of r (beside_of c.room_by.new.works hands bytes r.job)) c.args.len) (shape_of r (beside_of c.room_by.new.works hands bytes r.job)) c.args.len c.in-Place.placement.victims
-    → RowStep c.args.node r (beside_of c.room_by.new.works hands bytes r.job) contents (input.Call session (command.Get c.args.id.now)) (row_given_of o) c.restore_in_place.new.self (beside_of c.restore_in_place.new.works hands bytes r.job)) kept.0 (told session hands bytes contents)) own mine alive h
+    let makes = subst (λ m. IsRoomMade m c.args.self.now (beside_of c.args.works.now grants bytes c.args.self.now.job) contents c.args.len c.room_by.new.self (beside_of c.room_by.new.works grants bytes c.args.self.now.job)) c.in-Place.is (c.in_ok-placement.ensures.ok grants bytes contents own h is_plan) in
+    subst (λ w. c.args.job ≡ record { 0 = c.args.self.now.job } → (c.args.id.now.job.0 == c.args.self.now.job) ≡ true → is_remembered c.args.self.now.ended_tasks c.args.id.now.task ≡ false → IsShown c.args.self.now (beside_of w grants bytes c.args.self.now.job) contents
+    → MakesPlace (make_room c.args.self.now.order (shape_of c.args.self.now (beside_of w grants bytes c.args.self.now.job)) c.args.len) (shape_of c.args.self.now (beside_of w grants bytes c.args.self.now.job)) c.args.len c.in-Place.placement.victims
+    → RowStep c.args.node c.args.self.now (beside_of w grants bytes c.args.self.now.job) contents (input.Call session (command.Get c.args.id.now)) (row_given_of o) c.restore_in_place.new.self (beside_of c.restore_in_place.new.works grants bytes c.args.self.now.job)) kept.1
+    (subst (λ r. c.args.job ≡ record { 0 = r.job } → (c.args.id.now.job.0 == r.job) ≡ true → is_remembered r.ended_tasks c.args.id.now.task ≡ false → IsShown r (beside_of c.room_by.new.works grants bytes r.job) contents
+    → MakesPlace (make_room r.order (shape_of r (beside_of c.room_by.new.works grants bytes r.job)) c.args.len) (shape_of r (beside_of c.room_by.new.works grants bytes r.job)) c.args.len c.in-Place.placement.victims
+    → RowStep c.args.node r (beside_of c.room_by.new.works grants bytes r.job) contents (input.Call session (command.Get c.args.id.now)) (row_given_of o) c.restore_in_place.new.self (beside_of c.restore_in_place.new.works grants bytes r.job)) kept.0 (response session grants bytes contents)) own mine alive h
     makes) c.restore_in_place.ensures.ok
 
-pub returns-in-Told-clause-ok : goal.returns-in-Told-clause-ok
-returns-in-Told-clause-ok c =
+pub returns-in-Refused-clause-ok : goal.returns-in-Refused-clause-ok
+returns-in-Refused-clause-ok c =
     let v = some_at c.args.self.now.copies c.args.id.now Away c.requires.visible in
     let w = waiting c.args.self.now.copies c.args.id.now c.args.len c.requires.waits in
     let long : c.args.len ≡ v.k.copy.length = sym w.long ∙ ap (λ (y : CopyView). y.copy.length) (some_value w.k v.k (sym w.found ∙ v.found)) in
     let sound = sym (ap (option_and_then (λ (k : CopyView). k.copy.fault)) v.found) ∙ c.requires.sound in
-    each_ok c.refuse.result (λ o said session hands bytes contents own mine alive h is_plan.
-    let made = subst (λ m. IsRoomMade m c.args.self.now (beside_of c.args.works.now hands bytes c.args.self.now.job) contents c.args.len c.room_by.new.self (beside_of c.room_by.new.works hands bytes c.args.self.now.job)) c.in-Told.is (c.in_ok-placement.ensures.ok hands bytes contents own h is_plan) in
-    let tells = subst (λ n. TellsRoom c.args.self.now (beside_of c.args.works.now hands bytes c.args.self.now.job) contents n c.in-Told.refusal c.room_by.new.self (beside_of c.room_by.new.works hands bytes c.args.self.now.job)) long made in
-    subst (λ t. RowStep c.args.node c.args.self.now (beside_of c.args.works.now hands bytes c.args.self.now.job) contents (input.Call session (command.Get c.args.id.now)) t c.room_by.new.self (beside_of c.room_by.new.works hands bytes c.args.self.now.job)) (sym said)
-    (tells.tells c.args.node (input.Call session (command.Get c.args.id.now)) (f c.args.node c.args.self.now (beside_of c.args.works.now hands bytes c.args.self.now.job) contents session c.args.id.now mine alive h v.k v.found v.stays v.is sound)
-    (quiet_get c.args.node c.args.self.now (beside_of c.args.works.now hands bytes c.args.self.now.job) contents session c.args.id.now)
-    (by_no_room c.args.node c.args.self.now (beside_of c.args.works.now hands bytes c.args.self.now.job) contents session c.args.id.now mine alive h v.k v.found v.stays v.is sound
+    each_ok c.refuse.result (λ o said session grants bytes contents own mine alive h is_plan.
+    let made = subst (λ m. IsRoomMade m c.args.self.now (beside_of c.args.works.now grants bytes c.args.self.now.job) contents c.args.len c.room_by.new.self (beside_of c.room_by.new.works grants bytes c.args.self.now.job)) c.in-Refused.is (c.in_ok-placement.ensures.ok grants bytes contents own h is_plan) in
+    let tells = subst (λ n. TellsRoom c.args.self.now (beside_of c.args.works.now grants bytes c.args.self.now.job) contents n c.in-Refused.refusal c.room_by.new.self (beside_of c.room_by.new.works grants bytes c.args.self.now.job)) long made in
+    subst (λ t. RowStep c.args.node c.args.self.now (beside_of c.args.works.now grants bytes c.args.self.now.job) contents (input.Call session (command.Get c.args.id.now)) t c.room_by.new.self (beside_of c.room_by.new.works grants bytes c.args.self.now.job)) (sym said)
+    (tells.tells c.args.node (input.Call session (command.Get c.args.id.now)) (f c.args.node c.args.self.now (beside_of c.args.works.now grants bytes c.args.self.now.job) contents session c.args.id.now mine alive h v.k v.found v.stays v.is sound)
+    (quiet_get c.args.node c.args.self.now (beside_of c.args.works.now grants bytes c.args.self.now.job) contents session c.args.id.now)
+    (by_no_room c.args.node c.args.self.now (beside_of c.args.works.now grants bytes c.args.self.now.job) contents session c.args.id.now mine alive h v.k v.found v.stays v.is sound
     (few_works c.args.works.now c.args.job c.args.self.now.job own c.requires.idle)))) c.refuse.ensures.ok
 
 pub returns-in_err-placement-clause-memory_last : goal.returns-in_err-placement-clause-memory_last

@@ -26,18 +26,18 @@ use Rattle.node_table.proofs.Restoring.{few_works, may_ask, has_asked, asked_bes
 use Rattle.node_table.proofs.row.JobRow.restore_in_place.Goals as goal
 
 pub returns-in-Ok-clause-ok : goal.returns-in-Ok-clause-ok
-returns-in-Ok-clause-ok c session hands bytes contents own mine alive h makes =
+returns-in-Ok-clause-ok c session grants bytes contents own mine alive h makes =
     let v = some_at c.args.self.now.copies c.args.id.now Away c.requires.visible in
     let sound = sym (ap (option_and_then (λ (k : CopyView). k.copy.fault)) v.found) ∙ c.requires.sound in
     let w = waiting c.args.self.now.copies c.args.id.now c.args.len c.requires.waits in
     let long : c.args.len ≡ v.k.copy.length = sym w.long ∙ ap (λ (y : CopyView). y.copy.length) (some_value w.k v.k (sym w.found ∙ v.found)) in
-    let beside : SharedTables = beside_of c.args.works.now hands bytes c.args.self.now.job in
+    let beside : SharedTables = beside_of c.args.works.now grants bytes c.args.self.now.job in
     let e = c.in-Ok.field-0 in
     let r : IsReplaced c.args.self.now None c.args.id.now (λ offset. after_restore_begun offset v.k) c.args.len c.args.placement.now.victims e c.place_copy.new.self =
     c.in-Ok.ensures.ok v.k v.found in
     let asks = subst (λ j. AsksWork c.args.works.now (record { job = j; number = c.in_ok-number.number; id = c.args.id.now; kind = Read }) c.ask_read.new.works) own c.in_ok-number.ensures.ok in
-    subst (λ g. RowStep c.args.node c.args.self.now beside contents (input.Call session (command.Get c.args.id.now)) g c.place_copy.new.self (beside_of c.ask_read.new.works hands bytes c.args.self.now.job)) (sym c.pending.ensures)
-    (subst (λ b. RowStep c.args.node c.args.self.now beside contents (input.Call session (command.Get c.args.id.now)) (record { reply = reply.Refused Pending; posts = c.in_ok-messages.messages; erased = [] }) c.place_copy.new.self b) (sym (asked_beside c.args.works.now c.ask_read.new.works c.args.self.now.job c.in_ok-number.number c.args.id.now hands bytes asks))
+    subst (λ g. RowStep c.args.node c.args.self.now beside contents (input.Call session (command.Get c.args.id.now)) g c.place_copy.new.self (beside_of c.ask_read.new.works grants bytes c.args.self.now.job)) (sym c.pending.ensures)
+    (subst (λ b. RowStep c.args.node c.args.self.now beside contents (input.Call session (command.Get c.args.id.now)) (record { reply = reply.Refused Pending; posts = c.in_ok-messages.messages; erased = [] }) c.place_copy.new.self b) (sym (asked_beside c.args.works.now c.ask_read.new.works c.args.self.now.job c.in_ok-number.number c.args.id.now grants bytes asks))
     (subst (λ row. RowStep c.args.node c.args.self.now beside contents (input.Call session (command.Get c.args.id.now)) (record { reply = reply.Refused Pending; posts = c.in_ok-messages.messages; erased = [] }) row
     (record beside { works = beside.works ++ record { number = beside.used + 1; id = c.args.id.now; writes = false } ∷ []; used = beside.used + 1 })) (sym (r.row ∙ ap (λ n. replaced c.args.self.now None c.args.id.now (after_restore_begun e.offset v.k) n e.offset c.args.placement.now.victims) long))
     (subst (λ (ps : List Post). RowStep c.args.node c.args.self.now beside contents (input.Call session (command.Get c.args.id.now)) (record { reply = reply.Refused Pending; posts = ps; erased = [] }) (replaced c.args.self.now None c.args.id.now (after_restore_begun e.offset v.k) v.k.copy.length e.offset c.args.placement.now.victims)
@@ -53,9 +53,9 @@ returns-in-Ok-clause-bounded c =
     let few = c.requires.may_go.few in
     let sent = length-removals c.args.node c.copies.result.now c.as_slice-victims.result.now in
     let same = ap length c.as_slice-victims.ensures in
-    let told = ap length c.in_ok-messages.ensures in
+    let response = ap length c.in_ok-messages.ensures in
     let all = ap (λ (g : RowGiven). length g.posts) c.pending.ensures in
-    omega (arith, few, sent, same, told, all)
+    omega (arith, few, sent, same, response, all)
 
 pub returns-in-Ok-clause-line : goal.returns-in-Ok-clause-line
 returns-in-Ok-clause-line c = has_asked c.args.works.now c.ask_read.new.works c.args.job c.in_ok-number.number c.args.id.now c.in_ok-number.ensures.ok
@@ -65,8 +65,8 @@ returns-then-not-may_have-clause-ok c =
     let v = some_at c.args.self.now.copies c.args.id.now Away c.requires.visible in
     let w = waiting c.args.self.now.copies c.args.id.now c.args.len c.requires.waits in
     let long : c.args.len ≡ v.k.copy.length = sym w.long ∙ ap (λ (y : CopyView). y.copy.length) (some_value w.k v.k (sym w.found ∙ v.found)) in
-    each_ok c.refuse.result (λ o said session hands bytes contents own mine alive h makes.
-    let beside : SharedTables = beside_of c.args.works.now hands bytes c.args.self.now.job in
+    each_ok c.refuse.result (λ o said session grants bytes contents own mine alive h makes.
+    let beside : SharedTables = beside_of c.args.works.now grants bytes c.args.self.now.job in
     let sized = sized_away c.args.self.now beside contents h c.args.id.now v.k v.found v.is in
     let fine = size_there c.args.self.now beside contents h c.args.len c.args.placement.now.victims makes c.copies.ensures.placed (subst (λ n. 0 < n) (sym long) sized.0) (subst (λ n. n ≤ longest_object) (sym long) sized.1) in
     let may = c.may_have.ensures ∙ ap (λ (w : Region). is_size w.quota c.args.len) c.window.ensures ∙ fine in

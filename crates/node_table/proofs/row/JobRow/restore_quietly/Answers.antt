@@ -11,17 +11,17 @@ use Rattle.node_table.proofs.Serving.{own_restored, alive_restored, restored_don
 use Rattle.node_table.proofs.row.JobRow.restore_quietly.Goals as goal
 
 pub returns-clause-ok : goal.returns-clause-ok
-returns-clause-ok c from number n digest indexes hands bytes contents e h =
+returns-clause-ok c from number n digest indexes grants bytes contents e h =
     let old = c.args.self.now in
-    let beside = beside_of c.args.works.now hands bytes old.job in
-    let after = beside_of c.restore.new.works hands bytes old.job in
+    let beside = beside_of c.args.works.now grants bytes old.job in
+    let after = beside_of c.restore.new.works grants bytes old.job in
     let x = input.Arrive (arrival.FromPeer from (peer.Pull c.args.id.now number n digest indexes)) in
-    let told = row_given_of c.in_ok-outcome.outcome in
+    let response = row_given_of c.in_ok-outcome.outcome in
     subst (λ g. RowStep c.args.node old beside contents x g c.put_spill_failed.new.self after) (sym c.answered.ensures)
-    (subst (λ row. RowStep c.args.node old beside contents x (record { reply = reply.Ok; posts = told.posts; erased = [] }) row after)
+    (subst (λ row. RowStep c.args.node old beside contents x (record { reply = reply.Ok; posts = response.posts; erased = [] }) row after)
     (sym (c.put_spill_failed.ensures ∙ ap (λ b. record c.restore.new.self { spill_failed = b }) c.spill_failed-spill_failed.ensures))
-    (restored_done c.args.node old beside contents h from c.args.id.now number n digest indexes e 0 told c.restore.new.self after
-    (c.in_ok-outcome.ensures.ok 0 hands bytes contents c.job-job.ensures (own_restored c.args.node old beside contents h from c.args.id.now number n digest indexes e)
+    (restored_done c.args.node old beside contents h from c.args.id.now number n digest indexes e 0 response c.restore.new.self after
+    (c.in_ok-outcome.ensures.ok 0 grants bytes contents c.job-job.ensures (own_restored c.args.node old beside contents h from c.args.id.now number n digest indexes e)
     (alive_restored c.args.node old beside contents h from c.args.id.now number n digest indexes e) h)))
 
 pub returns-clause-line : goal.returns-clause-line

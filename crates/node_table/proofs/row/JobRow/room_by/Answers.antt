@@ -13,8 +13,8 @@ use Rattle.node_table.proofs.Rooms.{refusal_told, failure_told}
 use Rattle.node_table.proofs.row.JobRow.room_by.Goals as goal
 
 pub returns-in-Fits-clause-ok : goal.returns-in-Fits-clause-ok
-returns-in-Fits-clause-ok c hands bytes contents own h is =
-    let beside = beside_of c.args.works.now hands bytes c.args.self.now.job in
+returns-in-Fits-clause-ok c grants bytes contents own h is =
+    let beside = beside_of c.args.works.now grants bytes c.args.self.now.job in
     subst (MakesPlace (make_room c.args.self.now.order (shape_of c.args.self.now beside) c.args.len) (shape_of c.args.self.now beside) c.args.len) (sym c.new.ensures)
     (planned_as c.args.self.now beside contents h c.args.len c.args.plan (Fits c.in-Fits.offset) is c.in-Fits.is)
 
@@ -29,33 +29,33 @@ returns-in-Fits-clause-place c =
     )
 
 pub returns-in_ok-victims-in-Evict-clause-ok : goal.returns-in_ok-victims-in-Evict-clause-ok
-returns-in_ok-victims-in-Evict-clause-ok c = each_ok c.place_of_victims.result (λ made is_made hands bytes contents own h is.
-    let beside = beside_of c.args.works.now hands bytes c.args.self.now.job in
+returns-in_ok-victims-in-Evict-clause-ok c = each_ok c.place_of_victims.result (λ made is_made grants bytes contents own h is.
+    let beside = beside_of c.args.works.now grants bytes c.args.self.now.job in
     is_made beside contents h
     (subst (MakesPlace (make_room c.args.self.now.order (shape_of c.args.self.now beside) c.args.len) (shape_of c.args.self.now beside) c.args.len)
-    (sym (c.in_ok-victims-in-Evict.ensures.victims c.args.works.now hands bytes contents h (sym is ∙ c.in-Evict.is)))
+    (sym (c.in_ok-victims-in-Evict.ensures.victims c.args.works.now grants bytes contents h (sym is ∙ c.in-Evict.is)))
     (planned_as c.args.self.now beside contents h c.args.len c.args.plan Evict is c.in-Evict.is))) c.place_of_victims.ensures.ok
 
 pub returns-in_ok-victims-in-Evict-clause-place : goal.returns-in_ok-victims-in-Evict-clause-place
 returns-in_ok-victims-in-Evict-clause-place c = each_ok c.place_of_victims.result (λ made waits. waits c.args.works.now) c.place_of_victims.ensures.place
 
 pub returns-in_ok-ids-in-Ask-clause-ok : goal.returns-in_ok-ids-in-Ask-clause-ok
-returns-in_ok-ids-in-Ask-clause-ok c = each_ok c.ask_writes.result (λ made asked hands bytes contents own h is.
-    let beside = beside_of c.args.works.now hands bytes c.args.self.now.job in
-    asked hands bytes contents c.args.len own h
+returns-in_ok-ids-in-Ask-clause-ok c = each_ok c.ask_writes.result (λ made asked grants bytes contents own h is.
+    let beside = beside_of c.args.works.now grants bytes c.args.self.now.job in
+    asked grants bytes contents c.args.len own h
     (subst (AsksWrites (make_room c.args.self.now.order (shape_of c.args.self.now beside) c.args.len) (shape_of c.args.self.now beside))
-    (sym (c.as_slice.ensures ∙ c.in_ok-ids-in-Ask.ensures.spillable c.args.works.now hands bytes contents c.args.len h (sym is ∙ c.in-Ask.is)))
+    (sym (c.as_slice.ensures ∙ c.in_ok-ids-in-Ask.ensures.spillable c.args.works.now grants bytes contents c.args.len h (sym is ∙ c.in-Ask.is)))
     (planned_as c.args.self.now beside contents h c.args.len c.args.plan (Ask c.in-Ask.count) is c.in-Ask.is))) c.ask_writes.ensures.ok
 
 pub returns-in-TellFailedSpill-clause-ok : goal.returns-in-TellFailedSpill-clause-ok
-returns-in-TellFailedSpill-clause-ok c hands bytes contents own h is =
-    let beside = beside_of c.args.works.now hands bytes c.args.self.now.job in
+returns-in-TellFailedSpill-clause-ok c grants bytes contents own h is =
+    let beside = beside_of c.args.works.now grants bytes c.args.self.now.job in
     failure_told c.args.self.now beside contents h c.args.len
     (planned_as c.args.self.now beside contents h c.args.len c.args.plan TellFailedSpill is c.in-TellFailedSpill.is) c.forget_failed_spill.new.self c.forget_failed_spill.ensures
 
 pub returns-in-Refuse-clause-ok : goal.returns-in-Refuse-clause-ok
-returns-in-Refuse-clause-ok c hands bytes contents own h is =
-    let beside = beside_of c.args.works.now hands bytes c.args.self.now.job in
+returns-in-Refuse-clause-ok c grants bytes contents own h is =
+    let beside = beside_of c.args.works.now grants bytes c.args.self.now.job in
     refusal_told c.args.self.now beside contents h c.args.len c.in-Refuse.refusal
     (planned_as c.args.self.now beside contents h c.args.len c.args.plan (Refuse c.in-Refuse.refusal) is c.in-Refuse.is)
 

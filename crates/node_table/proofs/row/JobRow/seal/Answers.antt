@@ -8,7 +8,7 @@ use Rattle.node_table.proofs.row.JobRow.seal.Goals as goal
 
 pub returns-in-Err-clause-ok : goal.returns-in-Err-clause-ok
 returns-in-Err-clause-ok c beside contents mine h =
-    subst (λ told. RowStep c.args.node c.args.self.now beside contents (input.Call c.args.session (command.Seal c.args.id.now)) told c.args.self.now beside) (sym c.only.ensures)
+    subst (λ response. RowStep c.args.node c.args.self.now beside contents (input.Call c.args.session (command.Seal c.args.id.now)) response c.args.self.now beside) (sym c.only.ensures)
     (seal_refused c.args.node c.args.self.now beside contents c.args.session c.args.id.now mine h c.in-Err.refusal c.in-Err.ensures.refused)
 
 pub returns-clause-ok : goal.returns-clause-ok

@@ -9,9 +9,9 @@ use Rattle.node_table.proofs.Planning.{of_copies, described_as, device_here, ask
 use Rattle.node_table.proofs.row.JobRow.spillable.Goals as goal
 
 pub returns-clause-spillable : goal.returns-clause-spillable
-returns-clause-spillable c = each_ok c.spillable.result (λ ids found line hands bytes contents n h asks.
+returns-clause-spillable c = each_ok c.spillable.result (λ ids found line grants bytes contents n h asks.
     let row = c.args.self.now in
-    let beside = beside_of line hands bytes row.job in
+    let beside = beside_of line grants bytes row.job in
     let s = shape_of row beside in
     let own = c.use_order.ensures.ids in
     let placed = c.use_order.ensures.placed in

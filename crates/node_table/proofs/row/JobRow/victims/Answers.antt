@@ -13,9 +13,9 @@ use Rattle.node_table.proofs.Rooms.{may_go}
 use Rattle.node_table.proofs.row.JobRow.victims.Goals as goal
 
 pub returns-clause-victims : goal.returns-clause-victims
-returns-clause-victims c = each_ok c.victims.result (λ ids found line hands bytes contents h evicts.
+returns-clause-victims c = each_ok c.victims.result (λ ids found line grants bytes contents h evicts.
     let row = c.args.self.now in
-    let beside = beside_of line hands bytes row.job in
+    let beside = beside_of line grants bytes row.job in
     let s = shape_of row beside in
     let own = c.use_order-order.ensures.ids in
     let placed = c.copies.ensures.placed in

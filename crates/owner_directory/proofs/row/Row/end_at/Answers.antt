@@ -9,6 +9,6 @@ pub returns : goal.returns
 returns c =
     retained _ c.args.node _ (λ k v b w g t.
     let after : t.left.now ≡ without_node c.args.node t.value.now = search rules in
-    let told : IsTrue b ↔ (t.left.now ≢ []) = search rules in
-    (sym t.leaves ∙ after ∙ ap (without_node c.args.node) t.shows.1, subst (λ (xs : List Location). IsTrue b ↔ (xs ≢ [])) t.leaves told, search rules)) _ _ c.retain.ensures.filtered
+    let response : IsTrue b ↔ (t.left.now ≢ []) = search rules in
+    (sym t.leaves ∙ after ∙ ap (without_node c.args.node) t.shows.1, subst (λ (xs : List Location). IsTrue b ↔ (xs ≢ [])) t.leaves response, search rules)) _ _ c.retain.ensures.filtered
     ∙ ap (without_entries_at c.args.node) c.self.view_is

@@ -4,4 +4,4 @@ use Rattle.store_facts.proofs.ObjectMaps.{at-lookup}
 use Rattle.plain_store.proofs.store.PlainStore.copy.Goals as goal
 
 pub returns : goal.returns
-returns c = c.get.ensures.value ∙ sym (at-lookup c.args.id c.self.inside.copies.entries) ∙ ap (λ brief. at brief.shape.copies c.args.id) c.self.view_is
+returns c = c.get.ensures.value ∙ sym (at-lookup c.args.id c.self.inside.copies.entries) ∙ ap (λ replay_state. at replay_state.shape.copies c.args.id) c.self.view_is

@@ -8,5 +8,5 @@ use Rattle.plain_store.proofs.store.PlainStore.drop_hanging.Goals as goal
 
 pub returns : goal.returns
 returns c =
-    ap (with_given (the_view c.self.inside)) (filter_same _ (λ hand. not (is_child_of c.args.id c.args.grantor.0 hand)) _ (λ x b f' k. search rules) _ _ c.retain.ensures.filtered)
-    ∙ ap (λ brief. without_hanging brief c.args.id c.args.grantor.0) c.self.view_is
+    ap (with_given (the_view c.self.inside)) (filter_same _ (λ grant. not (is_child_of c.args.id c.args.grantor.0 grant)) _ (λ x b f' k. search rules) _ _ c.retain.ensures.filtered)
+    ∙ ap (λ replay_state. without_hanging replay_state c.args.id c.args.grantor.0) c.self.view_is

@@ -1,6 +1,6 @@
 use Rattle.std.proofs.Common.{◌∙◌, sym, ap, is_some, arith}
 use Rattle.std.specs.Option.{option_copied}
-use Rattle.private_store.specs.rules.Replay.{Brief}
+use Rattle.private_store.specs.rules.Replay.{ReplayState}
 use Rattle.private_store.specs.rules.Room.{make_room}
 use Rattle.private_store.specs.rules.Commands.{is_length}
 use Rattle.plain_store.specs.Fetches.{pulled}
@@ -12,7 +12,7 @@ returns-clause-store c =
     let there = sym c.copy.ensures ∙ ap option_copied c.in-Some.is in
     let length = ap (λ k. k.length) c.copy-2.view_is in
     c.in_ok-pull_to.ensures
-    ∙ ap (λ (b : Brief). record b { shape = pulled b.shape c.args.id c.args.source c.in-Ok.offset }) (c.in_ok-offset.ensures.store ∙ ap (λ n. record c.args.self.now { shape = (make_room c.args.self.now.order c.args.self.now.shape n).shape }) length)
+    ∙ ap (λ (b : ReplayState). record b { shape = pulled b.shape c.args.id c.args.source c.in-Ok.offset }) (c.in_ok-offset.ensures.store ∙ ap (λ n. record c.args.self.now { shape = (make_room c.args.self.now.order c.args.self.now.shape n).shape }) length)
     ∙ ap (λ s. record c.args.self.now { shape = s })
     (sized-begun c.args.self.now c.requires.kept c.requires.live c.args.id c.in-Some.copy.now c.args.source c.in-Ok.offset there (c.requires.unsealed c.in-Some.copy.now there)
     (sym (ap (is_length c.args.self.now.shape) length) ∙ sym c.is_length.ensures ∙ c.if-not-is_length.false)

@@ -6,4 +6,4 @@ use Rattle.plain_store.proofs.Fields.{with_received}
 use Rattle.plain_store.proofs.store.PlainStore.insert_seen.Goals as goal
 
 pub returns : goal.returns
-returns c = ap (with_received (the_view c.self.inside)) (c.in_ok-insert.ensures.entries ∙ with_entry-insert c.args.id c.self.inside.received.entries c.args.seen) ∙ ap (λ brief. store_with_seen brief c.args.id c.args.seen) c.self.view_is
+returns c = ap (with_received (the_view c.self.inside)) (c.in_ok-insert.ensures.entries ∙ with_entry-insert c.args.id c.self.inside.received.entries c.args.seen) ∙ ap (λ replay_state. store_with_seen replay_state c.args.id c.args.seen) c.self.view_is

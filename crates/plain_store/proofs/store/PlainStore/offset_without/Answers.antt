@@ -11,4 +11,4 @@ returns c =
     ∙ ap (λ extents. first extents window c.args.length) c.deref.ensures.value
     ∙ first-permuted c.in_ok-extents.extents.items c.sort_extents.new.extents.items c.sort_extents.ensures.permutation window c.args.length
     ∙ ap (λ extents. first extents window c.args.length) c.in_ok-extents.ensures
-    ∙ ap (λ brief. offset_without brief.shape c.args.length c.args.out.now) c.self.view_is
+    ∙ ap (λ replay_state. offset_without replay_state.shape c.args.length c.args.out.now) c.self.view_is

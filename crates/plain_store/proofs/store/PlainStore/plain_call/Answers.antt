@@ -1,5 +1,5 @@
 use Rattle.std.proofs.Common.{◌≡◌, ap, sym, ◌∙◌}
-use Rattle.private_store.specs.rules.Replay.{Brief}
+use Rattle.private_store.specs.rules.Replay.{ReplayState}
 use Rattle.plain_store.specs.Steps.{own_command}
 use Rattle.plain_store.proofs.store.PlainStore.plain_call.Goals as goal
 
@@ -12,4 +12,4 @@ returns-in-Withdraw-clause-used c = ap (λ x. (own_command c.args.self.now.order
 pub returns-in-Withdraw-clause-store : goal.returns-in-Withdraw-clause-store
 returns-in-Withdraw-clause-store c =
     c.withdraw.ensures.store
-    ∙ sym (ap {B = Brief} (λ x. record c.args.self.now { shape = (own_command c.args.self.now.order c.args.self.now.shape c.args.session x).shape }) c.in-Withdraw.is)
+    ∙ sym (ap {B = ReplayState} (λ x. record c.args.self.now { shape = (own_command c.args.self.now.order c.args.self.now.shape c.args.session x).shape }) c.in-Withdraw.is)

@@ -8,4 +8,4 @@ use Rattle.plain_store.proofs.store.PlainStore.remove.Goals as goal
 pub returns : goal.returns
 returns c =
     ap (with_copies (the_view c.self.inside)) (c.remove.ensures.entries ∙ without_entry-remove c.args.id c.self.inside.copies.entries c.len-count.ensures.ordered)
-    ∙ ap (λ brief. without_copy brief c.args.id) c.self.view_is
+    ∙ ap (λ replay_state. without_copy replay_state c.args.id) c.self.view_is

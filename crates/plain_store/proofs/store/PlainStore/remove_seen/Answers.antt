@@ -8,4 +8,4 @@ use Rattle.plain_store.proofs.store.PlainStore.remove_seen.Goals as goal
 pub returns : goal.returns
 returns c =
     ap (with_received (the_view c.self.inside)) (c.remove.ensures.entries ∙ without_entry-remove c.args.id c.self.inside.received.entries c.len-count.ensures.ordered)
-    ∙ ap (λ brief. without_seen brief c.args.id) c.self.view_is
+    ∙ ap (λ replay_state. without_seen replay_state c.args.id) c.self.view_is

@@ -12,4 +12,4 @@ pub returns : goal.returns
 returns c =
     sum_from_yields_List c.map.result c.sum.result c.sum.ensures.ran
     (YieldsList-from_map _ (λ e. rounded e.1.length) (YieldsList-from_filter _ (λ e. is_some e.1.offset) (YieldsList-from_rest c.self.inside.copies.entries (cc)) (cc) (λ x b q k. search rules)) (cc) (λ x r q k. search rules))
-    ∙ ap (λ brief. sum (map (λ e. rounded e.1.length) (filter (λ e. is_some e.1.offset) brief.shape.copies))) c.self.view_is
+    ∙ ap (λ replay_state. sum (map (λ e. rounded e.1.length) (filter (λ e. is_some e.1.offset) replay_state.shape.copies))) c.self.view_is

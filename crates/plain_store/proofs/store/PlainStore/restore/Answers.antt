@@ -1,6 +1,6 @@
 use Rattle.std.proofs.Common.{◌∙◌, sym, ap}
 use Rattle.std.specs.Option.{option_copied}
-use Rattle.private_store.specs.rules.Replay.{Brief}
+use Rattle.private_store.specs.rules.Replay.{ReplayState}
 use Rattle.plain_store.specs.Checks.{restored}
 use Rattle.plain_store.proofs.Restores.{restore-refused, restore-begun}
 use Rattle.plain_store.proofs.store.PlainStore.restore.Goals as goal
@@ -26,7 +26,7 @@ pub returns-clause-store : goal.returns-clause-store
 returns-clause-store c =
     let there = sym c.copy.ensures ∙ ap option_copied c.in-Some.is in
     c.in_ok-begin_restore.ensures
-    ∙ ap (λ (b : Brief). record b { shape = restored b.shape c.args.id c.in-Ok.offset }) c.in_ok-offset.ensures.store
+    ∙ ap (λ (b : ReplayState). record b { shape = restored b.shape c.args.id c.in-Ok.offset }) c.in_ok-offset.ensures.store
     ∙ ap (λ s. record c.args.self.now { shape = s })
     (restore-begun c.args.self.now c.requires.kept c.requires.live c.args.id c.in-Some.copy.now _ c.in-Ok.offset there (c.requires.unsealed c.in-Some.copy.now there) (ap (λ k. k.length) c.copy-2.view_is)
     (sym c.in_ok-refusal.ensures ∙ c.in_default-2.is) (sym c.in_ok-offset.ensures.offset ∙ c.in-Ok.is))

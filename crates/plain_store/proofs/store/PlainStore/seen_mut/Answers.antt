@@ -12,10 +12,10 @@ pub returns : goal.returns
 returns c = (
   lent c.get_mut.result _ _ _ _
       (λ r is w. ap (with_received (the_view c.self.inside)) ((c.get_mut.follows.holds w).0 ∙ with_entry-set c.args.id c.self.inside.received.entries r.now w c.get_mut.ensures.ordered (sym c.get_mut.ensures.value ∙ ap option_copied_mut is))
-      ∙ ap (λ brief. store_with_seen brief c.args.id w) c.self.view_is)
+      ∙ ap (λ replay_state. store_with_seen replay_state c.args.id w) c.self.view_is)
       (λ none. ap (λ m. with_received (the_view c.self.inside) m.entries) c.get_mut.follows.holds-at-none ∙ c.self.view_is),
   record {
     writes_back = tt;
-    value = c.get_mut.ensures.value ∙ sym (at-lookup c.args.id c.self.inside.received.entries) ∙ ap (λ brief. at brief.shape.received c.args.id) c.self.view_is;
+    value = c.get_mut.ensures.value ∙ sym (at-lookup c.args.id c.self.inside.received.entries) ∙ ap (λ replay_state. at replay_state.shape.received c.args.id) c.self.view_is;
   },
 )

@@ -17,10 +17,10 @@ returns-clause-store c =
     let dooms = c.doom_each.new.self in
     c.give_up_each.ensures
     ∙ ap (λ ids. with_shape dooms (shapes (give_up_one c.args.task) dooms.shape ids)) (c.deref-3.ensures.value ∙ c.in_ok-ids.ensures)
-    ∙ ap (λ brief. with_shape brief (shapes (give_up_one c.args.task) brief.shape all))
+    ∙ ap (λ replay_state. with_shape replay_state (shapes (give_up_one c.args.task) replay_state.shape all))
     (c.doom_each.ensures
     ∙ ap (λ ids. with_shape ended (shapes doom ended.shape ids)) (c.deref-2.ensures.value ∙ c.in_ok-own.ensures ∙ ap (of_task c.args.task) (c.deref.ensures.value ∙ c.in_ok-ids.ensures))
-    ∙ ap (λ brief. with_shape brief (shapes doom brief.shape theirs)) c.in_ok-task_ended.ensures)
+    ∙ ap (λ replay_state. with_shape replay_state (shapes doom replay_state.shape theirs)) c.in_ok-task_ended.ensures)
     ∙ ap (with_shape now) (sym (over-shape now.shape c.args.task))
 
 pub returns-clause-used : goal.returns-clause-used

@@ -8,4 +8,4 @@ use Rattle.plain_store.proofs.store.PlainStore.without_work.Goals as goal
 pub returns : goal.returns
 returns c =
     ap (with_works (the_view c.self.inside)) (filter_same _ (λ work. not (work.number == c.args.number)) _ (λ x b f' k. search rules) _ _ c.retain.ensures.filtered)
-    ∙ ap (λ brief. with_works brief (filter (λ (work : WorkInFlight). not (work.number == c.args.number)) brief.shape.works)) c.self.view_is
+    ∙ ap (λ replay_state. with_works replay_state (filter (λ (work : WorkInFlight). not (work.number == c.args.number)) replay_state.shape.works)) c.self.view_is

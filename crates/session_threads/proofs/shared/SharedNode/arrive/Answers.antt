@@ -8,7 +8,7 @@ returns-clause-arrived g c a is =
     record {
       of_job = c.in_ok-receipt.ensures.of_job;
       named = ap (λ (e : Entry). e.event) arrival.step.entry;
-      told = c.in_ok-receipt.field-0.reply;
+      response = c.in_ok-receipt.field-0.reply;
       answer = ap (λ (e : Entry). e.reply) arrival.step.entry;
       input = arrival.entered;
     }

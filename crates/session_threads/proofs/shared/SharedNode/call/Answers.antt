@@ -6,7 +6,7 @@ use Rattle.session_threads.proofs.shared.SharedNode.call.Goals as goal
 
 pub returns-clause-called : goal.returns-clause-called
 returns-clause-called g c =
-    answered c.step_command-stepped.result c.answer.result.0 c.answer.result.1 (λ told r. (wants_memory told ≡ false) × IsCalled c.args.job c.args.session c.args.command told (witness_of r)) c.answer.ensures c.step_command-stepped.ensures.called
+    answered c.step_command-stepped.result c.answer.result.0 c.answer.result.1 (λ response r. (wants_memory response ≡ false) × IsCalled c.args.job c.args.session c.args.command response (witness_of r)) c.answer.ensures c.step_command-stepped.ensures.called
 
 pub returns-clause-small : goal.returns-clause-small
 returns-clause-small g c = answered_small c.step_command-stepped.result c.answer.result.0 c.answer.result.1 c.answer.ensures c.step_command-stepped.ensures.small

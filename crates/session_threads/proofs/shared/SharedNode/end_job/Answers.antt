@@ -4,4 +4,4 @@ use Rattle.session_threads.proofs.Answering.{answered}
 use Rattle.session_threads.proofs.shared.SharedNode.end_job.Goals as goal
 
 pub returns : goal.returns
-returns g c = answered c.step_end-stepped.result c.answer.result.0 c.answer.result.1 (λ told r. IsReceiptOf (JobEnd c.args.job) told (witness_of r)) c.answer.ensures c.step_end-stepped.ensures.stepped
+returns g c = answered c.step_end-stepped.result c.answer.result.0 c.answer.result.1 (λ response r. IsReceiptOf (JobEnd c.args.job) response (witness_of r)) c.answer.ensures c.step_end-stepped.ensures.stepped

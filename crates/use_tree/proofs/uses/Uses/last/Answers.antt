@@ -1,11 +1,11 @@
-use Rattle.augmented_tree.proofs.ForCallers.{told, rises}
+use Rattle.augmented_tree.proofs.ForCallers.{summarized, rises}
 use Rattle.std.proofs.Common.{subst}
 use Rattle.use_tree.specs.Uses.{turn_of, IsAnyUse, AreClassesOf, AreUsesRising, start}
 use Rattle.use_tree.proofs.uses.Uses.last.Goals as goal
 
 pub last-requires : goal.last-requires
 last-requires c = record {
-  told = told turn_of IsAnyUse AreClassesOf (start c.self.inside.bits) 4611686018427387904 c.self.inside.tree c.self.invariant.1;
+  summarized = summarized turn_of IsAnyUse AreClassesOf (start c.self.inside.bits) 4611686018427387904 c.self.inside.tree c.self.invariant.1;
   rising = rises turn_of IsAnyUse AreClassesOf (start c.self.inside.bits) 4611686018427387904 c.self.inside.tree c.self.invariant.1;
 }
 
