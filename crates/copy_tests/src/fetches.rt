@@ -2,19 +2,25 @@
 use assertions::holds;
 use bytes::Bytes;
 use fetch_core::{FetchIn, Stage, chunks_asked};
-use obj_id::{Digest, JobNo, Location, ObjectId, PeerMessage, Refusal, TaskNo};
+use obj_id::{
+    ChunkIndex, Digest, FetchNo, JobNo, Location, NodeNo, ObjectId, PeerMessage, Refusal, TaskNo,
+};
 use private_store::FetchFault;
 use sha2::{Digest as _, Sha256};
 use std::alloc::{AllocError, Global};
 use std::test::Fail;
 
-const HERE: u32 = 1;
+const HERE: NodeNo = NodeNo(1);
 
-const SOURCE: u32 = 3;
+const SOURCE: NodeNo = NodeNo(3);
 
-const NUMBER: u64 = 7;
+const NUMBER: FetchNo = FetchNo(7);
 
 const CHUNK: usize = 65_536;
+
+const FIRST: ChunkIndex = ChunkIndex(0);
+
+const LAST: ChunkIndex = ChunkIndex(1);
 
 /// An object of two chunks, the last of ten bytes.
 fn object() -> [u8; 65_546] {
@@ -29,9 +35,9 @@ fn an_id() -> Result<ObjectId, Refusal> {
     ObjectId::new(TaskNo::numbered(1), JobNo(1), 1)
 }
 
-fn located_at(node: u32, bytes: &[u8]) -> Location {
+fn located_at(node: NodeNo, bytes: &[u8]) -> Location {
     Location {
-        node,
+        node: node.0,
         length: u32::try_from(bytes.len()).unwrap_or(u32::MAX),
         digest: Digest(Sha256::digest(bytes)),
     }
@@ -66,9 +72,9 @@ fn shared(alloc: Global, bytes: &[u8]) -> Result<Bytes, AllocError> {
 /// The chunks that are asked for, once more if memory ran out.
 fn served(alloc: Global, bytes: &[u8], indexes: &[u32]) -> Result<Vec<PeerMessage>, Refusal> {
     let bytes = shared(alloc, bytes)?;
-    match chunks_asked(alloc, &bytes, an_id()?, NUMBER, indexes) {
+    match chunks_asked(alloc, &bytes, an_id()?, NUMBER.0, indexes) {
         Ok(chunks) => Ok(chunks),
-        Err(_) => Ok(chunks_asked(alloc, &bytes, an_id()?, NUMBER, indexes)?),
+        Err(_) => Ok(chunks_asked(alloc, &bytes, an_id()?, NUMBER.0, indexes)?),
     }
 }
 
@@ -80,7 +86,7 @@ fn is_chunk(message: &PeerMessage, index: u32, bytes: &[u8]) -> Result<bool, Ref
             number,
             index: at,
             bytes: payload,
-        } => { *id == of && *number == NUMBER && *at == index && payload.as_slice() == bytes }
+        } => { *id == of && *number == NUMBER.0 && *at == index && payload.as_slice() == bytes }
         _ => false,
     })
 }
@@ -88,8 +94,8 @@ fn is_chunk(message: &PeerMessage, index: u32, bytes: &[u8]) -> Result<bool, Ref
 /// Whether the fetch asks for both chunks, takes them, the last first, and finds them whole.
 fn takes_both(fetch: &mut FetchIn, bytes: &[u8]) -> bool {
     fetch.missing() == [0, 1].as_slice()
-        && fetch.take_chunk(NUMBER, 1, SOURCE, 10)
-        && fetch.take_chunk(NUMBER, 0, SOURCE, CHUNK)
+        && fetch.take_chunk(NUMBER, LAST, SOURCE, 10)
+        && fetch.take_chunk(NUMBER, FIRST, SOURCE, CHUNK)
         && fetch.missing().is_empty()
         && fetch.complete(bytes)
 }
@@ -104,9 +110,9 @@ fn both_chunks_are_asked_for_and_taken(rt: HostRuntime) -> Result<(), Fail> {
 
 /// Whether a chunk that was lost stays missing, and the fetch is whole once it is sent again.
 fn takes_what_was_lost(fetch: &mut FetchIn, bytes: &[u8]) -> bool {
-    fetch.take_chunk(NUMBER, 1, SOURCE, 10)
+    fetch.take_chunk(NUMBER, LAST, SOURCE, 10)
         && fetch.missing() == [0].as_slice()
-        && fetch.take_chunk(NUMBER, 0, SOURCE, CHUNK)
+        && fetch.take_chunk(NUMBER, FIRST, SOURCE, CHUNK)
         && fetch.missing().is_empty()
         && fetch.complete(bytes)
 }
@@ -121,12 +127,12 @@ fn a_lost_chunk_is_asked_for_again(rt: HostRuntime) -> Result<(), Fail> {
 
 /// Whether each chunk is taken once, and fills no gap when it comes again.
 fn takes_each_once(fetch: &mut FetchIn, bytes: &[u8]) -> bool {
-    fetch.take_chunk(NUMBER, 0, SOURCE, CHUNK)
-        && !fetch.take_chunk(NUMBER, 0, SOURCE, CHUNK)
+    fetch.take_chunk(NUMBER, FIRST, SOURCE, CHUNK)
+        && !fetch.take_chunk(NUMBER, FIRST, SOURCE, CHUNK)
         && fetch.missing() == [1].as_slice()
-        && fetch.take_chunk(NUMBER, 1, SOURCE, 10)
-        && !fetch.take_chunk(NUMBER, 1, SOURCE, 10)
-        && !fetch.take_chunk(NUMBER, 0, SOURCE, CHUNK)
+        && fetch.take_chunk(NUMBER, LAST, SOURCE, 10)
+        && !fetch.take_chunk(NUMBER, LAST, SOURCE, 10)
+        && !fetch.take_chunk(NUMBER, FIRST, SOURCE, CHUNK)
         && fetch.complete(bytes)
 }
 
@@ -140,11 +146,11 @@ fn a_repeated_chunk_fills_nothing(rt: HostRuntime) -> Result<(), Fail> {
 
 /// Whether the fetch takes both chunks, fails as damaged on these bytes, and then takes nothing more.
 fn fails_on(fetch: &mut FetchIn, damaged: &[u8]) -> bool {
-    fetch.take_chunk(NUMBER, 0, SOURCE, CHUNK)
-        && fetch.take_chunk(NUMBER, 1, SOURCE, 10)
+    fetch.take_chunk(NUMBER, FIRST, SOURCE, CHUNK)
+        && fetch.take_chunk(NUMBER, LAST, SOURCE, 10)
         && !fetch.complete(damaged)
         && fetch.stage() == Stage::Failed(FetchFault::Damaged)
-        && !fetch.take_chunk(NUMBER, 0, SOURCE, CHUNK)
+        && !fetch.take_chunk(NUMBER, FIRST, SOURCE, CHUNK)
 }
 
 #[test]

@@ -17,7 +17,7 @@ pub mod laws;
 
 use bytes::Bytes;
 use obj_id::limits::CHUNK_SIZE;
-use obj_id::{Digest, Location, ObjectId, PeerMessage};
+use obj_id::{ChunkIndex, Digest, FetchNo, Location, NodeNo, ObjectId, PeerMessage};
 use private_store::FetchFault;
 use sha2::{Digest as _, Sha256};
 use std::alloc::{AllocError, Global};
@@ -29,16 +29,16 @@ pub enum Stage {
     /// Its source isn't known.
     Locating,
     /// The node that has the object; length and digest are known.
-    Sized(u32),
+    Sized(NodeNo),
     /// The node that is asked for chunks.
-    Pulling(u32),
+    Pulling(NodeNo),
     /// It is over without a copy, for the next Get to tell why.
     Failed(FetchFault),
 }
 
 /// A fetch at the node that fetches.
 pub struct FetchIn {
-    number: u64,
+    number: FetchNo,
     stage: Stage,
     length: u32,
     digest: Option<Digest>,
@@ -71,7 +71,7 @@ impl Model for FetchIn {
 
 impl FetchIn {
     /// A fetch of this number, whose source is asked for. Takes no memory.
-    pub fn new(alloc: Global, number: u64) -> FetchIn
+    pub fn new(alloc: Global, number: FetchNo) -> FetchIn
         ensures { result ≡ begun number }
     {
         FetchIn {
@@ -84,7 +84,7 @@ impl FetchIn {
     }
 
     /// The number that messages of this fetch have.
-    pub fn number(&self) -> u64
+    pub fn number(&self) -> FetchNo
         ensures { result ≡ self.now.number }
     {
         self.number
@@ -123,15 +123,15 @@ impl FetchIn {
 
     /// The directory's answer at this node, which counts while the source isn't known: the first entry of
     /// another node is the source. Without one the fetch has failed.
-    pub fn located(&mut self, node: u32, number: u64, entries: &[Location])
+    pub fn located(&mut self, node: NodeNo, number: FetchNo, entries: &[Location])
         ensures { self.new ≡ located_lem node number entries.now self.old }
     {
         if number != self.number || self.stage != Stage::Locating {
             return;
         }
-        match elsewhere(node, entries) {
+        match elsewhere(node.0, entries) {
             Some(entry) => {
-                self.stage = Stage::Sized(entry.node);
+                self.stage = Stage::Sized(NodeNo(entry.node));
                 self.length = entry.length;
                 self.digest = Some(entry.digest);
             }
@@ -160,7 +160,9 @@ impl FetchIn {
         requires { missing.items ≡ counted 0 (chunk_count self.old.length) }
         ensures { self.new ≡ pull_begun self.old }
     {
-        let Stage::Sized(source) = self.stage else {
+        // a pattern over the field itself gets no proof, since the node in it is a number to contracts
+        let stage = self.stage;
+        let Stage::Sized(source) = stage else {
             return;
         };
         self.missing = missing;
@@ -169,7 +171,13 @@ impl FetchIn {
 
     /// A chunk of `length` bytes came: whether it fills a gap, which is then closed, so that its bytes are
     /// to be written. It must be of this fetch, from its source, missing, and as long as that chunk is.
-    pub fn take_chunk(&mut self, number: u64, index: u32, from: u32, length: usize) -> bool
+    pub fn take_chunk(
+        &mut self,
+        number: FetchNo,
+        index: ChunkIndex,
+        from: NodeNo,
+        length: usize,
+    ) -> bool
         ensures response { result ≡ fills_one number from index length self.old }
         ensures kept { self.new ≡ fetch_chunk_taken number from index length self.old }
     {
@@ -182,7 +190,7 @@ impl FetchIn {
 
     /// Whether a chunk of `length` bytes would fill a gap: it is of this fetch, from its source, missing, and as long as that
     /// chunk is.
-    pub fn fills_one(&self, number: u64, index: u32, from: u32, length: usize) -> bool
+    pub fn fills_one(&self, number: FetchNo, index: ChunkIndex, from: NodeNo, length: usize) -> bool
         ensures { result ≡ fills_one number from index length self.now }
     {
         match self.stage {
@@ -211,7 +219,7 @@ impl FetchIn {
 
     /// A node says that it has no such copy: whether that is the source that was asked. The fetch has then
     /// failed.
-    pub fn not_here(&mut self, number: u64, from: u32) -> bool
+    pub fn not_here(&mut self, number: FetchNo, from: NodeNo) -> bool
         ensures response { result ≡ is_pulled_from number from self.old }
         ensures kept { self.new ≡ (if is_pulled_from number from self.old then failed_with self.old Absent else self.old) }
     {
@@ -291,10 +299,10 @@ fn digest_of(bytes: &[u8]) -> Digest
 }
 
 /// How long the chunk of this index is, in an object of `length` bytes; 0 after its end.
-fn chunk_bytes(length: u32, index: u32) -> usize
+fn chunk_bytes(length: u32, index: ChunkIndex) -> usize
     ensures { result ≡ chunk_length length index }
 {
-    let start = u64::from(index) * u64::from(CHUNK_SIZE);
+    let start = u64::from(index.0) * u64::from(CHUNK_SIZE);
     u64::from(length)
         .saturating_sub(start)
         .min(u64::from(CHUNK_SIZE)) as usize
@@ -313,15 +321,15 @@ pub fn all_chunks(alloc: Global, length: u32) -> Result<Vec<u32>, AllocError>
 }
 
 /// Whether the index is among these.
-fn is_missing(missing: &[u32], index: u32) -> bool
+fn is_missing(missing: &[u32], index: ChunkIndex) -> bool
     ensures { result ≡ is_missing_lem missing.now index }
 {
-    missing.contains(&index)
+    missing.contains(&index.0)
 }
 
 /// Takes the index out.
-fn close_gap(missing: &mut Vec<u32>, index: u32)
+fn close_gap(missing: &mut Vec<u32>, index: ChunkIndex)
     ensures { missing.new.items ≡ filter (λ i. not (nat_eq i index)) missing.old.items }
 {
-    missing.retain(|i| *i != index);
+    missing.retain(|i| *i != index.0);
 }

@@ -25,7 +25,7 @@ use crate::Node;
 use crate::outcome::NodeOutcome;
 use fetch_core::elsewhere;
 use node_table::JobRow;
-use obj_id::{Arrival, JobNo, Location, PeerMessage, Refusal, Reply};
+use obj_id::{Arrival, ChunkIndex, FetchNo, JobNo, Location, NodeNo, PeerMessage, Refusal, Reply};
 use private_store::{Judged, Source};
 use spill_work::Works;
 use std::alloc::{AllocError, Global};
@@ -83,7 +83,7 @@ fn deliver(
             entries,
         } => {
             let entries = entries.as_slice();
-            row.located(node, id, *number, entries);
+            row.located(NodeNo(node), id, FetchNo(*number), entries);
             let outcome = node_table::RowOutcome::only(alloc, Reply::Ok);
             let judged = Judged::Located {
                 id: *id,
@@ -151,7 +151,15 @@ fn deliver_from(
             index,
             bytes,
         } => {
-            let taken = row.chunk(alloc, node, from, id, *number, *index, bytes)?;
+            let taken = row.chunk(
+                alloc,
+                NodeNo(node),
+                id,
+                FetchNo(*number),
+                ChunkIndex(*index),
+                NodeNo(from),
+                bytes,
+            )?;
             let judged = Judged::Chunk {
                 id: *id,
                 number: *number,
@@ -162,7 +170,7 @@ fn deliver_from(
             Ok((taken.outcome, judged))
         }
         PeerMessage::NotHere(id, number) => {
-            let outcome = row.not_here(alloc, from, id, *number)?;
+            let outcome = row.not_here(alloc, NodeNo(from), id, FetchNo(*number))?;
             Ok((
                 outcome,
                 Judged::NotHere {

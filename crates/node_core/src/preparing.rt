@@ -5,7 +5,7 @@ use crate::Node;
 use bytes::Bytes;
 use hashed_bytes::Hashed;
 use node_table::{JobRow, Prepared, may_want};
-use obj_id::{Command, JobNo, ObjectId};
+use obj_id::{ChunkIndex, Command, FetchNo, JobNo, NodeNo, ObjectId};
 
 impl Node {
     /// Keeps what was prepared for the next step of the job, and gives back what was kept; or what it is given, if the job isn't
@@ -76,10 +76,10 @@ impl Node {
     pub fn length_with_last(
         &self,
         job: JobNo,
-        from: u32,
+        from: NodeNo,
         id: &ObjectId,
-        number: u64,
-        index: u32,
+        number: FetchNo,
+        index: ChunkIndex,
         len: usize,
     ) -> Option<u32> {
         self.rows

@@ -23,6 +23,6 @@ marked_lies mark.Restored still z = refl
 marked_lies (mark.Lost fault) still z = true_false still
 marked_lies (mark.Placed offset awaited) still z = true_false still
 marked_lies mark.Unplaced still z = true_false still
-marked_lies (mark.GapClosed number from index n) still z = refl
+marked_lies (mark.GapClosed number index from n) still z = refl
 marked_lies mark.Brought still z = refl
 marked_lies (mark.FetchFailed fault) still z = true_false still

@@ -23,7 +23,7 @@ marked_by mark.Restored = after_restore
 marked_by (mark.Lost fault) = after_failed_restore fault
 marked_by (mark.Placed offset awaited) = after_placing awaited offset
 marked_by mark.Unplaced = after_eviction
-marked_by (mark.GapClosed number from index n) = after_chunk number from index n
+marked_by (mark.GapClosed number index from n) = after_chunk number from index n
 marked_by mark.Brought = after_last_chunk
 marked_by (mark.FetchFailed fault) = after_failed_fetch fault
 

@@ -11,14 +11,14 @@ ghost use Rattle.node_table.specs.Shown.{IsShown, RowStep, only};
 
 use crate::outcome::{Erase, RowOutcome};
 use crate::row::JobRow;
-use obj_id::{DirectoryMessage, Location, ObjectId, Reply};
+use obj_id::{DirectoryMessage, FetchNo, Location, NodeNo, ObjectId, Reply};
 use private_store::FetchFault;
 use std::alloc::{AllocError, Global};
 
 impl JobRow {
     /// The directory's answer to a fetch of this number: the first entry of another node is its source, and without one
     /// it has failed. It counts while the source isn't known; otherwise nothing changes. The reply is Ok. Takes no memory.
-    pub fn located(&mut self, node: u32, id: &ObjectId, number: u64, entries: &[Location])
+    pub fn located(&mut self, node: NodeNo, id: &ObjectId, number: FetchNo, entries: &[Location])
         ensures { (beside : SharedTables) (contents : Contents) → IsShown self.old beside contents
             → RowStep node self.old beside contents (input.Arrive (arrival.Located id.now number entries.now)) (only reply.Ok) self.new beside }
     {
@@ -31,9 +31,9 @@ impl JobRow {
     pub fn not_here(
         &mut self,
         alloc: Global,
-        from: u32,
+        from: NodeNo,
         id: &ObjectId,
-        number: u64,
+        number: FetchNo,
     ) -> Result<RowOutcome, AllocError>
         ensures ok { IfOk result (λ o. (node : ℕ) (beside : SharedTables) (contents : Contents) → IsShown self.old beside contents
             → RowStep node self.old beside contents (input.Arrive (arrival.FromPeer from (peer.NotHere id.now number))) (row_given_of o) self.new beside) }
@@ -44,7 +44,7 @@ impl JobRow {
         if !self.copies().asks(id, number, from) {
             return Ok(RowOutcome::only(alloc, Reply::Ok));
         }
-        let message = DirectoryMessage::RemoveLocation(*id, from);
+        let message = DirectoryMessage::RemoveLocation(*id, from.0);
         let messages = RowOutcome::to_directory(alloc, Some(message))?;
         self.fail_fetch(id, FetchFault::Absent);
         Ok(RowOutcome {

@@ -140,10 +140,10 @@ fn question_of(
     let indexes = all_chunks(alloc, copy.length())?;
     let message = Message::ToPeer(PeerMessage::Pull {
         id,
-        number: fetch.number(),
+        number: fetch.number().0,
         length: copy.length(),
         digest,
         indexes: ItemList::from_vec(indexes),
     });
-    Ok((Endpoint::Node(source), message))
+    Ok((Endpoint::Node(source.0), message))
 }

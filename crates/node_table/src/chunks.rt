@@ -22,7 +22,7 @@ use crate::outcome::{Erase, RowOutcome};
 use crate::row::JobRow;
 use hashed_bytes::digest_by;
 use obj_id::limits::CHUNK_SIZE;
-use obj_id::{Digest, DirectoryMessage, Location, ObjectId, Reply};
+use obj_id::{ChunkIndex, Digest, DirectoryMessage, FetchNo, Location, NodeNo, ObjectId, Reply};
 use private_store::{ChunkVerdict, FetchFault};
 use std::alloc::{AllocError, Global};
 
@@ -41,11 +41,11 @@ impl JobRow {
     pub fn chunk(
         &mut self,
         alloc: Global,
-        node: u32,
-        from: u32,
+        node: NodeNo,
         id: &ObjectId,
-        number: u64,
-        index: u32,
+        number: FetchNo,
+        index: ChunkIndex,
+        from: NodeNo,
         bytes: &[u8],
     ) -> Result<ChunkTaken, AllocError>
         ensures ok { IfOk result (λ t. (beside : SharedTables) (contents : Contents) → IsShown self.old beside contents
@@ -66,15 +66,15 @@ impl JobRow {
             });
         }
         if fit.last {
-            return self.last_chunk(alloc, node, from, id, number, index, bytes);
+            return self.last_chunk(alloc, node, id, number, index, from, bytes);
         }
         self.put_chunk(id, index, bytes);
         self.apply(
             id,
             Mark::GapClosed {
                 number,
-                from,
                 index,
+                from,
                 len: bytes.len(),
             },
         );
@@ -88,11 +88,11 @@ impl JobRow {
     fn last_chunk(
         &mut self,
         alloc: Global,
-        node: u32,
-        from: u32,
+        node: NodeNo,
         id: &ObjectId,
-        number: u64,
-        index: u32,
+        number: FetchNo,
+        index: ChunkIndex,
+        from: NodeNo,
         bytes: &[u8],
     ) -> Result<ChunkTaken, AllocError>
         requires fills { option_map_or (fills number from index (length bytes.now)) (at self.old.copies id.now) false ≡ true }
@@ -112,7 +112,7 @@ impl JobRow {
             unreachable!()
         };
         let entry = Location {
-            node,
+            node: node.0,
             length: copy.length(),
             digest,
         };
@@ -140,12 +140,12 @@ impl JobRow {
     }
 
     /// The bytes of the chunk of this index are put in their place.
-    fn put_chunk(&mut self, id: &ObjectId, index: u32, bytes: &[u8])
+    fn put_chunk(&mut self, id: &ObjectId, index: ChunkIndex, bytes: &[u8])
         ensures copies { self.new.copies ≡ self.old.copies }
         ensures row { (e : Extent) → place_of self.old.copies id.now ≡ Some e → 65536 * index < 2 ^ 32 → 65536 * index + length bytes.now ≤ e.length
             → self.new ≡ row_written self.old e (65536 * index) bytes.now }
     {
-        self.put_bytes(id, index.saturating_mul(CHUNK_SIZE), bytes);
+        self.put_bytes(id, index.0.saturating_mul(CHUNK_SIZE), bytes);
     }
 
     /// Whether the bytes of the copy have the digest, if it is resident. Hashes them once, if theirs isn't known.

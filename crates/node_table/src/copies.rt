@@ -29,7 +29,10 @@ use crate::footprint::{Footprint, to_u64};
 use crate::marks::Mark;
 use indexmap::IndexMap;
 use lru_evictor::{EvictionInfo, UseOrder};
-use obj_id::{DirectoryMessage, ItemList, Location, ObjectId, OwnItem, Refusal, TaskNo};
+use obj_id::{
+    ChunkIndex, DirectoryMessage, FetchNo, ItemList, Location, NodeNo, ObjectId, OwnItem, Refusal,
+    TaskNo,
+};
 use std::alloc::{AllocError, Global};
 use std::marker::Model;
 
@@ -301,7 +304,7 @@ impl Copies {
     }
 
     /// Whether the fetch of the copy has this number and asks this source; not if there is none.
-    pub fn asks(&self, id: &ObjectId, number: u64, from: u32) -> bool
+    pub fn asks(&self, id: &ObjectId, number: FetchNo, from: NodeNo) -> bool
         ensures { result ≡ option_map_or (asks number from) (at self.now id.now) false }
     {
         let Some(copy) = self.get(id) else {
@@ -314,9 +317,9 @@ impl Copies {
     pub fn chunk_fit(
         &self,
         id: &ObjectId,
-        number: u64,
-        index: u32,
-        from: u32,
+        number: FetchNo,
+        index: ChunkIndex,
+        from: NodeNo,
         len: usize,
     ) -> ChunkFit
         ensures fills { result.fills ≡ option_map_or (fills number from index len) (at self.now id.now) false }
@@ -339,8 +342,8 @@ impl Copies {
     pub fn locate(
         &mut self,
         id: &ObjectId,
-        node: u32,
-        number: u64,
+        node: NodeNo,
+        number: FetchNo,
         entries: &[Location],
     ) -> AfterChange
         ensures copies { self.new ≡ changed (after_located node number entries.now) self.old id.now }

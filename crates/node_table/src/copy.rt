@@ -30,8 +30,8 @@ use fetch_core::{FetchIn, Stage};
 use hashed_bytes::{Hashed, digest_by};
 use lru_evictor::{CopyFacts, EvictionInfo};
 use obj_id::{
-    CopyState, Digest, DirectoryMessage, Extent, Kind, Location, ObjectId, Refusal, TaskNo,
-    WorkKind,
+    ChunkIndex, CopyState, Digest, DirectoryMessage, Extent, FetchNo, Kind, Location, NodeNo,
+    ObjectId, Refusal, TaskNo, WorkKind,
 };
 use object_state::ObjectCopy;
 use pins_holds::Pins;
@@ -113,7 +113,7 @@ impl RowCopy {
     }
 
     /// A copy that is fetched under this number. Takes no memory.
-    pub fn fetching(alloc: Global, number: u64) -> RowCopy
+    pub fn fetching(alloc: Global, number: FetchNo) -> RowCopy
         ensures { result ≡ fetched_copy_view number }
     {
         RowCopy {
@@ -413,7 +413,7 @@ impl RowCopy {
     }
 
     /// Whether the directory's answer of this number is of its fetch, whose source isn't known.
-    pub fn awaits_source(&self, number: u64) -> bool
+    pub fn awaits_source(&self, number: FetchNo) -> bool
         ensures { result ≡ awaits_source number self.now }
     {
         let Some(fetch) = self.fetch.as_ref() else {
@@ -425,7 +425,7 @@ impl RowCopy {
 
     /// The directory's answer at this node: the first entry of another node is the source of its fetch. Without one the
     /// fetch has failed. Does nothing unless it is of this fetch, and the source isn't known.
-    pub fn locate(&mut self, node: u32, number: u64, entries: &[Location])
+    pub fn locate(&mut self, node: NodeNo, number: FetchNo, entries: &[Location])
         ensures { self.new ≡ after_located node number entries.now self.old }
     {
         if !self.awaits_source(number) {
@@ -442,7 +442,7 @@ impl RowCopy {
     }
 
     /// Whether its fetch has this number and asks this source.
-    pub fn asks(&self, number: u64, from: u32) -> bool
+    pub fn asks(&self, number: FetchNo, from: NodeNo) -> bool
         ensures { result ≡ asks number from self.now }
     {
         let Some(fetch) = self.fetch.as_ref() else {
@@ -457,7 +457,7 @@ impl RowCopy {
 
     /// Whether a chunk of `len` bytes fills a gap: it is of its fetch, from its source, missing, and as long as that chunk
     /// is. Then the digest of all bytes is known.
-    pub fn is_filled_by(&self, number: u64, index: u32, from: u32, len: usize) -> bool
+    pub fn is_filled_by(&self, number: FetchNo, index: ChunkIndex, from: NodeNo, len: usize) -> bool
         ensures { result ≡ fills number from index len self.now }
     {
         let Some(fetch) = self.fetch.as_ref() else {
@@ -467,7 +467,7 @@ impl RowCopy {
     }
 
     /// Whether no chunk but this one is missing.
-    pub fn lacks_only(&self, index: u32) -> bool
+    pub fn lacks_only(&self, index: ChunkIndex) -> bool
         ensures { result ≡ lacks_only index self.now }
     {
         let Some(fetch) = self.fetch.as_ref() else {
@@ -508,8 +508,8 @@ impl RowCopy {
             Mark::Unplaced => self.give_up_place(),
             Mark::GapClosed {
                 number,
-                from,
                 index,
+                from,
                 len,
             } => self.take_chunk(number, index, from, len),
             Mark::Brought => self.bring(),
@@ -606,7 +606,7 @@ impl RowCopy {
     }
 
     /// A chunk of `len` bytes came: the gap that it fills is closed.
-    fn take_chunk(&mut self, number: u64, index: u32, from: u32, len: usize)
+    fn take_chunk(&mut self, number: FetchNo, index: ChunkIndex, from: NodeNo, len: usize)
         ensures { self.new ≡ after_chunk number from index len self.old }
     {
         if let Some(fetch) = self.fetch.as_mut() {
@@ -637,10 +637,10 @@ impl RowCopy {
 }
 
 /// Whether these are all this index.
-fn are_all(indexes: &[u32], index: u32) -> bool
+fn are_all(indexes: &[u32], index: ChunkIndex) -> bool
     ensures { result ≡ list_all (λ i. i == index) indexes.now }
 {
-    indexes.iter().all(|i| *i == index)
+    indexes.iter().all(|i| *i == index.0)
 }
 
 /// Where the copy lies in the window, if there is one and it is resident.

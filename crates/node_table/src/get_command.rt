@@ -23,7 +23,9 @@ ghost use Rattle.node_table.specs.Shown.{IsShown, RowStep, only};
 use crate::outcome::{Erase, RowOutcome};
 use crate::row::JobRow;
 use bytes::Bytes;
-use obj_id::{CopyState, DirectoryMessage, Endpoint, ItemList, Message, ObjectId, Refusal, Reply};
+use obj_id::{
+    CopyState, DirectoryMessage, Endpoint, FetchNo, ItemList, Message, ObjectId, Refusal, Reply,
+};
 use spill_work::Works;
 use std::alloc::{AllocError, Global};
 
@@ -73,8 +75,9 @@ impl JobRow {
         if let Some(refusal) = self.copies().fetch_check(begun) {
             return Ok(RowOutcome::only(alloc, Reply::Refused(refusal)));
         }
-        let messages = locate(alloc, node, *id, begun + 1)?;
-        self.enter_fetch(alloc, id, begun + 1)?;
+        let number = FetchNo(begun + 1);
+        let messages = locate(alloc, node, *id, number)?;
+        self.enter_fetch(alloc, id, number)?;
         Ok(pending(messages))
     }
 }
@@ -171,10 +174,14 @@ pub(crate) fn locate(
     alloc: Global,
     node: u32,
     id: ObjectId,
-    number: u64,
+    number: FetchNo,
 ) -> Result<ItemList<(Endpoint, Message)>, AllocError>
     ensures { IfOk result (λ messages. messages ≡ to_directory (Locate id node number)) }
 {
-    let message = Message::ToDirectory(DirectoryMessage::Locate { id, node, number });
+    let message = Message::ToDirectory(DirectoryMessage::Locate {
+        id,
+        node,
+        number: number.0,
+    });
     RowOutcome::one_message(alloc, Endpoint::Directory, message)
 }

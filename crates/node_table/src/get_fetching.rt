@@ -27,7 +27,7 @@ use crate::get_command::{locate, pending, refuse};
 use crate::outcome::RowOutcome;
 use crate::row::JobRow;
 use fetch_core::{FetchIn, Stage};
-use obj_id::{Endpoint, ItemList, Message, ObjectId, PeerMessage, Refusal, Reply};
+use obj_id::{Endpoint, ItemList, Message, NodeNo, ObjectId, PeerMessage, Refusal, Reply};
 use private_store::FetchFault;
 use spill_work::Works;
 use std::alloc::{AllocError, Global};
@@ -117,7 +117,7 @@ fn pull(
     id: ObjectId,
     copy: &RowCopy,
     fetch: &FetchIn,
-    source: u32,
+    source: NodeNo,
 ) -> Result<ItemList<(Endpoint, Message)>, AllocError>
     requires own { copy.now.copy.fetch ≡ Some (store_fetch_of fetch.now) }
     requires pulled { fetch.now.phase ≡ pulling source (missing_of fetch.now.phase) }
@@ -130,10 +130,10 @@ fn pull(
     indexes.extend_from_slice(fetch.missing())?;
     let message = Message::ToPeer(PeerMessage::Pull {
         id,
-        number: fetch.number(),
+        number: fetch.number().0,
         length: copy.length(),
         digest,
         indexes: ItemList::from_vec(indexes),
     });
-    RowOutcome::one_message(alloc, Endpoint::Node(source), message)
+    RowOutcome::one_message(alloc, Endpoint::Node(source.0), message)
 }

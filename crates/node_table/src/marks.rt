@@ -1,6 +1,6 @@
 //! What happens to a copy of a job.
 use crate::copy::Awaited;
-use obj_id::{Digest, TaskNo};
+use obj_id::{ChunkIndex, Digest, FetchNo, NodeNo, TaskNo};
 use private_store::{Fault, FetchFault};
 
 /// What happens to a copy, with no answer and no failure. `marked_by` in `specs/Marks.antt` is the table of what each makes of it.
@@ -40,9 +40,9 @@ pub(crate) enum Mark {
     Unplaced,
     /// A chunk of `len` bytes came from this node: the gap that it fills is closed.
     GapClosed {
-        number: u64,
-        from: u32,
-        index: u32,
+        number: FetchNo,
+        index: ChunkIndex,
+        from: NodeNo,
         len: usize,
     },
     /// All bytes of its fetch are there: it is sealed.

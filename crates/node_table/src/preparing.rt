@@ -5,7 +5,7 @@ ghost use Rattle.std.specs.Prelude.{◌≡◌};
 use crate::row::JobRow;
 use bytes::Bytes;
 use obj_id::limits::MOST_BYTES;
-use obj_id::{Command, CopyState, ObjectId};
+use obj_id::{ChunkIndex, Command, CopyState, FetchNo, NodeNo, ObjectId};
 use std::alloc::Global;
 
 /// From how many bytes on zeros are made before a step: fewer are made at once.
@@ -71,10 +71,10 @@ impl JobRow {
     /// How long the object is of which no chunk but this one is missing, if the fetch of this number would take it.
     pub fn length_with_last(
         &self,
-        from: u32,
+        from: NodeNo,
         id: &ObjectId,
-        number: u64,
-        index: u32,
+        number: FetchNo,
+        index: ChunkIndex,
         len: usize,
     ) -> Option<u32> {
         let copy = self.copies().get(id)?;

@@ -47,7 +47,8 @@ use indexmap::IndexSet;
 use job_region::Window;
 use lru_evictor::{DeviceRoom, Plan, UseOrder};
 use obj_id::{
-    DeviceKey, Digest, Extent, ItemList, JobNo, Kind, Location, ObjectId, Quota, Refusal, TaskNo,
+    DeviceKey, Digest, Extent, FetchNo, ItemList, JobNo, Kind, Location, NodeNo, ObjectId, Quota,
+    Refusal, TaskNo,
 };
 use private_store::{Fault, FetchFault};
 use std::alloc::{AllocError, Global};
@@ -432,7 +433,7 @@ impl JobRow {
         &mut self,
         alloc: Global,
         id: &ObjectId,
-        number: u64,
+        number: FetchNo,
     ) -> Result<(), AllocError>
         requires { at self.old.copies id.now ≡ None }
         ensures ok { OnOk result (self.new ≡ record self.old { copies = with_entry self.old.copies id.now (fetched_copy_view number); order = last_used id.now self.old.order; fetches_begun = number }) }
@@ -443,7 +444,7 @@ impl JobRow {
             self.copies.remove(id);
             return Err(AllocError);
         }
-        self.fetches_begun = number;
+        self.fetches_begun = number.0;
         Ok(())
     }
 
@@ -528,8 +529,8 @@ impl JobRow {
     pub(crate) fn locate_copy(
         &mut self,
         id: &ObjectId,
-        node: u32,
-        number: u64,
+        node: NodeNo,
+        number: FetchNo,
         entries: &[Location],
     )
         ensures { self.new ≡ with_copy (after_located node number entries.now) self.old id.now }

@@ -3,6 +3,7 @@
 //! which a contract sees as a list of numbers.
 #![tactic(auto)]
 
+mod by_number;
 mod commands;
 mod ids;
 mod items;
@@ -14,6 +15,7 @@ mod refusals;
 mod texts;
 mod works;
 
+pub use by_number::{ChunkIndex, FetchNo, NodeNo};
 pub use commands::{Command, CopyState, GrantedItem, Kind, OwnItem, Reply, Usage};
 pub use ids::{JobNo, ObjectId, TaskNo};
 pub use items::ItemList;

@@ -7,12 +7,12 @@ ghost use Rattle.plain_store.specs.Arrivals.{awaits, awaits_from, changed_if, ch
 
 use crate::copies::{FetchPhase, PlainCopy, PlainFetch};
 use crate::store::PlainStore;
-use obj_id::{CopyState, ObjectId, Reply};
+use obj_id::{ChunkIndex, CopyState, FetchNo, NodeNo, ObjectId, Reply};
 use private_store::{ChunkVerdict, FetchFault, Source};
 
 impl PlainCopy {
     /// Whether it is in the fetch of this number, whose source isn't known.
-    pub(crate) fn is_locating(&self, number: u64) -> bool
+    pub(crate) fn is_locating(&self, number: FetchNo) -> bool
         ensures { result ≡ awaits_location number self.now }
     {
         match &self.fetch {
@@ -22,7 +22,7 @@ impl PlainCopy {
     }
 
     /// Whether it is in the fetch of this number, which pulls from this node.
-    pub(crate) fn awaits_from(&self, number: u64, from: u32) -> bool
+    pub(crate) fn awaits_from(&self, number: FetchNo, from: NodeNo) -> bool
         ensures { result ≡ awaits_from number from self.now }
     {
         match &self.fetch {
@@ -35,7 +35,7 @@ impl PlainCopy {
     }
 
     /// Whether it is in the fetch of this number, which pulls from this node and lacks the chunk.
-    pub(crate) fn awaits(&self, number: u64, index: u32, from: u32) -> bool
+    pub(crate) fn awaits(&self, number: FetchNo, index: ChunkIndex, from: NodeNo) -> bool
         ensures { result ≡ awaits number index from self.now }
     {
         match &self.fetch {
@@ -50,13 +50,13 @@ impl PlainCopy {
     }
 
     /// Its fetch, under this number, has a source and a length, or there is no copy anywhere.
-    pub(crate) fn locate(&mut self, number: u64, source: Option<Source>)
+    pub(crate) fn locate(&mut self, number: FetchNo, source: Option<Source>)
         ensures { self.new ≡ located_under number source self.old }
     {
         let phase = match source {
             Some(source) => {
                 self.length = source.length;
-                FetchPhase::Sized(source.node)
+                FetchPhase::Sized(NodeNo(source.node))
             }
             None => FetchPhase::Failed(FetchFault::Absent),
         };
@@ -64,7 +64,7 @@ impl PlainCopy {
     }
 
     /// Its fetch, under this number, is over with this fault, and its extent is given back.
-    pub(crate) fn lose(&mut self, number: u64, fault: FetchFault)
+    pub(crate) fn lose(&mut self, number: FetchNo, fault: FetchFault)
         ensures { self.new ≡ lost number fault self.old }
     {
         self.offset = None;
@@ -75,7 +75,7 @@ impl PlainCopy {
     }
 
     /// A chunk of its fetch, if it is pulled.
-    pub(crate) fn take_chunk(&mut self, index: u32, verdict: ChunkVerdict)
+    pub(crate) fn take_chunk(&mut self, index: ChunkIndex, verdict: ChunkVerdict)
         ensures { self.new ≡ chunked index verdict self.old }
     {
         let Some(PlainFetch { number, phase }) = self.fetch.take() else {
@@ -94,8 +94,8 @@ impl PlainCopy {
     /// damaged. Takes no memory.
     pub(crate) fn fill(
         &mut self,
-        number: u64,
-        source: u32,
+        number: FetchNo,
+        source: NodeNo,
         missing: Vec<u32>,
         verdict: ChunkVerdict,
     )
@@ -121,23 +121,23 @@ impl PlainCopy {
 }
 
 /// The chunks that are missing after this one came. Takes no memory.
-fn without_chunk(mut missing: Vec<u32>, index: u32) -> Vec<u32>
+fn without_chunk(mut missing: Vec<u32>, index: ChunkIndex) -> Vec<u32>
     ensures { result.items ≡ filter (λ i. not (i == index)) missing.items }
 {
-    missing.retain(|gap| *gap != index);
+    missing.retain(|gap| *gap != index.0);
     missing
 }
 
 /// Whether the chunk is missing.
-fn is_missing(missing: &Vec<u32>, index: u32) -> bool
+fn is_missing(missing: &Vec<u32>, index: ChunkIndex) -> bool
     ensures { result ≡ is_missing_lem missing.now.items index }
 {
-    missing.iter().any(|gap| *gap == index)
+    missing.iter().any(|gap| *gap == index.0)
 }
 
 impl PlainStore {
     /// The copy's fetch under this number has a source, if its source isn't known. Takes no memory.
-    fn locate(&mut self, id: ObjectId, number: u64, source: Option<Source>)
+    fn locate(&mut self, id: ObjectId, number: FetchNo, source: Option<Source>)
         ensures { self.new ≡ record self.old { shape = changed_if (awaits_location number) (located_under number source) self.old.shape id } }
     {
         let Some(copy) = self.copy(id) else {
@@ -155,7 +155,7 @@ impl PlainStore {
     pub(crate) fn located(
         &mut self,
         id: ObjectId,
-        number: u64,
+        number: FetchNo,
         source: Option<Source>,
     ) -> Reply<u64>
         ensures reply { result ≡ (located self.old.shape id number source).reply }
@@ -167,7 +167,7 @@ impl PlainStore {
     }
 
     /// The copy's fetch under this number is lost, if it pulls from this node. Takes no memory.
-    fn lose(&mut self, id: ObjectId, number: u64, from: u32)
+    fn lose(&mut self, id: ObjectId, number: FetchNo, from: NodeNo)
         ensures { self.new ≡ record self.old { shape = changed_if (awaits_from number from) (lost number FetchFault.Absent) self.old.shape id } }
     {
         let Some(copy) = self.copy(id) else {
@@ -182,7 +182,12 @@ impl PlainStore {
     }
 
     /// NotHere: the source has no such copy, and the fetch is over. Takes no memory.
-    pub(crate) fn not_here_arrived(&mut self, id: ObjectId, number: u64, from: u32) -> Reply<u64>
+    pub(crate) fn not_here_arrived(
+        &mut self,
+        id: ObjectId,
+        number: FetchNo,
+        from: NodeNo,
+    ) -> Reply<u64>
         ensures reply { result ≡ (not_here_arrived self.old.shape id number from).reply }
         ensures store { self.new ≡ record self.old { shape = (not_here_arrived self.old.shape id number from).shape } }
         ensures used { (not_here_arrived self.old.shape id number from).used ≡ None }
@@ -193,7 +198,14 @@ impl PlainStore {
 
     /// The copy's fetch under this number has one chunk less to come, if it lacks the chunk from this node. Takes no
     /// memory.
-    fn fill(&mut self, id: ObjectId, number: u64, index: u32, from: u32, verdict: ChunkVerdict)
+    fn fill(
+        &mut self,
+        id: ObjectId,
+        number: FetchNo,
+        index: ChunkIndex,
+        from: NodeNo,
+        verdict: ChunkVerdict,
+    )
         ensures { self.new ≡ record self.old { shape = changed_if (awaits number index from) (chunked index verdict) self.old.shape id } }
     {
         let Some(copy) = self.copy(id) else {
@@ -211,9 +223,9 @@ impl PlainStore {
     pub(crate) fn chunk_arrived(
         &mut self,
         id: ObjectId,
-        number: u64,
-        index: u32,
-        from: u32,
+        number: FetchNo,
+        index: ChunkIndex,
+        from: NodeNo,
         verdict: ChunkVerdict,
     ) -> Reply<u64>
         ensures reply { result ≡ (chunk_arrived self.old.shape id number index from verdict).reply }

@@ -1,5 +1,5 @@
 //! The copies of a job, and the device works on them.
-use obj_id::{CopyState, Kind, ObjectId, TaskNo};
+use obj_id::{CopyState, FetchNo, Kind, NodeNo, ObjectId, TaskNo};
 use private_store::{Fault, FetchFault};
 use std::marker::Model;
 
@@ -9,9 +9,9 @@ pub enum FetchPhase {
     /// Its source isn't known.
     Locating,
     /// The node that has the object, which isn't asked for its bytes yet.
-    Sized(u32),
+    Sized(NodeNo),
     /// The node that is asked, and the indexes of the chunks that are missing.
-    Pulling(u32, Vec<u32>),
+    Pulling(NodeNo, Vec<u32>),
     /// It is over without a copy, for the next Get to tell why.
     Failed(FetchFault),
 }
@@ -19,7 +19,7 @@ pub enum FetchPhase {
 /// A fetch. A contract sees the private store's.
 #[derive(Debug, Drop)]
 pub struct PlainFetch {
-    pub number: u64,
+    pub number: FetchNo,
     pub phase: FetchPhase,
 }
 

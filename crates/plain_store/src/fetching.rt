@@ -15,20 +15,20 @@ use crate::copies::{FetchPhase, PlainCopy};
 use crate::response::Response;
 use crate::store::PlainStore;
 use obj_id::limits::CHUNK_SIZE;
-use obj_id::{ObjectId, Refusal};
+use obj_id::{NodeNo, ObjectId, Refusal};
 use private_store::FetchFault;
 use std::alloc::{AllocError, Global};
 
 /// What the next Get of a fetch does.
 enum NextStep {
     Wait,
-    Pull(u32),
+    Pull(NodeNo),
     Tell(FetchFault),
 }
 
 impl PlainCopy {
     /// The extent is taken at the offset, and the fetch, if there is one, waits for the missing chunks from the source.
-    fn begin_pull(&mut self, source: u32, offset: u32, missing: Vec<u32>)
+    fn begin_pull(&mut self, source: NodeNo, offset: u32, missing: Vec<u32>)
         ensures { missing.items ≡ counted 0 (chunk_count_lem self.old.length) → self.new ≡ pulled_copy self.old source offset }
     {
         let Some(fetch) = &mut self.fetch else {
@@ -45,7 +45,7 @@ impl PlainStore {
         &mut self,
         alloc: Global,
         id: ObjectId,
-        source: u32,
+        source: NodeNo,
         offset: u32,
     ) -> Result<(), AllocError>
         ensures { OnOk result (self.new ≡ record self.old { shape = pulled self.old.shape id source offset }) }
@@ -66,7 +66,7 @@ impl PlainStore {
         &mut self,
         alloc: Global,
         id: ObjectId,
-        source: u32,
+        source: NodeNo,
     ) -> Result<Response, AllocError>
         requires kept { IsReplayStateKept self.old }
         requires live { is_live self.old.shape ≡ true }

@@ -14,7 +14,7 @@ ghost use Rattle.plain_store.specs.Checks.{fault_forgotten, held_more};
 use crate::copies::{FetchPhase, PlainCopy, PlainFetch};
 use crate::response::Response;
 use crate::store::PlainStore;
-use obj_id::{CopyState, Kind, ObjectId, Refusal, Reply};
+use obj_id::{CopyState, FetchNo, Kind, ObjectId, Refusal, Reply};
 use std::alloc::{AllocError, Global};
 
 impl PlainStore {
@@ -37,7 +37,7 @@ impl PlainStore {
             return Ok(Response::refused(Refusal::TooMany));
         }
         let number = self.fetches_begun + 1;
-        self.insert(id, fetched_copy(alloc, number))?;
+        self.insert(id, fetched_copy(alloc, FetchNo(number)))?;
         self.fetches_begun = number;
         Ok(Response {
             reply: Reply::Refused(Refusal::Pending),
@@ -146,7 +146,7 @@ impl PlainStore {
 }
 
 /// A copy that is on its way, its source not known yet. Takes no memory.
-fn fetched_copy(alloc: Global, number: u64) -> PlainCopy
+fn fetched_copy(alloc: Global, number: FetchNo) -> PlainCopy
     ensures { result ≡ fetched_copy_lem number }
 {
     PlainCopy {

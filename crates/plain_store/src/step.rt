@@ -9,7 +9,7 @@ ghost use Rattle.plain_store.specs.Steps.{is_foreign as is_foreign_lem, is_timel
 
 use crate::response::Response;
 use crate::store::PlainStore;
-use obj_id::{Command, CopyState, ObjectId, Refusal, Reply};
+use obj_id::{ChunkIndex, Command, CopyState, FetchNo, NodeNo, ObjectId, Refusal, Reply};
 use private_store::Judged;
 use std::alloc::{AllocError, Global};
 use std::mem;
@@ -76,7 +76,7 @@ impl PlainStore {
         match input {
             Judged::Requota(quota) => Ok(Response::only(self.requota(*quota))),
             Judged::Located { id, number, source } => {
-                Ok(Response::only(self.located(*id, *number, *source)))
+                Ok(Response::only(self.located(*id, FetchNo(*number), *source)))
             }
             Judged::Chunk {
                 id,
@@ -84,10 +84,16 @@ impl PlainStore {
                 index,
                 from,
                 verdict,
-            } => Ok(Response::only(self.chunk_arrived(*id, *number, *index, *from, *verdict))),
+            } => Ok(Response::only(self.chunk_arrived(
+                *id,
+                FetchNo(*number),
+                ChunkIndex(*index),
+                NodeNo(*from),
+                *verdict,
+            ))),
             Judged::Pull { id, matches, .. } => self.pull_arrived(alloc, *id, *matches),
             Judged::NotHere { id, number, from } => {
-                Ok(Response::only(self.not_here_arrived(*id, *number, *from)))
+                Ok(Response::only(self.not_here_arrived(*id, FetchNo(*number), NodeNo(*from))))
             }
             _ => {
                 self.end(alloc);

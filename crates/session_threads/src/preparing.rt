@@ -10,7 +10,10 @@ use job_region::Zeros;
 use node_core::Prepared;
 use node_journal::{Kept, Posted};
 use obj_id::limits::{CHUNK_SIZE, LONGEST_OBJECT, UNIT};
-use obj_id::{Command, DeviceAnswer, Endpoint, JobNo, Message, ObjectId, PeerMessage};
+use obj_id::{
+    ChunkIndex, Command, DeviceAnswer, Endpoint, FetchNo, JobNo, Message, NodeNo, ObjectId,
+    PeerMessage,
+};
 use private_store::Event;
 use std::alloc::Global;
 use std::sync::Wait;
@@ -19,10 +22,10 @@ use std::sync::ledger::Ledger;
 /// A chunk that arrives.
 #[derive(Clone, Copy)]
 struct Chunk<'a> {
-    from: u32,
+    from: NodeNo,
     id: &'a ObjectId,
-    number: u64,
-    index: u32,
+    number: FetchNo,
+    index: ChunkIndex,
     bytes: &'a Bytes,
 }
 
@@ -87,7 +90,7 @@ impl<L: Ledger, P: Pause> SharedNode<L, P> {
         )?;
         let mut whole = Vec::with_capacity(self.housekeeping.alloc, len as usize).ok()?;
         for index in 0..len.div_ceil(CHUNK_SIZE) {
-            let part = if index == chunk.index {
+            let part = if index == chunk.index.0 {
                 chunk.bytes.clone().ok()?
             } else {
                 self.part_of_copy(rt, job, chunk.id, index)?
@@ -196,10 +199,10 @@ fn chunk_of<L: Ledger>(posted: &Posted<L>) -> Option<Chunk<'_>> {
         return None;
     };
     Some(Chunk {
-        from,
+        from: NodeNo(from),
         id,
-        number: *number,
-        index: *index,
+        number: FetchNo(*number),
+        index: ChunkIndex(*index),
         bytes,
     })
 }

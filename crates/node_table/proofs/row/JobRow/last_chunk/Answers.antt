@@ -52,8 +52,8 @@ returns-clause-ok c beside contents h =
     subst (λ r. RowStep c.args.node c.args.self.now beside contents (input.Arrive (arrival.FromPeer c.args.from (peer.Chunk c.args.id.now c.args.number c.args.index c.args.bytes.now))) (record { reply = reply.Ok; posts = c.in_ok-messages.messages; erased = [] }) r beside)
     (sym (c.freeze_at.ensures ∙ c.apply-after.ensures.row ∙ ap (λ r. with_copy after_last_chunk r c.args.id.now) put))
     (whole_done c.args.node c.args.self.now beside contents h c.args.id.now c.args.number c.args.from c.args.index c.args.bytes.now a c.copies.ensures.placed
-    c.requires.last c.in-Some-digest.digest has (test ∙ c.if-not-has_digest.false) (record { node = c.args.node; length = c.length.result; digest = c.in-Some-digest.digest }) c.in_ok-messages.messages
-    (ap (λ n. record { node = c.args.node; length = n; digest = c.in-Some-digest.digest }) (c.length.ensures ∙ ap (λ (z : CopyView). z.copy.length) (sym same))) c.in_ok-messages.ensures)
+    c.requires.last c.in-Some-digest.digest has (test ∙ c.if-not-has_digest.false) (record { node = c.node.inside.0; length = c.length.result; digest = c.in-Some-digest.digest }) c.in_ok-messages.messages
+    (λ i. record { node = c.node.view_is i; length = (c.length.ensures ∙ ap (λ (z : CopyView). z.copy.length) (sym same)) i; digest = c.in-Some-digest.digest }) c.in_ok-messages.ensures)
 
 pub returns-then-not-has_digest-clause-verdict : goal.returns-then-not-has_digest-clause-verdict
 returns-then-not-has_digest-clause-verdict c beside contents h =

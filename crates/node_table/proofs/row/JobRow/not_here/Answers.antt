@@ -1,9 +1,11 @@
 use Rattle.std.proofs.Common.{false, [], sym, ap, subst, ◌∙◌}
 use Rattle.std.specs.Option.{option_map_or}
 use Rattle.obj_id.specs.declared.messages.Arrival.TheVariants as arrival
+use Rattle.obj_id.specs.declared.messages.DirectoryMessage.TheVariants.{RemoveLocation}
 use Rattle.obj_id.specs.declared.messages.PeerMessage.TheVariants as peer
 use Rattle.obj_id.specs.declared.commands.Reply.TheVariants as reply
 use Rattle.private_store.specs.declared.inputs.Input.TheVariants as input
+use Rattle.private_store.specs.rules.Private.{to_directory}
 use Rattle.private_store.specs.rules.Tables.{at}
 use Rattle.node_table.specs.Arriving.{asks}
 use Rattle.node_table.specs.Shown.{RowStep}
@@ -21,4 +23,4 @@ returns-clause-ok c node beside contents h =
     subst (λ r. RowStep node c.args.self.now beside contents (input.Arrive (arrival.FromPeer c.args.from (peer.NotHere c.args.id.now c.args.number))) (record { reply = reply.Ok; posts = c.in_ok-messages.messages; erased = [] }) r beside) (sym c.fail_fetch.ensures.row)
     (not_here_at node c.args.self.now beside contents h c.args.id.now c.args.number c.args.from c.fail_fetch.ensures.placed
     (ap (λ t. option_map_or (asks c.args.number c.args.from) (at t c.args.id.now) false) (sym c.copies.ensures.copies) ∙ sym c.asks.ensures ∙ c.if-not-asks.false)
-    c.in_ok-messages.messages c.in_ok-messages.ensures)
+    c.in_ok-messages.messages (c.in_ok-messages.ensures ∙ ap (λ n. to_directory (RemoveLocation c.args.id.now n)) c.from.view_is))
