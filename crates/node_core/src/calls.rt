@@ -69,12 +69,12 @@ fn carry_out_without_work(
     ensures err { OnErr result (row.new ≡ row.old) }
 {
     match command {
-        Command::Seal(id) => Ok(row.seal(alloc, node, session, id)?),
+        Command::Seal(id) => Ok(row.seal(alloc, node, id)?),
         Command::Release(id) => Ok(row.release(alloc, session, id)),
-        Command::Unpin(id, task) => Ok(row.unpin(alloc, node, session, id, *task)?),
-        Command::Borrow(id, task) => row.borrow(alloc, session, id, *task),
-        Command::GiveUp(id, task) => Ok(row.give_up(alloc, node, session, id, *task)?),
-        Command::Delete(id) => Ok(row.delete(alloc, node, session, id)?),
+        Command::Unpin(id, task) => Ok(row.unpin(alloc, node, id, *task)?),
+        Command::Borrow(id, task) => row.borrow(alloc, id, *task),
+        Command::GiveUp(id, task) => Ok(row.give_up(alloc, node, id, *task)?),
+        Command::Delete(id) => Ok(row.delete(alloc, node, id)?),
         Command::Leave => Ok(row.leave(alloc, session)?),
         _ => {
             let reply = answer(alloc, row, works, session, command)?;
@@ -97,7 +97,7 @@ fn answer(
     ensures err { OnErr result (row.new ≡ row.old) }
 {
     match command {
-        Command::Write { id, offset, bytes } => Ok(row.write(session, id, *offset, bytes)),
+        Command::Write { id, offset, bytes } => Ok(row.write(id, *offset, bytes)),
         Command::Read {
             id,
             offset,

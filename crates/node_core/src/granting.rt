@@ -1,5 +1,5 @@
 //! Grant and Withdraw, and what they are to those to whom objects are granted.
-ghost use Rattle.std.specs.Prelude.{◌≡◌, [], None, map, IfOk, OnErr};
+ghost use Rattle.std.specs.Prelude.{◌≡◌, ℕ, [], None, map, IfOk, OnErr};
 ghost use Rattle.obj_id.specs.declared.commands.Command.TheVariants as command;
 ghost use Rattle.obj_id.specs.declared.commands.Reply.TheVariants as reply;
 ghost use Rattle.private_store.specs.declared.schedules.Event.TheVariants as event;
@@ -51,7 +51,7 @@ impl Node {
         let Ok(made) = self.grants.grant(job, *id, target) else {
             return Err(AllocError);
         };
-        let outcome = give(self.alloc, job, row, session, id, target, table);
+        let outcome = give(self.alloc, job, row, id, target, table);
         Ok(NodeOutcome::with_given(outcome, notes, &made, length, judged))
     }
 
@@ -84,7 +84,7 @@ impl Node {
             return Err(AllocError);
         };
         let granted = self.grants.is_granted(*id);
-        let outcome = let_go(self.alloc, job, row, session, id, target, granted);
+        let outcome = let_go(self.alloc, job, row, id, target, granted);
         Ok(NodeOutcome::with_ends(outcome, notes, ended.as_slice(), judged))
     }
 }
@@ -111,18 +111,17 @@ fn give(
     alloc: Global,
     job: JobNo,
     row: &mut JobRow,
-    session: u32,
     id: &ObjectId,
     target: JobNo,
     table: Option<Refusal>,
 ) -> node_table::RowOutcome
     requires { grant_refusal_lem row.now job.0 id.now target.0 table ≡ None }
-    ensures step { TakesGrant row.old job.0 session id.now target (row_given_of result) row.new }
+    ensures step { (session : ℕ) → TakesGrant row.old job.0 session id.now target (row_given_of result) row.new }
     ensures reply { result.reply ≡ reply.Ok }
     ensures silent { result.messages ≡ [] }
 {
     if id.job().0 == job.0 {
-        return row.grant(alloc, session, id, target, table);
+        return row.grant(alloc, id, target, table);
     }
     node_table::RowOutcome::only(alloc, Reply::Ok)
 }
@@ -133,17 +132,16 @@ fn let_go(
     alloc: Global,
     job: JobNo,
     row: &mut JobRow,
-    session: u32,
     id: &ObjectId,
     target: JobNo,
     granted: bool,
 ) -> node_table::RowOutcome
-    ensures step { TakesWithdraw row.old job.0 session id.now target granted (row_given_of result) row.new }
+    ensures step { (session : ℕ) → TakesWithdraw row.old job.0 session id.now target granted (row_given_of result) row.new }
     ensures reply { result.reply ≡ reply.Ok }
     ensures silent { result.messages ≡ [] }
 {
     if id.job().0 == job.0 {
-        return row.withdraw(alloc, session, id, target, granted);
+        return row.withdraw(alloc, id, target, granted);
     }
     node_table::RowOutcome::only(alloc, Reply::Ok)
 }

@@ -24,8 +24,8 @@ impl JobRow {
     /// Write: the bytes are replaced from the offset on, while the copy is being written. `BadSize` for
     /// more than 65,536 bytes, `Absent`, `AlreadySealed`, `OutOfBounds`; a refusal changes nothing.
     /// Takes no memory.
-    pub fn write(&mut self, session: u32, id: &ObjectId, offset: u32, bytes: &[u8]) -> Reply<Bytes>
-        ensures { (node : ℕ) (beside : SharedTables) (contents : Contents) → (id.now.job.0 == self.old.job) ≡ true → IsShown self.old beside contents
+    pub fn write(&mut self, id: &ObjectId, offset: u32, bytes: &[u8]) -> Reply<Bytes>
+        ensures { (node session : ℕ) (beside : SharedTables) (contents : Contents) → (id.now.job.0 == self.old.job) ≡ true → IsShown self.old beside contents
             → RowStep node self.old beside contents (input.Call session (command.Write id.now offset bytes.now)) (only result) self.new beside }
     {
         if let Some(refusal) = self.copies().write_check(id, offset, bytes.len()) {
@@ -42,10 +42,9 @@ impl JobRow {
         &mut self,
         alloc: Global,
         node: u32,
-        session: u32,
         id: &ObjectId,
     ) -> Result<RowOutcome, AllocError>
-        ensures ok { IfOk result (λ o. (beside : SharedTables) (contents : Contents) → (id.now.job.0 == self.old.job) ≡ true → IsShown self.old beside contents
+        ensures ok { IfOk result (λ o. (session : ℕ) (beside : SharedTables) (contents : Contents) → (id.now.job.0 == self.old.job) ≡ true → IsShown self.old beside contents
             → RowStep node self.old beside contents (input.Call session (command.Seal id.now)) (row_given_of o) self.new beside) }
         ensures bounded { IfOk result (λ o. length o.messages ≤ 1) }
         ensures memory_last { OnErr result (seal_check_lem self.old.copies id.now ≡ None) }

@@ -1,5 +1,5 @@
 //! EndTask: a task of the job ends.
-ghost use Rattle.std.specs.Prelude.{◌≡◌, ◌==◌, None, map, fold, length, IfOk, OnErr, ◌++◌, ◌+◌, ◌*◌, ◌≤◌, ◌<◌, vec_len, vec_capacity, option_to_list, option_map};
+ghost use Rattle.std.specs.Prelude.{◌≡◌, ◌==◌, ℕ, None, map, fold, length, IfOk, OnErr, ◌++◌, ◌+◌, ◌*◌, ◌≤◌, ◌<◌, vec_len, vec_capacity, option_to_list, option_map};
 ghost use Rattle.std.specs.Option.{option_map_or};
 ghost use Rattle.obj_id.specs.declared.commands.Command.TheVariants as command;
 ghost use Rattle.obj_id.specs.declared.commands.Reply.TheVariants as reply;
@@ -30,10 +30,9 @@ impl JobRow {
         &mut self,
         alloc: Global,
         node: u32,
-        session: u32,
         task: TaskNo,
     ) -> Result<RowOutcome, AllocError>
-        ensures ok { IfOk result (λ o. (beside : SharedTables) (contents : Contents) → IsShown self.old beside contents
+        ensures ok { IfOk result (λ o. (session : ℕ) (beside : SharedTables) (contents : Contents) → IsShown self.old beside contents
             → RowStep node self.old beside contents (input.Call session (command.EndTask task)) (row_given_of o) self.new (beside_after self.old task beside)) }
         ensures reply { IfOk result (λ o. o.reply ≡ option_map_or reply.Refused (end_task_check_lem self.old task) reply.Ok) }
         ensures bounded { IfOk result (λ o. length o.messages ≤ 2 * length self.old.copies) }

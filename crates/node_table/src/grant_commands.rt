@@ -53,12 +53,11 @@ impl JobRow {
     pub fn grant(
         &mut self,
         alloc: Global,
-        session: u32,
         id: &ObjectId,
         target: JobNo,
         table: Option<Refusal>,
     ) -> RowOutcome
-        ensures step { (node : ℕ) (line : WorkLine) (grants : List StandingGrant) (bytes : ObjectId → List ℕ) (contents : Contents) → (id.now.job.0 == self.old.job) ≡ true
+        ensures step { (node session : ℕ) (line : WorkLine) (grants : List StandingGrant) (bytes : ObjectId → List ℕ) (contents : Contents) → (id.now.job.0 == self.old.job) ≡ true
             → table ≡ table_check grants self.old.job id.now target.0 → IsShown self.old (beside_of line grants bytes self.old.job) contents
             → RowStep node self.old (beside_of line grants bytes self.old.job) contents (input.Call session (command.Grant id.now target)) (row_given_of result) self.new
             (beside_of line (grants_made (grant_check_lem self.old id.now target.0 table) grants id.now self.old.job target.0) bytes self.old.job) }
@@ -77,12 +76,11 @@ impl JobRow {
     pub fn withdraw(
         &mut self,
         alloc: Global,
-        session: u32,
         id: &ObjectId,
         target: JobNo,
         granted: bool,
     ) -> RowOutcome
-        ensures step { (node : ℕ) (line : WorkLine) (grants : List StandingGrant) (bytes : ObjectId → List ℕ) (contents : Contents) → AreGrants grants → (id.now.job.0 == self.old.job) ≡ true
+        ensures step { (node session : ℕ) (line : WorkLine) (grants : List StandingGrant) (bytes : ObjectId → List ℕ) (contents : Contents) → AreGrants grants → (id.now.job.0 == self.old.job) ≡ true
             → withdraw_check grants self.old.job id.now target.0 ≡ None → granted ≡ list_any (is_first id.now) (grants_left (is_withdrawn self.old.job id.now target.0) grants)
             → IsShown self.old (beside_of line grants bytes self.old.job) contents
             → RowStep node self.old (beside_of line grants bytes self.old.job) contents (input.Call session (command.Withdraw id.now target)) (row_given_of result) self.new

@@ -25,11 +25,10 @@ impl JobRow {
         &mut self,
         alloc: Global,
         node: u32,
-        session: u32,
         id: &ObjectId,
         task: TaskNo,
     ) -> Result<RowOutcome, AllocError>
-        ensures ok { IfOk result (λ o. (beside : SharedTables) (contents : Contents) → (id.now.job.0 == self.old.job) ≡ true → IsShown self.old beside contents
+        ensures ok { IfOk result (λ o. (session : ℕ) (beside : SharedTables) (contents : Contents) → (id.now.job.0 == self.old.job) ≡ true → IsShown self.old beside contents
             → RowStep node self.old beside contents (input.Call session (command.Unpin id.now task)) (row_given_of o) self.new beside) }
         ensures bounded { IfOk result (λ o. length o.messages ≤ 1) }
         ensures memory_last { OnErr result (unpin_check_lem self.old.copies id.now task ≡ None) }
@@ -50,11 +49,10 @@ impl JobRow {
     pub fn borrow(
         &mut self,
         alloc: Global,
-        session: u32,
         id: &ObjectId,
         task: TaskNo,
     ) -> Result<RowOutcome, AllocError>
-        ensures ok { IfOk result (λ o. (node : ℕ) (beside : SharedTables) (contents : Contents) → (id.now.job.0 == self.old.job) ≡ true → IsShown self.old beside contents
+        ensures ok { IfOk result (λ o. (node session : ℕ) (beside : SharedTables) (contents : Contents) → (id.now.job.0 == self.old.job) ≡ true → IsShown self.old beside contents
             → RowStep node self.old beside contents (input.Call session (command.Borrow id.now task)) (row_given_of o) self.new beside) }
         ensures silent { IfOk result (λ o. o.messages ≡ []) }
         ensures memory_last { OnErr result (row_borrow_check self.old id.now task ≡ None) }
@@ -77,11 +75,10 @@ impl JobRow {
         &mut self,
         alloc: Global,
         node: u32,
-        session: u32,
         id: &ObjectId,
         task: TaskNo,
     ) -> Result<RowOutcome, AllocError>
-        ensures ok { IfOk result (λ o. (beside : SharedTables) (contents : Contents) → (id.now.job.0 == self.old.job) ≡ true → IsShown self.old beside contents
+        ensures ok { IfOk result (λ o. (session : ℕ) (beside : SharedTables) (contents : Contents) → (id.now.job.0 == self.old.job) ≡ true → IsShown self.old beside contents
             → RowStep node self.old beside contents (input.Call session (command.GiveUp id.now task)) (row_given_of o) self.new beside) }
         ensures bounded { IfOk result (λ o. length o.messages ≤ 1) }
         ensures memory_last { OnErr result (give_up_check_lem self.old.copies id.now task ≡ None) }
@@ -102,10 +99,9 @@ impl JobRow {
         &mut self,
         alloc: Global,
         node: u32,
-        session: u32,
         id: &ObjectId,
     ) -> Result<RowOutcome, AllocError>
-        ensures ok { IfOk result (λ o. (beside : SharedTables) (contents : Contents) → (id.now.job.0 == self.old.job) ≡ true → IsShown self.old beside contents
+        ensures ok { IfOk result (λ o. (session : ℕ) (beside : SharedTables) (contents : Contents) → (id.now.job.0 == self.old.job) ≡ true → IsShown self.old beside contents
             → RowStep node self.old beside contents (input.Call session (command.Delete id.now)) (row_given_of o) self.new beside) }
         ensures bounded { IfOk result (λ o. length o.messages ≤ 1) }
         ensures memory_last { OnErr result (delete_check_lem self.old.copies id.now ≡ None) }

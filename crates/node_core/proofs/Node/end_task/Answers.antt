@@ -81,7 +81,7 @@ returns-clause-ok c =
     found ((c.get_mut.follows.holds after).3 (ap is_some found)).0 passed
     (λ beside contents shown.
     subst (λ response. RowStep c.self.inside.number row beside contents (input.Call c.args.session (command.EndTask task)) (record { reply = response; posts = outcome.messages; erased = keys_of outcome.erase }) after (beside_after row task beside)) ok
-    (c.in_ok-outcome.ensures.ok beside contents shown)))))
+    (c.in_ok-outcome.ensures.ok c.args.session beside contents shown)))))
 
 pub returns-clause-bounded : goal.returns-clause-bounded
 returns-clause-bounded c =

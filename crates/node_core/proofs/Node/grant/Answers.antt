@@ -116,7 +116,7 @@ returns-clause-ok c =
     (subst (λ grants. NodeStep c.args.self.now e given (all grants)) (sym c.in-Ok.ensures.ok)
     (subst (λ old. NodeStep old e given (all (with_grant c.self.inside.grants c.args.id.now c.args.job.0 c.args.target.0))) c.self.view_is
     (grant_steps c.self.inside.number c.self.inside.admission c.self.inside.works c.self.inside.grants c.self.invariant.table c.args.job c.args.session c.args.id.now c.args.target
-    rows new row c.give-outcome.new.row (row_given_of c.give-outcome.result) c.give-outcome.ensures.reply found (wrote.3 (ap is_some found)).0 passed c.give-outcome.ensures.step c.granted_length-length.result long)))
+    rows new row c.give-outcome.new.row (row_given_of c.give-outcome.result) c.give-outcome.ensures.reply found (wrote.3 (ap is_some found)).0 passed (c.give-outcome.ensures.step c.args.session) c.granted_length-length.result long)))
 
 pub returns-clause-grantees : goal.returns-clause-grantees
 returns-clause-grantees c =

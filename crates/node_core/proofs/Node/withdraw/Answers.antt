@@ -114,7 +114,7 @@ returns-clause-ok c =
     (subst (λ grants. NodeStep c.args.self.now e given (all grants)) (sym c.in-Ok.ensures.ok)
     (subst (λ old. NodeStep old e given (all (grants_left test c.self.inside.grants))) c.self.view_is
     (withdraw_steps c.self.inside.number c.self.inside.admission c.self.inside.works c.self.inside.grants c.self.invariant.table c.args.job c.args.session c.args.id.now c.args.target
-    rows new c.in-Some.row.now c.let_go-outcome.new.row (row_given_of c.let_go-outcome.result) c.let_go-outcome.ensures.reply c.is_granted-granted.result found (wrote.3 (ap is_some found)).0 stands says c.let_go-outcome.ensures.step)))
+    rows new c.in-Some.row.now c.let_go-outcome.new.row (row_given_of c.let_go-outcome.result) c.let_go-outcome.ensures.reply c.is_granted-granted.result found (wrote.3 (ap is_some found)).0 stands says (c.let_go-outcome.ensures.step c.args.session))))
 
 pub returns-clause-grantees : goal.returns-clause-grantees
 returns-clause-grantees c =

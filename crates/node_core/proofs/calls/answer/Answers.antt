@@ -12,7 +12,7 @@ returns-in-Write-clause-ok c node job owned grants bytes contents own h =
     let mine = ap (λ n. c.in-Write.id.job.0 == n) own ∙ ap (is_own job) (sym c.in-Write.is) ∙ owned in
     let same = c.in-Write.is ∙ ap (λ bs. command.Write c.in-Write.id c.in-Write.offset bs) (sym c.deref.ensures) in
     subst (λ d. RowStep node c.args.row.now (beside_of c.args.works.now grants bytes job) contents (input.Call c.args.session d) (only c.write.result) c.write.new.self (beside_of c.args.works.now grants bytes job)) (sym same)
-    (c.write.ensures node (beside_of c.args.works.now grants bytes job) contents mine h)
+    (c.write.ensures node c.args.session (beside_of c.args.works.now grants bytes job) contents mine h)
 
 pub returns-in-Read-clause-ok : goal.returns-in-Read-clause-ok
 returns-in-Read-clause-ok c =

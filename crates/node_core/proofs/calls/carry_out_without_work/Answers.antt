@@ -11,7 +11,7 @@ pub returns-in_ok-seal-in-Seal-clause-ok : goal.returns-in_ok-seal-in-Seal-claus
 returns-in_ok-seal-in-Seal-clause-ok c job owned grants bytes contents own h =
     let mine = ap (λ n. c.in-Seal.id.job.0 == n) own ∙ ap (is_own job) (sym c.in-Seal.is) ∙ owned in
     subst (λ d. RowStep c.args.node c.args.row.now (beside_of c.args.works.now grants bytes job) contents (input.Call c.args.session d) (row_given_of c.in_ok-seal-in-Seal.field-0) c.seal.new.self (beside_of c.args.works.now grants bytes job)) (sym c.in-Seal.is)
-    (c.in_ok-seal-in-Seal.ensures.ok (beside_of c.args.works.now grants bytes job) contents mine h)
+    (c.in_ok-seal-in-Seal.ensures.ok c.args.session (beside_of c.args.works.now grants bytes job) contents mine h)
 
 pub returns-in-Release-clause-ok : goal.returns-in-Release-clause-ok
 returns-in-Release-clause-ok c job owned grants bytes contents own h =
@@ -23,19 +23,19 @@ pub returns-in_ok-unpin-in-Unpin-clause-ok : goal.returns-in_ok-unpin-in-Unpin-c
 returns-in_ok-unpin-in-Unpin-clause-ok c job owned grants bytes contents own h =
     let mine = ap (λ n. c.in-Unpin.id.job.0 == n) own ∙ ap (is_own job) (sym c.in-Unpin.is) ∙ owned in
     subst (λ d. RowStep c.args.node c.args.row.now (beside_of c.args.works.now grants bytes job) contents (input.Call c.args.session d) (row_given_of c.in_ok-unpin-in-Unpin.field-0) c.unpin.new.self (beside_of c.args.works.now grants bytes job)) (sym c.in-Unpin.is)
-    (c.in_ok-unpin-in-Unpin.ensures.ok (beside_of c.args.works.now grants bytes job) contents mine h)
+    (c.in_ok-unpin-in-Unpin.ensures.ok c.args.session (beside_of c.args.works.now grants bytes job) contents mine h)
 
 pub returns-in_ok-give_up-in-GiveUp-clause-ok : goal.returns-in_ok-give_up-in-GiveUp-clause-ok
 returns-in_ok-give_up-in-GiveUp-clause-ok c job owned grants bytes contents own h =
     let mine = ap (λ n. c.in-GiveUp.id.job.0 == n) own ∙ ap (is_own job) (sym c.in-GiveUp.is) ∙ owned in
     subst (λ d. RowStep c.args.node c.args.row.now (beside_of c.args.works.now grants bytes job) contents (input.Call c.args.session d) (row_given_of c.in_ok-give_up-in-GiveUp.field-0) c.give_up.new.self (beside_of c.args.works.now grants bytes job)) (sym c.in-GiveUp.is)
-    (c.in_ok-give_up-in-GiveUp.ensures.ok (beside_of c.args.works.now grants bytes job) contents mine h)
+    (c.in_ok-give_up-in-GiveUp.ensures.ok c.args.session (beside_of c.args.works.now grants bytes job) contents mine h)
 
 pub returns-in_ok-delete-in-Delete-clause-ok : goal.returns-in_ok-delete-in-Delete-clause-ok
 returns-in_ok-delete-in-Delete-clause-ok c job owned grants bytes contents own h =
     let mine = ap (λ n. c.in-Delete.id.job.0 == n) own ∙ ap (is_own job) (sym c.in-Delete.is) ∙ owned in
     subst (λ d. RowStep c.args.node c.args.row.now (beside_of c.args.works.now grants bytes job) contents (input.Call c.args.session d) (row_given_of c.in_ok-delete-in-Delete.field-0) c.delete.new.self (beside_of c.args.works.now grants bytes job)) (sym c.in-Delete.is)
-    (c.in_ok-delete-in-Delete.ensures.ok (beside_of c.args.works.now grants bytes job) contents mine h)
+    (c.in_ok-delete-in-Delete.ensures.ok c.args.session (beside_of c.args.works.now grants bytes job) contents mine h)
 
 pub returns-in_ok-leave-in-Leave-clause-ok : goal.returns-in_ok-leave-in-Leave-clause-ok
 returns-in_ok-leave-in-Leave-clause-ok c job owned grants bytes contents own h =
@@ -47,7 +47,7 @@ returns-in-Borrow-clause-ok c =
     if_ok c.borrow.result c.borrow.ensures.ok (λ o response job owned grants bytes contents own h.
     let mine = ap (λ n. c.in-Borrow.id.job.0 == n) own ∙ ap (is_own job) (sym c.in-Borrow.is) ∙ owned in
     subst (λ d. RowStep c.args.node c.args.row.now (beside_of c.args.works.now grants bytes job) contents (input.Call c.args.session d) (row_given_of o) c.borrow.new.self (beside_of c.args.works.now grants bytes job)) (sym c.in-Borrow.is)
-    (response c.args.node (beside_of c.args.works.now grants bytes job) contents mine h))
+    (response c.args.node c.args.session (beside_of c.args.works.now grants bytes job) contents mine h))
 
 pub returns-in_ok-reply-in_default-clause-ok : goal.returns-in_ok-reply-in_default-clause-ok
 returns-in_ok-reply-in_default-clause-ok c job owned grants bytes contents own h =

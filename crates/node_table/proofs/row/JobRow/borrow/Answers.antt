@@ -12,26 +12,26 @@ use Rattle.node_table.proofs.Scoping.{borrow_refused, borrow_done_so}
 use Rattle.node_table.proofs.row.JobRow.borrow.Goals as goal
 
 pub returns-then-has_either_ended-clause-ok : goal.returns-then-has_either_ended-clause-ok
-returns-then-has_either_ended-clause-ok c node beside contents mine h =
-    subst (λ response. RowStep node c.args.self.now beside contents (input.Call c.args.session (command.Borrow c.args.id.now c.args.task)) response c.args.self.now beside) (sym c.only.ensures)
-    (borrow_refused node c.args.self.now beside contents c.args.session c.args.id.now mine h c.args.task Gone
+returns-then-has_either_ended-clause-ok c node session beside contents mine h =
+    subst (λ response. RowStep node c.args.self.now beside contents (input.Call session (command.Borrow c.args.id.now c.args.task)) response c.args.self.now beside) (sym c.only.ensures)
+    (borrow_refused node c.args.self.now beside contents session c.args.id.now mine h c.args.task Gone
     (ap (λ b. cond b (Some Gone) (borrow_check c.args.self.now.copies c.args.id.now c.args.task))
     (ap (λ (t : TaskNo). is_remembered c.args.self.now.ended_tasks t || is_remembered c.args.self.now.ended_tasks c.args.task) (sym c.task.ensures) ∙ sym c.has_either_ended.ensures ∙ c.if-has_either_ended.true)))
 
 pub returns-in-Ok-clause-ok : goal.returns-in-Ok-clause-ok
-returns-in-Ok-clause-ok c node beside contents mine h =
-    subst (λ response. RowStep node c.args.self.now beside contents (input.Call c.args.session (command.Borrow c.args.id.now c.args.task)) response c.borrow_copy.new.self beside) (sym c.only-in-Ok.ensures)
-    (subst (λ r. RowStep node c.args.self.now beside contents (input.Call c.args.session (command.Borrow c.args.id.now c.args.task)) (only reply.Ok) r beside) (sym c.in-Ok.ensures.ok)
-    (borrow_done_so node c.args.self.now beside contents c.args.session c.args.id.now mine h c.args.task
+returns-in-Ok-clause-ok c node session beside contents mine h =
+    subst (λ response. RowStep node c.args.self.now beside contents (input.Call session (command.Borrow c.args.id.now c.args.task)) response c.borrow_copy.new.self beside) (sym c.only-in-Ok.ensures)
+    (subst (λ r. RowStep node c.args.self.now beside contents (input.Call session (command.Borrow c.args.id.now c.args.task)) (only reply.Ok) r beside) (sym c.in-Ok.ensures.ok)
+    (borrow_done_so node c.args.self.now beside contents session c.args.id.now mine h c.args.task
     (ap (λ b. cond b (Some Gone) (borrow_check c.args.self.now.copies c.args.id.now c.args.task))
     (ap (λ (t : TaskNo). is_remembered c.args.self.now.ended_tasks t || is_remembered c.args.self.now.ended_tasks c.args.task) (sym c.task.ensures) ∙ sym c.has_either_ended.ensures ∙ c.if-has_either_ended.false)
     ∙ c.in-Ok.ensures.passed refl)))
 
 pub returns-in-Err-2-clause-ok : goal.returns-in-Err-2-clause-ok
-returns-in-Err-2-clause-ok c node beside contents mine h =
-    subst (λ response. RowStep node c.args.self.now beside contents (input.Call c.args.session (command.Borrow c.args.id.now c.args.task)) response c.borrow_copy.new.self beside) (sym c.only-in-Err-2.ensures)
-    (subst (λ r. RowStep node c.args.self.now beside contents (input.Call c.args.session (command.Borrow c.args.id.now c.args.task)) (only (reply.Refused c.in-Err.refusal)) r beside) (sym c.in-Err.ensures.err)
-    (borrow_refused node c.args.self.now beside contents c.args.session c.args.id.now mine h c.args.task c.in-Err.refusal
+returns-in-Err-2-clause-ok c node session beside contents mine h =
+    subst (λ response. RowStep node c.args.self.now beside contents (input.Call session (command.Borrow c.args.id.now c.args.task)) response c.borrow_copy.new.self beside) (sym c.only-in-Err-2.ensures)
+    (subst (λ r. RowStep node c.args.self.now beside contents (input.Call session (command.Borrow c.args.id.now c.args.task)) (only (reply.Refused c.in-Err.refusal)) r beside) (sym c.in-Err.ensures.err)
+    (borrow_refused node c.args.self.now beside contents session c.args.id.now mine h c.args.task c.in-Err.refusal
     (ap (λ b. cond b (Some Gone) (borrow_check c.args.self.now.copies c.args.id.now c.args.task))
     (ap (λ (t : TaskNo). is_remembered c.args.self.now.ended_tasks t || is_remembered c.args.self.now.ended_tasks c.args.task) (sym c.task.ensures) ∙ sym c.has_either_ended.ensures ∙ c.if-has_either_ended.false)
     ∙ c.in-Err.ensures.refused c.in-Err.refusal (λ e. true_false (sym c.if-eq.false ∙ c.eq.ensures ∙ rw e)) refl)))

@@ -11,12 +11,12 @@ use Rattle.node_table.proofs.LeavingEach.{ids-listed}
 use Rattle.node_table.proofs.row.JobRow.end_task.Goals as goal
 
 pub returns-in-Some-clause-ok : goal.returns-in-Some-clause-ok
-returns-in-Some-clause-ok c beside contents h =
-    subst (λ response. RowStep c.args.node c.args.self.now beside contents (input.Call c.args.session (command.EndTask c.args.task)) response c.args.self.now (beside_after c.args.self.now c.args.task beside)) (sym c.only.ensures)
-    (end_task_refused c.args.node c.args.self.now beside contents c.args.session c.args.task h c.in-Some.refusal (sym c.end_task_check.ensures ∙ c.in-Some.is))
+returns-in-Some-clause-ok c session beside contents h =
+    subst (λ response. RowStep c.args.node c.args.self.now beside contents (input.Call session (command.EndTask c.args.task)) response c.args.self.now (beside_after c.args.self.now c.args.task beside)) (sym c.only.ensures)
+    (end_task_refused c.args.node c.args.self.now beside contents session c.args.task h c.in-Some.refusal (sym c.end_task_check.ensures ∙ c.in-Some.is))
 
 pub returns-clause-ok : goal.returns-clause-ok
-returns-clause-ok c beside contents h =
+returns-clause-ok c session beside contents h =
     let row = c.args.self.now in
     let task = c.args.task in
     let node = c.args.node in
@@ -31,6 +31,6 @@ returns-clause-ok c beside contents h =
     let first = c.doom_each.ensures.response ∙ (λ i. c.in_ok-messages.ensures.items i ++ posts_of_each (doomed_row task) (doom_posts node task) (e0 i) (ids-3 i)) in
     let posts = c.from_vec.ensures ∙ c.give_up_each.ensures.response ∙ (λ i. first i ++ posts_of_each (given_up_row task) (give_up_posts node task) (e1 i) (ids-4 i)) in
     let erased = c.from_vec-2.ensures ∙ c.push_gone.ensures ∙ (λ i. c.in_ok-erased.ensures.items i ++ gone_keys (e2 i) (keys i)) in
-    subst (λ g. RowStep node row beside contents (input.Call c.args.session (command.EndTask task)) g c.give_up_each.new.self (beside_after row task beside)) (sym (λ i. record { reply = reply.Ok; posts = posts i; erased = erased i }))
-    (subst (λ r. RowStep node row beside contents (input.Call c.args.session (command.EndTask task)) (given node row beside contents c.args.session task h) r (beside_after row task beside)) (sym e2)
-    (end_task_done node row beside contents c.args.session task h c.copies.ensures.placed (sym c.end_task_check.ensures ∙ c.in_default.is)))
+    subst (λ g. RowStep node row beside contents (input.Call session (command.EndTask task)) g c.give_up_each.new.self (beside_after row task beside)) (sym (λ i. record { reply = reply.Ok; posts = posts i; erased = erased i }))
+    (subst (λ r. RowStep node row beside contents (input.Call session (command.EndTask task)) (given node row beside contents session task h) r (beside_after row task beside)) (sym e2)
+    (end_task_done node row beside contents session task h c.copies.ensures.placed (sym c.end_task_check.ensures ∙ c.in_default.is)))

@@ -13,17 +13,17 @@ use Rattle.node_table.proofs.Granting.{withdraw_done}
 use Rattle.node_table.proofs.row.JobRow.withdraw.Goals as goal
 
 pub returns-clause-step : goal.returns-clause-step
-returns-clause-step c node line grants bytes contents are mine stands says h =
+returns-clause-step c node session line grants bytes contents are mine stands says h =
     let row = c.args.self.now in
     let id = c.args.id.now in
     let target = c.args.target in
     let before = beside_of line grants bytes row.job in
-    let x = input.Call c.args.session (command.Withdraw id target) in
+    let x = input.Call session (command.Withdraw id target) in
     let after = beside_rest line (is_withdrawn row.job id target.0) grants bytes row.job in
     let row_marked = with_copy (with_granted c.args.granted) row id in
     subst (λ g. RowStep node row before contents x g c.settle_after.new.self after)
     (sym (c.settle_after.ensures.given ∙ (λ i. record { reply = reply.Ok; posts = c.new.ensures i; erased = keys_settled (c.apply-after.ensures.row i) id })))
     (subst (λ r. RowStep node row before contents x (record { reply = reply.Ok; posts = []; erased = keys_settled row_marked id }) r after)
     (sym (c.settle_after.ensures.row ∙ ap (λ r. settled_row r id) c.apply-after.ensures.row))
-    (withdraw_done node line grants bytes row contents c.args.session id target h mine stands are c.args.granted says
+    (withdraw_done node line grants bytes row contents session id target h mine stands are c.args.granted says
     (subst (λ r. ArePlaced r.window.placed (place_of r.copies)) c.apply-after.ensures.row c.settle_after.ensures.placed)))
