@@ -1,19 +1,14 @@
--- The checks of an input, in their order.
-use Rattle.std.specs.Prelude.{ℕ, ◌+◌, Bool, not, List, [], ◌∷◌, None, is_some, is_ok, ◌&&◌, ◌==◌}
+-- The checks of a restore, in their order, and what it, a hold and a fault that is told leave of a store.
+use Rattle.std.specs.Prelude.{ℕ, ◌+◌, Bool, not, List, [], ◌∷◌, None, is_ok, ◌&&◌, ◌==◌}
 use Rattle.obj_id.specs.declared.ids.ObjectId.{ObjectId}
 use Rattle.obj_id.specs.declared.refusals.Refusal.{Refusal}
-use Rattle.obj_id.specs.declared.refusals.Refusal.TheVariants.{BadSize, Gone, Exists, TooMany, Busy}
+use Rattle.obj_id.specs.declared.refusals.Refusal.TheVariants.{TooMany, Busy}
 use Rattle.private_store.specs.rules.Tables.{at}
 use Rattle.private_store.specs.rules.Shape.{Shape}
 use Rattle.private_store.specs.rules.Limits.{has_numbers}
 use Rattle.private_store.specs.rules.Room.{make_room, works_left, set_copy}
-use Rattle.private_store.specs.rules.Change.{has_ended}
 use Rattle.std.specs.Option.{option_map_or}
-use Rattle.private_store.specs.rules.Commands.{is_length, is_full_of_copies, restoring, holds_of, with_holds}
-
-abbrev pub create_checks : Shape → ObjectId → ℕ → List (Bool × Refusal)
-create_checks store id n =
-    (not (is_length store n), BadSize) ∷ (has_ended store id.task, Gone) ∷ (is_some (at store.copies id), Exists) ∷ (is_full_of_copies store, TooMany) ∷ []
+use Rattle.private_store.specs.rules.Commands.{restoring, holds_of, with_holds}
 
 abbrev pub restore_checks : List ObjectId → Shape → ℕ → List (Bool × Refusal)
 restore_checks order store n = (works_left store == 0, Busy) ∷ (is_ok (make_room order store n).offset && not (has_numbers store.works_asked 1), TooMany) ∷ []

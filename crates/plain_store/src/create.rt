@@ -1,10 +1,9 @@
 //! Create: an extent of zeros.
-ghost use Rattle.std.specs.Prelude.{◌≡◌, ◌∷◌, [], not, true, is_some, IfOk, OnOk};
+ghost use Rattle.std.specs.Prelude.{◌≡◌, ◌∷◌, [], length, not, true, is_some, IfOk, OnOk};
 ghost use Rattle.private_store.specs.rules.Tables.{at};
 ghost use Rattle.private_store.specs.rules.Limits.{is_quota};
 ghost use Rattle.private_store.specs.rules.Change.{has_ended};
-ghost use Rattle.private_store.specs.rules.Commands.{is_length, is_full_of_copies, new_copy as new_copy_lem, create};
-ghost use Rattle.plain_store.specs.Checks.{create_checks};
+ghost use Rattle.private_store.specs.rules.Commands.{is_length, is_full_of_copies, create_checks, new_copy as new_copy_lem, create};
 ghost use Rattle.private_store.specs.rules.Shared.{first_refusal};
 
 use crate::copies::PlainCopy;
@@ -26,14 +25,14 @@ impl PlainStore {
 
     /// Whether there may be no other copy.
     pub(crate) fn is_full_of_copies(&self) -> bool
-        ensures { result ≡ is_full_of_copies self.now.shape }
+        ensures { result ≡ is_full_of_copies (length self.now.shape.copies) }
     {
         self.copies.len() >= MOST_COPIES
     }
 
     /// Why the object can't be created, before there is room for it.
     fn create_check(&self, id: ObjectId, length: u32) -> Option<Refusal>
-        ensures { result ≡ first_refusal (create_checks self.now.shape id length) }
+        ensures { result ≡ first_refusal (create_checks self.now.shape.quota.window self.now.shape.ended_tasks self.now.shape.copies id length) }
     {
         if !self.is_length(length) {
             return Some(Refusal::BadSize);

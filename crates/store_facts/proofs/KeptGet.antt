@@ -75,7 +75,7 @@ module _ (order : List ObjectId) (once : IsOrderOfUse order) {store : Shape} (h 
   create_keeps id kind n own =
       let room = make_room order store n in
       let r = room_keeps order once store h n in
-      check_keeps h (not (is_length store n)) _ _ _ (λ l. check_keeps h (has_ended store id.task) _ _ _ (λ live. check_keeps h (is_some (at store.copies id)) _ _ _ (λ none. check_keeps h (is_full_of_copies store) _ [] _ (λ few. checks_keep h _
+      check_keeps h (not (is_length store n)) _ _ _ (λ l. check_keeps h (has_ended store id.task) _ _ _ (λ live. check_keeps h (is_some (at store.copies id)) _ _ _ (λ none. check_keeps h (is_full_of_copies (length store.copies)) _ [] _ (λ few. checks_keep h _
       (in_room_keeps store room (created id kind n) r.made r.kept (λ offset m _.
       let t = passed (is_length store n) l in
       placed_keeps id kind n offset own live (none_here (at store.copies id) none) (leb-false most_copies (length store.copies) few) (length_positive store n t) (length_within store n t) m))))))
@@ -195,7 +195,7 @@ module _ (order : List ObjectId) (once : IsOrderOfUse order) {store : Shape} (h 
   begin_fetch_keeps : (id : ObjectId) → id.job.0 ≡ store.job → has_ended store id.task ≡ false → at store.copies id ≡ None → Keeps (begin_fetch store id)
   unfolding sending
   begin_fetch_keeps id own live none =
-      check_keeps h (is_full_of_copies store) _ _ _ (λ few. check_keeps h (not (has_numbers store.fetches_begun 1)) _ [] _ (λ numbers. checks_keep h _ (record {
+      check_keeps h (is_full_of_copies (length store.copies)) _ _ _ (λ few. check_keeps h (not (has_numbers store.fetches_begun 1)) _ [] _ (λ numbers. checks_keep h _ (record {
         is = begun_keeps id own live none (leb-false most_copies (length store.copies) few) (passed (has_numbers store.fetches_begun 1) numbers);
       })))
 

@@ -21,7 +21,7 @@ use Rattle.private_store.specs.declared.faults.Fault.{Fault}
 use Rattle.private_store.specs.declared.faults.FetchFault.{FetchFault}
 use Rattle.private_store.specs.declared.faults.Fault.TheVariants as restore_fault
 use Rattle.private_store.specs.declared.faults.FetchFault.TheVariants as fetch_fault
-use Rattle.private_store.specs.rules.Tables.{at, with_entry, ids_of}
+use Rattle.private_store.specs.rules.Tables.{ById, at, with_entry, ids_of}
 use Rattle.private_store.specs.rules.Limits.{most_bytes, chunk_size, most_copies, most_holds, most_borrowers, most_grants, greatest_depth, most_ended_tasks, has_numbers}
 use Rattle.private_store.specs.rules.Extents.{rounded, is_size}
 use Rattle.private_store.specs.rules.Shape.{Copy, Shape, Change, Fetch, Phase, locating, sized, pulling, failed, GrantTaken, add_location, locate, pull}
@@ -34,9 +34,97 @@ use Rattle.private_store.specs.rules.Change.{replied, refused, done, checked, ne
 abbrev pub is_length : Shape → ℕ → Bool
 is_length store n = is_size store.quota.window n
 
--- whether there may be no other copy
-abbrev pub is_full_of_copies : Shape → Bool
-is_full_of_copies store = nat_le most_copies (length store.copies)
+-- whether there may be no other copy beside so many
+abbrev pub is_full_of_copies : ℕ → Bool
+is_full_of_copies copies = nat_le most_copies copies
+
+-- whether no sealed bytes were ever here
+abbrev pub is_unsealed : CopyState → Bool
+is_unsealed Created = true
+is_unsealed Fetching = true
+is_unsealed _ = false
+
+-- the session's holds on the copy
+abbrev pub holds_of : Copy → ℕ → ℕ
+holds_of copy session = unwrap_or (find nat_cmp session copy.holds) 0
+
+-- the holds of all sessions
+abbrev pub all_holds : Copy → ℕ
+all_holds copy = fold (λ n e. n + e.1) 0 copy.holds
+
+-- whether the task borrows it
+abbrev pub has_borrower : Copy → TaskNo → Bool
+has_borrower copy task = list_any (same_task task) copy.borrowers
+
+-- only a sealed primary in memory is granted
+abbrev pub is_sealed_primary : Copy → Bool
+is_sealed_primary copy = is_primary copy.kind && is_sealed copy.state
+
+-- ---- the checks of the commands: of each list, the first test that holds refuses
+
+-- Create, in this window, after these tasks have ended, beside these copies
+abbrev pub create_checks : {X : Type 0} → ℕ → List TaskNo → ById X → ObjectId → ℕ → List (Bool × Refusal)
+create_checks window ended copies id n =
+    (not (is_size window n), BadSize)
+    ∷ (list_any (same_task id.task) ended, Gone)
+    ∷ (is_some (at copies id), Exists)
+    ∷ (is_full_of_copies (length copies), TooMany)
+    ∷ []
+
+-- Write, of a copy that isn't doomed
+abbrev pub write_checks : Copy → ℕ → ℕ → List (Bool × Refusal)
+write_checks copy offset n = (not (is_created copy.state), AlreadySealed) ∷ (nat_lt copy.length (offset + n), OutOfBounds) ∷ []
+
+-- Seal, of a copy that isn't doomed
+abbrev pub seal_checks : Copy → List (Bool × Refusal)
+seal_checks copy = (not (is_created copy.state), AlreadySealed) ∷ []
+
+-- Get, of a sealed copy that isn't doomed
+abbrev pub hold_checks : Copy → List (Bool × Refusal)
+hold_checks copy = (nat_le most_holds (all_holds copy), TooMany) ∷ []
+
+-- Get, of no copy, beside so many and after so many fetches
+abbrev pub fetch_checks : ℕ → ℕ → List (Bool × Refusal)
+fetch_checks copies begun = (is_full_of_copies copies, TooMany) ∷ (not (has_numbers begun 1), TooMany) ∷ []
+
+-- whatever shows a session the bytes of a copy
+abbrev pub bytes_checks : Copy → ℕ → List (Bool × Refusal)
+bytes_checks copy session = (is_unsealed copy.state, NotSealed) ∷ (holds_of copy session == 0, NotHeld) ∷ []
+
+-- Read, of any copy
+abbrev pub read_checks : Copy → ℕ → ℕ → ℕ → List (Bool × Refusal)
+read_checks copy session offset n = bytes_checks copy session ++ (nat_lt copy.length (offset + n), OutOfBounds) ∷ []
+
+-- Release, of any copy
+abbrev pub release_checks : Copy → ℕ → List (Bool × Refusal)
+release_checks copy session = (holds_of copy session == 0, NotHeld) ∷ []
+
+-- Unpin, of a copy that isn't doomed, by the task that owns it or another
+abbrev pub unpin_checks : Copy → Bool → List (Bool × Refusal)
+unpin_checks copy owner = (not (is_primary copy.kind && owner), NotOwner) ∷ (not copy.pinned, NotHeld) ∷ []
+
+-- Borrow, of a copy that isn't doomed
+abbrev pub borrow_checks : Copy → TaskNo → List (Bool × Refusal)
+borrow_checks copy task =
+    (not (is_primary copy.kind), NotOwner) ∷ (has_borrower copy task, Exists) ∷ (nat_le most_borrowers (length copy.borrowers), TooMany) ∷ []
+
+-- GiveUp, of a copy that isn't doomed
+abbrev pub give_up_checks : Copy → TaskNo → List (Bool × Refusal)
+give_up_checks copy task = (not (is_primary copy.kind), NotOwner) ∷ (not (has_borrower copy task), Absent) ∷ []
+
+-- Delete, of a copy that isn't doomed, granted or not
+abbrev pub delete_checks : Bool → List (Bool × Refusal)
+delete_checks granted = (granted, Granted) ∷ []
+
+-- EndTask, after these tasks have ended
+abbrev pub end_task_checks : List TaskNo → TaskNo → List (Bool × Refusal)
+end_task_checks ended task = (list_any (same_task task) ended, Gone) ∷ (nat_le most_ended_tasks (length ended), TooMany) ∷ []
+
+-- Grant of the job's own object, of a copy that isn't doomed, given to the target or not, with room for a grant or without
+abbrev pub grant_checks : Copy → Bool → Bool → List (Bool × Refusal)
+grant_checks copy given full = (not (is_sealed_primary copy), NotResident) ∷ (given, Exists) ∷ (full, TooMany) ∷ []
+
+-- ---- the commands
 
 -- a copy to be written; a primary is pinned by the task that owns it
 abbrev pub new_copy : Kind → ℕ → ℕ → Copy
@@ -63,31 +151,21 @@ created id kind n store offset =
 -- Create: an extent of zeros
 abbrev pub create : List ObjectId → Shape → ObjectId → Kind → ℕ → Change
 create order store id kind n =
-    checked store ((not (is_length store n), BadSize) ∷ (has_ended store id.task, Gone) ∷ (is_some (at store.copies id), Exists) ∷ (is_full_of_copies store, TooMany) ∷ [])
-    (in_room (make_room order store n) (created id kind n))
+    checked store (create_checks store.quota.window store.ended_tasks store.copies id n) (in_room (make_room order store n) (created id kind n))
 
 -- Write: the bytes are replaced, while the copy is being written
 abbrev pub write : Shape → ObjectId → ℕ → ℕ → Change
 write store id offset n =
     checked store ((nat_lt most_bytes n, BadSize) ∷ [])
     (needing store (visible store id) Absent (λ copy.
-    checked store ((not (is_created copy.state), AlreadySealed) ∷ (nat_lt copy.length (offset + n), OutOfBounds) ∷ [])
-    (done store)))
+    checked store (write_checks copy offset n) (done store)))
 
 -- Seal: the copy is immutable from now on, and its location told
 abbrev pub seal : Shape → ObjectId → Change
 seal store id =
     needing store (visible store id) Absent (λ copy.
-    checked store ((not (is_created copy.state), AlreadySealed) ∷ [])
+    checked store (seal_checks copy)
     (sending (add_location id ∷ []) (done (set_copy store id (record copy { state = Sealed })))))
-
--- the session's holds on the copy
-abbrev pub holds_of : Copy → ℕ → ℕ
-holds_of copy session = unwrap_or (find nat_cmp session copy.holds) 0
-
--- the holds of all sessions
-abbrev pub all_holds : Copy → ℕ
-all_holds copy = fold (λ n e. n + e.1) 0 copy.holds
 
 -- the holds of the other sessions
 abbrev pub without_session : List (ℕ × ℕ) → ℕ → List (ℕ × ℕ)
@@ -101,7 +179,7 @@ with_holds copy session n =
 -- Get of a sealed copy: a hold, and it is most recently used
 abbrev pub get_sealed : Shape → ℕ → ObjectId → Copy → Change
 get_sealed store session id copy =
-    checked store ((nat_le most_holds (all_holds copy), TooMany) ∷ [])
+    checked store (hold_checks copy)
     (record (replied (set_copy store id (with_holds copy session (holds_of copy session + 1))) (reply.Got copy.length)) { used = Some id })
 
 -- the extent is taken again, and its bytes are asked for
@@ -196,7 +274,7 @@ fetch_begun store id number =
 -- a copy that isn't here is fetched
 abbrev pub begin_fetch : Shape → ObjectId → Change
 begin_fetch store id =
-    checked store ((is_full_of_copies store, TooMany) ∷ (not (has_numbers store.fetches_begun 1), TooMany) ∷ [])
+    checked store (fetch_checks (length store.copies) store.fetches_begun)
     (record (sending (locate id (store.fetches_begun + 1) ∷ [])
     (refused (fetch_begun store id (store.fetches_begun + 1)) Pending)) { used = Some id })
 
@@ -209,25 +287,18 @@ get order store session id =
       | Some copy ↦ checked store ((copy.doomed, Absent) ∷ []) (get_copy order store session id copy)
     ])
 
--- whether no sealed bytes were ever here
-abbrev pub is_unsealed : CopyState → Bool
-is_unsealed Created = true
-is_unsealed Fetching = true
-is_unsealed _ = false
-
 -- Read: bytes of a copy that the session holds, a doomed one too
 abbrev pub read : Shape → ℕ → ObjectId → ℕ → ℕ → Change
 read store session id offset n =
     checked store ((nat_lt most_bytes n, BadSize) ∷ [])
     (needing store (at store.copies id) Absent (λ copy.
-    checked store ((is_unsealed copy.state, NotSealed) ∷ (holds_of copy session == 0, NotHeld) ∷ (nat_lt copy.length (offset + n), OutOfBounds) ∷ [])
-    (replied store (reply.Bytes n))))
+    checked store (read_checks copy session offset n) (replied store (reply.Bytes n))))
 
 -- Release: one hold of the session less
 abbrev pub release : Shape → ℕ → ObjectId → Change
 release store session id =
     needing store (at store.copies id) Absent (λ copy.
-    checked store ((holds_of copy session == 0, NotHeld) ∷ [])
+    checked store (release_checks copy session)
     (done (settled (set_copy store id (with_holds copy session (holds_of copy session - 1))) id)))
 
 -- the copy is set, and doomed if it is out of scope
@@ -238,19 +309,15 @@ scoped store id copy = if in_scope copy then done (set_copy store id copy) else 
 abbrev pub unpin : Shape → ObjectId → TaskNo → Change
 unpin store id task =
     needing store (visible store id) Absent (λ copy.
-    checked store ((not (is_primary copy.kind && same_task task id.task), NotOwner) ∷ (not copy.pinned, NotHeld) ∷ [])
+    checked store (unpin_checks copy (same_task task id.task))
     (scoped store id (record copy { pinned = false })))
-
--- whether the task borrows it
-abbrev pub has_borrower : Copy → TaskNo → Bool
-has_borrower copy task = list_any (same_task task) copy.borrowers
 
 -- Borrow: the task refers to the object
 abbrev pub borrow : Shape → ObjectId → TaskNo → Change
 borrow store id task =
     checked store ((has_ended store id.task || has_ended store task, Gone) ∷ [])
     (needing store (visible store id) Absent (λ copy.
-    checked store ((not (is_primary copy.kind), NotOwner) ∷ (has_borrower copy task, Exists) ∷ (nat_le most_borrowers (length copy.borrowers), TooMany) ∷ [])
+    checked store (borrow_checks copy task)
     (done (set_copy store id (record copy { borrowers = copy.borrowers ++ task ∷ [] })))))
 
 abbrev pub without_borrower : Copy → TaskNo → Copy
@@ -260,14 +327,13 @@ without_borrower copy task = record copy { borrowers = filter (λ t. not (same_t
 abbrev pub give_up : Shape → ObjectId → TaskNo → Change
 give_up store id task =
     needing store (visible store id) Absent (λ copy.
-    checked store ((not (is_primary copy.kind), NotOwner) ∷ (not (has_borrower copy task), Absent) ∷ [])
+    checked store (give_up_checks copy task)
     (scoped store id (without_borrower copy task)))
 
 -- Delete: the copy is doomed, whoever refers to it
 abbrev pub delete : Shape → ObjectId → Change
 delete store id =
-    needing store (visible store id) Absent (λ copy.
-    checked store ((is_granted store id, Granted) ∷ []) (doom store id))
+    needing store (visible store id) Absent (λ copy. checked store (delete_checks (is_granted store id)) (doom store id))
 
 -- one change after another: the messages of both
 abbrev pub then_change : Change → (Shape → Change) → Change
@@ -296,13 +362,9 @@ task_ended store task =
 -- EndTask: the task's copies are doomed, and then its borrows given up, each in order of id
 abbrev pub end_task : Shape → TaskNo → Change
 end_task store task =
-    checked store ((has_ended store task, Gone) ∷ (nat_le most_ended_tasks (length store.ended_tasks), TooMany) ∷ [])
+    checked store (end_task_checks store.ended_tasks task)
     (at_each (give_up_one task) (ids_of store.copies)
     (at_each doom (of_task task (ids_of store.copies)) (done (task_ended store task))))
-
--- only a sealed primary in memory is granted
-abbrev pub is_sealed_primary : Copy → Bool
-is_sealed_primary copy = is_primary copy.kind && is_sealed copy.state
 
 -- whether this job gave the target this object
 abbrev pub has_given : Shape → ObjectId → ℕ → Bool
@@ -318,7 +380,7 @@ abbrev pub grant_own : Shape → ObjectId → ℕ → Change
 grant_own store id target =
     checked store ((target == 0 || target == store.job, BadId) ∷ (has_ended store id.task, Gone) ∷ [])
     (needing store (visible store id) Absent (λ copy.
-    checked store ((not (is_sealed_primary copy), NotResident) ∷ (has_given store id target, Exists) ∷ (nat_le most_grants (length store.given), TooMany) ∷ [])
+    checked store (grant_checks copy (has_given store id target) (nat_le most_grants (length store.given)))
     (gives store id target None)))
 
 -- the oldest standing grant of an object
