@@ -1,9 +1,9 @@
 -- The commands of the private store, by their checks: the refusal, and else what is done.
-use Rattle.std.proofs.Common.{◌≡◌, ℕ, Bool, true, false, not, cond, ◌==◌, ◌+◌, nat_lt, List, [], ◌∷◌, ◌++◌, Option, Some, None, option_map, refl, sym, ap, ◌∙◌}
+use Rattle.std.proofs.Common.{◌≡◌, ℕ, Bool, true, false, not, cond, ◌==◌, nat_lt, List, [], ◌∷◌, ◌++◌, Option, Some, None, option_map, refl, sym, ap, ◌∙◌}
 use Rattle.std.specs.Option.{option_map_or, option_and_then}
 use Rattle.obj_id.specs.declared.ids.ObjectId.{ObjectId}
 use Rattle.obj_id.specs.declared.refusals.Refusal.{Refusal}
-use Rattle.obj_id.specs.declared.refusals.Refusal.TheVariants.{Absent, AlreadySealed, BadSize, NotSealed, NotHeld, OutOfBounds, NotAdmitted, NotGranted}
+use Rattle.obj_id.specs.declared.refusals.Refusal.TheVariants.{Absent, BadSize, NotAdmitted, NotGranted}
 use Rattle.obj_id.specs.declared.commands.CopyState.TheVariants.{Sealed}
 use Rattle.obj_id.specs.declared.commands.Command.{Command}
 use Rattle.obj_id.specs.declared.commands.Reply.TheVariants as reply
@@ -11,15 +11,16 @@ use Rattle.private_store.specs.declared.inputs.Judged.TheVariants as judged
 use Rattle.private_store.specs.rules.Limits.{most_bytes}
 use Rattle.private_store.specs.rules.Tables.{at}
 use Rattle.private_store.specs.rules.Shape.{Copy, Shape, Change, Sending, add_location}
-use Rattle.private_store.specs.rules.Copies.{is_created, visible}
+use Rattle.private_store.specs.rules.Copies.{visible}
 use Rattle.private_store.specs.rules.Room.{set_copy}
 use Rattle.private_store.specs.rules.Change.{replied, refused, done, checked, needing, sending, erasing}
-use Rattle.private_store.specs.rules.Commands.{write, seal, read, holds_of, is_unsealed}
+use Rattle.private_store.specs.rules.Commands.{write_checks, seal_checks, read_checks, write, seal, read}
+use Rattle.private_store.specs.rules.Shared.{first_refusal}
 use Rattle.private_store.specs.rules.Step.{step, owned, commanded}
 use Rattle.store_facts.proofs.Checks.{checked-nil, checked-false}
 use Rattle.node_table.specs.CopyViews.{CopyView}
 use Rattle.node_table.specs.Row.{Row, SharedTables, shape_of}
-use Rattle.node_table.specs.Checks.{write_check, seal_check, read_check, read_check_of}
+use Rattle.node_table.specs.Checks.{write_check, seal_check, read_check}
 use Rattle.node_table.proofs.CopyTables.{at-copies}
 
 -- the refusal, or else the rest
@@ -33,6 +34,16 @@ checked-if store b r cs c = refl
 pub needing-by : {X : Type 0} (store : Shape) (o : Option X) (r : Refusal) (f : X → Change) → needing store o r f ≡ option_map_or f o (refused store r)
 unfolding needing
 needing-by store o r f = refl
+
+-- checks alone, before what comes to the same
+pub by-checks : (store : Shape) (cs : List (Bool × Refusal)) (c d : Change) → c ≡ d → checked store cs c ≡ unless_refused store (first_refusal cs) d
+unfolding checked
+by-checks store [] c d e = e
+by-checks store (check ∷ cs) c d e =
+    elim check.0 as (λ b. cond b (refused store check.1) (checked store cs c) ≡ unless_refused store (cond b (Some check.1) (first_refusal cs)) d) [
+      | true ↦ refl
+      | false ↦ by-checks store cs c d e
+    ]
 
 -- a check before others
 pub first-check : (store : Shape) (b : Bool) (r : Refusal) (cs : List (Bool × Refusal)) (c : Change) (rest : Option Refusal) (d : Change) → checked store cs c ≡ unless_refused store rest d → checked store ((b, r) ∷ cs) c ≡ unless_refused store (cond b (Some r) rest) d
@@ -94,17 +105,12 @@ module _ (row : Row) (beside : SharedTables) (id : ObjectId) where
   pub write-by : (offset n : ℕ) → write s id offset n ≡ unless_refused s (write_check row.copies id offset n) (done s)
   write-by offset n =
       first-check s (nat_lt most_bytes n) BadSize [] _ _ (done s)
-      (checked-nil s _ ∙ in_sight _ (λ k. cond (not (is_created k.copy.state)) (Some AlreadySealed) (cond (nat_lt k.copy.length (offset + n)) (Some OutOfBounds) None)) (done s) (λ k found seen.
-      first-check s (not (is_created k.copy.state)) AlreadySealed _ _ _ (done s)
-      (first-check s (nat_lt k.copy.length (offset + n)) OutOfBounds [] _ None (done s) (checked-nil s (done s)))))
+      (checked-nil s _ ∙ in_sight _ (λ k. first_refusal (write_checks k.copy offset n)) (done s) (λ k found seen. by-checks s (write_checks k.copy offset n) _ _ refl))
 
   pub read-by : (session offset n : ℕ) → read s session id offset n ≡ unless_refused s (read_check row.copies session id offset n) (replied s (reply.Bytes n))
   read-by session offset n =
       first-check s (nat_lt most_bytes n) BadSize [] _ _ _
-      (checked-nil s _ ∙ in_table _ (λ k. read_check_of k session offset n) _ (λ k found.
-      first-check s (is_unsealed k.copy.state) NotSealed _ _ _ _
-      (first-check s (holds_of k.copy session == 0) NotHeld _ _ _ _
-      (first-check s (nat_lt k.copy.length (offset + n)) OutOfBounds [] _ None _ (checked-nil s _)))))
+      (checked-nil s _ ∙ in_table _ (λ k. first_refusal (read_checks k.copy session offset n)) _ (λ k found. by-checks s (read_checks k.copy session offset n) _ _ refl))
 
   -- what sealing does to the copy that is there
   abbrev pub seal_done : Change
@@ -112,9 +118,9 @@ module _ (row : Row) (beside : SharedTables) (id : ObjectId) where
 
   pub seal-by : seal s id ≡ unless_refused s (seal_check row.copies id) seal_done
   seal-by =
-      in_sight _ (λ k. cond (not (is_created k.copy.state)) (Some AlreadySealed) None) seal_done (λ k found seen.
-      first-check s (not (is_created k.copy.state)) AlreadySealed [] _ None seal_done
-      (checked-nil s _ ∙ sym (ap (λ o. option_map_or (λ copy. sending (add_location id ∷ []) (done (set_copy s id (record copy { state = Sealed })))) o (refused s Absent)) (at-copies row.copies id ∙ ap (option_map (λ k. k.copy)) found))))
+      in_sight _ (λ k. first_refusal (seal_checks k.copy)) seal_done (λ k found seen.
+      by-checks s (seal_checks k.copy) _ _
+      (sym (ap (λ o. option_map_or (λ copy. sending (add_location id ∷ []) (done (set_copy s id (record copy { state = Sealed })))) o (refused s Absent)) (at-copies row.copies id ∙ ap (option_map (λ k. k.copy)) found))))
 
 -- what is sent first
 pub sending-is : (sent : List Sending) (c : Change) → sending sent c ≡ record c { sent = sent ++ c.sent }

@@ -1,5 +1,5 @@
 -- A row takes Create where a place is made for the new copy, or there is one.
-use Rattle.std.proofs.Common.{◌≡◌, ℕ, Bool, true, false, not, cond, ◌==◌, nat_eq, nat_le, List, [], ◌∷◌, ◌++◌, length, Option, Some, None, is_some, option_map, refl, sym, ap, subst, ◌∙◌}
+use Rattle.std.proofs.Common.{◌≡◌, ℕ, Bool, true, false, not, cond, ◌==◌, nat_eq, nat_le, List, [], ◌∷◌, ◌++◌, Option, Some, None, is_some, option_map, refl, sym, ap, subst, ◌∙◌}
 use Rattle.std.specs.Prelude.{if◌then◌else◌}
 use Rattle.std.specs.List.{list_any}
 use Rattle.std.specs.Option.{option_and_then}
@@ -21,14 +21,13 @@ use Rattle.private_store.specs.rules.Extents.{rounded, first, is_size}
 use Rattle.private_store.specs.rules.Shape.{Copy, Shape, Change}
 use Rattle.private_store.specs.rules.Copies.{extent_of}
 use Rattle.private_store.specs.rules.Room.{make_room}
-use Rattle.private_store.specs.rules.Change.{erasing, in_room, has_ended}
+use Rattle.private_store.specs.rules.Change.{erasing, in_room}
 use Rattle.private_store.specs.laws.Invariants.{has_grant, is_remembered}
 use Rattle.std.proofs.lemmas.Bool.{eqb-true}
-use Rattle.private_store.specs.rules.Commands.{create, created, is_length}
+use Rattle.private_store.specs.rules.Commands.{create_checks, create, created}
 use Rattle.private_store.specs.rules.Contents.{Contents, judge}
 use Rattle.private_store.specs.rules.Step.{step}
-use Rattle.store_facts.proofs.Checks.{checked-nil}
-use Rattle.store_facts.proofs.Tests.{some_value, none_some, true_false}
+use Rattle.store_facts.proofs.Tests.{none_here, some_value, none_some, true_false}
 use Rattle.job_region.specs.Region.{extents_of}
 use Rattle.node_table.specs.CopyViews.{CopyView, new_copy_view}
 use Rattle.node_table.specs.Row.{Row, SharedTables, copies_of, shape_of, place_of, ArePlaced}
@@ -38,34 +37,19 @@ use Rattle.node_table.specs.MadeRooms.{BringsNothing}
 use Rattle.node_table.proofs.Rooms.{each_among, placed_done}
 use Rattle.node_table.specs.RoomPlans.{MakesPlace}
 use Rattle.node_table.specs.Shown.{seen, work_on, IsShown, only, RowStep}
-use Rattle.node_table.proofs.ByChecks.{unless_refused, first-check, called, own}
+use Rattle.node_table.proofs.ByChecks.{unless_refused, by-checks, called, own}
 use Rattle.node_table.proofs.CopyTables.{at-copies, at-copies_none}
 use Rattle.node_table.proofs.Fetching.{length-map, nothing_found}
+use Rattle.node_table.proofs.Passed.{all_failed, not_not}
 use Rattle.node_table.proofs.Stepping.{stays}
 
 -- what passes the checks is of a size
 pub size_of : (row : Row) (id : ObjectId) (n : ℕ) → create_check row id n ≡ None → is_size row.window.quota n ≡ true
-size_of row id n passed = by (is_size row.window.quota n) (cond (is_remembered row.ended_tasks id.task) (Some Gone) (cond (is_some (at row.copies id)) (Some Exists) (cond (nat_le most_copies (length row.copies)) (Some TooMany) None))) passed
-  where
-    by : (b : Bool) (o : Option Refusal) → cond (not b) (Some BadSize) o ≡ None → b ≡ true
-    by true o e = refl
-    by false o e = none_some BadSize (sym e)
+size_of row id n passed = not_not (is_size row.window.quota n) (all_failed (create_checks row.window.quota row.ended_tasks row.copies id n) passed).0
 
 -- and has no copy
 pub absent_of : (row : Row) (id : ObjectId) (n : ℕ) → create_check row id n ≡ None → at row.copies id ≡ None
-absent_of row id n passed = by (at row.copies id) passed
-  where
-    sized : (b : Bool) (o : Option Refusal) → cond b (Some BadSize) o ≡ None → o ≡ None
-    sized true o e = none_some BadSize (sym e)
-    sized false o e = e
-
-    stays_on : (b : Bool) (o : Option Refusal) → cond b (Some Gone) o ≡ None → o ≡ None
-    stays_on true o e = none_some Gone (sym e)
-    stays_on false o e = e
-
-    by : (o : Option CopyView) → cond (not (is_size row.window.quota n)) (Some BadSize) (cond (is_remembered row.ended_tasks id.task) (Some Gone) (cond (is_some o) (Some Exists) (cond (nat_le most_copies (length row.copies)) (Some TooMany) None))) ≡ None → o ≡ None
-    by None e = refl
-    by (Some k) e = none_some Exists (sym (stays_on (is_remembered row.ended_tasks id.task) (Some Exists) (sized (not (is_size row.window.quota n)) _ e)))
+absent_of row id n passed = none_here (at row.copies id) (all_failed (create_checks row.window.quota row.ended_tasks row.copies id n) passed).1.1.0
 
 module _ (node : ℕ) (row : Row) (beside : SharedTables) (contents : Contents) (session : ℕ) (id : ObjectId) (kind : Kind) (n : ℕ) (mine : (id.job.0 == row.job) ≡ true) (h : IsShown row beside contents) where
   abbrev s : Shape
@@ -88,10 +72,7 @@ module _ (node : ℕ) (row : Row) (beside : SharedTables) (contents : Contents) 
   create_is =
       called row beside session (command.Create id kind n)
       ∙ ap (erasing s) (own row beside id (create row.order s id kind n) mine
-      ∙ first-check s (not (is_length s n)) BadSize _ _ _ room_change
-      (first-check s (has_ended s id.task) Gone _ _ _ room_change
-      (first-check s (is_some (at s.copies id)) Exists _ _ _ room_change
-      (first-check s (nat_le most_copies (length s.copies)) TooMany [] room_change None room_change (checked-nil s room_change))))
+      ∙ by-checks s (create_checks s.quota.window s.ended_tasks s.copies id n) _ room_change refl
       ∙ (λ i. unless_refused s (cond (not (is_size row.window.quota n)) (Some BadSize) (cond (is_remembered row.ended_tasks id.task) (Some Gone) (cond (same_presence i) (Some Exists) (cond (nat_le most_copies (length-map {B = ObjectId × Copy} (λ e. (e.0, e.1.copy)) row.copies i)) (Some TooMany) None)))) room_change))
 
   pub quiet : BringsNothing node (seen row beside contents) x

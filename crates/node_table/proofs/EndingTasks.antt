@@ -1,5 +1,5 @@
 -- A row takes EndTask: the grants of the task's own objects end, and two walks over all copies follow.
-use Rattle.std.proofs.Common.{◌≡◌, ℕ, Bool, true, false, not, ◌&&◌, ◌||◌, ◌==◌, cond, nat_le, List, [], ◌∷◌, ◌++◌, length, fold, filter, map, flat_map, take, Option, Some, None, is_some, is_none, option_map, unwrap_or, inl, inr, refl, sym, ap, subst, ◌∙◌, T, arith}
+use Rattle.std.proofs.Common.{◌≡◌, ℕ, Bool, true, false, not, ◌&&◌, ◌||◌, ◌==◌, cond, List, [], ◌∷◌, ◌++◌, fold, filter, map, flat_map, take, Option, Some, None, is_some, is_none, option_map, unwrap_or, inl, inr, refl, sym, ap, subst, ◌∙◌, T, arith}
 use Rattle.std.specs.Prelude.{option_to_list}
 use Rattle.std.proofs.lemmas.List.{append-nil, append_assoc}
 use Rattle.std.proofs.lemmas.Bool.Decides.{nat_tests}
@@ -11,7 +11,6 @@ use Rattle.obj_id.specs.declared.ids.ObjectId.{ObjectId}
 use Rattle.obj_id.specs.declared.works.DeviceKey.{DeviceKey}
 use Rattle.obj_id.specs.declared.works.Extent.{Extent}
 use Rattle.obj_id.specs.declared.refusals.Refusal.{Refusal}
-use Rattle.obj_id.specs.declared.refusals.Refusal.TheVariants.{Gone, TooMany}
 use Rattle.obj_id.specs.declared.commands.Command.TheVariants as command
 use Rattle.obj_id.specs.declared.commands.Reply.TheVariants as reply
 use Rattle.obj_id.specs.declared.messages.DirectoryMessage.TheVariants.{RemoveLocation, Free}
@@ -20,20 +19,18 @@ use Rattle.obj_id.specs.Kinds.{is_primary}
 use Rattle.store_facts.proofs.Ids.{same_id-equal, id_cmp-IsTotalOrder}
 use Rattle.private_store.specs.declared.inputs.Input.{Input}
 use Rattle.private_store.specs.declared.inputs.Input.TheVariants as input
-use Rattle.private_store.specs.rules.Limits.{most_ended_tasks}
 use Rattle.private_store.specs.rules.Tables.{ById, at, with_entry, ids_of, is_among}
 use Rattle.private_store.specs.rules.Shape.{Copy, Shape, Change, Sending, GrantGiven, free, remove_location}
 use Rattle.private_store.specs.rules.Copies.{extent_of, is_held, is_granted, is_working, is_idle, in_scope, was_sealed}
 use Rattle.private_store.specs.rules.Room.{set_copy, drop_copy}
-use Rattle.private_store.specs.rules.Change.{done, sending, erasing, settled, keys_gone, doom, doom_notice, has_ended}
+use Rattle.private_store.specs.rules.Change.{done, sending, erasing, settled, keys_gone, doom, doom_notice}
 use Rattle.private_store.specs.rules.Change as changes
-use Rattle.private_store.specs.rules.Commands.{at_each, give_up_one, of_task, task_ended, end_task, has_borrower, without_borrower}
+use Rattle.private_store.specs.rules.Commands.{end_task_checks, at_each, give_up_one, of_task, task_ended, end_task, has_borrower, without_borrower}
 use Rattle.private_store.specs.rules.Commands as commands
 use Rattle.private_store.specs.rules.Contents.{Contents, View, judge, keeps_digest, no_digest}
 use Rattle.private_store.specs.laws.Invariants.{has_grant}
 use Rattle.private_store.specs.rules.Private.{Post, key_of, posts_of, view_after}
 use Rattle.private_store.specs.rules.Step.{reordered}
-use Rattle.store_facts.proofs.Checks.{checked-nil}
 use Rattle.store_facts.proofs.Filling.{filled}
 use Rattle.store_facts.proofs.Tests.{T_true, and_right, none_some, some_value}
 use Rattle.job_region.specs.Region.{region_bytes_at as placed_bytes}
@@ -47,7 +44,7 @@ use Rattle.node_table.specs.CopyViews.{CopyView, after_doom, after_give_up, afte
 use Rattle.node_table.specs.Row.{Row, SharedTables, copies_of, shape_of, place_of, ArePlaced}
 use Rattle.node_table.specs.Scope.{removal_notice, removal_notice_at, notice_posts, with_copy}
 use Rattle.node_table.specs.Shown.{seen, work_on, IsShown, RowGiven, only, RowStep}
-use Rattle.node_table.proofs.ByChecks.{called, first-check, unless_refused, sending-is}
+use Rattle.node_table.proofs.ByChecks.{called, by-checks, unless_refused, sending-is}
 use Rattle.node_table.proofs.Changes.{changed-absent}
 use Rattle.node_table.proofs.Changing.{From, from_changed, there_with}
 use Rattle.node_table.proofs.CopyTables.{at-first, at-rest, at-copies, at-copies_found, at-copies_none, copies-changed, copies-without, sorted-copies}
@@ -522,7 +519,7 @@ module _ (node : ℕ) (row : Row) (beside : SharedTables) (contents : Contents) 
   walks = at_each (give_up_one task) (ids_of s.copies) (at_each doom (of_task task (ids_of s.copies)) (done (task_ended s task)))
 
   end_task-by : end_task s task ≡ unless_refused s (end_task_check row task) walks
-  end_task-by = first-check s (has_ended s task) Gone _ _ _ walks (first-check s (nat_le most_ended_tasks (length s.ended_tasks)) TooMany [] _ None walks (checked-nil s walks))
+  end_task-by = by-checks s (end_task_checks s.ended_tasks task) _ walks refl
 
   end_task-is : (check : Option Refusal) → end_task_check row task ≡ check → change node row beside contents h x ≡ erasing s (unless_refused s check walks)
   end_task-is check e = called row beside session (command.EndTask task) ∙ ap (erasing s) (end_task-by ∙ ap (λ o. unless_refused s o walks) e)

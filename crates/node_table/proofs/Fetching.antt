@@ -1,5 +1,5 @@
 -- A row takes Get of an object that isn't there, and of one that is on its way.
-use Rattle.std.proofs.Common.{◌≡◌, ℕ, suc, ◌+◌, Bool, true, false, not, cond, ◌||◌, ◌==◌, nat_le, List, [], ◌∷◌, ◌++◌, map, take, length, Option, Some, None, is_some, option_map, unwrap_or, refl, sym, ap, subst, ◌∙◌}
+use Rattle.std.proofs.Common.{◌≡◌, ℕ, suc, ◌+◌, Bool, true, false, not, cond, ◌||◌, ◌==◌, List, [], ◌∷◌, ◌++◌, map, take, length, Option, Some, None, is_some, option_map, unwrap_or, refl, sym, ap, subst, ◌∙◌}
 use Rattle.std.specs.Prelude.{if◌then◌else◌, find, option_to_list}
 use Rattle.std.specs.List.{list_any}
 use Rattle.std.specs.Option.{option_map_or}
@@ -8,7 +8,7 @@ use Rattle.obj_id.specs.declared.works.WorkKind.TheVariants.{Write, Read}
 use Rattle.obj_id.specs.declared.ids.ObjectId.{ObjectId}
 use Rattle.obj_id.specs.declared.messages.DirectoryMessage.TheVariants.{Locate}
 use Rattle.obj_id.specs.declared.refusals.Refusal.{Refusal}
-use Rattle.obj_id.specs.declared.refusals.Refusal.TheVariants.{BadSize, TooMany, Pending, Absent}
+use Rattle.obj_id.specs.declared.refusals.Refusal.TheVariants.{BadSize, Pending, Absent}
 use Rattle.obj_id.specs.declared.commands.Command.TheVariants as command
 use Rattle.obj_id.specs.declared.commands.Reply.TheVariants as reply
 use Rattle.obj_id.specs.Ids.{same_id}
@@ -17,7 +17,6 @@ use Rattle.private_store.specs.declared.faults.FetchFault.{FetchFault}
 use Rattle.private_store.specs.declared.inputs.Input.{Input}
 use Rattle.private_store.specs.declared.inputs.Input.TheVariants as input
 use Rattle.obj_id.specs.declared.messages.PeerMessage.TheVariants.{Pull}
-use Rattle.private_store.specs.rules.Limits.{most_copies, has_numbers}
 use Rattle.private_store.specs.rules.Tables.{at, with_entry, is_among}
 use Rattle.private_store.specs.laws.Invariants.{has_grant}
 use Rattle.private_store.specs.rules.Shape.{Copy, Shape, Change, Fetch, Phase, locating, sized, pulling, failed, locate, pull}
@@ -25,11 +24,12 @@ use Rattle.private_store.specs.rules.Copies.{extent_of, was_sealed}
 use Rattle.private_store.specs.rules.Room.{drop_copy}
 use Rattle.private_store.specs.rules.Extents.{is_size}
 use Rattle.private_store.specs.rules.Step.{step}
-use Rattle.private_store.specs.rules.Change.{refused, erasing, sending, keys_gone}
-use Rattle.private_store.specs.rules.Commands.{is_length, fetch_refusal, fetched_copy, fetch_begun, get_fetching}
+use Rattle.private_store.specs.rules.Change.{refused, erasing, keys_gone}
+use Rattle.private_store.specs.rules.Commands.{fetch_checks, is_length, fetch_refusal, fetched_copy, fetch_begun, get_fetching}
 use Rattle.private_store.specs.rules.Contents.{Contents, View, judge, is_sized, keeps_digest, no_digest}
 use Rattle.private_store.specs.rules.Private.{Post, key_of, to_directory, to_peer, pull_of, pull_posts}
-use Rattle.store_facts.proofs.Checks.{checked-true, checked-nil}
+use Rattle.private_store.specs.rules.Shared.{first_refusal}
+use Rattle.store_facts.proofs.Checks.{checked-true}
 use Rattle.obj_id.specs.declared.commands.CopyState.TheVariants.{Fetching}
 use Rattle.private_store.specs.laws.Invariants.{is_fetching, is_remembered}
 use Rattle.store_facts.proofs.Filling.{filled}
@@ -43,7 +43,7 @@ use Rattle.node_table.specs.Row.{Row, SharedTables, copies_of, shape_of, place_o
 use Rattle.node_table.specs.Dropping.{dropped}
 use Rattle.node_table.specs.Checks.{fetch_check}
 use Rattle.node_table.specs.Shown.{seen, work_on, IsShown, RowGiven, only, RowStep}
-use Rattle.node_table.proofs.ByChecks.{unless_refused, first-check, needing-by, sending-is}
+use Rattle.node_table.proofs.ByChecks.{unless_refused, by-checks, needing-by, sending-is}
 use Rattle.node_table.proofs.CopyTables.{at-copies_none, at-copies_found, copies-with}
 use Rattle.node_table.proofs.Changing.{there_with, keys_with}
 use Rattle.node_table.proofs.Orders.{there_last, listed_last, last_listed}
@@ -73,20 +73,11 @@ module _ (node : ℕ) (row : Row) (beside : SharedTables) (contents : Contents) 
   abbrev c : Change
   c = record (refused (fetch_begun store id number) Pending) { sent = locate id number ∷ []; used = Some id }
 
-  flip : (b : Bool) (p q : Option Refusal) → cond (not b) p q ≡ cond b q p
-  flip true p q = refl
-  flip false p q = refl
-
-  whole : sending (locate id number ∷ []) (refused (fetch_begun store id number) Pending) ≡ record (refused (fetch_begun store id number) Pending) { sent = locate id number ∷ [] }
-  whole = sending-is (locate id number ∷ []) (refused (fetch_begun store id number) Pending)
-
   change_is : by_copy node row beside contents session id mine alive h (at store.copies id) ≡ unless_refused store (fetch_check row.copies row.fetches_begun) c
   change_is =
       ap (by_copy node row beside contents session id mine alive h) (at-copies_none row.copies id none)
-      ∙ first-check store (nat_le most_copies (length store.copies)) TooMany _ _ _ c
-      (first-check store (not (has_numbers row.fetches_begun 1)) TooMany [] _ None c (checked-nil store _ ∙ ap (λ (d : Change). record d { used = Some id }) whole))
-      ∙ ap (λ n. unless_refused store (cond (nat_le most_copies n) (Some TooMany) (cond (not (has_numbers row.fetches_begun 1)) (Some TooMany) None)) c) (length-map (λ e. (e.0, e.1.copy)) row.copies)
-      ∙ ap (λ o. unless_refused store (cond (nat_le most_copies (length row.copies)) (Some TooMany) o) c) (flip (has_numbers row.fetches_begun 1) (Some TooMany) None)
+      ∙ by-checks store (fetch_checks (length store.copies) row.fetches_begun) _ c (ap (λ (d : Change). record d { used = Some id }) (sending-is (locate id number ∷ []) (refused (fetch_begun store id number) Pending)))
+      ∙ ap (λ n. unless_refused store (first_refusal (fetch_checks n row.fetches_begun)) c) (length-map (λ e. (e.0, e.1.copy)) row.copies)
 
   pub fetch_refused : (r : Refusal) → fetch_check row.copies row.fetches_begun ≡ Some r → RowStep node row beside contents (input.Call session (command.Get id)) (only (reply.Refused r)) row beside
   fetch_refused r e =

@@ -1,21 +1,20 @@
 -- A row takes Get of a copy that is sealed.
-use Rattle.std.proofs.Common.{◌≡◌, ◌≢◌, ℕ, ◌+◌, true, false, cond, ◌==◌, nat_le, [], ◌∷◌, map, Option, Some, None, is_some, refl, sym, ap, subst, ◌∙◌, Bool, not}
+use Rattle.std.proofs.Common.{◌≡◌, ◌≢◌, ℕ, ◌+◌, true, false, cond, ◌==◌, [], ◌∷◌, map, Option, Some, None, is_some, refl, sym, ap, subst, ◌∙◌, Bool, not}
 use Rattle.obj_id.specs.declared.ids.ObjectId.{ObjectId}
 use Rattle.obj_id.specs.declared.refusals.Refusal.{Refusal}
-use Rattle.obj_id.specs.declared.refusals.Refusal.TheVariants.{Absent, Gone, NoMemory, TooMany, Pending, NotSealed}
+use Rattle.obj_id.specs.declared.refusals.Refusal.TheVariants.{Absent, Gone, NoMemory, Pending, NotSealed}
 use Rattle.obj_id.specs.declared.commands.CopyState.{CopyState}
 use Rattle.obj_id.specs.declared.commands.CopyState.TheVariants.{Created, Sealed, Restoring, Fetching, Away}
 use Rattle.obj_id.specs.declared.commands.Command.TheVariants as command
 use Rattle.obj_id.specs.declared.commands.Reply.TheVariants as reply
 use Rattle.private_store.specs.declared.inputs.Input.{Input}
 use Rattle.private_store.specs.declared.inputs.Input.TheVariants as input
-use Rattle.private_store.specs.rules.Limits.{most_holds}
 use Rattle.private_store.specs.rules.Tables.{ById, at, with_entry, is_among}
 use Rattle.private_store.specs.rules.Shape.{Copy, Shape, Change}
 use Rattle.private_store.specs.rules.Copies.{is_sealed}
 use Rattle.private_store.specs.rules.Room.{set_copy}
 use Rattle.private_store.specs.rules.Change.{replied, refused, erasing, checked, needing, has_ended}
-use Rattle.private_store.specs.rules.Commands.{get, get_copy, get_sealed, get_away, get_fetching, begin_fetch, with_holds, holds_of, all_holds}
+use Rattle.private_store.specs.rules.Commands.{hold_checks, get, get_copy, get_sealed, get_away, get_fetching, begin_fetch, with_holds, holds_of}
 use Rattle.private_store.specs.rules.Contents.{Contents, judge}
 use Rattle.private_store.specs.rules.Private.{key_of}
 use Rattle.private_store.specs.rules.Step.{step}
@@ -33,7 +32,7 @@ use Rattle.node_table.specs.Row.{Row, SharedTables, copies_of, shape_of}
 use Rattle.node_table.specs.Checks.{hold_check_of, visible_state}
 use Rattle.node_table.specs.Holding.{IsRowHeld, IsHoldRefusedAt}
 use Rattle.node_table.specs.Shown.{seen, IsShown, only, RowStep}
-use Rattle.node_table.proofs.ByChecks.{unless_refused, first-check, called, own}
+use Rattle.node_table.proofs.ByChecks.{unless_refused, by-checks, called, own}
 use Rattle.node_table.proofs.CopyTables.{at-copies_found, copies-changed}
 use Rattle.node_table.proofs.Changing.{there_still, bytes_stay, digests_stay, works_stay, listed_stay, keys_with, granted_stay}
 use Rattle.node_table.proofs.Orders.{touched-listed, there_last, listed_last}
@@ -185,7 +184,7 @@ module _ (node : ℕ) (row : Row) (beside : SharedTables) (contents : Contents) 
       sealed_change : step row.order s (judge node (seen row beside contents) x) ≡ erasing s (unless_refused s (hold_check_of k) c)
       sealed_change =
           get_at Sealed (sealed_is k.copy.state is)
-          ∙ ap (erasing s) (first-check s (nat_le most_holds (all_holds k.copy)) TooMany [] c None c (checked-nil s c))
+          ∙ ap (erasing s) (by-checks s (hold_checks k.copy) _ c refl)
 
       hold_refused : (r : Refusal) → hold_check_of k ≡ Some r → RowStep node row beside contents x (only (reply.Refused r)) row beside
       hold_refused r e = stays node row beside contents h x (reply.Refused r) (sealed_change ∙ ap (λ o. erasing s (unless_refused s o c)) e) refl refl refl

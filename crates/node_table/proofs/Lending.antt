@@ -5,21 +5,22 @@ use Rattle.std.specs.FinMap.{find}
 use Rattle.obj_id.specs.declared.ids.ObjectId.{ObjectId}
 use Rattle.obj_id.specs.declared.works.Extent.{Extent}
 use Rattle.obj_id.specs.declared.refusals.Refusal.{Refusal}
-use Rattle.obj_id.specs.declared.refusals.Refusal.TheVariants.{Absent, NotSealed, NotHeld}
+use Rattle.obj_id.specs.declared.refusals.Refusal.TheVariants.{Absent}
 use Rattle.private_store.specs.rules.Tables.{ById, at}
 use Rattle.private_store.specs.rules.Shape.{Copy}
 use Rattle.private_store.specs.rules.Copies.{extent_of, is_sealed}
-use Rattle.private_store.specs.rules.Commands.{holds_of, is_unsealed}
+use Rattle.private_store.specs.rules.Commands.{bytes_checks, holds_of}
+use Rattle.private_store.specs.rules.Shared.{first_refusal}
 use Rattle.private_store.specs.rules.Contents.{Contents, bytes_at}
 use Rattle.private_store.specs.laws.Invariants.{are_held}
 use Rattle.store_facts.proofs.Tests.{some_value}
 use Rattle.job_region.specs.Region.{region_bytes_at as placed_bytes}
 use Rattle.node_table.specs.CopyViews.{CopyView}
 use Rattle.node_table.specs.Row.{Row, SharedTables, copies_of}
-use Rattle.node_table.specs.Checks.{lend_check, lend_check_of}
+use Rattle.node_table.specs.Checks.{lend_check}
 use Rattle.node_table.specs.Shown.{IsShown, IsLent}
 use Rattle.node_table.proofs.CopyTables.{at-copies, at-copies_found}
-use Rattle.node_table.proofs.Passed.{past, there, placed_at, sealed_resides}
+use Rattle.node_table.proofs.Passed.{all_failed, there, placed_at, sealed_resides}
 
 -- a session that has a hold is among the holds
 some_hold : (session : ℕ) (holds : List (ℕ × ℕ)) → (unwrap_or (find nat_cmp session holds) 0 == 0) ≡ false → are_held holds ≡ true
@@ -28,10 +29,10 @@ some_hold session (hold ∷ holds) e = refl
 
 -- a check of the store's copies reads those that the row keeps
 abbrev by_kept : ℕ → Option CopyView → Option Refusal
-by_kept session o = elim o [ None ↦ Some Absent | Some k ↦ lend_check_of k.copy session ]
+by_kept session o = elim o [ None ↦ Some Absent | Some k ↦ first_refusal (bytes_checks k.copy session) ]
 
 abbrev by_copy : ℕ → Option Copy → Option Refusal
-by_copy session o = elim o [ None ↦ Some Absent | Some copy ↦ lend_check_of copy session ]
+by_copy session o = elim o [ None ↦ Some Absent | Some copy ↦ first_refusal (bytes_checks copy session) ]
 
 pub lend-by : (es : ById CopyView) (session : ℕ) (id : ObjectId) (o : Option CopyView) → at es id ≡ o → lend_check (copies_of es) session id ≡ by_kept session o
 lend-by es session id o is = ap (by_copy session) (at-copies es id ∙ ap (option_map (λ k. k.copy)) is) ∙ by o
@@ -58,11 +59,11 @@ module _ (row : Row) (beside : SharedTables) (contents : Contents) (h : IsShown 
     held_whole = (h.kept.kept.filled.each id k.copy (at-copies_found row.copies id k found)).bytes resident
 
   module _ (passed : lend_check (copies_of row.copies) session id ≡ None) where
-    got : (k : CopyView) × (at row.copies id ≡ Some k) × (lend_check_of k.copy session ≡ None)
-    got = there (λ k. lend_check_of k.copy session) Absent (at row.copies id) (sym (lend-by row.copies session id (at row.copies id) refl) ∙ passed)
+    got : (k : CopyView) × (at row.copies id ≡ Some k) × (first_refusal (bytes_checks k.copy session) ≡ None)
+    got = there (λ k. first_refusal (bytes_checks k.copy session)) Absent (at row.copies id) (sym (lend-by row.copies session id (at row.copies id) refl) ∙ passed)
 
     has : (holds_of got.0.copy session == 0) ≡ false
-    has = (past (holds_of got.0.copy session == 0) NotHeld None (past (is_unsealed got.0.copy.state) NotSealed _ got.2).1).0
+    has = (all_failed (bytes_checks got.0.copy session) got.2).1.0
 
     pub lent_so : (shown : List ℕ) → ((k : CopyView) (e : Extent) → at row.copies id ≡ Some k → extent_of k.copy ≡ Some e → shown ≡ take k.copy.length (placed_bytes e row.window.placed)) → IsLent (copies_of row.copies) contents session id shown
     lent_so shown are =

@@ -1,5 +1,5 @@
 -- A command whose checks let it pass, and its plan for room where it has one, is due more than a refusal.
-use Rattle.std.proofs.Common.{◌≡◌, ◌⊎◌, ℕ, suc, ◌+◌, ◌<◌, Bool, true, false, not, cond, ◌==◌, ◌&&◌, ◌||◌, nat_le, inl, inr, List, [], ◌∷◌, ◌++◌, map, flat_map, fold, length, Some, None, Ok, Err, refl, sym, ap, ◌∙◌, arith}
+use Rattle.std.proofs.Common.{◌≡◌, ◌⊎◌, ℕ, suc, ◌+◌, ◌<◌, Bool, true, false, not, ◌==◌, ◌&&◌, ◌||◌, inl, inr, List, [], ◌∷◌, ◌++◌, map, flat_map, fold, length, Some, None, Ok, Err, refl, sym, ap, ◌∙◌, arith}
 use Rattle.std.specs.Prelude.{nat_lt, is_ok}
 use Rattle.std.specs.declared.result.Result.{Result}
 use Rattle.std.specs.Option.{option_map_or}
@@ -17,7 +17,7 @@ use Rattle.obj_id.specs.declared.commands.Reply.{Reply}
 use Rattle.obj_id.specs.declared.commands.Reply.TheVariants as reply
 use Rattle.private_store.specs.declared.inputs.Input.{Input}
 use Rattle.private_store.specs.declared.inputs.Input.TheVariants as input
-use Rattle.private_store.specs.rules.Limits.{most_holds, most_works, has_numbers}
+use Rattle.private_store.specs.rules.Limits.{most_works, has_numbers}
 use Rattle.private_store.specs.rules.Tables.{ById, at, ids_of}
 use Rattle.private_store.specs.rules.Shape.{Copy, Shape, Change, Fetch, Phase, locating, sized, pulling, failed, add_location, locate, pull}
 use Rattle.private_store.specs.rules.Copies.{is_sealed}
@@ -25,13 +25,13 @@ use Rattle.private_store.specs.rules.Grants.{StandingGrant}
 use Rattle.private_store.specs.laws.Invariants.{is_remembered}
 use Rattle.private_store.specs.rules.Room.{Room, set_copy, works_left, make_room}
 use Rattle.private_store.specs.rules.Change.{refused, replied, done, sending, in_room, erasing}
-use Rattle.private_store.specs.rules.Commands.{is_length, created, granted_items, all_holds, holds_of, with_holds, restore, restoring, get_fetching, set_phase, begin_pull, counted, chunk_count}
+use Rattle.private_store.specs.rules.Commands.{hold_checks, is_length, created, granted_items, holds_of, with_holds, restore, restoring, get_fetching, set_phase, begin_pull, counted, chunk_count}
 use Rattle.private_store.specs.rules.Contents.{Contents, View, judge, whole_reply}
 use Rattle.private_store.specs.rules.Private.{Post, to_directory, posts_of, pull_of, pull_posts, view_after, view_step}
 use Rattle.private_store.specs.rules.Step.{step}
 use Rattle.store_facts.proofs.Checks.{checked-false, checked-nil}
 use Rattle.store_facts.proofs.Rows.{at-put_here}
-use Rattle.store_facts.proofs.Tests.{both_left, both_right, none_some, not_true, or_left, or_right, true_false}
+use Rattle.store_facts.proofs.Tests.{both_left, both_right, not_true, or_left, or_right, true_false}
 use Rattle.spill_work.specs.Line.{WorkLine, in_flight, used_by}
 use Rattle.node_table.specs.CopyViews.{CopyView}
 use Rattle.node_table.specs.Row.{Row, SharedTables, beside_of, shape_of}
@@ -43,7 +43,7 @@ use Rattle.node_table.specs.RoomPlans.{planned_by, refuses, makes_place}
 use Rattle.node_table.specs.Shown.{seen, IsShown}
 use Rattle.node_table.specs.Usages.{own_item_of}
 use Rattle.node_table.specs.declared.room.RoomPlan.{RoomPlan}
-use Rattle.node_table.proofs.ByChecks.{unless_refused, called, own, read-by, seal-by, seal_done, sending-is}
+use Rattle.node_table.proofs.ByChecks.{unless_refused, by-checks, called, own, read-by, seal-by, seal_done, sending-is}
 use Rattle.node_table.proofs.CopyTables.{at-copies_found}
 use Rattle.node_table.proofs.Creating.{by_room}
 use Rattle.node_table.proofs.EndingTasks.{end_task_ok}
@@ -190,13 +190,12 @@ module _ (node : ℕ) (row : Row) (beside : SharedTables) (contents : Contents) 
 
   pub held_late : (id : ObjectId) (mine : (id.job.0 == row.job) ≡ true) → is_remembered row.ended_tasks id.task ≡ false → (k : CopyView) → at row.copies id ≡ Some k → k.copy.doomed ≡ false → k.copy.state ≡ Sealed → hold_check_of k ≡ None → is_late (command.Get id)
   held_late id mine alive k found unmarked is passed =
-      by_change (command.Get id) (record (replied (set_copy s id (with_holds k.copy session (holds_of k.copy session + 1))) (reply.Got k.copy.length)) { used = Some id })
+      by_change (command.Get id) held
       (get_at node row beside contents session id mine alive h k found unmarked Sealed is
-      ∙ ap (erasing s) (checked-false s (nat_le most_holds (all_holds k.copy)) TooMany [] _ (fits_still (nat_le most_holds (all_holds k.copy)) passed) ∙ checked-nil s _)) refl
+      ∙ ap (erasing s) (by-checks s (hold_checks k.copy) _ held refl ∙ ap (λ o. unless_refused s o held) passed)) refl
     where
-      fits_still : (b : Bool) → cond b (Some TooMany) None ≡ None → b ≡ false
-      fits_still true e = none_some TooMany (sym e)
-      fits_still false e = refl
+      held : Change
+      held = record (replied (set_copy s id (with_holds k.copy session (holds_of k.copy session + 1))) (reply.Got k.copy.length)) { used = Some id }
 
   -- a read is asked for where there is a place
   pub restore_late : (id : ObjectId) (k : CopyView) → step row.order s (judge node w (asks (command.Get id))) ≡ erasing s (restore row.order s id k.copy) → (works_left s == 0) ≡ false

@@ -13,16 +13,16 @@ use Rattle.private_store.specs.rules.Tables.{at}
 use Rattle.private_store.specs.rules.Shape.{Copy, Shape, Change}
 use Rattle.private_store.specs.rules.Room.{set_copy}
 use Rattle.private_store.specs.rules.Change.{refused, done, erasing, settled}
-use Rattle.private_store.specs.rules.Commands.{release, holds_of, with_holds}
+use Rattle.private_store.specs.rules.Commands.{release_checks, release, holds_of, with_holds}
 use Rattle.private_store.specs.rules.Contents.{Contents}
 use Rattle.private_store.specs.rules.Private.{key_of}
-use Rattle.store_facts.proofs.Checks.{checked-nil}
+use Rattle.private_store.specs.rules.Shared.{first_refusal}
 use Rattle.node_table.specs.CopyViews.{CopyView, after_release}
 use Rattle.node_table.specs.Row.{Row, SharedTables, shape_of, place_of, ArePlaced}
 use Rattle.node_table.specs.Dropping.{dropped, is_over, is_over_at, settled_row, keys_settled}
 use Rattle.node_table.specs.Checks.{release_check}
 use Rattle.node_table.specs.Shown.{IsShown, only, RowStep}
-use Rattle.node_table.proofs.ByChecks.{unless_refused, first-check, in_table, called, own}
+use Rattle.node_table.proofs.ByChecks.{unless_refused, by-checks, in_table, called, own}
 use Rattle.node_table.proofs.CopyTables.{at-copies, at-copies_found}
 use Rattle.node_table.proofs.Passed.{there}
 use Rattle.node_table.proofs.Settling.{settles}
@@ -46,9 +46,9 @@ module _ (node : ℕ) (row : Row) (beside : SharedTables) (contents : Contents) 
 
   release-by : release s session id ≡ unless_refused s (release_check row.copies session id) release_done
   release-by =
-      in_table row beside id _ (λ k. cond (holds_of k.copy session == 0) (Some NotHeld) None) release_done (λ k found.
-      first-check s (holds_of k.copy session == 0) NotHeld [] _ None release_done
-      (checked-nil s _ ∙ sym (ap (λ o. option_map_or less o (refused s Absent)) (at-copies row.copies id ∙ ap (option_map (λ k. k.copy)) found))))
+      in_table row beside id _ (λ k. first_refusal (release_checks k.copy session)) release_done (λ k found.
+      by-checks s (release_checks k.copy session) _ _
+      (sym (ap (λ o. option_map_or less o (refused s Absent)) (at-copies row.copies id ∙ ap (option_map (λ k. k.copy)) found))))
 
   pub release_refused : (r : Refusal) → release_check row.copies session id ≡ Some r → RowStep node row beside contents x (only (reply.Refused r)) row beside
   release_refused r e =

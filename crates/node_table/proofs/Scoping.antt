@@ -1,12 +1,12 @@
 -- A row takes the commands that say what keeps an object in scope: Unpin, Borrow, GiveUp and Delete.
-use Rattle.std.proofs.Common.{◌≡◌, ℕ, Bool, true, false, not, cond, ◌==◌, ◌&&◌, ◌||◌, nat_le, List, [], ◌∷◌, ◌++◌, length, flat_map, Option, Some, None, refl, sym, ap, ◌∙◌, T}
+use Rattle.std.proofs.Common.{◌≡◌, ℕ, Bool, true, false, not, cond, ◌==◌, ◌&&◌, ◌||◌, List, [], ◌∷◌, ◌++◌, flat_map, Option, Some, None, refl, sym, ap, ◌∙◌, T}
 use Rattle.std.specs.Prelude.{option_to_list}
 use Rattle.std.specs.Option.{option_map_or, option_and_then}
 use Rattle.std.specs.FinMap.Entries.{is_sorted, same_entries, is_sorted-put}
 use Rattle.obj_id.specs.declared.ids.TaskNo.{TaskNo}
 use Rattle.obj_id.specs.declared.ids.ObjectId.{ObjectId}
 use Rattle.obj_id.specs.declared.refusals.Refusal.{Refusal}
-use Rattle.obj_id.specs.declared.refusals.Refusal.TheVariants.{Gone, Absent, NotOwner, NotHeld, Exists, TooMany, Granted}
+use Rattle.obj_id.specs.declared.refusals.Refusal.TheVariants.{Gone, Absent}
 use Rattle.obj_id.specs.declared.commands.Command.{Command}
 use Rattle.obj_id.specs.declared.commands.Command.TheVariants as command
 use Rattle.obj_id.specs.declared.commands.Reply.TheVariants as reply
@@ -16,7 +16,6 @@ use Rattle.obj_id.specs.Kinds.{is_primary}
 use Rattle.store_facts.proofs.Ids.{id_cmp-IsTotalOrder, id_cmp-IsAntisymmetric}
 use Rattle.private_store.specs.declared.inputs.Input.{Input}
 use Rattle.private_store.specs.declared.inputs.Input.TheVariants as input
-use Rattle.private_store.specs.rules.Limits.{most_borrowers}
 use Rattle.private_store.specs.rules.Tables.{ById, at, with_entry}
 use Rattle.private_store.specs.rules.Shape.{Copy, Shape, Change, Sending, free, remove_location}
 use Rattle.private_store.specs.rules.Copies.{extent_of, in_scope, was_sealed}
@@ -24,22 +23,23 @@ use Rattle.private_store.specs.laws.Invariants.{is_remembered}
 use Rattle.private_store.specs.rules.Room.{set_copy}
 use Rattle.private_store.specs.rules.Change.{refused, done, checked, erasing, settled, doom, doom_notice, has_ended}
 use Rattle.private_store.specs.rules.Change as changes
-use Rattle.private_store.specs.rules.Commands.{unpin, borrow, give_up, delete, has_borrower, without_borrower}
+use Rattle.private_store.specs.rules.Commands.{unpin_checks, borrow_checks, give_up_checks, delete_checks, unpin, borrow, give_up, delete, without_borrower}
 use Rattle.private_store.specs.rules.Commands as commands
 use Rattle.private_store.specs.rules.Contents.{Contents, View, keeps_digest}
 use Rattle.private_store.specs.rules.Private.{Post, posts_of}
+use Rattle.private_store.specs.rules.Shared.{first_refusal}
 use Rattle.store_facts.proofs.Checks.{checked-nil}
 use Rattle.store_facts.proofs.Rows.{at-put, at-put_here}
 use Rattle.store_facts.proofs.Tests.{T_true}
-use Rattle.node_table.specs.Checks.{unpin_check, unpin_check_of, borrow_check, borrow_check_of, row_borrow_check, give_up_check, give_up_check_of, delete_check}
+use Rattle.node_table.specs.Checks.{unless_doomed, unpin_check, borrow_check, row_borrow_check, give_up_check, delete_check}
 use Rattle.node_table.specs.Dropping.{settled_row, keys_settled}
 use Rattle.node_table.specs.CopyViews.{CopyView, view_in_scope, after_doom, after_unpin, after_borrow, after_give_up}
 use Rattle.node_table.specs.Row.{Row, SharedTables, shape_of, place_of, ArePlaced}
 use Rattle.node_table.specs.Scope.{removal_notice, removal_notice_at, notice_posts, with_copy}
 use Rattle.node_table.specs.Shown.{seen, IsShown, only, RowStep}
-use Rattle.node_table.proofs.ByChecks.{unless_refused, first-check, in_sight, called, own, sending-is}
+use Rattle.node_table.proofs.ByChecks.{unless_refused, by-checks, first-check, in_sight, called, own, sending-is}
 use Rattle.node_table.proofs.CopyTables.{at-copies_found}
-use Rattle.node_table.proofs.Passed.{past, there}
+use Rattle.node_table.proofs.Passed.{past, there_all}
 use Rattle.node_table.proofs.Settling.{IsMinor, BringsNothing, settled-stays, stays_so, settles}
 use Rattle.node_table.proofs.Stepping.{change, stays}
 use Rattle.node_table.specs.RoomPlans.{is_idle_view}
@@ -205,10 +205,8 @@ module _ (node : ℕ) (row : Row) (beside : SharedTables) (contents : Contents) 
 
     unpin-by : unpin s id task ≡ unless_refused s (unpin_check row.copies id task) unpin_done
     unpin-by =
-        in_sight row beside id _ (λ k. unpin_check_of k (same_task task id.task)) unpin_done (λ k found seen.
-        first-check s (not (is_primary k.copy.kind && same_task task id.task)) NotOwner _ _ _ unpin_done
-        (first-check s (not k.copy.pinned) NotHeld [] _ None unpin_done
-        (checked-nil s _ ∙ sym (it (λ copy. commands.scoped s id (record copy { pinned = false })) k found))))
+        in_sight row beside id _ (λ k. first_refusal (unpin_checks k.copy (same_task task id.task))) unpin_done (λ k found seen.
+        by-checks s (unpin_checks k.copy (same_task task id.task)) _ _ (sym (it (λ copy. commands.scoped s id (record copy { pinned = false })) k found)))
 
     unpin-is : (check : Option Refusal) → unpin_check row.copies id task ≡ check
         → change node row beside contents h (input.Call session (command.Unpin id task)) ≡ erasing s (unless_refused s check unpin_done)
@@ -224,18 +222,18 @@ module _ (node : ℕ) (row : Row) (beside : SharedTables) (contents : Contents) 
         → (posts : List Post) → posts ≡ notice_posts (removal_notice_at node row.copies id (not keeps)) → ArePlaced row_unpinned.window.placed (place_of row_unpinned.copies)
         → RowStep node row beside contents (input.Call session (command.Unpin id task)) (record { reply = reply.Ok; posts = posts; erased = keys_settled row_unpinned id }) (settled_row row_unpinned id) beside
     unpin_done_so passed keeps is posts response placed =
-        let k = there (λ k. cond k.copy.doomed (Some Absent) (unpin_check_of k (same_task task id.task))) Absent (at row.copies id) passed in
+        let k = there_all row.copies id (λ k. unless_doomed k (unpin_checks k.copy (same_task task id.task))) passed in
         scoped_so (command.Unpin id task) (record { bytes = refl; digest = refl; received = refl }) (λ z. record z { copy = record z.copy { pinned = false } }) k.0 k.1
         (record { lies = λ z. (refl, refl); digest = refl; keeps = λ keep. keep; working = refl; granted = refl; backed = refl })
-        (refl, refl) (past k.0.copy.doomed Absent _ k.2).0
+        (refl, refl) k.2.0
         (unpin-is None passed ∙ ap (erasing s) (it (λ copy. commands.scoped s id (record copy { pinned = false })) k.0 k.1))
         keeps (is ∙ ap (λ o. option_map_or (λ (k : CopyView). in_scope (record k.copy { pinned = false })) o false) k.1) posts response placed
 
     pub unpin_ok : unpin_check row.copies id task ≡ None → (change node row beside contents h (input.Call session (command.Unpin id task))).reply ≡ reply.Ok
     unpin_ok passed =
-        let k = there (λ k. cond k.copy.doomed (Some Absent) (unpin_check_of k (same_task task id.task))) Absent (at row.copies id) passed in
+        let k = there_all row.copies id (λ k. unless_doomed k (unpin_checks k.copy (same_task task id.task))) passed in
         ap (λ (c : Change). c.reply) (unpin-is None passed ∙ ap (erasing s) (it (λ copy. commands.scoped s id (record copy { pinned = false })) k.0 k.1
-        ∙ scoped-is s id (record k.0.copy { pinned = false }) sorted (past k.0.copy.doomed Absent _ k.2).0))
+        ∙ scoped-is s id (record k.0.copy { pinned = false }) sorted k.2.0))
 
   -- ---- GiveUp
 
@@ -245,10 +243,8 @@ module _ (node : ℕ) (row : Row) (beside : SharedTables) (contents : Contents) 
 
     give_up-by : give_up s id task ≡ unless_refused s (give_up_check row.copies id task) give_up_done
     give_up-by =
-        in_sight row beside id _ (λ k. give_up_check_of k task) give_up_done (λ k found seen.
-        first-check s (not (is_primary k.copy.kind)) NotOwner _ _ _ give_up_done
-        (first-check s (not (has_borrower k.copy task)) Absent [] _ None give_up_done
-        (checked-nil s _ ∙ sym (it (λ copy. commands.scoped s id (without_borrower copy task)) k found))))
+        in_sight row beside id _ (λ k. first_refusal (give_up_checks k.copy task)) give_up_done (λ k found seen.
+        by-checks s (give_up_checks k.copy task) _ _ (sym (it (λ copy. commands.scoped s id (without_borrower copy task)) k found)))
 
     give_up-is : (check : Option Refusal) → give_up_check row.copies id task ≡ check
         → change node row beside contents h (input.Call session (command.GiveUp id task)) ≡ erasing s (unless_refused s check give_up_done)
@@ -264,18 +260,18 @@ module _ (node : ℕ) (row : Row) (beside : SharedTables) (contents : Contents) 
         → (posts : List Post) → posts ≡ notice_posts (removal_notice_at node row.copies id (not keeps)) → ArePlaced row_given_up.window.placed (place_of row_given_up.copies)
         → RowStep node row beside contents (input.Call session (command.GiveUp id task)) (record { reply = reply.Ok; posts = posts; erased = keys_settled row_given_up id }) (settled_row row_given_up id) beside
     give_up_done_so passed keeps is posts response placed =
-        let k = there (λ k. cond k.copy.doomed (Some Absent) (give_up_check_of k task)) Absent (at row.copies id) passed in
+        let k = there_all row.copies id (λ k. unless_doomed k (give_up_checks k.copy task)) passed in
         scoped_so (command.GiveUp id task) (record { bytes = refl; digest = refl; received = refl }) (λ z. record z { copy = without_borrower z.copy task }) k.0 k.1
         (record { lies = λ z. (refl, refl); digest = refl; keeps = λ keep. keep; working = refl; granted = refl; backed = refl })
-        (refl, refl) (past k.0.copy.doomed Absent _ k.2).0
+        (refl, refl) k.2.0
         (give_up-is None passed ∙ ap (erasing s) (it (λ copy. commands.scoped s id (without_borrower copy task)) k.0 k.1))
         keeps (is ∙ ap (λ o. option_map_or (λ (k : CopyView). in_scope (without_borrower k.copy task)) o false) k.1) posts response placed
 
     pub give_up_ok : give_up_check row.copies id task ≡ None → (change node row beside contents h (input.Call session (command.GiveUp id task))).reply ≡ reply.Ok
     give_up_ok passed =
-        let k = there (λ k. cond k.copy.doomed (Some Absent) (give_up_check_of k task)) Absent (at row.copies id) passed in
+        let k = there_all row.copies id (λ k. unless_doomed k (give_up_checks k.copy task)) passed in
         ap (λ (c : Change). c.reply) (give_up-is None passed ∙ ap (erasing s) (it (λ copy. commands.scoped s id (without_borrower copy task)) k.0 k.1
-        ∙ scoped-is s id (without_borrower k.0.copy task) sorted (past k.0.copy.doomed Absent _ k.2).0))
+        ∙ scoped-is s id (without_borrower k.0.copy task) sorted k.2.0))
 
   -- ---- Delete
 
@@ -284,9 +280,8 @@ module _ (node : ℕ) (row : Row) (beside : SharedTables) (contents : Contents) 
 
   delete-by : delete s id ≡ unless_refused s (delete_check row.copies id) delete_done
   delete-by =
-      in_sight row beside id _ (λ k. cond k.granted (Some Granted) None) delete_done (λ k found seen.
-      ap (λ b. checked s ((b, Granted) ∷ []) (doom s id)) (sym (h.granted id k found))
-      ∙ first-check s k.granted Granted [] _ None delete_done (checked-nil s _ ∙ sym (it (λ copy. doom s id) k found)))
+      in_sight row beside id _ (λ k. first_refusal (delete_checks k.granted)) delete_done (λ k found seen.
+      ap (λ b. checked s (delete_checks b) (doom s id)) (sym (h.granted id k found)) ∙ by-checks s (delete_checks k.granted) _ _ (sym (it (λ copy. doom s id) k found)))
 
   delete-is : (check : Option Refusal) → delete_check row.copies id ≡ check
       → change node row beside contents h (input.Call session (command.Delete id)) ≡ erasing s (unless_refused s check delete_done)
@@ -301,15 +296,15 @@ module _ (node : ℕ) (row : Row) (beside : SharedTables) (contents : Contents) 
   pub delete_done_so : delete_check row.copies id ≡ None → (posts : List Post) → posts ≡ notice_posts (removal_notice_at node row.copies id true) → ArePlaced row_doomed.window.placed (place_of row_doomed.copies)
       → RowStep node row beside contents (input.Call session (command.Delete id)) (record { reply = reply.Ok; posts = posts; erased = keys_settled row_doomed id }) (settled_row row_doomed id) beside
   delete_done_so passed posts response placed =
-      let k = there (λ k. cond k.copy.doomed (Some Absent) (cond k.granted (Some Granted) None)) Absent (at row.copies id) passed in
+      let k = there_all row.copies id (λ k. unless_doomed k (delete_checks k.granted)) passed in
       settles node row beside contents h (input.Call session (command.Delete id)) (record { bytes = refl; digest = refl; received = refl }) id k.0 k.1 after_doom (doomed-minor k.0) (option_to_list (notice_of id k.0.copy)) posts
       (delete-is None passed ∙ ap (erasing s) (it (λ copy. doom s id) k.0 k.1 ∙ doom-is s id k.0.copy (at-copies_found row.copies id k.0 k.1)))
       (λ o. response ∙ ap (λ o. notice_posts (option_and_then (removal_notice node id) o)) k.1
-      ∙ response-is node id o (input.Call session (command.Delete id)) k.0 k.0.copy refl refl (past k.0.copy.doomed Absent _ k.2).0) placed
+      ∙ response-is node id o (input.Call session (command.Delete id)) k.0 k.0.copy refl refl k.2.0) placed
 
   pub delete_ok : delete_check row.copies id ≡ None → (change node row beside contents h (input.Call session (command.Delete id))).reply ≡ reply.Ok
   delete_ok passed =
-      let k = there (λ k. cond k.copy.doomed (Some Absent) (cond k.granted (Some Granted) None)) Absent (at row.copies id) passed in
+      let k = there_all row.copies id (λ k. unless_doomed k (delete_checks k.granted)) passed in
       ap (λ (c : Change). c.reply) (delete-is None passed ∙ ap (erasing s) (it (λ copy. doom s id) k.0 k.1 ∙ doom-is s id k.0.copy (at-copies_found row.copies id k.0 k.1)))
 
   -- ---- Borrow
@@ -324,11 +319,8 @@ module _ (node : ℕ) (row : Row) (beside : SharedTables) (contents : Contents) 
     borrow-by : borrow s id task ≡ unless_refused s (row_borrow_check row id task) borrow_done
     borrow-by =
         first-check s (has_ended s id.task || has_ended s task) Gone [] _ (borrow_check row.copies id task) borrow_done
-        (checked-nil s _ ∙ in_sight row beside id _ (λ k. borrow_check_of k task) borrow_done (λ k found seen.
-        first-check s (not (is_primary k.copy.kind)) NotOwner _ _ _ borrow_done
-        (first-check s (has_borrower k.copy task) Exists _ _ _ borrow_done
-        (first-check s (nat_le most_borrowers (length k.copy.borrowers)) TooMany [] _ None borrow_done
-        (checked-nil s _ ∙ sym (it (λ copy. done (set_copy s id (borrowed_copy copy))) k found))))))
+        (checked-nil s _ ∙ in_sight row beside id _ (λ k. first_refusal (borrow_checks k.copy task)) borrow_done (λ k found seen.
+        by-checks s (borrow_checks k.copy task) _ _ (sym (it (λ copy. done (set_copy s id (borrowed_copy copy))) k found))))
 
     borrow-is : (check : Option Refusal) → row_borrow_check row id task ≡ check
         → change node row beside contents h (input.Call session (command.Borrow id task)) ≡ erasing s (unless_refused s check borrow_done)
@@ -343,17 +335,16 @@ module _ (node : ℕ) (row : Row) (beside : SharedTables) (contents : Contents) 
     pub borrow_done_so : row_borrow_check row id task ≡ None → RowStep node row beside contents (input.Call session (command.Borrow id task)) (only reply.Ok) row_borrowed beside
     borrow_done_so passed =
         let alive = past (is_remembered row.ended_tasks id.task || is_remembered row.ended_tasks task) Gone _ passed in
-        let k = there (λ k. cond k.copy.doomed (Some Absent) (borrow_check_of k task)) Absent (at row.copies id) alive.1 in
-        let sound = (past k.0.copy.doomed Absent _ k.2).0 in
+        let k = there_all row.copies id (λ k. unless_doomed k (borrow_checks k.copy task)) alive.1 in
         stays_so node row beside contents h (input.Call session (command.Borrow id task)) (record { bytes = refl; digest = refl; received = refl }) id k.0 k.1 (after_borrow task)
         (record { lies = λ z. (refl, refl); digest = refl; keeps = λ keep. keep; working = refl; granted = refl; backed = refl })
         [] []
         (borrow-is None passed ∙ ap (erasing s) (it (λ copy. done (set_copy s id (borrowed_copy copy))) k.0 k.1
-        ∙ ap done (sym (settled-stays (set_copy s id (borrowed_copy k.0.copy)) id (borrowed_copy k.0.copy) (at-put_here s.copies id (borrowed_copy k.0.copy)) sound))))
-        (λ o. refl) (ap (λ b. b && is_idle_view (after_borrow task k.0)) sound)
+        ∙ ap done (sym (settled-stays (set_copy s id (borrowed_copy k.0.copy)) id (borrowed_copy k.0.copy) (at-put_here s.copies id (borrowed_copy k.0.copy)) k.2.0))))
+        (λ o. refl) (ap (λ b. b && is_idle_view (after_borrow task k.0)) k.2.0)
 
     pub borrow_ok : row_borrow_check row id task ≡ None → (change node row beside contents h (input.Call session (command.Borrow id task))).reply ≡ reply.Ok
     borrow_ok passed =
         let alive = past (is_remembered row.ended_tasks id.task || is_remembered row.ended_tasks task) Gone _ passed in
-        let k = there (λ k. cond k.copy.doomed (Some Absent) (borrow_check_of k task)) Absent (at row.copies id) alive.1 in
+        let k = there_all row.copies id (λ k. unless_doomed k (borrow_checks k.copy task)) alive.1 in
         ap (λ (c : Change). c.reply) (borrow-is None passed ∙ ap (erasing s) (it (λ copy. done (set_copy s id (borrowed_copy copy))) k.0 k.1))

@@ -1,137 +1,93 @@
 -- Why a command can't be carried out, in the order of its checks; its own job's object is meant.
-use Rattle.std.specs.Prelude.{ℕ, ◌+◌, ◌==◌, nat_lt, nat_le, Bool, not, ◌&&◌, ◌||◌, length, if◌then◌else◌, List, Option, Some, None, is_some, Result, Ok, Err, ◌≡◌, false}
+use Rattle.std.specs.Prelude.{ℕ, nat_lt, Bool, ◌||◌, length, if◌then◌else◌, List, ◌∷◌, Option, Some, None, Result, Ok, Err, ◌≡◌, false}
 use Rattle.std.specs.Option.{option_map_or, option_and_then}
 use Rattle.obj_id.specs.declared.ids.ObjectId.{ObjectId}
 use Rattle.obj_id.specs.declared.commands.Command.{Command}
 use Rattle.obj_id.specs.declared.commands.Command.TheVariants as command
 use Rattle.obj_id.specs.declared.commands.CopyState.{CopyState}
 use Rattle.obj_id.specs.declared.refusals.Refusal.{Refusal}
-use Rattle.obj_id.specs.declared.refusals.Refusal.TheVariants.{BadSize, Gone, Exists, Absent, AlreadySealed, NotSealed, NotHeld, OutOfBounds, TooMany, NotOwner, Granted}
+use Rattle.obj_id.specs.declared.refusals.Refusal.TheVariants.{BadSize, Gone, Absent}
 use Rattle.obj_id.specs.declared.ids.TaskNo.{TaskNo}
 use Rattle.obj_id.specs.Ids.{same_task}
-use Rattle.obj_id.specs.Kinds.{is_primary}
-use Rattle.private_store.specs.rules.Limits.{most_bytes, most_holds, most_copies, most_borrowers, most_ended_tasks, has_numbers}
+use Rattle.private_store.specs.rules.Limits.{most_bytes}
 use Rattle.private_store.specs.rules.Tables.{ById, at}
 use Rattle.private_store.specs.rules.Extents.{is_size}
 use Rattle.private_store.specs.rules.Shape.{Copy, Fetch, Phase, sized}
-use Rattle.private_store.specs.rules.Copies.{is_created}
-use Rattle.private_store.specs.rules.Commands.{holds_of, all_holds, has_borrower, is_unsealed}
+use Rattle.private_store.specs.rules.Commands.{create_checks, write_checks, seal_checks, hold_checks, fetch_checks, bytes_checks, read_checks, release_checks, unpin_checks, borrow_checks, give_up_checks, delete_checks, end_task_checks}
+use Rattle.private_store.specs.rules.Shared.{first_refusal}
 use Rattle.private_store.specs.declared.faults.Fault.{Fault}
 use Rattle.private_store.specs.laws.Invariants.{is_remembered}
 use Rattle.node_table.specs.CopyViews.{CopyView}
 use Rattle.node_table.specs.Row.{Row}
 
--- of a copy that is there
-abbrev pub write_check_of : CopyView → ℕ → ℕ → Option Refusal
-write_check_of kept offset n =
-    if kept.copy.doomed then Some Absent else
-    (if not (is_created kept.copy.state) then Some AlreadySealed else
-    (if nat_lt kept.copy.length (offset + n) then Some OutOfBounds else None))
+-- by the checks of the id's copy
+abbrev pub check_at : {X : Type 0} → ById X → ObjectId → (X → List (Bool × Refusal)) → Option Refusal
+check_at copies id checks = elim (at copies id) [ None ↦ Some Absent | Some kept ↦ first_refusal (checks kept) ]
+
+-- a doomed copy isn't seen
+abbrev pub unless_doomed : CopyView → List (Bool × Refusal) → List (Bool × Refusal)
+unless_doomed kept checks = (kept.copy.doomed, Absent) ∷ checks
 
 abbrev pub write_check : ById CopyView → ObjectId → ℕ → ℕ → Option Refusal
 write_check copies id offset n =
-    if nat_lt most_bytes n then Some BadSize else
-    elim (at copies id) [ None ↦ Some Absent | Some kept ↦ write_check_of kept offset n ]
-
-abbrev pub seal_check_of : CopyView → Option Refusal
-seal_check_of kept =
-    if kept.copy.doomed then Some Absent else
-    (if not (is_created kept.copy.state) then Some AlreadySealed else None)
+    if nat_lt most_bytes n then Some BadSize else check_at copies id (λ kept. unless_doomed kept (write_checks kept.copy offset n))
 
 abbrev pub seal_check : ById CopyView → ObjectId → Option Refusal
-seal_check copies id = elim (at copies id) [ None ↦ Some Absent | Some kept ↦ seal_check_of kept ]
-
-abbrev pub read_check_of : CopyView → ℕ → ℕ → ℕ → Option Refusal
-read_check_of kept session offset n =
-    if is_unsealed kept.copy.state then Some NotSealed else
-    (if holds_of kept.copy session == 0 then Some NotHeld else
-    (if nat_lt kept.copy.length (offset + n) then Some OutOfBounds else None))
+seal_check copies id = check_at copies id (λ kept. unless_doomed kept (seal_checks kept.copy))
 
 abbrev pub read_check : ById CopyView → ℕ → ObjectId → ℕ → ℕ → Option Refusal
 read_check copies session id offset n =
-    if nat_lt most_bytes n then Some BadSize else
-    elim (at copies id) [ None ↦ Some Absent | Some kept ↦ read_check_of kept session offset n ]
+    if nat_lt most_bytes n then Some BadSize else check_at copies id (λ kept. read_checks kept.copy session offset n)
 
--- of a copy whose bytes are lent whole
-abbrev pub lend_check_of : Copy → ℕ → Option Refusal
-lend_check_of copy session =
-    if is_unsealed copy.state then Some NotSealed else
-    (if holds_of copy session == 0 then Some NotHeld else None)
-
+-- where the bytes are lent whole
 abbrev pub lend_check : ById Copy → ℕ → ObjectId → Option Refusal
-lend_check copies session id =
-    elim (at copies id) [ None ↦ Some Absent | Some copy ↦ lend_check_of copy session ]
+lend_check copies session id = check_at copies id (λ copy. bytes_checks copy session)
 
+-- of a copy that is there
 abbrev pub release_check_of : CopyView → ℕ → Option Refusal
-release_check_of kept session = if holds_of kept.copy session == 0 then Some NotHeld else None
+release_check_of kept session = first_refusal (release_checks kept.copy session)
 
 abbrev pub release_check : ById CopyView → ℕ → ObjectId → Option Refusal
-release_check copies session id =
-    elim (at copies id) [ None ↦ Some Absent | Some kept ↦ release_check_of kept session ]
+release_check copies session id = check_at copies id (λ kept. release_checks kept.copy session)
 
 -- whether one more hold is too many
 abbrev pub hold_check_of : CopyView → Option Refusal
-hold_check_of kept = if nat_le most_holds (all_holds kept.copy) then Some TooMany else None
+hold_check_of kept = first_refusal (hold_checks kept.copy)
 
 -- whether another copy is too many, or no number is left for its fetch
 abbrev pub fetch_check : ById CopyView → ℕ → Option Refusal
-fetch_check copies begun =
-    if nat_le most_copies (length copies) then Some TooMany else
-    (if has_numbers begun 1 then None else Some TooMany)
+fetch_check copies begun = first_refusal (fetch_checks (length copies) begun)
 
 -- ---- scope
 
--- of a primary that its owner task is to keep no longer, where that task asks or another
-abbrev pub unpin_check_of : CopyView → Bool → Option Refusal
-unpin_check_of kept owner =
-    if not (is_primary kept.copy.kind && owner) then Some NotOwner else
-    (if not kept.copy.pinned then Some NotHeld else None)
-
 abbrev pub unpin_check : ById CopyView → ObjectId → TaskNo → Option Refusal
-unpin_check copies id task =
-    elim (at copies id) [ None ↦ Some Absent | Some kept ↦ if kept.copy.doomed then Some Absent else unpin_check_of kept (same_task task id.task) ]
+unpin_check copies id task = check_at copies id (λ kept. unless_doomed kept (unpin_checks kept.copy (same_task task id.task)))
 
+-- of a copy that is there and isn't doomed
 abbrev pub borrow_check_of : CopyView → TaskNo → Option Refusal
-borrow_check_of kept task =
-    if not (is_primary kept.copy.kind) then Some NotOwner else
-    (if has_borrower kept.copy task then Some Exists else
-    (if nat_le most_borrowers (length kept.copy.borrowers) then Some TooMany else None))
+borrow_check_of kept task = first_refusal (borrow_checks kept.copy task)
 
 -- where neither task has ended
 abbrev pub borrow_check : ById CopyView → ObjectId → TaskNo → Option Refusal
-borrow_check copies id task =
-    elim (at copies id) [ None ↦ Some Absent | Some kept ↦ if kept.copy.doomed then Some Absent else borrow_check_of kept task ]
+borrow_check copies id task = check_at copies id (λ kept. unless_doomed kept (borrow_checks kept.copy task))
 
 abbrev pub row_borrow_check : Row → ObjectId → TaskNo → Option Refusal
 row_borrow_check row id task =
     if is_remembered row.ended_tasks id.task || is_remembered row.ended_tasks task then Some Gone else borrow_check row.copies id task
 
-abbrev pub give_up_check_of : CopyView → TaskNo → Option Refusal
-give_up_check_of kept task =
-    if not (is_primary kept.copy.kind) then Some NotOwner else
-    (if not (has_borrower kept.copy task) then Some Absent else None)
-
 abbrev pub give_up_check : ById CopyView → ObjectId → TaskNo → Option Refusal
-give_up_check copies id task =
-    elim (at copies id) [ None ↦ Some Absent | Some kept ↦ if kept.copy.doomed then Some Absent else give_up_check_of kept task ]
+give_up_check copies id task = check_at copies id (λ kept. unless_doomed kept (give_up_checks kept.copy task))
 
 abbrev pub delete_check : ById CopyView → ObjectId → Option Refusal
-delete_check copies id =
-    elim (at copies id) [ None ↦ Some Absent | Some kept ↦ if kept.copy.doomed then Some Absent else (if kept.granted then Some Granted else None) ]
+delete_check copies id = check_at copies id (λ kept. unless_doomed kept (delete_checks kept.granted))
 
 -- why a task can't end
 abbrev pub end_task_check : Row → TaskNo → Option Refusal
-end_task_check row task =
-    if is_remembered row.ended_tasks task then Some Gone else
-    (if nat_le most_ended_tasks (length row.ended_tasks) then Some TooMany else None)
+end_task_check row task = first_refusal (end_task_checks row.ended_tasks task)
 
 -- why no copy of n bytes can be made under the id, before room is looked for
 abbrev pub create_check : Row → ObjectId → ℕ → Option Refusal
-create_check row id n =
-    if not (is_size row.window.quota n) then Some BadSize else
-    (if is_remembered row.ended_tasks id.task then Some Gone else
-    (if is_some (at row.copies id) then Some Exists else
-    (if nat_le most_copies (length row.copies) then Some TooMany else None)))
+create_check row id n = first_refusal (create_checks row.window.quota row.ended_tasks row.copies id n)
 
 -- why a command on the job's own object that waits for no room is refused before anything grows
 abbrev pub early_check : Row → ℕ → Command (List ℕ) → Option Refusal

@@ -1,9 +1,10 @@
 //! Why a command can't be carried out.
-ghost use Rattle.std.specs.Prelude.{◌≡◌, if◌then◌else◌, not, true, Some, None, IfOk, IfErr, IsOk};
-ghost use Rattle.obj_id.specs.declared.refusals.Refusal.TheVariants.{Absent, Granted};
-ghost use Rattle.node_table.specs.Checks.{write_check_of, write_check as write_check_lem, seal_check_of, read_check_of, read_check as read_check_lem, lend_check_of, lend_check as lend_check_lem, fetch_check as fetch_check_lem, create_check as create_check_lem, end_task_check as end_task_check_lem, unpin_check_of, unpin_check as unpin_check_lem, give_up_check_of, give_up_check as give_up_check_lem, delete_check as delete_check_lem, visible_state as visible_state_lem, fault_at};
+ghost use Rattle.std.specs.Prelude.{◌≡◌, not, true, Some, None, IfOk, IfErr, IsOk};
+ghost use Rattle.node_table.specs.Checks.{unless_doomed, write_check as write_check_lem, read_check as read_check_lem, lend_check as lend_check_lem, fetch_check as fetch_check_lem, create_check as create_check_lem, end_task_check as end_task_check_lem, unpin_check as unpin_check_lem, give_up_check as give_up_check_lem, delete_check as delete_check_lem, visible_state as visible_state_lem, fault_at};
 ghost use Rattle.node_table.specs.EndingTasks.{stays_at};
 ghost use Rattle.node_table.specs.Granting.{grant_check_of};
+ghost use Rattle.private_store.specs.rules.Commands.{write_checks, seal_checks, bytes_checks, read_checks, unpin_checks, give_up_checks, delete_checks};
+ghost use Rattle.private_store.specs.rules.Shared.{first_refusal as first_refusal_lem};
 ghost use Rattle.private_store.specs.rules.Tables.{at};
 ghost use Rattle.node_table.specs.Row.{copies_of};
 ghost use Rattle.node_table.specs.Scope.{removal_notice_at, stays_unpinned};
@@ -15,39 +16,42 @@ use obj_id::limits::{MOST_BYTES, MOST_COPIES, MOST_ENDED_TASKS};
 use obj_id::{CopyState, DirectoryMessage, ObjectId, Refusal, TaskNo};
 use private_store::Fault;
 
+/// What the first check that holds refuses.
+fn first_refusal(checks: &[(bool, Refusal)]) -> Option<Refusal>
+    ensures { result ≡ first_refusal_lem checks.now }
+{
+    let check = checks.iter().find(|check| check.0)?;
+    Some(check.1)
+}
+
 impl RowCopy {
     /// Why `len` bytes can't be written from the offset on: `Absent`, `AlreadySealed`, `OutOfBounds`.
     fn write_check(&self, offset: u32, len: u32) -> Option<Refusal>
-        ensures { result ≡ write_check_of self.now offset len }
+        ensures { result ≡ first_refusal_lem (unless_doomed self.now (write_checks self.now.copy offset len)) }
     {
-        if self.doomed() {
-            return Some(Refusal::Absent);
-        }
-        if !matches!(self.state(), CopyState::Created) {
-            return Some(Refusal::AlreadySealed);
-        }
-        if u64::from(self.length()) < u64::from(offset) + u64::from(len) {
-            return Some(Refusal::OutOfBounds);
-        }
-        None
+        let written = !matches!(self.state(), CopyState::Created);
+        let end = u64::from(offset) + u64::from(len);
+        first_refusal(&[
+            (self.doomed(), Refusal::Absent),
+            (written, Refusal::AlreadySealed),
+            (u64::from(self.length()) < end, Refusal::OutOfBounds),
+        ])
     }
 
     /// Why it can't be sealed: `Absent`, `AlreadySealed`.
     pub(crate) fn seal_check(&self) -> Option<Refusal>
-        ensures { result ≡ seal_check_of self.now }
+        ensures { result ≡ first_refusal_lem (unless_doomed self.now (seal_checks self.now.copy)) }
     {
-        if self.doomed() {
-            return Some(Refusal::Absent);
-        }
-        if !matches!(self.state(), CopyState::Created) {
-            return Some(Refusal::AlreadySealed);
-        }
-        None
+        let written = !matches!(self.state(), CopyState::Created);
+        first_refusal(&[
+            (self.doomed(), Refusal::Absent),
+            (written, Refusal::AlreadySealed),
+        ])
     }
 
     /// Why its owner task can't unpin it, if that task asks or another: `Absent`, `NotOwner`, `NotHeld`.
     fn unpin_check(&self, owner: bool) -> Option<Refusal>
-        ensures { result ≡ if self.now.copy.doomed then Some Absent else unpin_check_of self.now owner }
+        ensures { result ≡ first_refusal_lem (unless_doomed self.now (unpin_checks self.now.copy owner)) }
     {
         if self.doomed() {
             return Some(Refusal::Absent);
@@ -57,7 +61,7 @@ impl RowCopy {
 
     /// Why the task can't give it up: `Absent`, `NotOwner`.
     fn give_up_check(&self, task: TaskNo) -> Option<Refusal>
-        ensures { result ≡ if self.now.copy.doomed then Some Absent else give_up_check_of self.now task }
+        ensures { result ≡ first_refusal_lem (unless_doomed self.now (give_up_checks self.now.copy task)) }
     {
         if self.doomed() {
             return Some(Refusal::Absent);
@@ -67,15 +71,12 @@ impl RowCopy {
 
     /// Why it can't be deleted: `Absent`, `Granted`.
     fn delete_check(&self) -> Option<Refusal>
-        ensures { result ≡ if self.now.copy.doomed then Some Absent else (if self.now.granted then Some Granted else None) }
+        ensures { result ≡ first_refusal_lem (unless_doomed self.now (delete_checks self.now.granted)) }
     {
-        if self.doomed() {
-            return Some(Refusal::Absent);
-        }
-        if self.is_granted() {
-            return Some(Refusal::Granted);
-        }
-        None
+        first_refusal(&[
+            (self.doomed(), Refusal::Absent),
+            (self.is_granted(), Refusal::Granted),
+        ])
     }
 
     /// Why it can't be granted, if this is what the table of grants says: `Absent`, `NotResident` unless it is a
@@ -94,20 +95,18 @@ impl RowCopy {
 
     /// Why the session isn't lent its bytes: `NotSealed`, `NotHeld`.
     fn lend_check(&self, session: u32) -> Option<Refusal>
-        ensures { result ≡ lend_check_of self.now.copy session }
+        ensures { result ≡ first_refusal_lem (bytes_checks self.now.copy session) }
     {
-        if matches!(self.state(), CopyState::Created | CopyState::Fetching) {
-            return Some(Refusal::NotSealed);
-        }
-        if self.holds_of(session) == 0 {
-            return Some(Refusal::NotHeld);
-        }
-        None
+        let unsealed = matches!(self.state(), CopyState::Created | CopyState::Fetching);
+        first_refusal(&[
+            (unsealed, Refusal::NotSealed),
+            (self.holds_of(session) == 0, Refusal::NotHeld),
+        ])
     }
 
     /// Why the session can't read `len` bytes from the offset on: `NotSealed`, `NotHeld`, `OutOfBounds`.
     fn read_check(&self, session: u32, offset: u32, len: u32) -> Option<Refusal>
-        ensures { result ≡ read_check_of self.now session offset len }
+        ensures { result ≡ first_refusal_lem (read_checks self.now.copy session offset len) }
     {
         if let Some(refusal) = self.lend_check(session) {
             return Some(refusal);
@@ -256,31 +255,21 @@ impl JobRow {
     pub(crate) fn create_check(&self, id: &ObjectId, len: u32) -> Option<Refusal>
         ensures { result ≡ create_check_lem self.now id.now len }
     {
-        if !self.window().may_have(len) {
-            return Some(Refusal::BadSize);
-        }
-        if self.has_ended(id.task()) {
-            return Some(Refusal::Gone);
-        }
-        if self.copies().get(id).is_some() {
-            return Some(Refusal::Exists);
-        }
-        if self.copies().len() >= MOST_COPIES {
-            return Some(Refusal::TooMany);
-        }
-        None
+        first_refusal(&[
+            (!self.window().may_have(len), Refusal::BadSize),
+            (self.has_ended(id.task()), Refusal::Gone),
+            (self.copies().get(id).is_some(), Refusal::Exists),
+            (self.copies().len() >= MOST_COPIES, Refusal::TooMany),
+        ])
     }
 
     /// Why the task can't end: `Gone` if it has ended already, `TooMany` at 1,024 ended tasks, or nothing.
     pub fn end_task_check(&self, task: TaskNo) -> Option<Refusal>
         ensures { result ≡ end_task_check_lem self.now task }
     {
-        if self.has_ended(task) {
-            return Some(Refusal::Gone);
-        }
-        if self.ended_count() >= MOST_ENDED_TASKS {
-            return Some(Refusal::TooMany);
-        }
-        None
+        first_refusal(&[
+            (self.has_ended(task), Refusal::Gone),
+            (self.ended_count() >= MOST_ENDED_TASKS, Refusal::TooMany),
+        ])
     }
 }

@@ -1,18 +1,12 @@
-use Rattle.std.proofs.Common.{◌≡◌, Option, Some, None, take, sym, ap, subst, ◌∙◌}
+use Rattle.std.proofs.Common.{◌≡◌, take, sym, ap, subst, ◌∙◌}
 use Rattle.std.specs.Option.{option_copied, option_and_then}
-use Rattle.obj_id.specs.declared.refusals.Refusal.{Refusal}
-use Rattle.obj_id.specs.declared.refusals.Refusal.TheVariants.{Absent}
 use Rattle.private_store.specs.rules.Contents.{digest_of}
 use Rattle.private_store.specs.rules.Copies.{extent_of}
 use Rattle.private_store.specs.rules.Tables.{at}
 use Rattle.store_facts.proofs.Tests.{some_value}
 use Rattle.job_region.specs.Region.{region_bytes_at as placed_bytes}
-use Rattle.node_table.specs.Checks.{seal_check_of}
 use Rattle.node_table.specs.CopyViews.{CopyView}
 use Rattle.node_table.proofs.row.JobRow.sealing.Goals as goal
-
-abbrev check : Option CopyView → Option Refusal
-check o = elim o [ None ↦ Some Absent | Some k ↦ seal_check_of k ]
 
 pub digest-requires : goal.digest-requires
 digest-requires c e lies =
