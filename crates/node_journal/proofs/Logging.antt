@@ -1,16 +1,57 @@
 -- A job's journal in place of what was there.
-use Rattle.std.proofs.Common.{◌≡◌, ℕ, true, false, cond, ◌==◌, ◌+◌, ◌≤◌, List, Option, Some, None, refl, sym, ap, subst, ◌∙◌, arith}
+use Rattle.std.proofs.Common.{◌≡◌, ℕ, true, false, cond, ◌==◌, ◌+◌, ◌≤◌, List, Option, Some, None, position, slice_get, refl, sym, ap, subst, ◌∙◌, arith}
 use Rattle.std.specs.Prelude.{if◌then◌else◌}
-use Rattle.std.specs.Option.{option_map_or}
-use Rattle.std.specs.Map.{lookup}
+use Rattle.std.specs.Cmp.{IsEquivalence}
+use Rattle.std.specs.Option.{option_map, option_map_or}
+use Rattle.std.specs.Map.{keys_of, lookup}
 use Rattle.std.proofs.lemmas.Bool.Decides.{nat_tests}
+use Rattle.std.proofs.lemmas.Cmp.{nat_eq_equiv, on_equiv}
+use Rattle.std.proofs.lemmas.List.Quantifiers.{position-Some}
+use Rattle.std.proofs.lemmas.Option.{get_or_from_slice_get, slice_get-map}
+use Rattle.indexmap.specs.IndexMap.{IndexMap, IsUnique, with_value_at}
+use Rattle.indexmap.proofs.CallerLemmas.{updates-with_value_at}
 use Rattle.obj_id.specs.declared.ids.JobNo.{JobNo}
 use Rattle.private_store.specs.rules.Jobs.{same_job}
 use Rattle.node_journal.specs.Journals.{Journal, fresh, folded_if}
-use Rattle.node_journal.specs.Logs.{JobLog, journal_of, spare_of}
+use Rattle.store_facts.proofs.Tests.{some_value}
+use Rattle.node_journal.specs.Logs.{JobLog, journal_of, spare_of, StandsAt}
 
 same_number : (a b : ℕ) → (a == b) ≡ true → a ≡ b
 same_number a b t = grind (arith, nat_tests)
+
+abbrev numbered : ℕ → JobNo
+numbered n = record { 0 = n }
+
+same_job_equiv : IsEquivalence same_job
+same_job_equiv = on_equiv (λ (job : JobNo). job.0) nat_eq_equiv
+
+pub same_numbers : (a b : JobNo) → a.0 ≡ b.0 → a ≡ b
+same_numbers a b e = ap numbered e
+
+-- the key that stands where a job is found is the job's
+pub place_found : (job k : JobNo) (logs : List (JobNo × JobLog)) (i : ℕ) (log : JobLog) → position (same_job job) (keys_of logs) ≡ Some i → slice_get logs i ≡ Some (k, log) → job ≡ k
+place_found job k logs i log found at =
+    let key : slice_get (keys_of logs) i ≡ Some k = slice_get-map (λ (e : JobNo × JobLog). e.0) logs i ∙ ap (option_map (λ (e : JobNo × JobLog). e.0)) at in
+    same_numbers job k
+    (same_number job.0 k.0 (subst (λ (q : JobNo). same_job job q ≡ true) (get_or_from_slice_get (keys_of logs) i k k key) (position-Some (same_job job) (keys_of logs) i k found).1))
+
+pub stands_at : (entries logs : List (JobNo × JobLog)) (job key : JobNo) (place : ℕ) (log : JobLog) → entries ≡ logs → job ≡ key → slice_get entries place ≡ Some (key, log) → lookup (same_job job) entries ≡ Some log → StandsAt logs job place
+stands_at entries logs job key place log shown same at found = subst (λ es. StandsAt es job place) shown (log, at ∙ ap (λ (k : JobNo). Some (k, log)) (sym same), found)
+
+-- where a job stands
+module _ {S : Type 0} (m : IndexMap JobNo JobLog S) (logs : List (JobNo × JobLog)) (shown : m.entries ≡ logs) (job : JobNo) (place : ℕ) (stands : StandsAt logs job place) where
+  there : slice_get m.entries place ≡ Some (job, stands.0)
+  there = ap (λ es. slice_get es place) shown ∙ stands.1
+
+  -- the log there is the one that is found by its number
+  pub found_there : (key : JobNo) (log : JobLog) → slice_get m.entries place ≡ Some (key, log) → lookup (same_job job) logs ≡ Some log
+  found_there key log at = stands.2 ∙ ap (λ (e : JobNo × JobLog). Some e.1) (some_value (job, stands.0) (key, log) (sym there ∙ at))
+
+  -- what is found by number after another is written there
+  pub written_there : (after : JobLog) → IsUnique same_job m → (q : JobNo) → lookup (same_job q) (with_value_at m place after).entries ≡ cond (same_job job q) (Some after) (lookup (same_job q) logs)
+  written_there after unique q =
+      (updates-with_value_at m place after same_job_equiv unique job stands.0 there).0 q
+      ∙ ap (λ es. cond (same_job job q) (Some after) (lookup (same_job q) es)) shown
 
 abbrev pub journal_in : ℕ → Option JobLog → Journal
 journal_in job o = option_map_or (λ log. log.journal) o (fresh job)

@@ -1,5 +1,5 @@
 -- The journals of all jobs, by job, and the bases that are made for some of them.
-use Rattle.std.specs.Prelude.{◌≡◌, ℕ, ◌==◌, nat_lt, ◌||◌, Bool, List, [], ◌∷◌, length, map, filter}
+use Rattle.std.specs.Prelude.{◌≡◌, ℕ, ◌==◌, nat_lt, ◌||◌, Bool, List, [], ◌∷◌, length, map, filter, slice_get, Some}
 use Rattle.std.specs.List.{list_any}
 use Rattle.std.specs.Option.{option_map_or}
 use Rattle.std.specs.Map.{lookup}
@@ -25,6 +25,10 @@ list_of logs job = (journal_of logs job).list
 -- how many more lines of it take no memory
 abbrev pub spare_of : List (JobNo × JobLog) → ℕ → ℕ
 spare_of logs job = option_map_or (λ log. log.spare) (lookup (same_job (record { 0 = job })) logs) 0
+
+-- the job is at this place, and found by its number
+abbrev pub StandsAt : List (JobNo × JobLog) → JobNo → ℕ → Type 0
+StandsAt logs job place = (log : JobLog) × (slice_get logs place ≡ Some (job, log)) × (lookup (same_job job) logs ≡ Some log)
 
 -- whether the journal says something: it has a line, or one that was folded, or a grant in its base
 abbrev pub was_kept : Journal → Bool

@@ -1,6 +1,7 @@
 //! The journals of all jobs: all growth comes before a step, and what the step adds then takes no memory. A contract sees the
 //! journal of every job number, and how many more lines of a job take no memory.
-ghost use Rattle.std.specs.Prelude.{◌≡◌, ℕ, ◌==◌, ◌+◌, ◌∷◌, ◌<◌, ◌≤◌, ◌||◌, [], true, length, map, if◌then◌else◌, None, OnOk, IfOk};
+ghost use Rattle.std.specs.Prelude.{◌≡◌, ℕ, ◌==◌, ◌+◌, ◌∷◌, ◌<◌, ◌≤◌, ◌||◌, [], true, length, map, if◌then◌else◌, None, OnOk, IfOk, IfSome, IfNone};
+ghost use Rattle.std.specs.Option.{option_copied};
 ghost use Rattle.std.specs.Map.{lookup};
 ghost use Rattle.std.specs.List.{list_any, IsDistinct};
 ghost use Rattle.std.specs.List.Sorted.{IsPermutation, IsNonDecreasingBy};
@@ -9,7 +10,7 @@ ghost use Rattle.private_store.specs.rules.Jobs.{same_job};
 ghost use Rattle.plain_store.specs.Parts.{has_begun as has_begun_lem};
 ghost use Rattle.node_core.specs.Outcomes.{inputs_noted};
 ghost use Rattle.node_journal.specs.Journals.{notes_for, begins, fresh, folded_if, last_of, base_after, with_lines, with_notes_absorbed_if, seems_fresh as seems_fresh_lem};
-ghost use Rattle.node_journal.specs.Logs.{journal_of, list_of, spare_of, AreBases, has_base, was_kept as was_kept_lem};
+ghost use Rattle.node_journal.specs.Logs.{journal_of, list_of, spare_of, StandsAt, AreBases, has_base, was_kept as was_kept_lem};
 
 use crate::entries::Line;
 use crate::folding::{Base, MOST_LINES};
@@ -166,6 +167,8 @@ pub struct Logs {
     logs: IndexMap<JobNo, Log>,
     // the place of the job that was last in turn
     turn: usize,
+    // where a job is looked for first: the place of the one that room was made for last, if it wasn't moved since
+    latest: usize,
 }
 
 impl Model for Logs {
@@ -187,11 +190,12 @@ impl Logs {
             alloc,
             logs: IndexMap::new(alloc),
             turn: 0,
+            latest: 0,
         }
     }
 
     /// Makes room for a line of the job, and a line more for each of these jobs, whichever they are. The journals stay as
-    /// they are, whatever the result.
+    /// they are, whatever the result. The job is found at once from then on.
     pub fn reserve(&mut self, job: JobNo, grantees: &[JobNo]) -> Result<(), AllocError>
         ensures journals { (other : ℕ) → journal_of self.new other ≡ journal_of self.old other }
         ensures own { OnOk result (length grantees.now + 1 ≤ spare_of self.new job.0) }
@@ -210,14 +214,42 @@ impl Logs {
         ensures spare { (other : ℕ) → spare_of self.old other ≤ spare_of self.new other }
         ensures room { OnOk result (more ≤ spare_of self.new job.0) }
     {
-        if let Some(log) = self.logs.get_mut(&job) {
+        if let Some(place) = self.place_of(job) {
+            self.latest = place;
+            let (_, log) = self.logs.pair_mut(place);
             return log.reserve(more);
         }
         let mut log = Log::new(self.alloc, job);
         log.reserve(more)?;
+        self.latest = self.logs.len();
         match self.logs.insert(job, log) {
             Ok(_) => Ok(()),
             Err(_) => Err(AllocError),
+        }
+    }
+
+    /// The job's place, if it has one. Takes a look-up, if it isn't that of the job that room was made for last.
+    fn place_of(&self, job: JobNo) -> Option<usize>
+        ensures stands { IfSome result (StandsAt self.now job) }
+        ensures within { IfSome result (λ place. place < length self.now) }
+        ensures none { IfNone result (lookup (same_job job) self.now ≡ None) }
+    {
+        match self.logs.get_index(self.latest) {
+            Some((own, _)) if own.0 == job.0 => Some(self.latest),
+            _ => {
+                let (place, _, _) = self.logs.get_full(&job)?;
+                Some(place)
+            }
+        }
+    }
+
+    /// The job's log, if it has one. Takes a look-up, if it isn't that of the job that room was made for last.
+    fn find(&self, job: JobNo) -> Option<&Log>
+        ensures { option_copied result ≡ lookup (same_job job) self.now }
+    {
+        match self.logs.get_index(self.latest) {
+            Some((own, log)) if own.0 == job.0 => Some(log),
+            _ => self.logs.get(&job),
         }
     }
 
@@ -227,9 +259,10 @@ impl Logs {
         ensures journal { (other : ℕ) → journal_of self.new other ≡ (if job.0 == other then with_lines (journal_of self.old other) (line ∷ []) else journal_of self.old other) }
         ensures spare { (other : ℕ) → spare_of self.old other ≤ spare_of self.new other + 1 }
     {
-        let Some(log) = self.logs.get_mut(&job) else {
+        let Some(place) = self.place_of(job) else {
             unreachable!()
         };
+        let (_, log) = self.logs.pair_mut(place);
         log.add(line);
     }
 
@@ -315,7 +348,7 @@ impl Logs {
     pub(crate) fn seems_fresh(&self, job: JobNo) -> bool
         ensures { result ≡ seems_fresh_lem (journal_of self.now job.0) }
     {
-        match self.logs.get(&job) {
+        match self.find(job) {
             Some(log) => log.seems_fresh(),
             None => true,
         }
@@ -325,7 +358,7 @@ impl Logs {
     pub fn has_begun(&self, job: JobNo) -> bool
         ensures { result ≡ (has_begun_lem (journal_of self.now job.0).base.store.shape.life || list_any begins (list_of self.now job.0)) }
     {
-        match self.logs.get(&job) {
+        match self.find(job) {
             Some(log) => log.has_begun(),
             None => false,
         }
@@ -346,7 +379,7 @@ impl Logs {
     pub fn covered(&self, job: JobNo) -> u64
         ensures { result ≡ (journal_of self.now job.0).covered }
     {
-        match self.logs.get(&job) {
+        match self.find(job) {
             Some(log) => log.covered(),
             None => 0,
         }
@@ -356,7 +389,7 @@ impl Logs {
     pub fn list(&self, job: JobNo) -> &[Line]
         ensures { result.now ≡ list_of self.now job.0 }
     {
-        match self.logs.get(&job) {
+        match self.find(job) {
             Some(log) => log.as_slice(),
             None => &[],
         }

@@ -3,7 +3,6 @@ use Rattle.std.specs.List.{list_any}
 use Rattle.std.specs.Option.{option_copied}
 use Rattle.plain_store.specs.Parts.{has_begun}
 use Rattle.node_journal.specs.Journals.{Journal, begins}
-use Rattle.node_journal.specs.Logs.{journal_of}
 use Rattle.node_journal.proofs.Logging.{journal_in}
 use Rattle.node_journal.proofs.logs.Logs.has_begun.Goals as goal
 
@@ -13,10 +12,8 @@ begun_by journal = has_begun journal.base.store.shape.life || list_any begins jo
 pub returns-in-Some : goal.returns-in-Some
 returns-in-Some c =
     c.has_begun.ensures
-    ∙ ap (λ o. begun_by (journal_in c.args.job.0 o)) (sym (sym c.get.ensures.value ∙ ap option_copied c.in-Some.is))
-    ∙ ap (λ m. begun_by (journal_of m c.args.job.0)) c.self.view_is
+    ∙ ap (λ o. begun_by (journal_in c.args.job.0 o)) (sym (sym c.find.ensures ∙ ap option_copied c.in-Some.is))
 
 pub returns-in-None : goal.returns-in-None
 returns-in-None c =
-    ap (λ o. begun_by (journal_in c.args.job.0 o)) (sym (sym c.get.ensures.value ∙ ap option_copied c.in-None.is))
-    ∙ ap (λ m. begun_by (journal_of m c.args.job.0)) c.self.view_is
+    ap (λ o. begun_by (journal_in c.args.job.0 o)) (sym (sym c.find.ensures ∙ ap option_copied c.in-None.is))
