@@ -1,5 +1,5 @@
 -- What the record of a step needs, and what it adds.
-use Rattle.std.proofs.Common.{◌≡◌, ℕ, ◌≤◌, ◌+◌, Bool, true, false, ◌||◌, List, [], ◌∷◌, ◌++◌, length, map, append_assoc, refl, sym, ap, ◌∙◌, arith}
+use Rattle.std.proofs.Common.{◌≡◌, ℕ, ◌≤◌, ◌+◌, Bool, true, false, ◌||◌, List, [], ◌∷◌, ◌++◌, length, map, append_assoc, Result, Ok, Err, IfOk, OnErr, refl, sym, ap, ◌∙◌, arith}
 use Rattle.std.specs.Prelude.{if◌then◌else◌}
 use Rattle.std.specs.List.{list_any}
 use Rattle.std.proofs.lemmas.List.{length-map}
@@ -57,3 +57,13 @@ pub added : (own : Bool) (first second third : Journal) (entry : Line) (notes : 
     → third ≡ with_lines first ((if own then entry ∷ [] else []) ++ notes)
 added true first second third entry notes is more = more ∙ ap (λ j. with_lines j notes) is ∙ ap (λ ls. record first { list = ls }) (append_assoc first.list (entry ∷ []) notes)
 added false first second third entry notes is more = more ∙ ap (λ j. with_lines j notes) is
+
+-- ---- what a step gave, or that it gave nothing
+
+pub both_ok : {R E : Type 0} (r : Result R E) (A B : R → Type 0) → IfOk r A → IfOk r B → IfOk r (λ x. A x × B x)
+both_ok (Ok x) A B a b = (a, b)
+both_ok (Err e) A B a b = tt
+
+pub either_way : {R E C : Type 0} (r : Result R E) (A : R → Type 0) (U V : Type 0) → IfOk r A → OnErr r U → OnErr r V → ((x : R) → A x → C) → (U → V → C) → C
+either_way (Ok x) A U V a u v ok err = ok x a
+either_way (Err e) A U V a u v ok err = err u v

@@ -188,12 +188,17 @@ impl<L: Ledger> Receipt<L> {
 }
 
 /// The entry of this number, of a step of this event that gave this. Takes no memory.
-pub(crate) fn entry_of(alloc: Global, number: u64, event: EventName, outcome: &NodeOutcome) -> Entry
-    ensures { result ≡ entry_for number event outcome.now.judged outcome.now.reply }
+pub(crate) fn entry_of(
+    alloc: Global,
+    number: u64,
+    event: &EventName,
+    outcome: &NodeOutcome,
+) -> Entry
+    ensures { result ≡ entry_for number event.now outcome.now.judged outcome.now.reply }
 {
     Entry {
         number,
-        event,
+        event: *event,
         input: outcome.judged,
         reply: kept_reply_of(alloc, &outcome.reply),
     }

@@ -31,7 +31,7 @@ use crate::posts::{Made, Posted, arrival};
 use crate::sweeping::sweep_job;
 use bytes::Bytes;
 use hashed_bytes::Hashed;
-use node_core::{JobRow, Node, NodeOutcome, Prepared};
+use node_core::{JobRow, Node, Prepared};
 use obj_id::{Arrival, Endpoint, ItemList, JobKey, JobNo, ObjectId, Refusal};
 use private_store::Event;
 use std::alloc::{AllocError, Global};
@@ -109,9 +109,6 @@ impl<L: Ledger> Kept<L> {
         ensures same { OnErr result ((self.new.node ≡ self.old.node) × (self.new.count ≡ self.old.count)) }
         ensures unchanged { OnErr result ((job : ℕ) → journal_of self.new.logs job ≡ journal_of self.old.logs job) }
     {
-        if self.count >= LAST_ENTRY {
-            return Err(AllocError);
-        }
         let Kept {
             alloc,
             node,
@@ -120,17 +117,7 @@ impl<L: Ledger> Kept<L> {
             count,
             ledger_share: _,
         } = self;
-        let next = *count + 1;
-        let job = job_of(node, event);
-        let outcome = record(*alloc, node, logs, next, job, event)?;
-        *count = next;
-        let receipt = Receipt {
-            node: *number,
-            job,
-            entry: entry_of(*alloc, next, name_of(event), &outcome),
-            name: PhantomData,
-        };
-        Ok(Made { outcome, receipt })
+        record(*alloc, *number, node, logs, count, event)
     }
 
     /// A message that was posted to this node arrives, by `Node::arrive`, and adds one entry to its job's list, which the receipt
@@ -184,9 +171,6 @@ impl<L: Ledger> Kept<L> {
         ensures same { OnErr result ((self.new.node ≡ self.old.node) × (self.new.count ≡ self.old.count)) }
         ensures unchanged { OnErr result ((other : ℕ) → journal_of self.new.logs other ≡ journal_of self.old.logs other) }
     {
-        if self.count >= LAST_ENTRY {
-            return Err(AllocError);
-        }
         let Kept {
             alloc,
             node,
@@ -195,16 +179,7 @@ impl<L: Ledger> Kept<L> {
             count,
             ledger_share: _,
         } = self;
-        let next = *count + 1;
-        let outcome = record_arrival(*alloc, node, logs, next, job, arrival)?;
-        *count = next;
-        let receipt = Receipt {
-            node: *number,
-            job,
-            entry: entry_of(*alloc, next, name_of_arrival(arrival), &outcome),
-            name: PhantomData,
-        };
-        Ok(Made { outcome, receipt })
+        record_arrival(*alloc, *number, node, logs, count, job, arrival)
     }
 
     /// The same as `step`, if the entry that the receipt names is there or was folded; the new receipt then has a greater
@@ -509,73 +484,98 @@ fn has_entry(lines: &[Line], entry: &Entry) -> bool
     false
 }
 
-/// Steps the node, and writes the entry of this number, under the job that the event is of or whose work a Take gives, and what the
-/// step told the grantees; lists that might have no room are folded before. An error changes neither.
-fn record(
+/// Steps the node, which has this number, and writes the next entry, under the job that the event is of or whose work a Take gives, and
+/// what the step told the grantees; lists that might have no room are folded before. An error changes neither.
+fn record<L: Ledger>(
     alloc: Global,
+    number: u32,
     node: &mut Node,
     logs: &mut Logs,
-    number: u64,
-    job: JobNo,
+    count: &mut u64,
     event: &Event,
-) -> Result<NodeOutcome, AllocError>
-    requires job { job.0 ≡ job_at node.old.works.works (node_event.Own event.now) }
+) -> Result<Made<L>, AllocError>
     requires response { ∥ Tells node.old (journal_of logs.old) ∥₁ }
     requires few { (job : ℕ) → length (list_of logs.old job) ≤ most_lines }
-    ensures node { IfOk result (λ o. NodeStep node.old (node_event.Own event.now) (node_given_of o) node.new) }
-    ensures judged { IfOk result (λ o. IsJudged node.old event.now o.reply o.judged) }
-    ensures small { IfOk result (λ o. IsSmall node.old event.now o.reply) }
-    ensures logs { IfOk result (λ o. (job : ℕ) → journal_of logs.new job
-        ≡ journal_after node.old number (node_event.Own event.now) o.judged (node_given_of o) job (journal_of logs.old job)) }
-    ensures few { IfOk result (λ o. (job : ℕ) → length (list_of logs.new job) ≤ most_lines) }
-    ensures err { OnErr result (node.new ≡ node.old) }
+    ensures node { IfOk result (λ r. NodeStep node.old (node_event.Own event.now) (node_given_of r.outcome) node.new) }
+    ensures receipt { IfOk result (λ r. (r.receipt.node ≡ number) × (r.receipt.job.0 ≡ job_at node.old.works.works (node_event.Own event.now)) × (r.receipt.entry ≡ entry_for (count.old + 1) (event_name (node_event.Own event.now)) r.outcome.judged r.outcome.reply)) }
+    ensures judged { IfOk result (λ r. IsJudged node.old event.now r.outcome.reply r.outcome.judged) }
+    ensures small { IfOk result (λ r. IsSmall node.old event.now r.outcome.reply) }
+    ensures logs { IfOk result (λ r. (job : ℕ) → journal_of logs.new job
+        ≡ journal_after node.old (count.old + 1) (node_event.Own event.now) r.outcome.judged (node_given_of r.outcome) job (journal_of logs.old job)) }
+    ensures few { OnOk result ((job : ℕ) → length (list_of logs.new job) ≤ most_lines) }
+    ensures count { OnOk result (count.new ≡ count.old + 1) }
+    ensures err { OnErr result ((node.new ≡ node.old) × (count.new ≡ count.old)) }
     ensures unchanged { OnErr result ((job : ℕ) → journal_of logs.new job ≡ journal_of logs.old job) }
 {
+    if *count >= LAST_ENTRY {
+        return Err(AllocError);
+    }
     // all growth comes before the node's step
     let grantees = node.grantees(event)?;
     if grantees.as_slice().len() >= MOST_LINES {
         return Err(AllocError);
     }
+    let job = job_of(node, event);
     logs.reserve(job, grantees.as_slice())?;
     // the bases are those before the step
     let bases = bases_of(alloc, node, logs, job, grantees.as_slice())?;
     let outcome = node.apply(event)?;
-    let entry = entry_of(alloc, number, name_of(event), &outcome);
+    *count += 1;
+    let named = name_of(event);
     logs.fold_all(bases);
-    logs.add(job, Line::Entry(entry));
-    logs.add_notes(number, outcome.notes.as_slice());
-    Ok(outcome)
+    logs.add(job, Line::Entry(entry_of(alloc, *count, &named, &outcome)));
+    logs.add_notes(*count, outcome.notes.as_slice());
+    let receipt = Receipt {
+        node: number,
+        job,
+        entry: entry_of(alloc, *count, &named, &outcome),
+        name: PhantomData,
+    };
+    Ok(Made { outcome, receipt })
 }
 
-/// The message arrives, and the entry of this number is written; the job's list is folded before if it has no room. An error
-/// changes neither.
-fn record_arrival(
+/// The message arrives at the node, which has this number, and the next entry is written; the job's list is folded before if it has no
+/// room. An error changes neither.
+fn record_arrival<L: Ledger>(
     alloc: Global,
+    number: u32,
     node: &mut Node,
     logs: &mut Logs,
-    number: u64,
+    count: &mut u64,
     job: JobNo,
     arrival: &Arrival,
-) -> Result<NodeOutcome, AllocError>
+) -> Result<Made<L>, AllocError>
     requires response { ∥ Tells node.old (journal_of logs.old) ∥₁ }
     requires few { (other : ℕ) → length (list_of logs.old other) ≤ most_lines }
-    ensures node { IfOk result (λ o. NodeStep node.old (node_event.Arrive job arrival.now) (node_given_of o) node.new) }
-    ensures judged { IfOk result (λ o. IsArrivalJudged node.old job arrival.now o.reply o.judged) }
-    ensures silent { IfOk result (λ o. o.notes ≡ []) }
-    ensures stale { IfOk result (λ o. o.reply ≡ reply.Refused Stale → node.new ≡ node.old) }
-    ensures logs { IfOk result (λ o. (other : ℕ) → journal_of logs.new other
-        ≡ journal_after node.old number (node_event.Arrive job arrival.now) o.judged (node_given_of o) other (journal_of logs.old other)) }
-    ensures few { IfOk result (λ o. (other : ℕ) → length (list_of logs.new other) ≤ most_lines) }
-    ensures err { OnErr result (node.new ≡ node.old) }
+    ensures node { IfOk result (λ r. NodeStep node.old (node_event.Arrive job arrival.now) (node_given_of r.outcome) node.new) }
+    ensures receipt { IfOk result (λ r. (r.receipt.node ≡ number) × (r.receipt.job.0 ≡ job.0) × (r.receipt.entry ≡ entry_for (count.old + 1) (event_name (node_event.Arrive job arrival.now)) r.outcome.judged r.outcome.reply)) }
+    ensures judged { IfOk result (λ r. IsArrivalJudged node.old job arrival.now r.outcome.reply r.outcome.judged) }
+    ensures silent { IfOk result (λ r. r.outcome.notes ≡ []) }
+    ensures stale { IfOk result (λ r. r.outcome.reply ≡ reply.Refused Stale → node.new ≡ node.old) }
+    ensures logs { IfOk result (λ r. (other : ℕ) → journal_of logs.new other
+        ≡ journal_after node.old (count.old + 1) (node_event.Arrive job arrival.now) r.outcome.judged (node_given_of r.outcome) other (journal_of logs.old other)) }
+    ensures few { OnOk result ((other : ℕ) → length (list_of logs.new other) ≤ most_lines) }
+    ensures count { OnOk result (count.new ≡ count.old + 1) }
+    ensures err { OnErr result ((node.new ≡ node.old) × (count.new ≡ count.old)) }
     ensures unchanged { OnErr result ((other : ℕ) → journal_of logs.new other ≡ journal_of logs.old other) }
 {
+    if *count >= LAST_ENTRY {
+        return Err(AllocError);
+    }
     // all growth comes before the node's step
     logs.reserve(job, &[])?;
     // the base is that before the step
     let bases = bases_of(alloc, node, logs, job, &[])?;
     let outcome = node.arrive(job, arrival)?;
-    let entry = entry_of(alloc, number, name_of_arrival(arrival), &outcome);
+    *count += 1;
+    let named = name_of_arrival(arrival);
     logs.fold_all(bases);
-    logs.add(job, Line::Entry(entry));
-    Ok(outcome)
+    logs.add(job, Line::Entry(entry_of(alloc, *count, &named, &outcome)));
+    let receipt = Receipt {
+        node: number,
+        job,
+        entry: entry_of(alloc, *count, &named, &outcome),
+        name: PhantomData,
+    };
+    Ok(Made { outcome, receipt })
 }

@@ -1,4 +1,4 @@
-use Rattle.std.proofs.Common.{◌≡◌, ℕ, ◌==◌, ◌<◌, ◌≤◌, List, [], ◌∷◌, ◌++◌, length, map, refl, sym, ap, subst, ◌∙◌, arith}
+use Rattle.std.proofs.Common.{◌≡◌, ℕ, ◌==◌, ◌<◌, ◌+◌, ◌≤◌, List, [], ◌∷◌, ◌++◌, length, map, refl, sym, ap, subst, ◌∙◌, arith}
 use Rattle.std.specs.Prelude.{if◌then◌else◌}
 use Rattle.obj_id.specs.declared.ids.JobNo.{JobNo}
 use Rattle.private_store.specs.declared.schedules.NodeEvent.TheVariants.{Own}
@@ -15,13 +15,13 @@ use Rattle.node_journal.proofs.Telling.{told_alike}
 use Rattle.node_journal.proofs.kept.record.Goals as goal
 
 pub bases_of-requires-clause-response : goal.bases_of-requires-clause-response
-bases_of-requires-clause-response c = told_alike c.args.node.now _ _ _ refl c.in_ok-reserve.ensures.journals c.requires.response
+bases_of-requires-clause-response g c = told_alike c.args.node.now _ _ _ refl c.in_ok-reserve.ensures.journals c.requires.response
 
 pub bases_of-requires-clause-few : goal.bases_of-requires-clause-few
-bases_of-requires-clause-few c = λ job. subst (λ (j : Journal). length j.list ≤ most_lines) (sym (c.in_ok-reserve.ensures.journals job)) (c.requires.few job)
+bases_of-requires-clause-few g c = λ job. subst (λ (j : Journal). length j.list ≤ most_lines) (sym (c.in_ok-reserve.ensures.journals job)) (c.requires.few job)
 
 pub add_notes-requires : goal.add_notes-requires
-add_notes-requires c =
+add_notes-requires g c =
     let e = c.args.event.now in
     let grants = c.args.node.now.grants in
     let reply = c.in_ok-outcome.outcome.reply in
@@ -31,30 +31,32 @@ add_notes-requires c =
     (λ other. omega (arith, c.fold_all.ensures.spare other, c.add.ensures.spare other))
 
 pub returns-clause-logs : goal.returns-clause-logs
-returns-clause-logs c = λ job.
+returns-clause-logs g c = λ job.
+    let number = c.args.count.now + 1 in
     let e = c.args.event.now in
     let outcome = c.in_ok-outcome.outcome in
     let grantees = c.as_slice-3.ensures ∙ c.in_ok-grantees.ensures.grantees in
     let kept = c.in_ok-reserve.ensures.journals job in
     let own : ℕ = job_at c.args.node.now.works.works (Own e) in
-    let made = c.entry_of-entry.ensures ∙ ap (λ named. entry_for c.args.number named outcome.judged outcome.reply) c.name_of.ensures in
-    let full = c.in_ok-bases.ensures.full job ∙ (λ i. list_is_full (c.requires.job i) (grantees i) job (length (kept i).list)) in
+    let made = c.entry_of.ensures ∙ ap (λ named. entry_for number named outcome.judged outcome.reply) c.name_of-named.ensures in
+    let full = c.in_ok-bases.ensures.full job ∙ (λ i. list_is_full (c.job_of-job.ensures i) (grantees i) job (length (kept i).list)) in
     let first : Journal = journal_of c.fold_all.new.self job in
     let first_is : first ≡ folded_if (is_folded_by c.args.node.now (Own e) job (list_of c.args.logs.now job)) (journal_of c.args.logs.now job) =
     c.fold_all.ensures.journal job ∙ (λ i. folded_if (full i) (kept i)) in
     added (own == job) first (journal_of c.add.new.self job) (journal_of c.add_notes.new.self job)
-    (line.Entry (entry_for c.args.number (event_name (Own c.args.event.now)) outcome.judged outcome.reply)) (notes_for c.args.number (inputs_noted outcome.notes) job)
+    (line.Entry (entry_for number (event_name (Own c.args.event.now)) outcome.judged outcome.reply)) (notes_for number (inputs_noted outcome.notes) job)
     (c.add.ensures.journal job
-    ∙ (λ i. if c.requires.job i == job
+    ∙ (λ i. if c.job_of-job.ensures i == job
     then with_lines first (line.Entry (made i) ∷ [])
     else first))
-    (c.add_notes.ensures job ∙ ap (λ ns. with_lines (journal_of c.add.new.self job) (notes_for c.args.number (inputs_noted ns) job)) c.as_slice-4.ensures)
-    ∙ ap (λ j. with_lines j ((if own == job then line.Entry (entry_for c.args.number (event_name (Own c.args.event.now)) outcome.judged outcome.reply) ∷ [] else []) ++ notes_for c.args.number (inputs_noted outcome.notes) job)) first_is
+    (c.add_notes.ensures job ∙ ap (λ ns. with_lines (journal_of c.add.new.self job) (notes_for number (inputs_noted ns) job)) c.as_slice-4.ensures)
+    ∙ ap (λ j. with_lines j ((if own == job then line.Entry (entry_for number (event_name (Own c.args.event.now)) outcome.judged outcome.reply) ∷ [] else []) ++ notes_for number (inputs_noted outcome.notes) job)) first_is
 
 pub returns-clause-few : goal.returns-clause-few
-returns-clause-few c = λ job.
+returns-clause-few g c = λ job.
+    let number = c.args.count.now + 1 in
     let e = c.args.event.now in
     let outcome = c.in_ok-outcome.outcome in
     let some = subst (λ (ts : List JobNo). length ts < most_lines) (c.as_slice.ensures ∙ c.in_ok-grantees.ensures.grantees) (omega arith) in
-    all_few (job_at c.args.node.now.works.works (Own e)) c.args.node.now.grants e outcome.reply c.args.number job outcome.notes (journal_of c.args.logs.now job) (journal_of c.add_notes.new.self job)
-    (line.Entry (entry_for c.args.number (event_name (Own c.args.event.now)) outcome.judged outcome.reply)) c.in_ok-outcome.ensures.grantees some (returns-clause-logs c job)
+    all_few (job_at c.args.node.now.works.works (Own e)) c.args.node.now.grants e outcome.reply number job outcome.notes (journal_of c.args.logs.now job) (journal_of c.add_notes.new.self job)
+    (line.Entry (entry_for number (event_name (Own c.args.event.now)) outcome.judged outcome.reply)) c.in_ok-outcome.ensures.grantees some (returns-clause-logs g c job)
