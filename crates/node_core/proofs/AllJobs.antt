@@ -23,7 +23,7 @@ use Rattle.private_store.specs.rules.Private.{view_step, view_from}
 use Rattle.spill_work.specs.declared.queue.Queued.{Queued}
 use Rattle.spill_work.specs.Line.{shown, is_of, is_at, works_of, used_by}
 use Rattle.node_table.specs.Asked.{HasAsked}
-use Rattle.node_table.specs.Row.{Row}
+use Rattle.job_row.specs.Row.{Row}
 use Rattle.node_table.specs.Shown.{RowGiven}
 use Rattle.node_core.specs.Hosted.{Hosted, IsViewBy, Shows, ShowsAll, row_at, beside_at}
 use Rattle.node_core.specs.Calls.{needs_no_memory}

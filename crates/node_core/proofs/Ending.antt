@@ -36,10 +36,11 @@ use Rattle.grants.proofs.ForCallers.{left_are_grants}
 use Rattle.job_admission.specs.Admissions.{Admissions, live_at, lives_of, finished}
 use Rattle.node_table.specs.Granting.{row_bytes}
 use Rattle.node_table.specs.Notes.{beside_rest}
-use Rattle.node_table.specs.Row.{Row, SharedTables, row_given_by, received_bytes}
+use Rattle.job_row.specs.Row.{Row}
 use Rattle.node_table.specs.Shown.{seen, only, IsShown, RowGiven}
-use Rattle.node_table.proofs.ForCallers.{sorted-copies, keys-backed, is_of, none_given, rest_of_job, kept_as_they_are}
-use Rattle.node_table.specs.Ending.{keys_backed}
+use Rattle.job_row.proofs.ForCallers.{sorted-copies}
+use Rattle.node_table.proofs.ForCallers.{keys-backed, is_of, none_given, rest_of_job, kept_as_they_are}
+use Rattle.job_row.specs.Ending.{keys_backed}
 use Rattle.node_core.proofs.Granted.{own_gave}
 use Rattle.node_core.proofs.GrantsEnd.{ended_shows, ended_inputs, ends_judged}
 use Rattle.node_core.specs.Hosted.{Hosted, AreHosted, IsHosted, IsRowView, IsBare, IsViewBy, Shows, ShowsAll, empty_view, bytes_here, beside_at}
@@ -48,6 +49,7 @@ use Rattle.node_core.specs.OneJob.{IsStepOf}
 use Rattle.node_core.specs.Outcomes.{with_no_notes, with_ends, end_noted}
 use Rattle.node_core.specs.Steps.{NodeGiven, answer_of_check, queued, NodeStep}
 use Rattle.node_core.proofs.Views.{itself, view_is, node_of}
+use Rattle.node_table.specs.Beside.{SharedTables, row_given_by, received_bytes}
 
 -- ---- the numbers
 

@@ -13,7 +13,7 @@ use Rattle.private_store.specs.rules.Jobs.{same_job}
 use Rattle.spill_work.specs.Line.{WorkLine}
 use Rattle.job_admission.specs.declared.Live.{Live}
 use Rattle.job_admission.specs.Admissions.{Admissions, live_at, entered}
-use Rattle.node_table.specs.Row.{Row}
+use Rattle.job_row.specs.Row.{Row}
 use Rattle.node_core.specs.Hosted.{AreHosted, IsViewBy, Shows, beside_at}
 use Rattle.node_core.proofs.Views.{node_of}
 

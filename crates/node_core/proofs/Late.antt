@@ -15,7 +15,7 @@ use Rattle.private_store.specs.rules.Private.{view_step}
 use Rattle.private_store.specs.rules.Grants.{StandingGrant}
 use Rattle.spill_work.specs.Line.{WorkLine}
 use Rattle.node_table.specs.Granting.{peek_check}
-use Rattle.node_table.specs.Row.{Row, SharedTables, beside_of}
+use Rattle.job_row.specs.Row.{Row}
 use Rattle.node_table.specs.MemoryLast.{is_more, work_has_begun, may_grow, IsDueMore}
 use Rattle.node_table.specs.Shown.{seen, IsShown}
 use Rattle.node_table.proofs.ForCallers.{seal_late, read_late, list_late, leave_late, unpin_late, borrow_late, give_up_late, delete_late, end_task_late, peeks}
@@ -25,6 +25,7 @@ use Rattle.node_core.specs.Steps.{answer_of_check}
 use Rattle.node_core.proofs.GrantCommands.{IsGrowing, grant_late, withdraw_late}
 use Rattle.node_core.proofs.Taking.{front_given}
 use Rattle.node_core.proofs.Views.{view_is}
+use Rattle.node_table.specs.Beside.{SharedTables, beside_of}
 
 -- a Peek that passed its check
 peek_late : (node : ℕ) (line : WorkLine) (grants : List StandingGrant) (bytes : ObjectId → List ℕ) (row : Row) (contents : Contents) (session : ℕ) (id : ObjectId) (offset n : ℕ) → IsShown row (beside_of line grants bytes row.job) contents

@@ -23,8 +23,8 @@ use Rattle.spill_work.specs.Line.{WorkLine, IsSameFor, same_work_job as same_lin
 use Rattle.grants.specs.Table.{AreGrants}
 use Rattle.job_admission.specs.declared.Live.{Live}
 use Rattle.job_admission.specs.Admissions.{Admissions, live_at, lives_of, resize_check, resized}
-use Rattle.node_table.specs.Quotas.{store_check}
-use Rattle.node_table.specs.Row.{Row, SharedTables, shape_of}
+use Rattle.job_row.specs.Quotas.{store_check}
+use Rattle.job_row.specs.Row.{Row}
 use Rattle.node_table.specs.Shown.{only, IsShown, RowStep}
 use Rattle.node_core.specs.Hosted.{Hosted, AreHosted, IsRowView, IsViewBy, Shows, bytes_here, beside_at}
 use Rattle.node_core.specs.OneJob.{NodeStepOne}
@@ -32,6 +32,7 @@ use Rattle.node_core.specs.Quotas.{refused_or, requota_refusal}
 use Rattle.node_core.specs.Steps.{answer_of_check, requota_check}
 use Rattle.node_core.proofs.Ending.{is_some-lookup}
 use Rattle.node_core.proofs.Views.{Takes, node_of, views_stepped, told_stepped}
+use Rattle.node_table.specs.Beside.{SharedTables, shape_of}
 
 -- ---- the check
 

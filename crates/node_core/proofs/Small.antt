@@ -27,7 +27,7 @@ use Rattle.store_facts.proofs.Tests.{both_left, both_right, none_some, true_fals
 use Rattle.grants.specs.Private.{as_given}
 use Rattle.grants.specs.Table.{AreGrants, given_by}
 use Rattle.grants.proofs.ForCallers.{is_among, few_granted}
-use Rattle.node_table.specs.Row.{Row}
+use Rattle.job_row.specs.Row.{Row}
 use Rattle.node_core.specs.Foreseen.{grantees_in, AreTakers}
 use Rattle.node_core.specs.Hosted.{Hosted, IsViewBy, ShowsAll, row_at, beside_at, bytes_here}
 use Rattle.node_core.specs.Judged.{moves_grants, SeesFew, IsSmall}

@@ -26,7 +26,7 @@ use Rattle.spill_work.specs.Line.{WorkLine, IsSameFor, same_work_job as same_lin
 use Rattle.node_core.proofs.Others.{other_view, not_same}
 use Rattle.job_admission.specs.Admissions.{Admissions}
 use Rattle.grants.specs.Table.{AreGrants}
-use Rattle.node_table.specs.Row.{Row, SharedTables, beside_of, received_bytes, shape_of}
+use Rattle.job_row.specs.Row.{Row}
 use Rattle.node_table.specs.Shown.{seen, IsShown, RowGiven, only, RowStep}
 use Rattle.node_table.proofs.ForCallers.{is_of, alike_bytes, kept_as_they_are}
 use Rattle.node_core.specs.Hosted.{Hosted, IsRowView, IsBare, IsViewBy, Shows, ShowsAll, empty_view, empty_shape, bytes_here, beside_at}
@@ -35,6 +35,7 @@ use Rattle.node_core.specs.OneJob.{IsStepOf, NodeStepOne}
 use Rattle.node_table.specs.Asked.{HasAsked}
 use Rattle.node_core.proofs.Lines.{asked_nothing}
 use Rattle.store_facts.proofs.OwnJob.{step_keeps_job}
+use Rattle.node_table.specs.Beside.{SharedTables, beside_of, received_bytes, shape_of}
 
 pub itself : (job : JobNo) → same_job job job ≡ true
 itself job = grind (arith, nat_tests)

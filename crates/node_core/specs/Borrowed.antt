@@ -6,7 +6,7 @@ use Rattle.obj_id.specs.declared.refusals.Refusal.TheVariants.{NotAdmitted, NotG
 use Rattle.private_store.specs.rules.Shape.{Shape}
 use Rattle.private_store.specs.rules.Events.{is_live}
 use Rattle.private_store.specs.rules.Contents.{View}
-use Rattle.node_table.specs.Checks.{lend_check}
+use Rattle.job_row.specs.Checks.{lend_check}
 use Rattle.node_table.specs.Shown.{IsLent}
 
 -- why a session isn't lent an object's bytes

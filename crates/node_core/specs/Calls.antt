@@ -10,10 +10,11 @@ use Rattle.private_store.specs.declared.schedules.Event.TheVariants as event
 use Rattle.private_store.specs.rules.Contents.{Contents}
 use Rattle.private_store.specs.rules.Grants.{StandingGrant}
 use Rattle.spill_work.specs.Line.{WorkLine}
-use Rattle.node_table.specs.Row.{Row, beside_of}
+use Rattle.job_row.specs.Row.{Row}
 use Rattle.node_table.specs.Shown.{IsShown, RowGiven, RowStep}
-use Rattle.node_table.specs.Usages.{total, doomed_one}
+use Rattle.job_row.specs.Usages.{total, doomed_one}
 use Rattle.node_core.specs.Hosted.{Hosted, row_at}
+use Rattle.node_table.specs.Beside.{beside_of}
 
 -- whether the object that the command names, if it must name an own one, is the job's
 abbrev pub is_own : ℕ → Command (List ℕ) → Bool

@@ -13,7 +13,7 @@ use Rattle.private_store.specs.declared.schedules.Event.{Event}
 use Rattle.private_store.specs.declared.schedules.Event.TheVariants as event
 use Rattle.private_store.specs.rules.Grants.{StandingGrant, grants_ended}
 use Rattle.private_store.specs.rules.Trace.{ends}
-use Rattle.node_table.specs.Row.{Row}
+use Rattle.job_row.specs.Row.{Row}
 use Rattle.node_core.specs.Hosted.{Hosted, row_at}
 
 -- the most messages that a command of a job with this row, or none, sends: Create may evict each copy, and tells the

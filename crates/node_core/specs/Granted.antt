@@ -4,7 +4,7 @@ use Rattle.obj_id.specs.declared.commands.GrantedItem.{GrantedItem}
 use Rattle.obj_id.specs.declared.ids.JobNo.{JobNo}
 use Rattle.private_store.specs.rules.Grants.{StandingGrant}
 use Rattle.grants.specs.Table.{seen_list}
-use Rattle.node_table.specs.Row.{Row}
+use Rattle.job_row.specs.Row.{Row}
 use Rattle.node_core.specs.Hosted.{Hosted, bytes_here}
 
 -- the object of a grant, by the row of its own job

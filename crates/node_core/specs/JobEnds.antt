@@ -11,8 +11,8 @@ use Rattle.private_store.specs.rules.Shared.{job_is}
 use Rattle.private_store.specs.rules.Tables.{ids_of}
 use Rattle.spill_work.specs.Line.{Drops}
 use Rattle.job_admission.specs.Admissions.{lives_of, finished}
-use Rattle.node_table.specs.Ending.{keys_backed}
-use Rattle.node_table.specs.Row.{Row}
+use Rattle.job_row.specs.Ending.{keys_backed}
+use Rattle.job_row.specs.Row.{Row}
 use Rattle.node_table.specs.Shown.{RowGiven}
 use Rattle.node_core.specs.Hosted.{Hosted, row_at}
 

@@ -20,8 +20,8 @@ use Rattle.job_admission.specs.Admissions.{live_at, admit_check}
 use Rattle.spill_work.specs.declared.queue.IoRequest.{IoRequest}
 use Rattle.spill_work.specs.Line.{WorkLine, front_of}
 use Rattle.grants.specs.Table.{grant_check, withdraw_check}
-use Rattle.node_table.specs.Row.{Row}
-use Rattle.node_table.specs.Checks.{early_check, end_task_check}
+use Rattle.job_row.specs.Row.{Row}
+use Rattle.job_row.specs.Checks.{early_check, end_task_check}
 use Rattle.node_table.specs.Granting.{peek_check}
 use Rattle.node_table.specs.MemoryLast.{may_grow, IsDueMore}
 use Rattle.node_core.specs.Hosted.{Hosted, row_at, Shows, ShowsAll, bytes_here}

@@ -5,7 +5,7 @@ use Rattle.obj_id.specs.declared.refusals.Refusal.{Refusal}
 use Rattle.obj_id.specs.declared.refusals.Refusal.TheVariants.{NotAdmitted}
 use Rattle.obj_id.specs.declared.works.Quota.{Quota}
 use Rattle.job_admission.specs.Admissions.{resize_check}
-use Rattle.node_table.specs.Quotas.{row_requota_check}
+use Rattle.job_row.specs.Quotas.{row_requota_check}
 use Rattle.node_core.specs.Hosted.{Hosted, row_at}
 
 -- the refusal, or else another

@@ -12,7 +12,6 @@ ghost use Rattle.private_store.specs.rules.Grants.{StandingGrant};
 ghost use Rattle.spill_work.specs.Line.{same_work_job, IsSameFor};
 ghost use Rattle.node_table.specs.Asked.{HasAsked};
 ghost use Rattle.node_table.specs.Outcomes.{row_given_of};
-ghost use Rattle.node_table.specs.Row.{beside_of};
 ghost use Rattle.node_table.specs.Shown.{seen, IsShown, RowStep};
 ghost use Rattle.node_core.specs.Foreseen.{most_by_arrival};
 ghost use Rattle.node_core.specs.Hosted.{row_at};
@@ -20,11 +19,12 @@ ghost use Rattle.node_core.specs.Judged.{IsArrivalJudged};
 ghost use Rattle.node_core.specs.MemoryLast.{IsMemoryLast};
 ghost use Rattle.node_core.specs.Outcomes.{node_given_of};
 ghost use Rattle.node_core.specs.Steps.{NodeStep};
+ghost use Rattle.node_table.specs.Beside.{beside_of};
 
 use crate::Node;
 use crate::outcome::NodeOutcome;
 use fetch_core::elsewhere;
-use node_table::JobRow;
+use job_row::JobRow;
 use obj_id::{Arrival, ChunkIndex, FetchNo, JobNo, Location, NodeNo, PeerMessage, Refusal, Reply};
 use private_store::{Judged, Source};
 use spill_work::Works;
@@ -83,7 +83,7 @@ fn deliver(
             entries,
         } => {
             let entries = entries.as_slice();
-            row.located(NodeNo(node), id, FetchNo(*number), entries);
+            node_table::located(row, NodeNo(node), id, FetchNo(*number), entries);
             let outcome = node_table::RowOutcome::only(alloc, Reply::Ok);
             let judged = Judged::Located {
                 id: *id,
@@ -124,8 +124,9 @@ fn deliver_from(
             digest,
             indexes,
         } => {
-            let matches = row.pull_matches(id, *length, digest);
-            let outcome = row.serve_pull(
+            let matches = node_table::pull_matches(row, id, *length, digest);
+            let outcome = node_table::serve_pull(
+                row,
                 alloc,
                 node,
                 works,
@@ -151,7 +152,8 @@ fn deliver_from(
             index,
             bytes,
         } => {
-            let taken = row.chunk(
+            let taken = node_table::chunk(
+                row,
                 alloc,
                 NodeNo(node),
                 id,
@@ -170,7 +172,7 @@ fn deliver_from(
             Ok((taken.outcome, judged))
         }
         PeerMessage::NotHere(id, number) => {
-            let outcome = row.not_here(alloc, NodeNo(from), id, FetchNo(*number))?;
+            let outcome = node_table::not_here(row, alloc, NodeNo(from), id, FetchNo(*number))?;
             Ok((
                 outcome,
                 Judged::NotHere {

@@ -10,7 +10,8 @@ ghost use Rattle.node_core.specs.Foreseen.{most_by_command};
 ghost use Rattle.node_core.specs.MemoryLast.{IsMemoryLastOnRow, IsRoomDue, IsUnrefused};
 
 use bytes::Bytes;
-use node_table::{JobRow, RowOutcome};
+use job_row::JobRow;
+use node_table::RowOutcome;
 use obj_id::{Command, JobNo, Refusal, Reply};
 use spill_work::Works;
 use std::alloc::{AllocError, Global};
@@ -47,8 +48,8 @@ pub(crate) fn carry_out(
             id,
             kind,
             length: len,
-        } => row.create(alloc, node, works, id, *kind, *len),
-        Command::Get(id) => row.get(alloc, node, works, session, id),
+        } => node_table::create(row, alloc, node, works, id, *kind, *len),
+        Command::Get(id) => node_table::get(row, alloc, node, works, session, id),
         _ => carry_out_without_work(alloc, node, row, works, session, command),
     }
 }
@@ -69,13 +70,13 @@ fn carry_out_without_work(
     ensures err { OnErr result (row.new ≡ row.old) }
 {
     match command {
-        Command::Seal(id) => Ok(row.seal(alloc, node, id)?),
-        Command::Release(id) => Ok(row.release(alloc, session, id)),
-        Command::Unpin(id, task) => Ok(row.unpin(alloc, node, id, *task)?),
-        Command::Borrow(id, task) => row.borrow(alloc, id, *task),
-        Command::GiveUp(id, task) => Ok(row.give_up(alloc, node, id, *task)?),
-        Command::Delete(id) => Ok(row.delete(alloc, node, id)?),
-        Command::Leave => Ok(row.leave(alloc, session)?),
+        Command::Seal(id) => Ok(node_table::seal(row, alloc, node, id)?),
+        Command::Release(id) => Ok(node_table::release(row, alloc, session, id)),
+        Command::Unpin(id, task) => Ok(node_table::unpin(row, alloc, node, id, *task)?),
+        Command::Borrow(id, task) => node_table::borrow(row, alloc, id, *task),
+        Command::GiveUp(id, task) => Ok(node_table::give_up(row, alloc, node, id, *task)?),
+        Command::Delete(id) => Ok(node_table::delete(row, alloc, node, id)?),
+        Command::Leave => Ok(node_table::leave(row, alloc, session)?),
         _ => {
             let reply = answer(alloc, row, works, session, command)?;
             Ok(RowOutcome::only(alloc, reply))
@@ -97,13 +98,13 @@ fn answer(
     ensures err { OnErr result (row.new ≡ row.old) }
 {
     match command {
-        Command::Write { id, offset, bytes } => Ok(row.write(id, *offset, bytes)),
+        Command::Write { id, offset, bytes } => Ok(node_table::write(row, id, *offset, bytes)),
         Command::Read {
             id,
             offset,
             count: len,
-        } => row.read(alloc, session, id, *offset, *len),
-        Command::Usage => Ok(row.tell_usage(works)),
+        } => node_table::read(row, alloc, session, id, *offset, *len),
+        Command::Usage => Ok(node_table::tell_usage(row, works)),
         _ => unreachable!(),
     }
 }

@@ -55,7 +55,7 @@ impl Node {
         let Some(row) = self.rows.get(&asked.job) else {
             return Ok(node_table::RowOutcome::only(self.alloc, Reply::NoWork));
         };
-        let Some(work) = row.work(self.alloc, &asked)? else {
+        let Some(work) = node_table::work(row, self.alloc, &asked)? else {
             return Ok(node_table::RowOutcome::only(self.alloc, Reply::NoWork));
         };
         self.works.mark_taken(asked.job, asked.number);
@@ -79,7 +79,7 @@ impl Node {
             let reply = Reply::Refused(Refusal::Stale);
             return (node_table::RowOutcome::only(self.alloc, reply), None);
         };
-        let answered = row.finish(self.alloc, &mut self.works, number, answer);
+        let answered = node_table::finish(row, self.alloc, &mut self.works, number, answer);
         let judged = if_ok(
             &answered.outcome.reply,
             Judged::Answer(number, answered.verdict),

@@ -6,7 +6,7 @@ ghost use Rattle.node_core.specs.Foreseen.{grantees_of_ended as grantees_of_ende
 use crate::Node;
 use bytes::Bytes;
 use grants::StandingGrant;
-use node_table::JobRow;
+use job_row::JobRow;
 use obj_id::{Arrival, Command, ItemList, JobNo, PeerMessage};
 use private_store::Event;
 use std::alloc::{AllocError, Global};

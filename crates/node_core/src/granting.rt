@@ -14,7 +14,7 @@ ghost use Rattle.node_core.specs.Steps.{NodeStep};
 
 use crate::Node;
 use crate::outcome::NodeOutcome;
-use node_table::JobRow;
+use job_row::JobRow;
 use obj_id::{Command, JobNo, ObjectId, Refusal, Reply};
 use private_store::Judged;
 use std::alloc::{AllocError, Global};
@@ -101,7 +101,7 @@ fn grant_refusal(
     ensures { result ≡ grant_refusal_lem row.now job.0 id.now target.0 table }
 {
     if id.job().0 == job.0 {
-        return row.grant_check(id, target, table);
+        return node_table::grant_check(row, id, target, table);
     }
     table
 }
@@ -121,7 +121,7 @@ fn give(
     ensures silent { result.messages ≡ [] }
 {
     if id.job().0 == job.0 {
-        return row.grant(alloc, id, target, table);
+        return node_table::grant(row, alloc, id, target, table);
     }
     node_table::RowOutcome::only(alloc, Reply::Ok)
 }
@@ -141,7 +141,7 @@ fn let_go(
     ensures silent { result.messages ≡ [] }
 {
     if id.job().0 == job.0 {
-        return row.withdraw(alloc, id, target, granted);
+        return node_table::withdraw(row, alloc, id, target, granted);
     }
     node_table::RowOutcome::only(alloc, Reply::Ok)
 }

@@ -50,7 +50,7 @@ impl Node {
         let Some(row) = self.rows.get(&job) else {
             unreachable!()
         };
-        let erase = row.device_keys(self.alloc)?;
+        let erase = node_table::device_keys(row, self.alloc)?;
         let message = Message::ToDirectory(DirectoryMessage::EndJob(self.number));
         let messages = node_table::RowOutcome::one_message(
             self.alloc,

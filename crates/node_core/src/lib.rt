@@ -45,7 +45,8 @@ pub use foreseen::Foreseen;
 use grants::Grants;
 use indexmap::IndexMap;
 use job_admission::Admission;
-pub use node_table::{Erase, JobRow, Prepared};
+pub use job_row::{JobRow, Prepared};
+pub use node_table::Erase;
 use obj_id::{Command, JobKey, JobNo, ObjectId, Quota, Refusal, Reply, Usage};
 pub use outcome::{NodeOutcome, Note};
 use private_store::Event;
@@ -255,7 +256,7 @@ impl Node {
         ensures refused { (r : Refusal) → IsErrOf result r → r ≡ NotAdmitted }
     {
         match self.rows.get(&job) {
-            Some(row) => Ok(row.usage(&self.works)),
+            Some(row) => Ok(node_table::usage(row, &self.works)),
             None => Err(Refusal::NotAdmitted),
         }
     }
@@ -275,7 +276,7 @@ impl Node {
         if id.job().0 != job.0 {
             return Err(Refusal::NotGranted);
         }
-        row.lend(session, id)
+        node_table::lend(row, session, id)
     }
 
     /// A session's command that ends no grant and gives none: its job's row carries it out, but for List and Peek, which

@@ -30,7 +30,7 @@ impl Node {
             return Ok(node_table::RowOutcome::only(self.alloc, reply));
         };
         let granted = self.granted(job)?;
-        let reply = row.list(self.alloc, granted)?;
+        let reply = node_table::list(row, self.alloc, granted)?;
         Ok(node_table::RowOutcome::only(self.alloc, reply))
     }
 
@@ -69,7 +69,7 @@ impl Node {
         ensures { result ≡ length (bytes_here self.now.rows id.now) }
     {
         match self.rows.get(&id.job()) {
-            Some(row) => row.granted_length(id),
+            Some(row) => node_table::granted_length(row, id),
             None => 0,
         }
     }

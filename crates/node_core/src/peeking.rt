@@ -11,7 +11,7 @@ ghost use Rattle.node_core.specs.MemoryLast.{IsCallUnrefused};
 ghost use Rattle.node_core.specs.OneJob.{NodeStepOne};
 
 use crate::Node;
-use node_table::Lent;
+use job_row::Lent;
 use obj_id::limits::MOST_BYTES;
 use obj_id::{JobNo, ObjectId, Refusal, Reply};
 use std::alloc::AllocError;
@@ -85,6 +85,6 @@ impl Node {
         let Some(row) = self.rows.get(&id.job()) else {
             return Lent::nothing();
         };
-        row.lend_granted(id)
+        node_table::lend_granted(row, id)
     }
 }

@@ -22,7 +22,7 @@ impl Node {
         let Some(row) = self.rows.get(&job) else {
             return Some(Refusal::NotAdmitted);
         };
-        if let Some(refusal) = row.requota_check(quota) {
+        if let Some(refusal) = node_table::requota_check(row, quota) {
             return Some(refusal);
         }
         self.admission.resize_check(job, quota)
@@ -45,7 +45,7 @@ impl Node {
         let Some(own_row) = self.rows.get_mut(&job) else {
             unreachable!()
         };
-        let Ok(()) = own_row.requota(quota) else {
+        let Ok(()) = node_table::requota(own_row, quota) else {
             return Err(AllocError);
         };
         let Ok(()) = self.admission.resize(job, quota) else {

@@ -43,7 +43,7 @@ impl Node {
         let Some(row) = self.rows.get_mut(&job) else {
             unreachable!()
         };
-        let outcome = row.end_task(self.alloc, self.number, task)?;
+        let outcome = node_table::end_task(row, self.alloc, self.number, task)?;
         self.grants.take_out(&ends);
         Ok(NodeOutcome::with_ends(outcome, notes, ends.grants(), judged))
     }

@@ -12,10 +12,10 @@ use Rattle.store_facts.proofs.Ids.{id_eq_equiv, same_id-id_eq}
 use Rattle.private_store.specs.rules.Tables.{ById, at}
 use Rattle.private_store.specs.rules.Shape.{Copy}
 use Rattle.store_facts.proofs.ObjectMaps.{at-lookup}
-use Rattle.node_table.specs.CopyViews.{CopyView}
-use Rattle.node_table.specs.Row.{copies_of}
-use Rattle.node_table.specs.Usages.{own_item_of}
-use Rattle.node_table.proofs.ForCallers.{distinct_from_sorted}
+use Rattle.job_row.specs.CopyViews.{CopyView}
+use Rattle.job_row.specs.Row.{copies_of}
+use Rattle.job_row.specs.Usages.{own_item_of}
+use Rattle.job_row.proofs.ForCallers.{distinct_from_sorted}
 
 -- the copy of this id, if there is one
 abbrev pub found : ById CopyView → ObjectId → List (ObjectId × Copy)

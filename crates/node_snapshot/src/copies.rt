@@ -2,11 +2,11 @@
 ghost use Rattle.std.specs.Prelude.{◌≡◌, IfOk, option_map};
 ghost use Rattle.std.specs.Option.{option_copied};
 ghost use Rattle.plain_store.specs.Parts.{plain_phase_of};
-ghost use Rattle.node_table.specs.CopyViews.{store_fetch_of};
-ghost use Rattle.node_table.specs.Row.{copies_of};
+ghost use Rattle.job_row.specs.CopyViews.{store_fetch_of};
+ghost use Rattle.job_row.specs.Row.{copies_of};
 
 use fetch_core::{FetchIn, Stage};
-use node_table::{Copies, RowCopy};
+use job_row::{Copies, RowCopy};
 use obj_id::ObjectId;
 use plain_store::{FetchPhase, PlainCopy, PlainFetch, copies_by_id};
 use std::alloc::{AllocError, Global};

@@ -1,8 +1,8 @@
 //! The grants that a job gave, and what others granted to it.
 ghost use Rattle.std.specs.Prelude.{◌≡◌, IfOk, OnOk, map};
 ghost use Rattle.grants.specs.Private.{as_given, with_taken};
-ghost use Rattle.node_table.specs.Row.{received_by};
 ghost use Rattle.node_core.specs.Hosted.{bytes_here};
+ghost use Rattle.node_table.specs.Beside.{received_by};
 
 use grants::StandingGrant;
 use node_core::Node;

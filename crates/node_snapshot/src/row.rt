@@ -3,11 +3,11 @@ ghost use Rattle.std.specs.Prelude.{◌≡◌, ℕ, List, IfOk};
 ghost use Rattle.obj_id.specs.declared.ids.ObjectId.{ObjectId};
 ghost use Rattle.private_store.specs.rules.Grants.{StandingGrant as GrantView};
 ghost use Rattle.spill_work.specs.Line.{works_of};
-ghost use Rattle.node_table.specs.Row.{beside_of, shape_of, row_given_by, received_by};
+ghost use Rattle.node_table.specs.Beside.{row_given_by, received_by, beside_of, shape_of};
 
 use crate::copies::plain_copies;
+use job_row::JobRow;
 use lru_evictor::Order;
-use node_table::JobRow;
 use obj_id::{ItemList, JobNo, ObjectId, WorkKind};
 use plain_store::{GivenGrant, Life, PlainStore, PlainWork, SeenObject};
 use spill_work::Works;

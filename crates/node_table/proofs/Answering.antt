@@ -53,24 +53,24 @@ use Rattle.lru_evictor.proofs.ForCallers.{reordered-unused}
 use Rattle.spill_work.specs.declared.queue.IoRequest.{IoRequest}
 use Rattle.spill_work.specs.Line.{WorkLine, shown, used_by, Finishes}
 use Rattle.obj_id.specs.Works.{is_write}
-use Rattle.node_table.specs.Answering.{is_in_work, has_bytes, view_read_verdict, work_verdict_of, written_row, refilled, lost_row, read_row, ended_row}
+use Rattle.job_row.specs.Answering.{is_in_work, has_bytes, view_read_verdict, work_verdict_of, written_row, refilled, lost_row, read_row}
 use Rattle.object_state.specs.Laws.{has_failed}
-use Rattle.node_table.specs.Dropping.{dropped, is_over, settled_row, keys_settled}
-use Rattle.node_table.specs.Entries.{changed}
-use Rattle.node_table.specs.CopyViews.{CopyView, after_write, after_restore, after_failed_restore}
-use Rattle.node_table.specs.Row.{Row, SharedTables, beside_of, copies_of, shape_of, place_of, ArePlaced}
+use Rattle.job_row.specs.Dropping.{dropped, is_over, settled_row, keys_settled}
+use Rattle.job_row.specs.Entries.{changed}
+use Rattle.job_row.specs.CopyViews.{CopyView, after_write, after_restore, after_failed_restore}
+use Rattle.job_row.specs.Row.{Row, copies_of, place_of, ArePlaced}
 use Rattle.node_table.specs.Shown.{seen, work_on, IsShown, RowGiven, only, RowStep}
-use Rattle.node_table.specs.Usages.{is_spilling}
+use Rattle.job_row.specs.Usages.{is_spilling}
 use Rattle.node_table.proofs.ByChecks.{needing-by}
-use Rattle.node_table.proofs.Changes.{changed-found}
+use Rattle.job_row.proofs.ForCallers.{changed-found, at-copies_found, at-copies_none, copies-changed, bytes-written, bytes-other, long_at, written_placed, changed_placed, at_most_rounded, found_left, lost_placed}
 use Rattle.node_table.proofs.Changing.{From, from_changed, there_with, keys_with, bytes_stay}
-use Rattle.node_table.proofs.CopyTables.{at-copies_found, at-copies_none, copies-changed}
 use Rattle.node_table.proofs.Described.{working-on, idle_same}
-use Rattle.node_table.proofs.Dropping.{change_left, moves_left, key_dropped, key_removed, found_left, lost_placed}
-use Rattle.node_table.proofs.Passed.{placed_at, place_found, at_most_rounded, sealed_resides}
-use Rattle.node_table.proofs.Places.{bytes-written, bytes-other, long_at, written_placed, changed_placed}
+use Rattle.node_table.proofs.Dropping.{change_left, moves_left, key_dropped, key_removed}
+use Rattle.node_table.proofs.Passed.{placed_at, place_found, sealed_resides}
 use Rattle.node_table.proofs.Settling.{one_key}
 use Rattle.node_table.proofs.Stepping.{TakesChange, moved, same_bytes, received_stays}
+use Rattle.node_table.specs.Beside.{SharedTables, beside_of, shape_of}
+use Rattle.node_table.specs.EndedWorks.{ended_row}
 
 -- ---- works
 

@@ -37,16 +37,16 @@ use Rattle.store_facts.proofs.Tests.{none_some, some_value, true_false, false_tr
 use Rattle.job_region.specs.Region.{region_bytes_at as placed_bytes}
 use Rattle.lru_evictor.specs.Orders.{AreThere}
 use Rattle.lru_evictor.proofs.ForCallers.{reordered-unused}
-use Rattle.node_table.specs.Arriving.{awaits_source, in_phase, after_located, after_source}
-use Rattle.node_table.specs.Entries.{changed}
-use Rattle.node_table.specs.CopyViews.{CopyView}
-use Rattle.node_table.specs.Row.{Row, SharedTables, copies_of, shape_of}
-use Rattle.node_table.specs.Scope.{with_copy}
+use Rattle.job_row.specs.Arriving.{awaits_source, in_phase, after_located, after_source}
+use Rattle.job_row.specs.Entries.{changed}
+use Rattle.job_row.specs.CopyViews.{CopyView}
+use Rattle.job_row.specs.Row.{Row, copies_of}
+use Rattle.job_row.specs.Scope.{with_copy}
 use Rattle.node_table.specs.Shown.{seen, work_on, IsShown, RowGiven, only, RowStep}
-use Rattle.node_table.proofs.Changes.{changed-found, changed-absent}
+use Rattle.job_row.proofs.ForCallers.{changed-found, changed-absent, at-copies_none, at-copies_found, copies-changed, sorted-copies, awaits_parts}
 use Rattle.node_table.proofs.Changing.{there_with}
-use Rattle.node_table.proofs.CopyTables.{at-copies_none, at-copies_found, copies-changed, sorted-copies}
 use Rattle.node_table.proofs.Stepping.{TakesChange, moved, change, stays, same_bytes, bytes_now, digests_now, received_stays}
+use Rattle.node_table.specs.Beside.{SharedTables, shape_of}
 
 -- a table with an entry that it has
 pub put_same : {X : Type 0} (es : ById X) (id : ObjectId) (x : X) → T (is_sorted id_cmp es) → at es id ≡ Some x → with_entry es id x ≡ es
@@ -202,16 +202,6 @@ none_is : {A : Type 0} (o : Option A) → is_none o ≡ true → o ≡ None
 none_is None e = refl
 none_is (Some a) e = true_false e
 
-awaits_parts : (number : ℕ) (k : CopyView) → awaits_source number k ≡ true
-    → (is_none k.copy.offset ≡ true) × (option_map_or (λ (fetch : Fetch). fetch.number == number && is_locating fetch.phase) k.copy.fetch false ≡ true)
-awaits_parts number k e = (both_right (is_fetching k.copy.state) (is_none k.copy.offset) (both_left waits begun e), both_right waits begun e)
-  where
-    begun : Bool
-    begun = option_map_or (λ (fetch : Fetch). fetch.number == number && is_locating fetch.phase) k.copy.fetch false
-
-    waits : Bool
-    waits = is_fetching k.copy.state && is_none k.copy.offset
-
 pub awaited : (row : Row) (id : ObjectId) (number : ℕ) (k : CopyView) → at row.copies id ≡ Some k → awaits_source number k ≡ true → IsAwaited row id number
 awaited row id number k found e = by k.copy.fetch refl (awaits_parts number k e).1
   where
@@ -222,22 +212,6 @@ awaited row id number k found e = by k.copy.fetch refl (awaits_parts number k e)
       nowhere = none_is k.copy.offset (awaits_parts number k e).0;
       at_begin = is_locating-only fetch.phase (both_right (fetch.number == number) _ t);
     }
-
--- where it lies doesn't change
-pub located-place : (node number : ℕ) (entries : List Location) (z : CopyView) → extent_of (after_located node number entries z).copy ≡ extent_of z.copy
-located-place node number entries z = by (awaits_source number z) refl
-  where
-    of_none : (o : Option ℕ) (n : ℕ) → is_none o ≡ true → extent_of (record z.copy { offset = o; length = n }) ≡ extent_of (record z.copy { offset = o })
-    of_none None n e = refl
-    of_none (Some offset) n e = true_false e
-
-    by_entry : (o : Option Location) → is_none z.copy.offset ≡ true → extent_of (after_source o z).copy ≡ extent_of z.copy
-    by_entry None e = refl
-    by_entry (Some entry) e = of_none z.copy.offset entry.length e
-
-    by : (b : Bool) → awaits_source number z ≡ b → extent_of (cond b (after_source (entry_elsewhere node entries) z) z).copy ≡ extent_of z.copy
-    by true e = by_entry (entry_elsewhere node entries) (awaits_parts number z e).0
-    by false e = refl
 
 module _ (node : ℕ) (row : Row) (beside : SharedTables) (contents : Contents) (h : IsShown row beside contents) (id : ObjectId) (number : ℕ) (entries : List Location) where
   abbrev y : Input

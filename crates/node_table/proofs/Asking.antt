@@ -30,27 +30,20 @@ use Rattle.job_region.specs.Region.{region_bytes_at as placed_bytes}
 use Rattle.lru_evictor.specs.Orders.{AreThere}
 use Rattle.lru_evictor.proofs.ForCallers.{reordered-unused}
 use Rattle.spill_work.specs.Line.{WorkLine, numbered_works, in_flight, used_by, room_for, AsksAll}
-use Rattle.node_table.specs.Entries.{changed, each_changed}
-use Rattle.node_table.specs.CopyViews.{CopyView, can_spill, after_spill_begun, spill_begun_if}
-use Rattle.node_table.specs.Row.{Row, SharedTables, beside_of, copies_of, shape_of}
+use Rattle.job_row.specs.Entries.{changed, each_changed}
+use Rattle.job_row.specs.CopyViews.{CopyView, can_spill, after_spill_begun, spill_begun_if}
+use Rattle.job_row.specs.Row.{Row, copies_of}
 use Rattle.node_table.specs.RoomPlans.{AsksWrites}
 use Rattle.node_table.specs.Shown.{seen, work_on, IsShown, only, RowStep}
 use Rattle.node_table.proofs.ByChecks.{sending-is}
-use Rattle.node_table.proofs.Changes.{changed-found, changed-absent}
-use Rattle.node_table.proofs.CopyTables.{sorted-copies, at-copies_found, copies-changed}
+use Rattle.job_row.proofs.ForCallers.{changed-found, changed-absent, sorted-copies, at-copies_found, copies-changed, same_copy}
 use Rattle.node_table.specs.MadeRooms.{BringsNothing, TellsRoom}
 use Rattle.node_table.proofs.Rooms.{room_is, each_among}
 use Rattle.node_table.proofs.Described.{working-on}
 use Rattle.node_table.proofs.Stepping.{TakesChange, moved, same_bytes, received_stays}
+use Rattle.node_table.specs.Beside.{SharedTables, beside_of, shape_of}
 
 -- ---- copies whose writes are in flight
-
-pub same_copy : (k : CopyView) → (spill_begun_if k).copy ≡ k.copy
-same_copy k = by (can_spill k)
-  where
-    by : (b : Bool) → (cond b (after_spill_begun k) k).copy ≡ k.copy
-    by true = refl
-    by false = refl
 
 same_digest : (k : CopyView) → (spill_begun_if k).digest ≡ k.digest
 same_digest k = by (can_spill k)

@@ -16,9 +16,10 @@ use Rattle.store_facts.proofs.Tests.{some_value, none_some, both_left, both_righ
 use Rattle.store_facts.proofs.KeptLists.{any-filter-only}
 use Rattle.grants.specs.Private.{with_taken}
 use Rattle.spill_work.specs.Line.{WorkLine, IsSameFor}
-use Rattle.node_table.specs.Row.{Row, SharedTables, received_by, beside_of, received_bytes, shape_of}
+use Rattle.job_row.specs.Row.{Row}
 use Rattle.node_table.specs.Shown.{work_on, IsShown}
 use Rattle.node_table.proofs.Received.{filled, filled_at, all_there}
+use Rattle.node_table.specs.Beside.{SharedTables, received_by, beside_of, received_bytes, shape_of}
 
 pub record IsAlike (a b : SharedTables) : Type 0 where
   pub works : a.works ≡ b.works

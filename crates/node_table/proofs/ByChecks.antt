@@ -18,10 +18,11 @@ use Rattle.private_store.specs.rules.Commands.{write_checks, seal_checks, read_c
 use Rattle.private_store.specs.rules.Shared.{first_refusal}
 use Rattle.private_store.specs.rules.Step.{step, owned, commanded}
 use Rattle.store_facts.proofs.Checks.{checked-nil, checked-false}
-use Rattle.node_table.specs.CopyViews.{CopyView}
-use Rattle.node_table.specs.Row.{Row, SharedTables, shape_of}
-use Rattle.node_table.specs.Checks.{write_check, seal_check, read_check}
-use Rattle.node_table.proofs.CopyTables.{at-copies}
+use Rattle.job_row.specs.CopyViews.{CopyView}
+use Rattle.job_row.specs.Row.{Row}
+use Rattle.job_row.specs.Checks.{write_check, seal_check, read_check}
+use Rattle.job_row.proofs.ForCallers.{at-copies}
+use Rattle.node_table.specs.Beside.{SharedTables, shape_of}
 
 -- the refusal, or else the rest
 abbrev pub unless_refused : Shape → Option Refusal → Change → Change

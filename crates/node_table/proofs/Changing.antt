@@ -18,13 +18,13 @@ use Rattle.store_facts.proofs.Rows.{at-put}
 use Rattle.store_facts.proofs.Tests.{some_value, true_T}
 use Rattle.job_region.specs.Region.{region_bytes_at as placed_bytes}
 use Rattle.lru_evictor.specs.Orders.{AreThere}
-use Rattle.node_table.specs.Entries.{changed}
-use Rattle.node_table.specs.CopyViews.{CopyView}
-use Rattle.node_table.specs.Row.{Row, SharedTables, copies_of}
+use Rattle.job_row.specs.Entries.{changed}
+use Rattle.job_row.specs.CopyViews.{CopyView}
+use Rattle.job_row.specs.Row.{Row, copies_of}
 use Rattle.node_table.specs.Shown.{seen, work_on, IsShown}
-use Rattle.node_table.proofs.Changes.{changed-found}
-use Rattle.node_table.proofs.CopyTables.{copies-changed}
+use Rattle.job_row.proofs.ForCallers.{changed-found, copies-changed}
 use Rattle.node_table.proofs.Stepping.{same_bytes, digests_now, bytes_now}
+use Rattle.node_table.specs.Beside.{SharedTables}
 
 -- ---- a table with one entry changed
 

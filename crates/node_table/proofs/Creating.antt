@@ -29,19 +29,20 @@ use Rattle.private_store.specs.rules.Contents.{Contents, judge}
 use Rattle.private_store.specs.rules.Step.{step}
 use Rattle.store_facts.proofs.Tests.{none_here, some_value, none_some, true_false}
 use Rattle.job_region.specs.Region.{extents_of}
-use Rattle.node_table.specs.CopyViews.{CopyView, new_copy_view}
-use Rattle.node_table.specs.Row.{Row, SharedTables, copies_of, shape_of, place_of, ArePlaced}
-use Rattle.node_table.specs.Checks.{create_check}
-use Rattle.node_table.specs.Evicting.{placed_without, replaced, removals}
+use Rattle.job_row.specs.CopyViews.{CopyView, new_copy_view}
+use Rattle.job_row.specs.Row.{Row, copies_of, place_of, ArePlaced}
+use Rattle.job_row.specs.Checks.{create_check}
+use Rattle.job_row.specs.Evicting.{placed_without, replaced, removals}
 use Rattle.node_table.specs.MadeRooms.{BringsNothing}
 use Rattle.node_table.proofs.Rooms.{each_among, placed_done}
 use Rattle.node_table.specs.RoomPlans.{MakesPlace}
 use Rattle.node_table.specs.Shown.{seen, work_on, IsShown, only, RowStep}
 use Rattle.node_table.proofs.ByChecks.{unless_refused, by-checks, called, own}
-use Rattle.node_table.proofs.CopyTables.{at-copies, at-copies_none}
+use Rattle.job_row.proofs.ForCallers.{at-copies, at-copies_none}
 use Rattle.node_table.proofs.Fetching.{length-map, nothing_found}
 use Rattle.node_table.proofs.Passed.{all_failed, not_not}
 use Rattle.node_table.proofs.Stepping.{stays}
+use Rattle.node_table.specs.Beside.{SharedTables, shape_of}
 
 -- what passes the checks is of a size
 pub size_of : (row : Row) (id : ObjectId) (n : ℕ) → create_check row id n ≡ None → is_size row.window.quota n ≡ true

@@ -1,12 +1,11 @@
 -- The window, the copies and the works of a row describe its job's store.
-use Rattle.std.proofs.Common.{◌≡◌, ℕ, Bool, true, false, not, ◌&&◌, ◌||◌, cond, ◌⊎◌, inl, inr, nat_eq, List, [], ◌∷◌, length, Contains, Option, Some, None, is_some, is_none, option_map, refl, sym, ap, subst, ◌∙◌, T, arith}
+use Rattle.std.proofs.Common.{◌≡◌, ℕ, Bool, true, false, not, ◌&&◌, ◌||◌, cond, inl, inr, nat_eq, List, [], ◌∷◌, length, Contains, Option, Some, None, is_some, is_none, option_map, refl, sym, ap, subst, ◌∙◌, T, arith}
 use Rattle.std.specs.Prelude.{◌↔◌, IsSomeAnd, filter_map, find}
 use Rattle.std.specs.List.{list_any, cons_option}
 use Rattle.std.specs.Option.{option_and_then}
 use Rattle.std.specs.Map.{lookup}
 use Rattle.std.specs.FinMap.Entries.{is_sorted, below_all}
 use Rattle.std.proofs.lemmas.Bool.Decides.{nat_tests}
-use Rattle.std.proofs.lemmas.List.Elements.{Contains-append_left, Contains-append_right, Contains-append_cases, Contains-push, Contains-push_cases}
 use Rattle.obj_id.specs.declared.ids.ObjectId.{ObjectId}
 use Rattle.obj_id.specs.declared.works.Extent.{Extent}
 use Rattle.obj_id.specs.declared.works.WorkKind.{WorkKind}
@@ -24,13 +23,14 @@ use Rattle.job_region.specs.Region.{extents_of, IsAt}
 use Rattle.lru_evictor.specs.declared.facts.DeviceRoom.{DeviceRoom}
 use Rattle.lru_evictor.specs.Facts.{Looked}
 use Rattle.lru_evictor.specs.Plans.{IsDescribed, extents_in, facts_of as store_facts}
-use Rattle.node_table.specs.CopyViews.{CopyView}
-use Rattle.node_table.specs.Row.{Row, SharedTables, copies_of, shape_of, place_of, ArePlaced}
+use Rattle.job_row.specs.CopyViews.{CopyView}
+use Rattle.job_row.specs.Row.{Row, copies_of, place_of, ArePlaced}
 use Rattle.node_table.specs.Shown.{IsShown, work_on}
-use Rattle.node_table.specs.InSync.{facts_in}
-use Rattle.node_table.specs.RoomPlans.{row_facts_of}
-use Rattle.node_table.proofs.CopyTables.{at-first, at-rest, at-copies, at-copies_found}
+use Rattle.job_row.specs.InSync.{facts_in}
+use Rattle.job_row.specs.RowFacts.{row_facts_of}
+use Rattle.job_row.proofs.ForCallers.{at-first, at-rest, at-copies, at-copies_found, first_in, later_in, nothing_in, one_of}
 use Rattle.node_table.proofs.Passed.{place_found}
+use Rattle.node_table.specs.Beside.{SharedTables, shape_of}
 
 -- the row's own copy
 kept_found : (es : ById CopyView) (id : ObjectId) (copy : Copy) → at (copies_of es) id ≡ Some copy → (k : CopyView) × (at es id ≡ Some k) × (k.copy ≡ copy)
@@ -70,21 +70,6 @@ facts_same row beside id k g e = λ i. record {
 }
 
 -- ---- extents
-
-pub first_in : {X : Type 0} (x : X) (xs : List X) → Contains (x ∷ xs) x
-first_in x xs = Contains-append_left (x ∷ []) xs x (Contains-push [] x)
-
-pub later_in : {X : Type 0} (x y : X) (xs : List X) → Contains xs y → Contains (x ∷ xs) y
-later_in x y xs h = Contains-append_right (x ∷ []) xs y h
-
-pub nothing_in : {X : Type 0} (x : X) → Contains [] x → ⊥
-nothing_in x h = let lt = h.1 in omega (arith, lt)
-
-pub one_of : {X : Type 0} (x y : X) (xs : List X) → Contains (x ∷ xs) y → (x ≡ y) ⊎ Contains xs y
-one_of x y xs h = elim (Contains-append_cases (x ∷ []) xs y h) [
-  | inl c ↦ elim (Contains-push_cases [] x y c) [ inl n ↦ absurd (nothing_in y n) | inr e ↦ inl e ]
-  | inr c ↦ inr c
-]
 
 -- the extent of a copy is among those of all
 extent_in : (es : ById Copy) (id : ObjectId) (copy : Copy) (x : Extent) → at es id ≡ Some copy → extent_of copy ≡ Some x → Contains (filter_map (λ e. extent_of e.1) es) x

@@ -10,10 +10,10 @@ use Rattle.private_store.specs.rules.Tables.{ById, at, ids_of}
 use Rattle.private_store.specs.rules.Change.{keys_gone}
 use Rattle.private_store.specs.rules.Private.{key_of}
 use Rattle.store_facts.proofs.Tests.{and_right}
-use Rattle.node_table.specs.Ending.{keys_backed}
-use Rattle.node_table.specs.CopyViews.{CopyView}
-use Rattle.node_table.specs.Row.{Row, copies_of}
-use Rattle.node_table.proofs.CopyTables.{at-first, at-rest}
+use Rattle.job_row.specs.Ending.{keys_backed}
+use Rattle.job_row.specs.CopyViews.{CopyView}
+use Rattle.job_row.specs.Row.{Row, copies_of}
+use Rattle.job_row.proofs.ForCallers.{at-first, at-rest}
 
 pub keys-backed : (row : Row) (es : ById CopyView) → T (is_sorted id_cmp es) → ((q : ObjectId) (k : CopyView) → at es q ≡ Some k → at row.copies q ≡ Some k) → keys_backed row (ids_of es) ≡ map (key_of row.job) (keys_gone (copies_of es) [])
 keys-backed row [] sorted are = refl

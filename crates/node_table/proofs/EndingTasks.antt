@@ -32,30 +32,27 @@ use Rattle.private_store.specs.laws.Invariants.{has_grant}
 use Rattle.private_store.specs.rules.Private.{Post, key_of, posts_of, view_after}
 use Rattle.private_store.specs.rules.Step.{reordered}
 use Rattle.store_facts.proofs.Filling.{filled}
-use Rattle.store_facts.proofs.Tests.{T_true, and_right, none_some, some_value}
+use Rattle.store_facts.proofs.Tests.{T_true, and_right}
 use Rattle.job_region.specs.Region.{region_bytes_at as placed_bytes}
 use Rattle.lru_evictor.specs.Orders.{AreThere}
 use Rattle.lru_evictor.proofs.ForCallers.{reordered-unused}
-use Rattle.node_table.specs.Checks.{end_task_check}
-use Rattle.node_table.specs.Dropping.{dropped, is_over, settled_row}
-use Rattle.node_table.specs.Entries.{by_rising_id}
-use Rattle.node_table.specs.EndingTasks.{copies_ungranted, beside_ended, beside_after, task_row, doomed_row, doom_posts, given_up_row, give_up_posts, posts_of_each, keys_of_copies, gone_keys, gone_key}
-use Rattle.node_table.specs.CopyViews.{CopyView, after_doom, after_give_up, after_grants_ended}
-use Rattle.node_table.specs.Row.{Row, SharedTables, copies_of, shape_of, place_of, ArePlaced}
-use Rattle.node_table.specs.Scope.{removal_notice, removal_notice_at, notice_posts, with_copy}
+use Rattle.job_row.specs.Checks.{end_task_check}
+use Rattle.job_row.specs.Dropping.{dropped, is_over, settled_row}
+use Rattle.job_row.specs.EndingTasks.{task_row, doomed_row, doom_posts, given_up_row, give_up_posts, posts_of_each, keys_of_copies, gone_keys, gone_key}
+use Rattle.job_row.specs.CopyViews.{CopyView, after_doom, after_give_up, after_grants_ended}
+use Rattle.job_row.specs.Row.{Row, copies_of, place_of, ArePlaced}
+use Rattle.job_row.specs.Scope.{removal_notice, removal_notice_at, notice_posts, with_copy}
 use Rattle.node_table.specs.Shown.{seen, work_on, IsShown, RowGiven, only, RowStep}
 use Rattle.node_table.proofs.ByChecks.{called, by-checks, unless_refused, sending-is}
-use Rattle.node_table.proofs.Changes.{changed-absent}
+use Rattle.job_row.proofs.ForCallers.{changed-absent, at-first, at-rest, at-copies, at-copies_found, at-copies_none, copies-changed, copies-without, sorted-copies, changed_placed, left_placed, same_part, copies-ended, from_ended, ended_placed}
 use Rattle.node_table.proofs.Changing.{From, from_changed, there_with}
-use Rattle.node_table.proofs.CopyTables.{at-first, at-rest, at-copies, at-copies_found, at-copies_none, copies-changed, copies-without, sorted-copies}
 use Rattle.node_table.proofs.Described.{working-on, idle_same}
-use Rattle.node_table.proofs.Dropping.{moves_left, left_placed}
+use Rattle.node_table.proofs.Dropping.{moves_left}
 use Rattle.node_table.proofs.LeavingEach.{reordered-with, ids-copies}
-use Rattle.node_table.proofs.Places.{changed_placed, same_places}
-use Rattle.node_table.proofs.Rising.{each-rising}
 use Rattle.node_table.proofs.Scoping.{doom-is, scoped-is, scoped-copy, scoped_copy, scoped_told, scoped-minor, doomed-minor, notice_of}
 use Rattle.node_table.proofs.Settling.{IsMinor}
 use Rattle.node_table.proofs.Stepping.{TakesChange, moved, change, bytes_now, digests_now, same_bytes, received_stays, stays}
+use Rattle.node_table.specs.Beside.{SharedTables, shape_of, beside_ended, beside_after}
 
 -- ---- the grants that end
 
@@ -89,48 +86,6 @@ module _ (job : ℕ) (task : TaskNo) where
           → has_grant (cond (lasts grant) (grant ∷ rest) rest) id ≡ cond (same_task task id.task) false (b || has_grant given id)
       by true s later = ap (λ c. has_grant (cond (not c) (grant ∷ rest) rest) id) (of_it s) ∙ own s (same_task task id.task) later
       by false s later = other s (lasts grant) ∙ later
-
--- the table of which the grants of the task's objects have ended
-module _ (task : TaskNo) where
-  abbrev pub ended : ObjectId → CopyView → CopyView
-  ended id k = cond (same_task task id.task) (after_grants_ended k) k
-
-  pub same_part : {X : Type 0} (part : CopyView → X) → ((z : CopyView) → part (after_grants_ended z) ≡ part z) → (b : Bool) (z : CopyView) → part (cond b (after_grants_ended z) z) ≡ part z
-  same_part part same true z = same z
-  same_part part same false z = refl
-
-  pub ended-rising : (es : List (ObjectId × CopyView)) → by_rising_id (map (λ e. (e.0, ended e.0 e.1)) es) ≡ copies_ungranted task (by_rising_id es)
-  ended-rising es = each-rising ended es
-
-  pub at-ended : (es : ById CopyView) (q : ObjectId) → at (copies_ungranted task es) q ≡ option_map (ended q) (at es q)
-  at-ended [] q = refl
-  at-ended (e ∷ es) q = by (same_id q e.0) refl (at-ended es q)
-    where
-      by : (b : Bool) → same_id q e.0 ≡ b → at (copies_ungranted task es) q ≡ option_map (ended q) (at es q)
-          → cond b (Some (ended e.0 e.1)) (at (copies_ungranted task es) q) ≡ option_map (ended q) (cond b (Some e.1) (at es q))
-      by true s later = ap (λ i. Some (ended i e.1)) (sym (same_id-equal q e.0 s))
-      by false s later = later
-
-  pub copies-ended : (es : ById CopyView) → copies_of (copies_ungranted task es) ≡ copies_of es
-  copies-ended [] = refl
-  copies-ended (e ∷ es) = λ i. (e.0, same_part (λ k. k.copy) (λ z. refl) (same_task task e.0.task) e.1 i) ∷ copies-ended es i
-
-  from_ended : (es : ById CopyView) (q : ObjectId) (y : CopyView) → at (copies_ungranted task es) q ≡ Some y → (k : CopyView) × (at es q ≡ Some k) × (y ≡ ended q k)
-  from_ended es q y found = by (at es q) refl (sym (at-ended es q) ∙ found)
-    where
-      by : (o : Option CopyView) → at es q ≡ o → option_map (ended q) o ≡ Some y → (k : CopyView) × (at es q ≡ Some k) × (y ≡ ended q k)
-      by None e f = none_some y f
-      by (Some k) e f = (k, e, sym (some_value (ended q k) y f))
-
-  pub ended-place : (id : ObjectId) (k : CopyView) → extent_of (ended id k).copy ≡ extent_of k.copy
-  ended-place id k = same_part (λ z. extent_of z.copy) (λ z. refl) (same_task task id.task) k
-
-  pub ended_placed : (placed : List (ℕ × List ℕ)) (es : ById CopyView) → ArePlaced placed (place_of es) → ArePlaced placed (place_of (copies_ungranted task es))
-  ended_placed placed es h = same_places placed (place_of es) (place_of (copies_ungranted task es)) (λ q. ap (λ o. option_and_then (λ (k : CopyView). extent_of k.copy) o) (at-ended es q) ∙ by q (at es q)) h
-    where
-      by : (q : ObjectId) (o : Option CopyView) → option_and_then (λ (k : CopyView). extent_of k.copy) (option_map (ended q) o) ≡ option_and_then (λ (k : CopyView). extent_of k.copy) o
-      by q None = refl
-      by q (Some k) = ended-place q k
 
 -- ---- the definition's walks
 

@@ -18,14 +18,15 @@ use Rattle.private_store.specs.rules.Private.{key_of}
 use Rattle.private_store.specs.rules.Step.{step}
 use Rattle.private_store.specs.laws.Invariants.{is_remembered, is_restoring}
 use Rattle.lru_evictor.proofs.ForCallers.{reordered-unused}
-use Rattle.node_table.specs.Entries.{changed}
-use Rattle.node_table.specs.CopyViews.{CopyView, after_fault_reported}
-use Rattle.node_table.specs.Row.{Row, SharedTables, copies_of, shape_of}
+use Rattle.job_row.specs.Entries.{changed}
+use Rattle.job_row.specs.CopyViews.{CopyView, after_fault_reported}
+use Rattle.job_row.specs.Row.{Row, copies_of}
 use Rattle.node_table.specs.Shown.{seen, IsShown, only, RowStep}
-use Rattle.node_table.proofs.CopyTables.{at-copies_found, copies-changed}
+use Rattle.job_row.proofs.ForCallers.{at-copies_found, copies-changed}
 use Rattle.node_table.proofs.Changing.{there_still, bytes_stay, digests_stay, works_stay, listed_stay, keys_with, granted_stay}
 use Rattle.node_table.proofs.Getting.{get_at}
 use Rattle.node_table.proofs.Stepping.{TakesChange, moved, received_stays}
+use Rattle.node_table.specs.Beside.{SharedTables, shape_of}
 
 module _ (node : ℕ) (row : Row) (beside : SharedTables) (contents : Contents) (session : ℕ) (id : ObjectId) (mine : (id.job.0 == row.job) ≡ true) (alive : is_remembered row.ended_tasks id.task ≡ false) (h : IsShown row beside contents)
     (k : CopyView) (found : at row.copies id ≡ Some k) (unmarked : k.copy.doomed ≡ false) (is : k.copy.state ≡ Away) where

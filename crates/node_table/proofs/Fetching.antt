@@ -38,18 +38,19 @@ use Rattle.store_facts.proofs.Tests.{some_value, none_some, true_false, false_tr
 use Rattle.job_region.specs.Region.{region_bytes_at as placed_bytes}
 use Rattle.lru_evictor.specs.Orders.{AreThere, last_used}
 use Rattle.lru_evictor.proofs.ForCallers.{reordered-used}
-use Rattle.node_table.specs.CopyViews.{CopyView, fetched_copy_view}
-use Rattle.node_table.specs.Row.{Row, SharedTables, copies_of, shape_of, place_of, ArePlaced}
-use Rattle.node_table.specs.Dropping.{dropped}
-use Rattle.node_table.specs.Checks.{fetch_check}
+use Rattle.job_row.specs.CopyViews.{CopyView, fetched_copy_view}
+use Rattle.job_row.specs.Row.{Row, copies_of, place_of, ArePlaced}
+use Rattle.job_row.specs.Dropping.{dropped}
+use Rattle.job_row.specs.Checks.{fetch_check}
 use Rattle.node_table.specs.Shown.{seen, work_on, IsShown, RowGiven, only, RowStep}
 use Rattle.node_table.proofs.ByChecks.{unless_refused, by-checks, needing-by, sending-is}
-use Rattle.node_table.proofs.CopyTables.{at-copies_none, at-copies_found, copies-with}
+use Rattle.job_row.proofs.ForCallers.{at-copies_none, at-copies_found, copies-with}
 use Rattle.node_table.proofs.Changing.{there_with, keys_with}
 use Rattle.node_table.proofs.Orders.{there_last, listed_last, last_listed}
 use Rattle.node_table.proofs.Getting.{by_copy, get_is, get_at}
 use Rattle.node_table.proofs.Stepping.{TakesChange, moved, shown_now, o, stays, telling, tells, same_moves, same_bytes, received_stays}
 use Rattle.node_table.proofs.Dropping.{key_dropped, change_left, moves_left}
+use Rattle.node_table.specs.Beside.{SharedTables, shape_of}
 
 pub length-map : {A B : Type 0} (f : A → B) (xs : List A) → length (map f xs) ≡ length xs
 length-map f [] = refl

@@ -6,8 +6,6 @@ pub use Rattle.node_table.proofs.Answering.{copy_at_work}
 pub use Rattle.node_table.proofs.Besides.{IsAlike, alike_bytes, alike_shape, alike_shown, granted_length, is_of}
 -- commands by their checks: foreign ids, refusals, and what is done
 pub use Rattle.node_table.proofs.ByChecks.{called, foreign, unless_refused}
--- a row's copies as its store's table has them
-pub use Rattle.node_table.proofs.CopyTables.{at-copies_found, at-copies_none, sorted-copies}
 -- the keys that the end of a job erases
 pub use Rattle.node_table.proofs.EndingKeys.{keys-backed}
 -- EndTask that is refused
@@ -20,8 +18,6 @@ pub use Rattle.node_table.proofs.Granting.{give_back_done, grant_done, grant_ref
 pub use Rattle.node_table.proofs.Handing.{work_is}
 -- which commands are due more than a refusal when memory ran out
 pub use Rattle.node_table.proofs.MemoryLast.{borrow_late, delete_late, end_task_late, give_up_late, leave_late, list_late, read_late, seal_late, unpin_late}
--- a sorted table has each id once
-pub use Rattle.node_table.proofs.Listed.{distinct_from_sorted}
 -- other jobs' grants as steps of a row, or of a store that isn't live
 pub use Rattle.node_table.proofs.Notes.{bare_ends, bare_receives, ends_of, first_left, lengths, none_given, others_stand, received_is, rest_of_job, rest_of_other, rest_of_task, row_ends, row_has_grants, row_receives, same_given}
 -- checks that passed, one by one

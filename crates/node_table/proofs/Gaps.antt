@@ -40,20 +40,19 @@ use Rattle.store_facts.proofs.Rows.{at-put, at-put_here}
 use Rattle.store_facts.proofs.Tests.{some_value, true_false, false_true, both_left, both_right}
 use Rattle.job_region.specs.Region.{without, region_bytes_at as placed_bytes}
 use Rattle.fetch_core.specs.Fetching.{fills_one, fetch_chunk_taken, missing_of}
-use Rattle.node_table.specs.Arriving.{fetch_of_length, fills, lacks_only, after_chunk, after_last_chunk, unfetched_row, row_written}
-use Rattle.node_table.specs.CopyViews.{CopyView, store_fetch_of as fetch_kept}
-use Rattle.node_table.specs.Row.{Row, SharedTables, copies_of, shape_of, place_of, ArePlaced}
-use Rattle.node_table.specs.Scope.{with_copy}
+use Rattle.job_row.specs.Arriving.{fetch_of_length, fills, lacks_only, after_chunk, after_last_chunk, unfetched_row, row_written}
+use Rattle.job_row.specs.CopyViews.{CopyView, store_fetch_of as fetch_kept}
+use Rattle.job_row.specs.Row.{Row, copies_of, place_of, ArePlaced}
+use Rattle.job_row.specs.Scope.{with_copy}
 use Rattle.node_table.specs.Shown.{seen, IsShown, RowGiven, only, RowStep}
 use Rattle.node_table.proofs.Arriving.{numbers_turn, IsOf, fetch_is, fetch_case, is_on_way, resides, live_is, ignored, c, arrives, arrived}
 use Rattle.node_table.proofs.ByChecks.{sending-is}
-use Rattle.node_table.proofs.Changes.{changed-found}
-use Rattle.node_table.proofs.CopyTables.{at-copies_found}
-use Rattle.node_table.proofs.Dropping.{found_left}
+use Rattle.job_row.proofs.ForCallers.{changed-found, at-copies_found, found_left}
 use Rattle.node_table.proofs.Overwriting.{is_place, fits, written_here, written_elsewhere}
 use Rattle.node_table.proofs.Passed.{placed_at, place_found}
 use Rattle.node_table.proofs.Stepping.{TakesChange, change, moved, shown_now, same_bytes}
 use Rattle.node_table.proofs.Unfetching.{fails}
+use Rattle.node_table.specs.Beside.{SharedTables, shape_of}
 
 -- ---- the gaps
 

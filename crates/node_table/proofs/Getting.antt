@@ -26,17 +26,18 @@ use Rattle.private_store.specs.laws.Invariants.{is_remembered}
 use Rattle.store_facts.proofs.Tests.{some_value, true_false, both_left, both_right, not_true}
 use Rattle.lru_evictor.specs.Orders.{AreThere, last_used, touched}
 use Rattle.lru_evictor.proofs.ForCallers.{reordered-used}
-use Rattle.node_table.specs.Entries.{changed}
-use Rattle.node_table.specs.CopyViews.{CopyView, after_hold, is_ready}
-use Rattle.node_table.specs.Row.{Row, SharedTables, copies_of, shape_of}
-use Rattle.node_table.specs.Checks.{hold_check_of, visible_state}
-use Rattle.node_table.specs.Holding.{IsRowHeld, IsHoldRefusedAt}
+use Rattle.job_row.specs.Entries.{changed}
+use Rattle.job_row.specs.CopyViews.{CopyView, after_hold, is_ready}
+use Rattle.job_row.specs.Row.{Row, copies_of}
+use Rattle.job_row.specs.Checks.{hold_check_of, visible_state}
+use Rattle.job_row.specs.Holding.{IsRowHeld, IsHoldRefusedAt}
 use Rattle.node_table.specs.Shown.{seen, IsShown, only, RowStep}
 use Rattle.node_table.proofs.ByChecks.{unless_refused, by-checks, called, own}
-use Rattle.node_table.proofs.CopyTables.{at-copies_found, copies-changed}
+use Rattle.job_row.proofs.ForCallers.{at-copies_found, copies-changed}
 use Rattle.node_table.proofs.Changing.{there_still, bytes_stay, digests_stay, works_stay, listed_stay, keys_with, granted_stay}
 use Rattle.node_table.proofs.Orders.{touched-listed, there_last, listed_last}
 use Rattle.node_table.proofs.Stepping.{TakesChange, moved, stays, received_stays}
+use Rattle.node_table.specs.Beside.{SharedTables, shape_of}
 
 -- what is so of each answer
 pub each_ok : {T E : Type 0} {P Q : T → Type 0} (r : Result T E) → ((t : T) → P t → Q t) → IfOk r P → IfOk r Q

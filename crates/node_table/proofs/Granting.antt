@@ -34,17 +34,16 @@ use Rattle.grants.specs.Private.{as_given, HasGrants, RefusesAlike}
 use Rattle.grants.proofs.ForCallers.{numbers_equal, filter_swap, is_to, any_given, left_given, refuses_alike, grants_alike, taken_sorted, taken_is}
 use Rattle.lru_evictor.proofs.ForCallers.{reordered-unused}
 use Rattle.spill_work.specs.Line.{WorkLine}
-use Rattle.node_table.specs.Dropping.{is_over, settled_row, keys_settled}
-use Rattle.node_table.specs.Granting.{row_grant_check, grant_check_of, grants_made}
-use Rattle.node_table.specs.CopyViews.{CopyView, with_granted}
+use Rattle.job_row.specs.Dropping.{is_over, settled_row, keys_settled}
+use Rattle.node_table.specs.Granting.{row_grant_check, grants_made}
+use Rattle.job_row.specs.CopyViews.{CopyView, with_granted}
 use Rattle.node_table.specs.Notes.{beside_rest}
-use Rattle.node_table.specs.Row.{Row, SharedTables, beside_of, copies_of, shape_of, place_of, ArePlaced}
-use Rattle.node_table.specs.Scope.{with_copy}
+use Rattle.job_row.specs.Row.{Row, copies_of, place_of, ArePlaced}
+use Rattle.job_row.specs.Scope.{with_copy}
 use Rattle.node_table.specs.Shown.{seen, IsShown, only, RowStep}
 use Rattle.node_table.proofs.ByChecks.{unless_refused, first-check, in_sight, called}
-use Rattle.node_table.proofs.Changes.{changed-found}
+use Rattle.job_row.proofs.ForCallers.{changed-found, at-copies_found, at-copies_none, copies-changed}
 use Rattle.node_table.proofs.Changing.{From, from_changed, there_still, bytes_stay, digests_stay, works_stay, listed_stay}
-use Rattle.node_table.proofs.CopyTables.{at-copies_found, at-copies_none, copies-changed}
 use Rattle.node_table.proofs.Described.{working-on, idle_same}
 use Rattle.node_table.proofs.Dropping.{key_dropped}
 use Rattle.node_table.proofs.Noted.{is_well_hung}
@@ -52,6 +51,8 @@ use Rattle.node_table.proofs.Notes.{lengths, row_has_grants, note_taken, first_l
 use Rattle.node_table.proofs.Passed.{past, there}
 use Rattle.node_table.proofs.Settling.{BringsNothing, moved_settles}
 use Rattle.node_table.proofs.Stepping.{TakesChange, moved, change, received_stays, stays}
+use Rattle.node_table.specs.Beside.{SharedTables, beside_of, shape_of}
+use Rattle.job_row.specs.Checks.{grant_check_of}
 
 -- an entry put where it stands already
 with-same : {X : Type 0} (es : ById X) (id : ObjectId) (x : X) → T (is_sorted id_cmp es) → at es id ≡ Some x → with_entry es id x ≡ es

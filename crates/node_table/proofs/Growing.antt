@@ -14,12 +14,13 @@ use Rattle.private_store.specs.rules.Room.{Room, make_room, set_copy, drop_copy,
 use Rattle.store_facts.proofs.Tests.{true_false, false_true}
 use Rattle.lru_evictor.specs.Plans.{listed}
 use Rattle.node_table.specs.RoomPlans.{IsPlanned, MakesPlace, AsksWrites, planned_by, refuses, makes_place}
-use Rattle.node_table.specs.Row.{Row, SharedTables, shape_of}
+use Rattle.job_row.specs.Row.{Row}
 use Rattle.node_table.specs.Shown.{IsShown}
 use Rattle.node_table.specs.declared.room.RoomPlan.{RoomPlan}
 use Rattle.node_table.specs.declared.room.RoomPlan.TheVariants.{Fits, Evict, Ask, TellFailedSpill, Refuse}
 use Rattle.node_table.proofs.Asking.{all_asked}
 use Rattle.node_table.proofs.Planning.{planned}
+use Rattle.node_table.specs.Beside.{SharedTables, shape_of}
 
 -- there is a place by this plan, and no work was asked for
 pub record HasPlace (store : Shape) (room : Room) (p : RoomPlan) : Type 0 where

@@ -16,11 +16,12 @@ use Rattle.spill_work.specs.declared.queue.IoRequest.{IoRequest}
 use Rattle.spill_work.specs.Line.{shown}
 use Rattle.obj_id.specs.Works.{is_write}
 use Rattle.node_table.specs.Handed.{row_work_given, row_work_of}
-use Rattle.node_table.specs.CopyViews.{CopyView}
-use Rattle.node_table.specs.Row.{Row, SharedTables, shape_of}
+use Rattle.job_row.specs.CopyViews.{CopyView}
+use Rattle.job_row.specs.Row.{Row}
 use Rattle.node_table.specs.Shown.{seen, IsShown}
 use Rattle.node_table.proofs.Answering.{copy_at_work, place_at_work}
-use Rattle.node_table.proofs.CopyTables.{at-copies_found}
+use Rattle.job_row.proofs.ForCallers.{at-copies_found}
+use Rattle.node_table.specs.Beside.{SharedTables, shape_of}
 
 module _ (row : Row) (beside : SharedTables) (contents : Contents) (h : IsShown row beside contents) (asked : IoRequest) (flying : events.work_of (shape_of row beside) asked.number ≡ Some (shown asked)) where
   abbrev view : View

@@ -1,6 +1,6 @@
 -- A row takes Leave: each of its copies is changed once, by rising id.
-use Rattle.std.proofs.Common.{◌≡◌, ℕ, Bool, true, false, cond, List, [], ◌∷◌, fold, map, take, Option, Some, None, is_some, option_map, unwrap_or, refl, sym, ap, subst, ◌∙◌, T, arith}
-use Rattle.std.specs.Option.{option_map_or, option_and_then}
+use Rattle.std.proofs.Common.{◌≡◌, ℕ, Bool, true, false, cond, List, [], ◌∷◌, fold, map, take, Option, Some, None, is_some, unwrap_or, refl, sym, ap, ◌∙◌, T, arith}
+use Rattle.std.specs.Option.{option_map_or}
 use Rattle.std.specs.Prelude.{◌-◌, ◌^◌, min, sum_by}
 use Rattle.std.specs.List.{list_all}
 use Rattle.std.specs.Ordering.{is_eq, is_lt, ordering_reverse}
@@ -33,15 +33,16 @@ use Rattle.store_facts.proofs.Tests.{and_left, and_right, both, some_value, none
 use Rattle.job_region.specs.Region.{region_bytes_at as placed_bytes}
 use Rattle.lru_evictor.specs.Orders.{AreThere}
 use Rattle.lru_evictor.proofs.ForCallers.{reordered-unused}
-use Rattle.node_table.specs.Entries.{changed, all_changed}
-use Rattle.node_table.specs.CopyViews.{CopyView, after_leave}
-use Rattle.node_table.specs.Row.{Row, SharedTables, copies_of, shape_of, place_of, ArePlaced}
+use Rattle.job_row.specs.Entries.{changed, all_changed}
+use Rattle.job_row.specs.CopyViews.{CopyView, after_leave}
+use Rattle.job_row.specs.Row.{Row, copies_of}
 use Rattle.node_table.specs.Shown.{seen, IsShown, only, RowStep}
-use Rattle.node_table.specs.Usages.{total, doomed_one}
+use Rattle.job_row.specs.Usages.{total, doomed_one}
 use Rattle.node_table.proofs.ByChecks.{called}
-use Rattle.node_table.proofs.Places.{same_places}
 use Rattle.node_table.proofs.Settling.{settled-stays}
 use Rattle.node_table.proofs.Stepping.{TakesChange, moved, same_bytes, received_stays}
+use Rattle.job_row.proofs.ForCallers.{from_all, found_all}
+use Rattle.node_table.specs.Beside.{SharedTables, shape_of}
 
 -- ---- a table whose entries are changed one after another
 
@@ -83,29 +84,6 @@ module _ {X : Type 0} (f : X → X) where
       ap (λ t. turns t (ids_of es)) (changed-first e es)
       ∙ turns-above (ids_of es) (e.0, f e.1) es (below-ids e.0 es (and_left (below_all id_cmp e.0 es) _ h))
       ∙ ap (λ t. (e.0, f e.1) ∷ t) (turns-all es (and_right (below_all id_cmp e.0 es) _ h))
-
-  pub at-all : (es : ById X) (q : ObjectId) → at (all_changed f es) q ≡ option_map f (at es q)
-  at-all [] q = refl
-  at-all (e ∷ es) q = by (same_id q e.0) (at-all es q)
-    where
-      by : (b : Bool) → at (all_changed f es) q ≡ option_map f (at es q) → cond b (Some (f e.1)) (at (all_changed f es) q) ≡ option_map f (cond b (Some e.1) (at es q))
-      by true h = refl
-      by false h = h
-
-  from_all : (es : ById X) (q : ObjectId) (y : X) → at (all_changed f es) q ≡ Some y → (z : X) × (at es q ≡ Some z) × (y ≡ f z)
-  from_all es q y e = by (at es q) (sym (at-all es q) ∙ e)
-    where
-      by : (o : Option X) → option_map f o ≡ Some y → (z : X) × (o ≡ Some z) × (y ≡ f z)
-      by (Some z) e = (z, refl, sym (some_value (f z) y e))
-      by None e = none_some y e
-
-  -- what is there stays there
-  found_all : (es : ById X) (q : ObjectId) → is_some (at es q) ≡ true → is_some (at (all_changed f es) q) ≡ true
-  found_all es q h = ap is_some (at-all es q) ∙ by (at es q) h
-    where
-      by : (o : Option X) → is_some o ≡ true → is_some (option_map f o) ≡ true
-      by (Some z) h = refl
-      by None h = h
 
 -- ---- the definition
 
@@ -225,16 +203,3 @@ module _ (node : ℕ) (row : Row) (beside : SharedTables) (contents : Contents) 
 
   pub leave_done : RowStep node row beside contents x (only reply.Ok) row_left beside
   leave_done = moved node row beside contents h x c step_is (only reply.Ok) row_left beside m refl
-
--- ---- where the copies lie
-
-pub places-left : (session : ℕ) (es : ById CopyView) (q : ObjectId) → place_of (all_changed (after_leave session) es) q ≡ place_of es q
-places-left session es q = ap (λ o. option_and_then (λ kept. extent_of kept.copy) o) (at-all (after_leave session) es q) ∙ by (at es q)
-  where
-    by : (o : Option CopyView) → option_and_then (λ kept. extent_of kept.copy) (option_map (after_leave session) o) ≡ option_and_then (λ kept. extent_of kept.copy) o
-    by None = refl
-    by (Some k) = refl
-
-pub left_placed : (placed : List (ℕ × List ℕ)) (es : ById CopyView) → ArePlaced placed (place_of es) → (session : ℕ) (now : ById CopyView) → now ≡ all_changed (after_leave session) es → ArePlaced placed (place_of now)
-left_placed placed es h session now is =
-    subst (λ t. ArePlaced placed (place_of t)) (sym is) (same_places placed (place_of es) (place_of (all_changed (after_leave session) es)) (places-left session es) h)

@@ -30,19 +30,18 @@ use Rattle.store_facts.proofs.Tests.{T_true, and_left, and_right, none_some, som
 use Rattle.job_region.specs.Region.{region_bytes_at as placed_bytes}
 use Rattle.lru_evictor.specs.Orders.{AreThere}
 use Rattle.lru_evictor.proofs.ForCallers.{reordered-unused}
-use Rattle.node_table.specs.CopyViews.{CopyView, after_leave}
-use Rattle.node_table.specs.Row.{Row, SharedTables, copies_of, shape_of, place_of, ArePlaced}
-use Rattle.node_table.specs.Dropping.{dropped, is_over, settled_row, keys_settled, unheld_row, left_row, keys_left}
+use Rattle.job_row.specs.CopyViews.{CopyView, after_leave}
+use Rattle.job_row.specs.Row.{Row, copies_of, place_of, ArePlaced}
+use Rattle.job_row.specs.Dropping.{dropped, is_over, settled_row, keys_settled, unheld_row, left_row, keys_left}
 use Rattle.node_table.specs.Shown.{seen, work_on, IsShown, RowGiven, only, RowStep}
-use Rattle.node_table.specs.Usages.{own_item_of}
+use Rattle.job_row.specs.Usages.{own_item_of}
 use Rattle.node_table.proofs.ByChecks.{called}
-use Rattle.node_table.proofs.Changes.{changed-found, changed-absent}
+use Rattle.job_row.proofs.ForCallers.{changed-found, changed-absent, at-first, at-rest, at-copies, at-copies_found, at-copies_none, copies-changed, sorted-copies, changed_placed, left_placed}
 use Rattle.node_table.proofs.Changing.{From, from_changed, there_with}
-use Rattle.node_table.proofs.CopyTables.{at-first, at-rest, at-copies, at-copies_found, at-copies_none, copies-changed, sorted-copies}
 use Rattle.node_table.proofs.Described.{working-on, idle_same}
-use Rattle.node_table.proofs.Dropping.{moves_left, left_placed}
-use Rattle.node_table.proofs.Places.{changed_placed}
+use Rattle.node_table.proofs.Dropping.{moves_left}
 use Rattle.node_table.proofs.Stepping.{TakesChange, moved, bytes_now, digests_now, same_bytes, received_stays}
+use Rattle.node_table.specs.Beside.{SharedTables, shape_of}
 
 -- ---- the definition, copy by copy
 

@@ -1,12 +1,11 @@
 -- The bytes of a copy that a session holds.
-use Rattle.std.proofs.Common.{◌≡◌, ℕ, ◌==◌, true, false, List, [], ◌∷◌, take, length, Option, Some, None, is_some, unwrap_or, option_map, refl, sym, ap, ◌∙◌}
+use Rattle.std.proofs.Common.{◌≡◌, ℕ, ◌==◌, true, false, List, [], ◌∷◌, take, length, Some, None, is_some, unwrap_or, refl, sym, ap, ◌∙◌}
 use Rattle.std.specs.Ordering.{nat_cmp}
 use Rattle.std.specs.FinMap.{find}
 use Rattle.obj_id.specs.declared.ids.ObjectId.{ObjectId}
 use Rattle.obj_id.specs.declared.works.Extent.{Extent}
-use Rattle.obj_id.specs.declared.refusals.Refusal.{Refusal}
 use Rattle.obj_id.specs.declared.refusals.Refusal.TheVariants.{Absent}
-use Rattle.private_store.specs.rules.Tables.{ById, at}
+use Rattle.private_store.specs.rules.Tables.{at}
 use Rattle.private_store.specs.rules.Shape.{Copy}
 use Rattle.private_store.specs.rules.Copies.{extent_of, is_sealed}
 use Rattle.private_store.specs.rules.Commands.{bytes_checks, holds_of}
@@ -15,31 +14,18 @@ use Rattle.private_store.specs.rules.Contents.{Contents, bytes_at}
 use Rattle.private_store.specs.laws.Invariants.{are_held}
 use Rattle.store_facts.proofs.Tests.{some_value}
 use Rattle.job_region.specs.Region.{region_bytes_at as placed_bytes}
-use Rattle.node_table.specs.CopyViews.{CopyView}
-use Rattle.node_table.specs.Row.{Row, SharedTables, copies_of}
-use Rattle.node_table.specs.Checks.{lend_check}
+use Rattle.job_row.specs.CopyViews.{CopyView}
+use Rattle.job_row.specs.Row.{Row, copies_of}
+use Rattle.job_row.specs.Checks.{lend_check}
 use Rattle.node_table.specs.Shown.{IsShown, IsLent}
-use Rattle.node_table.proofs.CopyTables.{at-copies, at-copies_found}
+use Rattle.job_row.proofs.ForCallers.{at-copies_found, lend-by}
 use Rattle.node_table.proofs.Passed.{all_failed, there, placed_at, sealed_resides}
+use Rattle.node_table.specs.Beside.{SharedTables}
 
 -- a session that has a hold is among the holds
 some_hold : (session : ℕ) (holds : List (ℕ × ℕ)) → (unwrap_or (find nat_cmp session holds) 0 == 0) ≡ false → are_held holds ≡ true
 some_hold session [] e = absurd cc
 some_hold session (hold ∷ holds) e = refl
-
--- a check of the store's copies reads those that the row keeps
-abbrev by_kept : ℕ → Option CopyView → Option Refusal
-by_kept session o = elim o [ None ↦ Some Absent | Some k ↦ first_refusal (bytes_checks k.copy session) ]
-
-abbrev by_copy : ℕ → Option Copy → Option Refusal
-by_copy session o = elim o [ None ↦ Some Absent | Some copy ↦ first_refusal (bytes_checks copy session) ]
-
-pub lend-by : (es : ById CopyView) (session : ℕ) (id : ObjectId) (o : Option CopyView) → at es id ≡ o → lend_check (copies_of es) session id ≡ by_kept session o
-lend-by es session id o is = ap (by_copy session) (at-copies es id ∙ ap (option_map (λ k. k.copy)) is) ∙ by o
-  where
-    by : (o : Option CopyView) → by_copy session (option_map (λ k. k.copy) o) ≡ by_kept session o
-    by None = refl
-    by (Some k) = refl
 
 module _ (row : Row) (beside : SharedTables) (contents : Contents) (h : IsShown row beside contents) (session : ℕ) (id : ObjectId) where
   module _ (k : CopyView) (found : at row.copies id ≡ Some k) (held : (holds_of k.copy session == 0) ≡ false) where

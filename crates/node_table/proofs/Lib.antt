@@ -1,8 +1,4 @@
-mod Changes
-mod CopyTables
 mod Placements
-mod Places
-mod Rising
 mod Received
 mod Besides
 mod Stepping
@@ -14,26 +10,18 @@ mod Scoping
 mod Sealing
 mod Orders
 mod Getting
-mod Holding
 mod Settling
 mod Releasing
 mod Leaving
-mod MarkedPlaces
 mod LeavingEach
 mod Telling
-mod Totals
-mod Sums
 mod Described
 mod Planning
 mod Growing
-mod Removing
-mod Evicting
 mod Counting
-mod Replacing
 mod Restoring
 mod Dropping
 mod Fetching
-mod Shared
 mod Faults
 mod Rooms
 mod Pulling
@@ -44,7 +32,6 @@ mod Handing
 mod Quotas
 mod EndingKeys
 mod Lending
-mod Listed
 mod MemoryLast
 mod Arriving
 mod Overwriting
@@ -56,5 +43,4 @@ mod Noted
 mod Notes
 mod Peeking
 mod Granting
-mod FollowsCopies
 pub mod ForCallers

@@ -33,18 +33,18 @@ use Rattle.store_facts.proofs.Checks.{checked-false, checked-nil}
 use Rattle.store_facts.proofs.Rows.{at-put_here}
 use Rattle.store_facts.proofs.Tests.{both_left, both_right, not_true, or_left, or_right, true_false}
 use Rattle.spill_work.specs.Line.{WorkLine, in_flight, used_by}
-use Rattle.node_table.specs.CopyViews.{CopyView}
-use Rattle.node_table.specs.Row.{Row, SharedTables, beside_of, shape_of}
-use Rattle.node_table.specs.Checks.{create_check, seal_check, unpin_check, row_borrow_check, give_up_check, delete_check, end_task_check, read_check, fetch_check, hold_check_of}
-use Rattle.node_table.specs.Holding.{IsHoldRefusedAt}
+use Rattle.job_row.specs.CopyViews.{CopyView}
+use Rattle.job_row.specs.Row.{Row}
+use Rattle.job_row.specs.Checks.{create_check, seal_check, unpin_check, row_borrow_check, give_up_check, delete_check, end_task_check, read_check, fetch_check, hold_check_of}
+use Rattle.job_row.specs.Holding.{IsHoldRefusedAt}
 use Rattle.node_table.specs.MemoryLast.{is_more, work_has_begun, may_grow, IsDueMore}
 use Rattle.node_table.specs.MadeRooms.{IsPlannedFor}
 use Rattle.node_table.specs.RoomPlans.{planned_by, refuses, makes_place}
 use Rattle.node_table.specs.Shown.{seen, IsShown}
-use Rattle.node_table.specs.Usages.{own_item_of}
+use Rattle.job_row.specs.Usages.{own_item_of}
 use Rattle.node_table.specs.declared.room.RoomPlan.{RoomPlan}
 use Rattle.node_table.proofs.ByChecks.{unless_refused, by-checks, called, own, read-by, seal-by, seal_done, sending-is}
-use Rattle.node_table.proofs.CopyTables.{at-copies_found}
+use Rattle.job_row.proofs.ForCallers.{at-copies_found}
 use Rattle.node_table.proofs.Creating.{by_room}
 use Rattle.node_table.proofs.EndingTasks.{end_task_ok}
 use Rattle.node_table.proofs.Faults.{fault_is}
@@ -58,6 +58,7 @@ use Rattle.node_table.proofs.Restoring.{few_works}
 use Rattle.node_table.proofs.Scoping.{unpin_ok, borrow_ok, give_up_ok, delete_ok}
 use Rattle.node_table.proofs.Stepping.{change}
 use Rattle.node_table.proofs.Telling.{list_done}
+use Rattle.node_table.specs.Beside.{SharedTables, beside_of, shape_of}
 
 -- ---- of a reply with its bytes
 

@@ -26,15 +26,15 @@ use Rattle.grants.specs.Private.{as_given, with_taken, HasGrants, HasRest, RestA
 use Rattle.grants.proofs.ForCallers.{numbers_equal, ends_alike, rest_alike, filter_both, made_for, has_grants, taken_sorted, taken_shown, taken_is}
 use Rattle.lru_evictor.proofs.ForCallers.{reordered-unused}
 use Rattle.spill_work.specs.Line.{WorkLine}
-use Rattle.node_table.specs.EndingTasks.{beside_ended}
-use Rattle.node_table.specs.CopyViews.{CopyView}
+use Rattle.job_row.specs.CopyViews.{CopyView}
 use Rattle.node_table.specs.Notes.{IsSeen, end_of_grant, ends_to, beside_rest, received_shape, received_view}
-use Rattle.node_table.specs.Row.{Row, SharedTables, row_given_by, received_by, beside_of, received_bytes, copies_of, shape_of}
+use Rattle.job_row.specs.Row.{Row, copies_of}
 use Rattle.node_table.specs.Shown.{seen, IsShown, only, RowStep}
-use Rattle.node_table.proofs.CopyTables.{at-copies_found}
+use Rattle.job_row.proofs.ForCallers.{at-copies_found}
 use Rattle.node_table.proofs.Noted.{with_grants, withdrawn-is, withdrawn-fewer, withdrawn-own, withdrawn-none, response-is, response-sorted, response-none, response-own, is_well_hung}
 use Rattle.node_table.proofs.Received.{kept_of_fewer, kept_with_more}
 use Rattle.node_table.proofs.Stepping.{moved, change, same_bytes}
+use Rattle.node_table.specs.Beside.{SharedTables, row_given_by, received_by, beside_of, received_bytes, shape_of, beside_ended}
 
 -- ---- a store has the grants that stand beside it
 

@@ -12,11 +12,12 @@ use Rattle.private_store.specs.rules.Contents.{Contents, bytes_at, overwritten}
 use Rattle.store_facts.proofs.Tests.{true_false}
 use Rattle.job_region.specs.Region.{region_bytes_at as placed_bytes}
 use Rattle.job_region.proofs.ForCallers.{part_over_within}
-use Rattle.node_table.specs.CopyViews.{CopyView}
-use Rattle.node_table.specs.Row.{Row, SharedTables, place_of, ArePlaced}
+use Rattle.job_row.specs.CopyViews.{CopyView}
+use Rattle.job_row.specs.Row.{Row, place_of, ArePlaced}
 use Rattle.node_table.specs.Shown.{IsShown}
-use Rattle.node_table.proofs.Passed.{place_found, at_most_rounded}
-use Rattle.node_table.proofs.Places.{bytes-written, bytes-other, long_at}
+use Rattle.node_table.proofs.Passed.{place_found}
+use Rattle.job_row.proofs.ForCallers.{bytes-written, bytes-other, long_at, at_most_rounded}
+use Rattle.node_table.specs.Beside.{SharedTables}
 
 module _ (row : Row) (beside : SharedTables) (contents : Contents) (h : IsShown row beside contents) (id : ObjectId) (k : CopyView) (found : at row.copies id ≡ Some k)
     (e : Extent) (lies : extent_of k.copy ≡ Some e) (long : e.length ≡ rounded k.copy.length) (offset : ℕ) (bytes : List ℕ) (within : offset + length bytes ≤ k.copy.length) where

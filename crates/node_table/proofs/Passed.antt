@@ -1,5 +1,5 @@
 -- What is so of a copy whose command passed its checks.
-use Rattle.std.proofs.Common.{◌≡◌, ℕ, ◌+◌, ◌≤◌, nat_lt, Bool, true, false, not, cond, ◌==◌, List, [], ◌∷◌, Option, Some, None, is_some, option_map, refl, ap, arith}
+use Rattle.std.proofs.Common.{◌≡◌, ℕ, ◌+◌, ◌≤◌, nat_lt, Bool, true, false, not, cond, ◌==◌, List, [], ◌∷◌, Option, Some, None, is_some, refl, ap, arith}
 use Rattle.std.specs.Option.{option_and_then}
 use Rattle.std.proofs.lemmas.Bool.Decides.{nat_tests}
 use Rattle.obj_id.specs.declared.ids.ObjectId.{ObjectId}
@@ -18,9 +18,9 @@ use Rattle.private_store.specs.rules.Commands.{holds_of, is_unsealed, write_chec
 use Rattle.private_store.specs.rules.Shared.{first_refusal}
 use Rattle.store_facts.proofs.Checks.{Fails}
 use Rattle.store_facts.proofs.Tests.{true_false}
-use Rattle.node_table.specs.CopyViews.{CopyView}
-use Rattle.node_table.specs.Row.{place_of}
-use Rattle.node_table.specs.Checks.{check_at, unless_doomed, write_check, seal_check, read_check}
+use Rattle.job_row.specs.CopyViews.{CopyView}
+use Rattle.job_row.specs.Row.{place_of}
+use Rattle.job_row.specs.Checks.{check_at, unless_doomed, write_check, seal_check, read_check}
 
 -- a check that passed: the first test failed, and the rest passed
 pub past : (b : Bool) (r : Refusal) (rest : Option Refusal) → cond b (Some r) rest ≡ None → (b ≡ false) × (rest ≡ None)
@@ -110,17 +110,3 @@ sealed_resides Sealed fetch e = refl
 sealed_resides Restoring fetch e = true_false e
 sealed_resides Fetching fetch e = true_false e
 sealed_resides Away fetch e = true_false e
-
-pub at_most_rounded : (n : ℕ) → n ≤ rounded n
-at_most_rounded n = omega arith
-
--- an extent holds the bytes of its copy
-pub extent_holds : (copy : Copy) (e : Extent) → extent_of copy ≡ Some e → copy.length ≤ e.length
-extent_holds copy e = elim copy.offset as (λ o. option_map (λ at. record { offset = at; length = rounded copy.length }) o ≡ Some e → copy.length ≤ e.length) [
-  | None ↦ λ f. absurd cc
-  | Some o ↦ λ f.
-      let is : record { offset = o; length = rounded copy.length } ≡ e = cc in
-      let long : rounded copy.length ≡ e.length = ap (λ (x : Extent). x.length) is in
-      let a = at_most_rounded copy.length in
-      omega (arith, a, long)
-]

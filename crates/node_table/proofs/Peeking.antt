@@ -23,13 +23,14 @@ use Rattle.grants.specs.Table.{shows}
 use Rattle.grants.specs.Private.{as_taken, seen_by}
 use Rattle.spill_work.specs.Line.{WorkLine}
 use Rattle.node_table.specs.Granting.{peek_check, peek_reply}
-use Rattle.node_table.specs.Row.{Row, SharedTables, beside_of, shape_of}
+use Rattle.job_row.specs.Row.{Row}
 use Rattle.node_table.specs.Shown.{seen, IsShown, only, RowStep}
 use Rattle.node_table.proofs.ByChecks.{unless_refused, first-check, needing-by, called}
 use Rattle.node_table.proofs.Notes.{row_has_grants}
 use Rattle.node_table.proofs.Passed.{past, not_not}
 use Rattle.node_table.proofs.Received.{filled_at}
 use Rattle.node_table.proofs.Stepping.{change, stays}
+use Rattle.node_table.specs.Beside.{SharedTables, beside_of, shape_of}
 
 -- what is done with an object that is seen, by whether there is a grant of it
 seen_if : (s : Shape) (n : ℕ) (f : Seen → Change) (rest : Option Refusal) (d : Change) → ((seen : Seen) → seen.length ≡ n → f seen ≡ unless_refused s rest d) → (test : StandingGrant → Bool) (grants : List StandingGrant)

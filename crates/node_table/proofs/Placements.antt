@@ -6,12 +6,12 @@ use Rattle.obj_id.specs.declared.works.Extent.{Extent}
 use Rattle.private_store.specs.rules.Extents.{first}
 use Rattle.private_store.specs.rules.Tables.{ById}
 use Rattle.job_region.specs.Region.{Region, extents_of, place_for, without}
-use Rattle.node_table.specs.Evicting.{IsPlacement, placed_without}
-use Rattle.node_table.specs.CopyViews.{CopyView}
-use Rattle.node_table.specs.Row.{Row}
-use Rattle.node_table.specs.declared.room.Placement.{Placement}
+use Rattle.job_row.specs.Evicting.{IsPlacement, placed_without}
+use Rattle.job_row.specs.CopyViews.{CopyView}
+use Rattle.job_row.specs.Row.{Row}
+use Rattle.job_row.specs.declared.placement.Placement.{Placement}
 use Rattle.node_table.proofs.Planning.{none_go}
-use Rattle.node_table.proofs.Replacing.{gone, left_sorted}
+use Rattle.job_row.proofs.ForCallers.{gone, left_sorted}
 
 -- as it is
 pub no_victims : (row : Row) (n : ℕ) (p : Placement) → p.victims ≡ [] → p.gone.items ≡ [] → place_for row.window n ≡ Some p.offset → IsPlacement row n p

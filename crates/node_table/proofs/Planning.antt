@@ -29,20 +29,22 @@ use Rattle.lru_evictor.specs.Orders.{order_ids}
 use Rattle.lru_evictor.specs.Plans.{IsDescribed, IsOfCopies}
 use Rattle.lru_evictor.proofs.ForCallers.{offset-described}
 use Rattle.spill_work.specs.Line.{WorkLine, works_of, in_flight, used_by}
-use Rattle.node_table.specs.CopyViews.{CopyView}
-use Rattle.node_table.specs.Row.{Row, SharedTables, shape_of, place_of, ArePlaced}
+use Rattle.job_row.specs.CopyViews.{CopyView}
+use Rattle.job_row.specs.Row.{Row, place_of, ArePlaced}
 use Rattle.node_table.specs.Shown.{IsShown}
-use Rattle.node_table.specs.InSync.{InSync}
+use Rattle.job_row.specs.InSync.{InSync}
 use Rattle.lru_evictor.specs.declared.facts.Plan.{Plan as Kind}
 use Rattle.lru_evictor.specs.declared.facts.Plan.TheVariants as kind
 use Rattle.lru_evictor.specs.Plans.{plan_kind_of, listed}
-use Rattle.node_table.specs.InSync.{AreListed}
-use Rattle.node_table.specs.RoomPlans.{IsPlanned, MakesPlace, by_kind, plan_by, planned_by, place_as_it_is, row_facts_of}
-use Rattle.node_table.specs.Usages.{total, device_bytes}
+use Rattle.job_row.specs.InSync.{AreListed}
+use Rattle.node_table.specs.RoomPlans.{IsPlanned, MakesPlace, by_kind, plan_by, planned_by, place_as_it_is}
+use Rattle.job_row.specs.RowFacts.{row_facts_of}
+use Rattle.job_row.specs.Usages.{total, device_bytes}
 use Rattle.node_table.proofs.Telling.{device_is}
 use Rattle.node_table.specs.declared.room.RoomPlan.{RoomPlan}
 use Rattle.node_table.specs.declared.room.RoomPlan.TheVariants.{Fits, Evict, Ask, TellFailedSpill, Refuse}
 use Rattle.node_table.proofs.Described.{described, facts_at}
+use Rattle.node_table.specs.Beside.{SharedTables, shape_of}
 
 -- what is so of each among the ids is so of all
 all_among : (p : ObjectId → Bool) (ids : List ObjectId) → ((q : ObjectId) → is_among ids q ≡ true → p q ≡ true) → list_all p ids ≡ true

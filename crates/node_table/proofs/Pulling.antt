@@ -9,7 +9,7 @@ use Rattle.obj_id.specs.declared.refusals.Refusal.TheVariants.{BadSize, Pending}
 use Rattle.private_store.specs.declared.inputs.Input.{Input}
 use Rattle.private_store.specs.declared.inputs.Input.TheVariants as input
 use Rattle.obj_id.specs.declared.commands.Command.TheVariants as command
-use Rattle.node_table.specs.Checks.{can_pull, can_pull_at, visible_state}
+use Rattle.job_row.specs.Checks.{can_pull, can_pull_at, visible_state}
 use Rattle.private_store.specs.rules.Change.{refused, erasing, in_room}
 use Rattle.private_store.specs.rules.Commands.{is_length, get_fetching, set_phase, counted, chunk_count}
 use Rattle.private_store.specs.rules.Contents.{Contents, View, judge, is_sized, keeps_digest, no_digest}
@@ -27,7 +27,7 @@ use Rattle.node_table.proofs.ByChecks.{sending-is}
 use Rattle.node_table.proofs.Getting.{some_at}
 use Rattle.node_table.proofs.Rooms.{change_is, m, here, placed_done}
 use Rattle.node_table.proofs.Stepping.{shown_now}
-use Rattle.std.specs.Option.{option_map_or, option_and_then}
+use Rattle.std.specs.Option.{option_map_or}
 use Rattle.std.proofs.lemmas.Bool.Decides.{nat_tests}
 use Rattle.std.proofs.lemmas.Bool.{eqb-true}
 use Rattle.obj_id.specs.declared.ids.JobNo.{JobNo}
@@ -36,58 +36,11 @@ use Rattle.private_store.specs.rules.Tables.{ById, at, with_entry, is_among}
 use Rattle.private_store.specs.rules.Copies.{extent_of, is_sealed, was_sealed}
 use Rattle.private_store.specs.rules.Extents.{rounded, first, is_size}
 use Rattle.private_store.specs.rules.Limits.{longest_object}
-use Rattle.obj_id.specs.declared.works.Extent.{Extent}
 use Rattle.store_facts.proofs.Tests.{both, both_left, both_right, true_false, none_some}
-use Rattle.node_table.specs.Evicting.{used_last, has_secondary, all_evicted, removals, placed_without, replaced}
-use Rattle.node_table.specs.CopyViews.{CopyView, is_unasked, is_sealed_at, waits_for_place, with_chunks, after_pull, after_placing}
-use Rattle.node_table.specs.declared.copy.Awaited.{Awaited}
-use Rattle.node_table.specs.declared.copy.Awaited.TheVariants.{Chunks, Device}
-use Rattle.node_table.specs.Row.{Row, SharedTables, copies_of, shape_of, place_of, ArePlaced}
-
--- a copy that waits for a place of n bytes
-pub record Waits (copies : ById CopyView) (id : ObjectId) (n : ℕ) : Type 0 where
-  pub k : CopyView
-  pub found : at copies id ≡ Some k
-  pub nowhere : place_of copies id ≡ None
-  pub long : k.copy.length ≡ n
-
-pub waiting : (copies : ById CopyView) (id : ObjectId) (n : ℕ) → option_map_or (waits_for_place n) (at copies id) false ≡ true → Waits copies id n
-waiting copies id n e = by (at copies id) refl e
-  where
-    nowhere : (k : CopyView) (p : Option ℕ) → k.copy.offset ≡ p → is_none p ≡ true → extent_of k.copy ≡ None
-    nowhere k None t e = ap (λ p. extent_of (record k.copy { offset = p })) t
-    nowhere k (Some o) t e = true_false e
-
-    level : (a b : ℕ) → (a == b) ≡ true → a ≡ b
-    level a b t = grind (arith, nat_tests, t)
-
-    by : (o : Option CopyView) → at copies id ≡ o → option_map_or (waits_for_place n) o false ≡ true → Waits copies id n
-    by None f t = true_false t
-    by (Some k) f t = record {
-      k = k;
-      found = f;
-      nowhere = ap (option_and_then (λ (k : CopyView). extent_of k.copy)) f ∙ nowhere k k.copy.offset refl (both_left (is_none k.copy.offset) _ t);
-      long = level k.copy.length n (both_right (is_none k.copy.offset) _ t);
-    }
-
--- an order in which nothing was used
-pub unused : (order : List ObjectId) → order ≡ used_last None order
-unused order = sym (by order)
-  where
-    by : (ids : List ObjectId) → filter (λ x. not false) ids ++ [] ≡ ids
-    by [] = refl
-    by (x ∷ ids) = ap (λ ys. x ∷ ys) (by ids)
-
--- where it lies then
-pub placed_lies : (awaited : Awaited) (offset : ℕ) (k : CopyView) (n : ℕ) → k.copy.length ≡ n → extent_of (after_placing awaited offset k).copy ≡ Some (record { offset = offset; length = rounded n })
-placed_lies awaited offset k n long = by awaited ∙ ap (λ m. Some (at_offset m)) long
-  where
-    at_offset : ℕ → Extent
-    at_offset m = record { offset = offset; length = rounded m }
-
-    by : (awaited : Awaited) → extent_of (after_placing awaited offset k).copy ≡ Some (at_offset k.copy.length)
-    by (Chunks missing) = refl
-    by Device = refl
+use Rattle.job_row.specs.Evicting.{has_secondary, all_evicted, removals, placed_without, replaced}
+use Rattle.job_row.specs.CopyViews.{CopyView, is_unasked, is_sealed_at, waits_for_place, with_chunks, after_pull}
+use Rattle.job_row.specs.Row.{Row, copies_of, place_of, ArePlaced}
+use Rattle.node_table.specs.Beside.{SharedTables, shape_of}
 
 -- an object of the row's job
 pub own_job : (j : JobNo) (job : ℕ) → (j.0 == job) ≡ true → j ≡ record { 0 = job }

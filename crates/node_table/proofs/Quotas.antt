@@ -19,12 +19,14 @@ use Rattle.store_facts.proofs.Tests.{both, both_left, both_right}
 use Rattle.job_region.specs.Region.{are_within, extents_of}
 use Rattle.lru_evictor.specs.Plans.{extents_in}
 use Rattle.lru_evictor.proofs.ForCallers.{reordered-unused}
-use Rattle.node_table.specs.Quotas.{fits, refusal_by, row_requota_check, store_check, requoted}
-use Rattle.node_table.specs.Row.{Row, SharedTables, copies_of, shape_of, place_of, ArePlaced}
+use Rattle.job_row.specs.Quotas.{fits, refusal_by, row_requota_check, store_check, requoted}
+use Rattle.job_row.specs.Row.{Row, copies_of, place_of, ArePlaced}
 use Rattle.node_table.specs.Shown.{seen, IsShown, only, RowStep}
-use Rattle.node_table.proofs.Described.{first_in, later_in, nothing_in, one_of, same_extents}
+use Rattle.node_table.proofs.Described.{same_extents}
 use Rattle.node_table.proofs.Stepping.{moved, same_bytes, received_stays}
 use Rattle.node_table.proofs.Telling.{device_is}
+use Rattle.job_row.proofs.ForCallers.{first_in, later_in, nothing_in, one_of}
+use Rattle.node_table.specs.Beside.{SharedTables, shape_of}
 
 -- ---- lists with the same elements
 

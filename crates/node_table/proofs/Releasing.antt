@@ -1,6 +1,5 @@
 -- A row takes Release.
-use Rattle.std.proofs.Common.{◌≡◌, ℕ, ◌-◌, true, false, cond, ◌==◌, [], Option, Some, None, option_map, refl, sym, ap, ◌∙◌}
-use Rattle.std.specs.Prelude.{option_to_list}
+use Rattle.std.proofs.Common.{◌≡◌, ℕ, ◌-◌, true, cond, ◌==◌, [], Some, None, option_map, refl, sym, ap, ◌∙◌}
 use Rattle.std.specs.Option.{option_map_or}
 use Rattle.obj_id.specs.declared.ids.ObjectId.{ObjectId}
 use Rattle.obj_id.specs.declared.refusals.Refusal.{Refusal}
@@ -15,19 +14,19 @@ use Rattle.private_store.specs.rules.Room.{set_copy}
 use Rattle.private_store.specs.rules.Change.{refused, done, erasing, settled}
 use Rattle.private_store.specs.rules.Commands.{release_checks, release, holds_of, with_holds}
 use Rattle.private_store.specs.rules.Contents.{Contents}
-use Rattle.private_store.specs.rules.Private.{key_of}
 use Rattle.private_store.specs.rules.Shared.{first_refusal}
-use Rattle.node_table.specs.CopyViews.{CopyView, after_release}
-use Rattle.node_table.specs.Row.{Row, SharedTables, shape_of, place_of, ArePlaced}
-use Rattle.node_table.specs.Dropping.{dropped, is_over, is_over_at, settled_row, keys_settled}
-use Rattle.node_table.specs.Checks.{release_check}
+use Rattle.job_row.specs.CopyViews.{CopyView, after_release}
+use Rattle.job_row.specs.Row.{Row, place_of, ArePlaced}
+use Rattle.job_row.specs.Dropping.{settled_row, keys_settled}
+use Rattle.job_row.specs.Checks.{release_check}
 use Rattle.node_table.specs.Shown.{IsShown, only, RowStep}
 use Rattle.node_table.proofs.ByChecks.{unless_refused, by-checks, in_table, called, own}
-use Rattle.node_table.proofs.CopyTables.{at-copies, at-copies_found}
+use Rattle.job_row.proofs.ForCallers.{at-copies, at-copies_found}
 use Rattle.node_table.proofs.Passed.{there}
 use Rattle.node_table.proofs.Settling.{settles}
 use Rattle.node_table.proofs.Stepping.{stays}
-use Rattle.node_table.specs.Scope.{with_copy}
+use Rattle.job_row.specs.Scope.{with_copy}
+use Rattle.node_table.specs.Beside.{SharedTables, shape_of}
 
 module _ (node : ℕ) (row : Row) (beside : SharedTables) (contents : Contents) (session : ℕ) (id : ObjectId) (mine : (id.job.0 == row.job) ≡ true) (h : IsShown row beside contents) where
   abbrev s : Shape
@@ -81,18 +80,3 @@ module _ (node : ℕ) (row : Row) (beside : SharedTables) (contents : Contents) 
   release_done_so passed placed =
       let k = there (λ k. cond (holds_of k.copy session == 0) (Some NotHeld) None) Absent (at row.copies id) passed in
       released_there k.0 k.1 passed placed
-
--- what something keeps stays as it is looked at
-pub row_kept : (row : Row) (id : ObjectId) → is_over_at row.copies id ≡ false → settled_row row id ≡ row
-row_kept row id kept = by (at row.copies id) kept
-  where
-    by : (o : Option CopyView) → option_map_or is_over o false ≡ false → option_map_or (λ k. cond (is_over k) (dropped row id) row) o row ≡ row
-    by None h = refl
-    by (Some k) h = ap (λ b. cond b (dropped row id) row) h
-
-pub keys_kept : (row : Row) (id : ObjectId) → is_over_at row.copies id ≡ false → keys_settled row id ≡ []
-keys_kept row id kept = by (at row.copies id) kept
-  where
-    by : (o : Option CopyView) → option_map_or is_over o false ≡ false → option_map_or (λ k. cond (is_over k) (option_to_list (option_map (key_of row.job) k.copy.backed)) []) o [] ≡ []
-    by None h = refl
-    by (Some k) h = ap (λ b. cond b (option_to_list (option_map (key_of row.job) k.copy.backed)) []) h

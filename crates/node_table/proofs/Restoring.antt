@@ -34,19 +34,20 @@ use Rattle.store_facts.proofs.Tests.{both, none_some, none_here, true_false}
 use Rattle.spill_work.specs.Line.{WorkLine, AsksWork, ask_check, used_by, works_of, in_flight}
 use Rattle.node_table.specs.Asked.{HasAsked}
 use Rattle.job_region.specs.Region.{extents_of}
-use Rattle.node_table.specs.Evicting.{placed_without, replaced, removals}
-use Rattle.node_table.specs.CopyViews.{CopyView, after_restore_begun}
+use Rattle.job_row.specs.Evicting.{placed_without, replaced, removals}
+use Rattle.job_row.specs.CopyViews.{CopyView, after_restore_begun}
 use Rattle.node_table.specs.MadeRooms.{BringsNothing}
 use Rattle.node_table.specs.RoomPlans.{MakesPlace}
-use Rattle.node_table.specs.Row.{Row, SharedTables, beside_of, shape_of, place_of, ArePlaced}
+use Rattle.job_row.specs.Row.{Row, place_of, ArePlaced}
 use Rattle.node_table.specs.Shown.{seen, work_on, IsShown, only, RowStep}
 use Rattle.node_table.proofs.Asking.{work_before, work_after}
-use Rattle.node_table.proofs.CopyTables.{at-copies_found}
+use Rattle.job_row.proofs.ForCallers.{at-copies_found}
 use Rattle.node_table.proofs.Described.{working-on}
 use Rattle.node_table.proofs.Faults.{fault_is}
 use Rattle.node_table.proofs.Pulling.{quiet_get}
 use Rattle.node_table.proofs.Rooms.{placed_done}
 use Rattle.node_table.proofs.Stepping.{stays}
+use Rattle.node_table.specs.Beside.{SharedTables, beside_of, shape_of}
 
 -- what is asked for is under way
 one_work : (w : WorkInFlight) (id : ObjectId) → w.id ≡ id → w.writes ≡ false → work_on (w ∷ []) id ≡ Some Read

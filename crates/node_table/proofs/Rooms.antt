@@ -44,21 +44,20 @@ use Rattle.lru_evictor.specs.declared.facts.CopyFacts.{CopyFacts}
 use Rattle.lru_evictor.specs.Orders.{AreThere}
 use Rattle.lru_evictor.specs.declared.facts.DeviceRoom.{DeviceRoom}
 use Rattle.lru_evictor.proofs.ForCallers.{offset-described, reordered-unused}
-use Rattle.node_table.specs.Entries.{changed}
-use Rattle.node_table.specs.Evicting.{has_secondary, evicted_one, all_evicted, removals, placed_without, MayGo, replaced}
-use Rattle.node_table.specs.CopyViews.{CopyView, after_eviction, is_sealed_at}
+use Rattle.job_row.specs.Entries.{changed}
+use Rattle.job_row.specs.Evicting.{has_secondary, evicted_one, all_evicted, removals, placed_without, MayGo, replaced}
+use Rattle.job_row.specs.CopyViews.{CopyView, after_eviction, is_sealed_at}
 use Rattle.node_table.specs.MadeRooms.{BringsNothing, TellsRoom}
-use Rattle.node_table.specs.RoomPlans.{MakesPlace, row_facts_of, is_idle_view}
-use Rattle.node_table.specs.Row.{Row, SharedTables, copies_of, shape_of, place_of, ArePlaced}
+use Rattle.node_table.specs.RoomPlans.{MakesPlace}
+use Rattle.job_row.specs.RowFacts.{row_facts_of, is_idle_view}
+use Rattle.job_row.specs.Row.{Row, copies_of, place_of, ArePlaced}
 use Rattle.node_table.specs.Shown.{seen, work_on, IsShown, RowGiven, only, RowStep}
 use Rattle.node_table.proofs.ByChecks.{sending-is}
-use Rattle.node_table.proofs.Changes.{changed-found, changed-absent}
-use Rattle.node_table.proofs.CopyTables.{sorted-copies, at-copies, at-copies_found, copies-with}
+use Rattle.job_row.proofs.ForCallers.{changed-found, changed-absent, sorted-copies, at-copies, at-copies_found, copies-with, CanGo, evicted_of, at-evicted, store_evicted, evictions_told, none_erased, Stands, stands, at_now, id_now, found_still}
 use Rattle.node_table.proofs.Counting.{length-once}
 use Rattle.node_table.proofs.Described.{described, facts_at}
-use Rattle.node_table.proofs.Evicting.{CanGo, evicted_of, at-evicted, store_evicted, evictions_told, none_erased}
-use Rattle.node_table.proofs.Replacing.{Stands, stands, at_now, id_now, found_still}
 use Rattle.node_table.proofs.Stepping.{TakesChange, moved, stays, same_bytes, received_stays}
+use Rattle.node_table.specs.Beside.{SharedTables, shape_of}
 
 -- ---- tables of which some are evicted
 

@@ -18,7 +18,7 @@ use Rattle.private_store.specs.declared.inputs.Input.{Input}
 use Rattle.private_store.specs.declared.inputs.Input.TheVariants as input
 use Rattle.private_store.specs.rules.Tables.{ById, at, with_entry}
 use Rattle.private_store.specs.rules.Shape.{Copy, Shape, Change, Sending, free, remove_location}
-use Rattle.private_store.specs.rules.Copies.{extent_of, in_scope, was_sealed}
+use Rattle.private_store.specs.rules.Copies.{in_scope, was_sealed}
 use Rattle.private_store.specs.laws.Invariants.{is_remembered}
 use Rattle.private_store.specs.rules.Room.{set_copy}
 use Rattle.private_store.specs.rules.Change.{refused, done, checked, erasing, settled, doom, doom_notice, has_ended}
@@ -31,37 +31,21 @@ use Rattle.private_store.specs.rules.Shared.{first_refusal}
 use Rattle.store_facts.proofs.Checks.{checked-nil}
 use Rattle.store_facts.proofs.Rows.{at-put, at-put_here}
 use Rattle.store_facts.proofs.Tests.{T_true}
-use Rattle.node_table.specs.Checks.{unless_doomed, unpin_check, borrow_check, row_borrow_check, give_up_check, delete_check}
-use Rattle.node_table.specs.Dropping.{settled_row, keys_settled}
-use Rattle.node_table.specs.CopyViews.{CopyView, view_in_scope, after_doom, after_unpin, after_borrow, after_give_up}
-use Rattle.node_table.specs.Row.{Row, SharedTables, shape_of, place_of, ArePlaced}
-use Rattle.node_table.specs.Scope.{removal_notice, removal_notice_at, notice_posts, with_copy}
+use Rattle.job_row.specs.Checks.{unless_doomed, unpin_check, borrow_check, row_borrow_check, give_up_check, delete_check}
+use Rattle.job_row.specs.Dropping.{settled_row, keys_settled}
+use Rattle.job_row.specs.CopyViews.{CopyView, view_in_scope, after_doom, after_unpin, after_borrow, after_give_up}
+use Rattle.job_row.specs.Row.{Row, place_of, ArePlaced}
+use Rattle.job_row.specs.Scope.{removal_notice, removal_notice_at, notice_posts, with_copy}
 use Rattle.node_table.specs.Shown.{seen, IsShown, only, RowStep}
 use Rattle.node_table.proofs.ByChecks.{unless_refused, by-checks, first-check, in_sight, called, own, sending-is}
-use Rattle.node_table.proofs.CopyTables.{at-copies_found}
+use Rattle.job_row.proofs.ForCallers.{at-copies_found, scoped-keeps}
 use Rattle.node_table.proofs.Passed.{past, there_all}
 use Rattle.node_table.proofs.Settling.{IsMinor, BringsNothing, settled-stays, stays_so, settles}
 use Rattle.node_table.proofs.Stepping.{change, stays}
-use Rattle.node_table.specs.RoomPlans.{is_idle_view}
+use Rattle.job_row.specs.RowFacts.{is_idle_view}
+use Rattle.node_table.specs.Beside.{SharedTables, shape_of}
 
 -- ---- what the changes leave as it was
-
--- a copy that is perhaps doomed has what else it had
-scoped-keeps : {X : Type 0} (part : CopyView → X) → ((z : CopyView) → part (after_doom z) ≡ part z) → (z : CopyView) → part (view_in_scope z) ≡ part z
-scoped-keeps part same z = by (in_scope z.copy)
-  where
-    by : (b : Bool) → part (cond b z (after_doom z)) ≡ part z
-    by true = refl
-    by false = same z
-
-pub doomed-place : (z : CopyView) → extent_of (after_doom z).copy ≡ extent_of z.copy
-doomed-place z = refl
-
-pub unpinned-place : (z : CopyView) → extent_of (after_unpin z).copy ≡ extent_of z.copy
-unpinned-place z = scoped-keeps (λ y. extent_of y.copy) doomed-place (record z { copy = record z.copy { pinned = false } })
-
-pub given_up-place : (task : TaskNo) (z : CopyView) → extent_of (after_give_up task z).copy ≡ extent_of z.copy
-given_up-place task z = scoped-keeps (λ y. extent_of y.copy) doomed-place (record z { copy = without_borrower z.copy task })
 
 pub doomed-minor : (k : CopyView) → IsMinor after_doom k
 doomed-minor k = record {

@@ -27,17 +27,17 @@ use Rattle.private_store.specs.rules.Step.{step}
 use Rattle.store_facts.proofs.Rows.{at-put, at-put_here}
 use Rattle.job_region.specs.Region.{region_bytes_at as placed_bytes}
 use Rattle.lru_evictor.proofs.ForCallers.{reordered-unused}
-use Rattle.node_table.specs.Entries.{changed}
-use Rattle.node_table.specs.CopyViews.{CopyView, after_seal}
-use Rattle.node_table.specs.Row.{Row, SharedTables, copies_of, shape_of}
-use Rattle.node_table.specs.Checks.{seal_check}
+use Rattle.job_row.specs.Entries.{changed}
+use Rattle.job_row.specs.CopyViews.{CopyView, after_seal}
+use Rattle.job_row.specs.Row.{Row, copies_of}
+use Rattle.job_row.specs.Checks.{seal_check}
 use Rattle.node_table.specs.Shown.{seen, IsShown, RowGiven, only, RowStep}
 use Rattle.node_table.proofs.ByChecks.{unless_refused, called, own, seal_done, seal-by, sending-is}
-use Rattle.node_table.proofs.Changes.{changed-found}
-use Rattle.node_table.proofs.CopyTables.{at-copies_found, copies-changed}
+use Rattle.job_row.proofs.ForCallers.{changed-found, at-copies_found, copies-changed}
 use Rattle.node_table.proofs.Passed.{IsUnwritten, seal_passed, placed_at, created_resides}
 use Rattle.node_table.proofs.Changing.{there_still, from_changed, bytes_stay, works_stay, listed_stay, keys_with, granted_stay}
 use Rattle.node_table.proofs.Stepping.{TakesChange, moved, shown_now, stays, digests_now, received_stays}
+use Rattle.node_table.specs.Beside.{SharedTables, shape_of}
 
 module _ (node : ℕ) (row : Row) (beside : SharedTables) (contents : Contents) (session : ℕ) (id : ObjectId) (mine : (id.job.0 == row.job) ≡ true) (h : IsShown row beside contents) where
   abbrev s : Shape

@@ -40,18 +40,19 @@ use Rattle.store_facts.proofs.ErasedKeys.{keys_none, all_found}
 use Rattle.store_facts.proofs.StepsKept.{view_keeps}
 use Rattle.store_facts.proofs.Tests.{true_false, both_left, both_right}
 use Rattle.job_region.specs.Region.{region_bytes_at as placed_bytes}
-use Rattle.node_table.specs.CopyViews.{CopyView}
-use Rattle.node_table.specs.Row.{Row, SharedTables, copies_of, shape_of}
-use Rattle.node_table.specs.Serving.{was_sealed_with, answer_by, row_pull_answer, chunks_to}
+use Rattle.job_row.specs.CopyViews.{CopyView, was_sealed_with}
+use Rattle.job_row.specs.Row.{Row, copies_of}
+use Rattle.node_table.specs.Serving.{answer_by, row_pull_answer, chunks_to}
 use Rattle.node_table.specs.Shown.{seen, IsShown, RowGiven, only, RowStep}
-use Rattle.node_table.specs.declared.serve_pull.PullAnswer.{PullAnswer}
-use Rattle.node_table.specs.declared.serve_pull.PullAnswer.TheVariants as pull
+use Rattle.node_table.specs.declared.pulls.PullAnswer.{PullAnswer}
+use Rattle.node_table.specs.declared.pulls.PullAnswer.TheVariants as pull
 use Rattle.node_table.proofs.Arriving.{live_is, ignored}
 use Rattle.node_table.proofs.ByChecks.{sending-is}
-use Rattle.node_table.proofs.CopyTables.{at-copies_none, at-copies_found}
+use Rattle.job_row.proofs.ForCallers.{at-copies_none, at-copies_found}
 use Rattle.node_table.proofs.Faults.{fault_is}
 use Rattle.node_table.proofs.Rooms.{in_room-is}
 use Rattle.node_table.proofs.Stepping.{change, telling, same_moves, shown_now, tells}
+use Rattle.node_table.specs.Beside.{SharedTables, shape_of}
 
 -- no more chunks are sent than were asked for
 pub few_chunks : {X Y Z : Type 0} (p : X → Bool) (f : X → Y) (g : Y → Z) (xs : List X) → length (map g (map f (filter p xs))) ≤ length xs

@@ -15,17 +15,17 @@ use Rattle.private_store.specs.rules.Private.{Post, key_of, posts_of, view_after
 use Rattle.store_facts.proofs.Rows.{at-put_here}
 use Rattle.store_facts.proofs.Tests.{T_true}
 use Rattle.lru_evictor.proofs.ForCallers.{reordered-unused}
-use Rattle.node_table.specs.CopyViews.{CopyView}
-use Rattle.node_table.specs.Row.{Row, SharedTables, copies_of, shape_of, place_of, ArePlaced}
-use Rattle.node_table.specs.Dropping.{dropped, is_over, settled_row, keys_settled}
-use Rattle.node_table.specs.Scope.{with_copy}
+use Rattle.job_row.specs.CopyViews.{CopyView}
+use Rattle.job_row.specs.Row.{Row, copies_of, place_of, ArePlaced}
+use Rattle.job_row.specs.Dropping.{dropped, is_over, settled_row, keys_settled}
+use Rattle.job_row.specs.Scope.{with_copy}
 use Rattle.node_table.specs.Shown.{seen, IsShown, RowGiven, RowStep}
-use Rattle.node_table.proofs.Changes.{changed-found}
+use Rattle.job_row.proofs.ForCallers.{changed-found, at-copies_found, copies-changed}
 use Rattle.node_table.proofs.Changing.{there_still, bytes_stay, digests_stay, works_stay, listed_stay, keys_with, granted_stay}
-use Rattle.node_table.proofs.CopyTables.{at-copies_found, copies-changed}
 use Rattle.node_table.proofs.Described.{working-on, idle_same}
 use Rattle.node_table.proofs.Dropping.{change_left, moves_left, key_removed}
 use Rattle.node_table.proofs.Stepping.{TakesChange, moved, change, received_stays}
+use Rattle.node_table.specs.Beside.{SharedTables, shape_of}
 
 -- what isn't doomed stays
 pub settled-stays : (store : Shape) (id : ObjectId) (copy : Copy) → at store.copies id ≡ Some copy → copy.doomed ≡ false → settled store id ≡ store

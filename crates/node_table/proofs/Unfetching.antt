@@ -1,7 +1,7 @@
 -- A row takes a message that ends a fetch without a copy.
-use Rattle.std.proofs.Common.{◌≡◌, ℕ, Bool, true, false, not, cond, ◌&&◌, ◌==◌, inl, inr, List, [], ◌∷◌, flat_map, take, Option, Some, None, unwrap_or, refl, sym, ap, ◌∙◌}
+use Rattle.std.proofs.Common.{◌≡◌, ℕ, Bool, true, false, cond, ◌&&◌, ◌==◌, inl, inr, List, [], ◌∷◌, flat_map, take, Option, Some, None, unwrap_or, refl, sym, ap, ◌∙◌}
 use Rattle.std.specs.Prelude.{option_to_list}
-use Rattle.std.specs.Option.{option_map_or, option_and_then}
+use Rattle.std.specs.Option.{option_map_or}
 use Rattle.std.proofs.lemmas.Bool.{eqb-true}
 use Rattle.obj_id.specs.declared.ids.ObjectId.{ObjectId}
 use Rattle.obj_id.specs.declared.works.Extent.{Extent}
@@ -12,12 +12,12 @@ use Rattle.obj_id.specs.declared.commands.CopyState.{CopyState}
 use Rattle.obj_id.specs.declared.commands.CopyState.TheVariants.{Created, Sealed, Restoring, Fetching, Away}
 use Rattle.obj_id.specs.declared.commands.Reply.TheVariants as reply
 use Rattle.obj_id.specs.Ids.{same_id}
-use Rattle.store_facts.proofs.Ids.{same_id-equal, same_id-flip}
+use Rattle.store_facts.proofs.Ids.{same_id-flip}
 use Rattle.private_store.specs.declared.faults.FetchFault.{FetchFault}
 use Rattle.private_store.specs.declared.faults.FetchFault.TheVariants.{Absent}
 use Rattle.private_store.specs.declared.inputs.Input.{Input}
 use Rattle.private_store.specs.declared.inputs.Input.TheVariants as input
-use Rattle.private_store.specs.rules.Tables.{ById, at, without_entry}
+use Rattle.private_store.specs.rules.Tables.{at}
 use Rattle.private_store.specs.rules.Shape.{Copy, Shape, Change, Fetch, Phase, locating, sized, pulling, failed, Sending, remove_source}
 use Rattle.private_store.specs.rules.Copies.{extent_of}
 use Rattle.private_store.specs.rules.Room.{set_copy}
@@ -27,48 +27,20 @@ use Rattle.private_store.specs.rules.Contents.{Contents, View, keeps_digest, is_
 use Rattle.private_store.specs.rules.Private.{Post, posts_of, to_directory}
 use Rattle.private_store.specs.laws.Invariants.{is_fetching}
 use Rattle.store_facts.proofs.Filling.{filled}
-use Rattle.store_facts.proofs.Rows.{at-put}
 use Rattle.store_facts.proofs.Tests.{none_some, true_false, false_true, both_left, both_right}
 use Rattle.job_region.specs.Region.{without, region_bytes_at as placed_bytes}
 use Rattle.fetch_core.specs.Fetching.{is_pulled_from}
-use Rattle.node_table.specs.Arriving.{in_phase, fetch_of_length, asks, after_failed_fetch, unfetched_row}
-use Rattle.node_table.specs.Entries.{changed}
-use Rattle.node_table.specs.CopyViews.{CopyView}
-use Rattle.node_table.specs.Row.{Row, SharedTables, shape_of, place_of, ArePlaced}
+use Rattle.job_row.specs.Arriving.{in_phase, fetch_of_length, asks, after_failed_fetch, unfetched_row}
+use Rattle.job_row.specs.Entries.{changed}
+use Rattle.job_row.specs.CopyViews.{CopyView}
+use Rattle.job_row.specs.Row.{Row, place_of, ArePlaced}
 use Rattle.node_table.specs.Shown.{seen, IsShown, only, RowStep}
 use Rattle.node_table.proofs.Arriving.{numbers_turn, IsOf, fetch_is, fetch_case, is_on_way, live_is, ignored, arrived}
 use Rattle.node_table.proofs.ByChecks.{sending-is}
-use Rattle.node_table.proofs.Changes.{changed-found, changed-absent}
-use Rattle.node_table.proofs.Dropping.{left_placed, place_left, found_left}
 use Rattle.node_table.proofs.Passed.{place_found}
-use Rattle.node_table.proofs.Places.{same_places}
 use Rattle.node_table.proofs.Stepping.{change, bytes_now, same_bytes}
-
--- ---- the place that is given back
-
-module _ (placed : List (ℕ × List ℕ)) (es : ById CopyView) (h : ArePlaced placed (place_of es)) (id : ObjectId) (fault : FetchFault) where
-  place_unfetched : (q : ObjectId) → place_of (changed (after_failed_fetch fault) es id) q ≡ cond (not (same_id id q)) (place_of es q) None
-  place_unfetched q = by (at es id) refl
-    where
-      absent : at es id ≡ None → (b : Bool) → same_id id q ≡ b → place_of es q ≡ cond (not b) (place_of es q) None
-      absent e true t = ap (place_of es) (sym (same_id-equal id q t)) ∙ ap (λ o. option_and_then (λ (kept : CopyView). extent_of kept.copy) o) e
-      absent e false t = refl
-
-      there : (k : CopyView) (b : Bool) → option_and_then (λ (kept : CopyView). extent_of kept.copy) (cond b (Some (after_failed_fetch fault k)) (at es q)) ≡ cond (not b) (place_of es q) None
-      there k true = refl
-      there k false = refl
-
-      by : (o : Option CopyView) → at es id ≡ o → place_of (changed (after_failed_fetch fault) es id) q ≡ cond (not (same_id id q)) (place_of es q) None
-      by None e = ap (λ t. place_of t q) (changed-absent (after_failed_fetch fault) id es e) ∙ absent e (same_id id q) refl
-      by (Some k) e =
-          ap (λ t. place_of t q) (changed-found (after_failed_fetch fault) id es k e)
-          ∙ ap (λ o. option_and_then (λ (kept : CopyView). extent_of kept.copy) o) (at-put es id (after_failed_fetch fault k) q ∙ ap (λ b. cond b (Some (after_failed_fetch fault k)) (at es q)) (same_id-flip q id))
-          ∙ there k (same_id id q)
-
-  pub unfetched_placed : ArePlaced (without (option_to_list (place_of es id)) placed) (place_of (changed (after_failed_fetch fault) es id))
-  unfetched_placed =
-      same_places (without (option_to_list (place_of es id)) placed) (place_of (without_entry es id)) (place_of (changed (after_failed_fetch fault) es id))
-      (λ q. place_unfetched q ∙ sym (place_left placed es h id q)) (left_placed placed es h id)
+use Rattle.job_row.proofs.ForCallers.{found_left}
+use Rattle.node_table.specs.Beside.{SharedTables, shape_of}
 
 -- ---- the step
 

@@ -22,16 +22,17 @@ use Rattle.store_facts.proofs.Rows.{at-put}
 use Rattle.private_store.specs.rules.Private.{key_of}
 use Rattle.job_region.specs.Region.{region_bytes_at as placed_bytes}
 use Rattle.lru_evictor.proofs.ForCallers.{reordered-unused}
-use Rattle.node_table.specs.CopyViews.{CopyView}
-use Rattle.node_table.specs.Row.{Row, SharedTables, copies_of, shape_of, place_of, ArePlaced}
-use Rattle.node_table.specs.Checks.{write_check, read_check}
+use Rattle.job_row.specs.CopyViews.{CopyView}
+use Rattle.job_row.specs.Row.{Row, copies_of, place_of, ArePlaced}
+use Rattle.job_row.specs.Checks.{write_check, read_check}
 use Rattle.node_table.specs.Shown.{IsShown, only, RowStep}
 use Rattle.node_table.proofs.ByChecks.{unless_refused, called, own, write-by, read-by}
-use Rattle.node_table.proofs.CopyTables.{at-copies_found}
+use Rattle.job_row.proofs.ForCallers.{at-copies_found}
 use Rattle.node_table.proofs.Passed.{IsWritten, write_passed, IsRead, read_passed, placed_at, created_resides}
 use Rattle.node_table.proofs.Lending.{held_shown}
 use Rattle.node_table.proofs.Overwriting.{is_place, fits, written_here, written_elsewhere}
 use Rattle.node_table.proofs.Stepping.{moved, stays, same_bytes, received_stays}
+use Rattle.node_table.specs.Beside.{SharedTables, shape_of}
 
 module _ (node : ℕ) (row : Row) (beside : SharedTables) (contents : Contents) (session : ℕ) (id : ObjectId) (offset : ℕ) (mine : (id.job.0 == row.job) ≡ true) (h : IsShown row beside contents) where
   abbrev s : Shape

@@ -6,23 +6,17 @@ use Rattle.obj_id.specs.declared.ids.ObjectId.{ObjectId}
 use Rattle.obj_id.specs.declared.commands.Reply.{Reply}
 use Rattle.obj_id.specs.declared.commands.Reply.TheVariants as reply
 use Rattle.obj_id.specs.declared.refusals.Refusal.{Refusal}
-use Rattle.obj_id.specs.declared.refusals.Refusal.TheVariants.{BadId, Absent, BadSize, OutOfBounds, NotGranted, Gone, NotResident}
+use Rattle.obj_id.specs.declared.refusals.Refusal.TheVariants.{BadId, Absent, BadSize, OutOfBounds, NotGranted, Gone}
 use Rattle.private_store.specs.rules.Limits.{most_bytes}
 use Rattle.private_store.specs.rules.Tables.{at}
 use Rattle.private_store.specs.rules.Copies.{extent_of}
-use Rattle.private_store.specs.rules.Commands.{is_sealed_primary}
 use Rattle.private_store.specs.rules.Grants.{StandingGrant, with_grant}
 use Rattle.private_store.specs.laws.Invariants.{is_remembered}
 use Rattle.grants.specs.Table.{shows, is_no_grantee}
 use Rattle.job_region.specs.Region.{region_bytes_at as placed_bytes}
-use Rattle.node_table.specs.CopyViews.{CopyView}
-use Rattle.node_table.specs.Row.{Row}
-
--- of a copy that is there, where this is what the table of grants says
-abbrev pub grant_check_of : CopyView → Option Refusal → Option Refusal
-grant_check_of kept table =
-    if kept.copy.doomed then Some Absent else
-    (if not (is_sealed_primary kept.copy) then Some NotResident else table)
+use Rattle.job_row.specs.CopyViews.{CopyView}
+use Rattle.job_row.specs.Row.{Row}
+use Rattle.job_row.specs.Checks.{grant_check_of}
 
 -- why the job's own object can't be granted
 abbrev pub row_grant_check : Row → ObjectId → ℕ → Option Refusal → Option Refusal

@@ -12,12 +12,13 @@ use Rattle.private_store.specs.rules.Room.{make_room}
 use Rattle.private_store.specs.rules.Change.{erasing, in_room}
 use Rattle.private_store.specs.rules.Step.{step}
 use Rattle.spill_work.specs.Line.{WorkLine}
-use Rattle.node_table.specs.Evicting.{MayGo, IsPlacement}
-use Rattle.node_table.specs.Row.{Row, SharedTables, beside_of, shape_of}
+use Rattle.job_row.specs.Evicting.{MayGo, IsPlacement}
+use Rattle.job_row.specs.Row.{Row}
 use Rattle.node_table.specs.RoomPlans.{MakesPlace, planned_by, refuses}
 use Rattle.node_table.specs.Shown.{seen, only, IsShown, RowStep}
 use Rattle.node_table.specs.declared.room.MadeRoom.{MadeRoom}
 use Rattle.node_table.specs.declared.room.MadeRoom.TheVariants.{Place, Refused}
+use Rattle.node_table.specs.Beside.{SharedTables, beside_of, shape_of}
 
 -- an input that brings no contents, as a Create or a Get
 pub record BringsNothing (node : ℕ) (before : View) (x : Input) : Type 0 where

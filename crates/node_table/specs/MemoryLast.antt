@@ -11,8 +11,9 @@ use Rattle.private_store.specs.rules.Contents.{Contents, View}
 use Rattle.private_store.specs.rules.Grants.{StandingGrant}
 use Rattle.private_store.specs.rules.Private.{Outcome, view_step}
 use Rattle.spill_work.specs.Line.{WorkLine}
-use Rattle.node_table.specs.Row.{Row, beside_of}
+use Rattle.job_row.specs.Row.{Row}
 use Rattle.node_table.specs.Shown.{seen, IsShown}
+use Rattle.node_table.specs.Beside.{beside_of}
 
 abbrev pub is_pending : Refusal → Bool
 is_pending Pending = true

@@ -11,8 +11,9 @@ use Rattle.private_store.specs.rules.Grants.{StandingGrant}
 use Rattle.grants.specs.Table.{given_by as grants_given}
 use Rattle.grants.specs.Private.{as_given}
 use Rattle.spill_work.specs.Line.{WorkLine}
-use Rattle.node_table.specs.Row.{Row, SharedTables, beside_of, shape_of}
+use Rattle.job_row.specs.Row.{Row}
 use Rattle.node_table.specs.Shown.{IsShown}
+use Rattle.node_table.specs.Beside.{SharedTables, beside_of, shape_of}
 
 -- the row and what stands beside it show the view
 pub record IsSeen (row : Row) (beside : SharedTables) (view : View) : Type 0 where

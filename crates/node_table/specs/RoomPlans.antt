@@ -1,41 +1,20 @@
--- What is to be done for room in a row's window, and what a plan reads of the copies that a row keeps.
-use Rattle.std.specs.Prelude.{◌≡◌, ℕ, ◌<◌, ◌≤◌, Bool, true, false, not, ◌&&◌, if◌then◌else◌, List, [], length, fold, is_some, is_none, unwrap_or}
+-- What is to be done for room in a row's window.
+use Rattle.std.specs.Prelude.{◌≡◌, ℕ, ◌<◌, ◌≤◌, Bool, true, false, if◌then◌else◌, List, [], length, fold, is_some, unwrap_or}
 use Rattle.std.specs.List.{list_all}
 use Rattle.std.specs.Option.{option_map_or}
 use Rattle.obj_id.specs.declared.ids.ObjectId.{ObjectId}
 use Rattle.obj_id.specs.declared.refusals.Refusal.TheVariants.{Pending, Full, Busy, DeviceFailed, TooMany}
 use Rattle.private_store.specs.rules.Limits.{has_numbers}
 use Rattle.private_store.specs.rules.Tables.{at}
-use Rattle.private_store.specs.rules.Extents.{rounded}
 use Rattle.private_store.specs.rules.Shape.{Copy, Shape}
-use Rattle.private_store.specs.rules.Copies.{extent_of, is_held, may_evict, may_spill, may_drain, is_evictable, is_spillable}
+use Rattle.private_store.specs.rules.Copies.{is_evictable, is_spillable}
 use Rattle.private_store.specs.laws.Invariants.{IsOrderOfUse}
 use Rattle.private_store.specs.rules.Room.{Room, Plan, works_left, offset_without, asked, evict_room, no_room, plan}
-use Rattle.lru_evictor.specs.declared.facts.CopyFacts.{CopyFacts}
 use Rattle.lru_evictor.specs.declared.facts.Plan.{Plan as Kind}
 use Rattle.lru_evictor.specs.declared.facts.Plan.TheVariants as kind
 use Rattle.lru_evictor.specs.Plans.{plan_kind_of}
-use Rattle.node_table.specs.CopyViews.{CopyView}
 use Rattle.node_table.specs.declared.room.RoomPlan.{RoomPlan}
 use Rattle.node_table.specs.declared.room.RoomPlan.TheVariants.{Fits, Evict, Ask, TellFailedSpill, Refuse}
-
--- ---- what a plan reads
-
--- neither held nor granted nor working
-abbrev pub is_idle_view : CopyView → Bool
-is_idle_view kept = not (is_held kept.copy) && not kept.granted && is_none kept.working
-
-abbrev pub row_facts_of : CopyView → CopyFacts
-row_facts_of kept =
-    record {
-      extent = extent_of kept.copy;
-      bytes = rounded kept.copy.length;
-      evictable = may_evict kept.copy.state kept.copy.kind kept.copy.backed (is_idle_view kept);
-      draining = may_drain (is_some kept.working) (is_some kept.copy.offset) (is_held kept.copy) kept.granted;
-      spillable = may_spill kept.copy.state kept.copy.kind kept.copy.backed kept.copy.doomed (is_idle_view kept);
-    }
-
--- ---- what is to be done
 
 -- what a kind of plan is to a job whose works had numbers up to this one, of which a spill failed or not, if the object goes to this
 -- offset as it is

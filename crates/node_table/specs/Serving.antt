@@ -1,20 +1,14 @@
 -- What a Pull comes to at a row.
-use Rattle.std.specs.Prelude.{ℕ, Bool, not, ◌&&◌, ◌==◌, if◌then◌else◌, List, length, map, is_none, Option, Some, None, unwrap_or}
+use Rattle.std.specs.Prelude.{ℕ, not, ◌&&◌, if◌then◌else◌, List, length, map, is_none, Option, Some, None}
 use Rattle.obj_id.specs.declared.ids.ObjectId.{ObjectId}
 use Rattle.obj_id.specs.declared.commands.CopyState.{CopyState}
 use Rattle.obj_id.specs.declared.commands.CopyState.TheVariants.{Sealed, Restoring, Away}
 use Rattle.obj_id.specs.declared.messages.Digest.{Digest}
 use Rattle.private_store.specs.declared.faults.Fault.{Fault}
-use Rattle.private_store.specs.rules.Contents.{same_digest, no_digest}
-use Rattle.private_store.specs.rules.Copies.{was_sealed}
 use Rattle.private_store.specs.rules.Private.{Post, to_peer, chunks_asked}
-use Rattle.node_table.specs.CopyViews.{CopyView}
-use Rattle.node_table.specs.declared.serve_pull.PullAnswer.{PullAnswer}
-use Rattle.node_table.specs.declared.serve_pull.PullAnswer.TheVariants.{NotHere, Chunks, Nothing, Restore}
-
--- whether it was sealed with this length and digest
-abbrev pub was_sealed_with : ℕ → Digest → CopyView → Bool
-was_sealed_with n digest kept = was_sealed kept.copy.state && kept.copy.length == n && same_digest digest (unwrap_or kept.digest no_digest)
+use Rattle.job_row.specs.CopyViews.{CopyView, was_sealed_with}
+use Rattle.node_table.specs.declared.pulls.PullAnswer.{PullAnswer}
+use Rattle.node_table.specs.declared.pulls.PullAnswer.TheVariants.{NotHere, Chunks, Nothing, Restore}
 
 -- of the copy that is asked for, by its state and what its last restore came to
 abbrev pub answer_by : CopyState → Option Fault → PullAnswer

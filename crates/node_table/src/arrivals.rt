@@ -6,51 +6,49 @@ ghost use Rattle.obj_id.specs.declared.messages.PeerMessage.TheVariants as peer;
 ghost use Rattle.private_store.specs.declared.inputs.Input.TheVariants as input;
 ghost use Rattle.private_store.specs.rules.Contents.{Contents};
 ghost use Rattle.node_table.specs.Outcomes.{row_given_of};
-ghost use Rattle.node_table.specs.Row.{SharedTables};
 ghost use Rattle.node_table.specs.Shown.{IsShown, RowStep, only};
+ghost use Rattle.node_table.specs.Beside.{SharedTables};
 
 use crate::outcome::{Erase, RowOutcome};
-use crate::row::JobRow;
+use job_row::JobRow;
 use obj_id::{DirectoryMessage, FetchNo, Location, NodeNo, ObjectId, Reply};
 use private_store::FetchFault;
 use std::alloc::{AllocError, Global};
 
-impl JobRow {
-    /// The directory's answer to a fetch of this number: the first entry of another node is its source, and without one
-    /// it has failed. It counts while the source isn't known; otherwise nothing changes. The reply is Ok. Takes no memory.
-    pub fn located(&mut self, node: NodeNo, id: &ObjectId, number: FetchNo, entries: &[Location])
-        ensures { (beside : SharedTables) (contents : Contents) → IsShown self.old beside contents
-            → RowStep node self.old beside contents (input.Arrive (arrival.Located id.now number entries.now)) (only reply.Ok) self.new beside }
-    {
-        self.locate_copy(id, node, number, entries);
-    }
+/// The directory's answer to a fetch of this number: the first entry of another node is its source, and without one
+/// it has failed. It counts while the source isn't known; otherwise nothing changes. The reply is Ok. Takes no memory.
+pub fn located(row: &mut JobRow, node: NodeNo, id: &ObjectId, number: FetchNo, entries: &[Location])
+    ensures { (beside : SharedTables) (contents : Contents) → IsShown row.old beside contents
+        → RowStep node row.old beside contents (input.Arrive (arrival.Located id.now number entries.now)) (only reply.Ok) row.new beside }
+{
+    row.locate_copy(id, node, number, entries);
+}
 
-    /// A node says that it has no such copy: if a fetch of this number asks that node, it has failed, its place is given
-    /// back, and the directory is asked to forget the node; otherwise nothing changes. The error is out of memory, and then
-    /// nothing has changed.
-    pub fn not_here(
-        &mut self,
-        alloc: Global,
-        from: NodeNo,
-        id: &ObjectId,
-        number: FetchNo,
-    ) -> Result<RowOutcome, AllocError>
-        ensures ok { IfOk result (λ o. (node : ℕ) (beside : SharedTables) (contents : Contents) → IsShown self.old beside contents
-            → RowStep node self.old beside contents (input.Arrive (arrival.FromPeer from (peer.NotHere id.now number))) (row_given_of o) self.new beside) }
-        ensures response { IfOk result (λ o. o.reply ≡ reply.Ok) }
-        ensures bounded { IfOk result (λ o. length o.messages ≤ 1) }
-        ensures err { OnErr result (self.new ≡ self.old) }
-    {
-        if !self.copies().asks(id, number, from) {
-            return Ok(RowOutcome::only(alloc, Reply::Ok));
-        }
-        let message = DirectoryMessage::RemoveLocation(*id, from.0);
-        let messages = RowOutcome::to_directory(alloc, Some(message))?;
-        self.fail_fetch(id, FetchFault::Absent);
-        Ok(RowOutcome {
-            reply: Reply::Ok,
-            messages,
-            erase: Erase::NoKey,
-        })
+/// A node says that it has no such copy: if a fetch of this number asks that node, it has failed, its place is given
+/// back, and the directory is asked to forget the node; otherwise nothing changes. The error is out of memory, and then
+/// nothing has changed.
+pub fn not_here(
+    row: &mut JobRow,
+    alloc: Global,
+    from: NodeNo,
+    id: &ObjectId,
+    number: FetchNo,
+) -> Result<RowOutcome, AllocError>
+    ensures ok { IfOk result (λ o. (node : ℕ) (beside : SharedTables) (contents : Contents) → IsShown row.old beside contents
+        → RowStep node row.old beside contents (input.Arrive (arrival.FromPeer from (peer.NotHere id.now number))) (row_given_of o) row.new beside) }
+    ensures response { IfOk result (λ o. o.reply ≡ reply.Ok) }
+    ensures bounded { IfOk result (λ o. length o.messages ≤ 1) }
+    ensures err { OnErr result (row.new ≡ row.old) }
+{
+    if !row.copies().asks(id, number, from) {
+        return Ok(RowOutcome::only(alloc, Reply::Ok));
     }
+    let message = DirectoryMessage::RemoveLocation(*id, from.0);
+    let messages = RowOutcome::to_directory(alloc, Some(message))?;
+    row.fail_fetch(id, FetchFault::Absent);
+    Ok(RowOutcome {
+        reply: Reply::Ok,
+        messages,
+        erase: Erase::NoKey,
+    })
 }

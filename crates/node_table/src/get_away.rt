@@ -10,47 +10,45 @@ ghost use Rattle.private_store.specs.rules.Grants.{StandingGrant};
 ghost use Rattle.private_store.specs.rules.Contents.{Contents};
 ghost use Rattle.spill_work.specs.Line.{same_work_job, IsSameFor};
 ghost use Rattle.node_table.specs.Asked.{HasAsked};
-ghost use Rattle.node_table.specs.Checks.{visible_state};
+ghost use Rattle.job_row.specs.Checks.{visible_state};
 ghost use Rattle.node_table.specs.MemoryLast.{IsDueMore};
 ghost use Rattle.node_table.specs.Outcomes.{row_given_of};
-ghost use Rattle.node_table.specs.Row.{beside_of};
 ghost use Rattle.node_table.specs.Shown.{IsShown, RowStep};
+ghost use Rattle.node_table.specs.Beside.{beside_of};
 
 use crate::get_command::refuse;
-use crate::marks::Mark;
 use crate::outcome::RowOutcome;
-use crate::row::JobRow;
+use crate::restore::restore;
+use job_row::{JobRow, Mark};
 use obj_id::ObjectId;
 use spill_work::Works;
 use std::alloc::{AllocError, Global};
 
-impl JobRow {
-    /// Get of a copy that is away: what its last restore came to is answered, once; otherwise it is read back. `DeviceFailed`,
-    /// `Damaged`, and as `restore`.
-    pub(crate) fn get_away(
-        &mut self,
-        alloc: Global,
-        node: u32,
-        works: &mut Works,
-        id: &ObjectId,
-    ) -> Result<RowOutcome, AllocError>
-        requires alive { is_remembered self.old.ended_tasks id.now.task ≡ false }
-        requires visible { visible_state (at self.old.copies id.now) ≡ Ok (Some Away) }
-        ensures ok { IfOk result (λ o. (session : ℕ) (grants : List StandingGrant) (bytes : ObjectId → List ℕ) (contents : Contents) → (id.now.job.0 == self.old.job) ≡ true → IsShown self.old (beside_of works.old grants bytes self.old.job) contents
-            → RowStep node self.old (beside_of works.old grants bytes self.old.job) contents (input.Call session (command.Get id.now)) (row_given_of o) self.new (beside_of works.new grants bytes self.old.job)) }
-        ensures bounded { IfOk result (λ o. length o.messages ≤ length self.old.copies + 1) }
-        ensures line { OnOk result (HasAsked works.old id.now.job works.new) }
-        ensures memory_last { OnErr result ((id.now.job.0 == self.old.job) ≡ true → IsDueMore node self.old works.old (command.Get id.now)) }
-        ensures others { (other : JobNo) → same_work_job id.now.job other ≡ false → IsSameFor other works.old works.new }
-        ensures err { OnErr result (self.new ≡ self.old) }
-        ensures works { OnErr result (works.new ≡ works.old) }
-    {
-        match self.copies().fault(id) {
-            Some(fault) => {
-                self.apply(id, Mark::FaultTold);
-                refuse(alloc, fault.refusal())
-            }
-            None => self.restore(alloc, node, works, id.job(), id),
+/// Get of a copy that is away: what its last restore came to is answered, once; otherwise it is read back. `DeviceFailed`,
+/// `Damaged`, and as `restore`.
+pub(crate) fn get_away(
+    row: &mut JobRow,
+    alloc: Global,
+    node: u32,
+    works: &mut Works,
+    id: &ObjectId,
+) -> Result<RowOutcome, AllocError>
+    requires alive { is_remembered row.old.ended_tasks id.now.task ≡ false }
+    requires visible { visible_state (at row.old.copies id.now) ≡ Ok (Some Away) }
+    ensures ok { IfOk result (λ o. (session : ℕ) (grants : List StandingGrant) (bytes : ObjectId → List ℕ) (contents : Contents) → (id.now.job.0 == row.old.job) ≡ true → IsShown row.old (beside_of works.old grants bytes row.old.job) contents
+        → RowStep node row.old (beside_of works.old grants bytes row.old.job) contents (input.Call session (command.Get id.now)) (row_given_of o) row.new (beside_of works.new grants bytes row.old.job)) }
+    ensures bounded { IfOk result (λ o. length o.messages ≤ length row.old.copies + 1) }
+    ensures line { OnOk result (HasAsked works.old id.now.job works.new) }
+    ensures memory_last { OnErr result ((id.now.job.0 == row.old.job) ≡ true → IsDueMore node row.old works.old (command.Get id.now)) }
+    ensures others { (other : JobNo) → same_work_job id.now.job other ≡ false → IsSameFor other works.old works.new }
+    ensures err { OnErr result (row.new ≡ row.old) }
+    ensures works { OnErr result (works.new ≡ works.old) }
+{
+    match row.copies().fault(id) {
+        Some(fault) => {
+            row.apply(id, Mark::FaultTold);
+            refuse(alloc, fault.refusal())
         }
+        None => restore(row, alloc, node, works, id.job(), id),
     }
 }

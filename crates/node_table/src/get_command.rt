@@ -14,140 +14,136 @@ ghost use Rattle.obj_id.specs.declared.messages.DirectoryMessage.TheVariants.{Lo
 ghost use Rattle.private_store.specs.rules.Grants.{StandingGrant};
 ghost use Rattle.spill_work.specs.Line.{WorkLine, same_work_job, IsSameFor};
 ghost use Rattle.node_table.specs.Asked.{HasAsked};
-ghost use Rattle.node_table.specs.Row.{SharedTables, beside_of};
-ghost use Rattle.node_table.specs.CopyViews.{is_ready};
+ghost use Rattle.job_row.specs.CopyViews.{is_ready};
 ghost use Rattle.node_table.specs.MemoryLast.{IsDueMore};
 ghost use Rattle.node_table.specs.Outcomes.{row_given_of};
 ghost use Rattle.node_table.specs.Shown.{IsShown, RowStep, only};
+ghost use Rattle.node_table.specs.Beside.{SharedTables, beside_of};
 
+use crate::get_away::get_away;
+use crate::get_fetching::get_fetching;
 use crate::outcome::{Erase, RowOutcome};
-use crate::row::JobRow;
 use bytes::Bytes;
+use job_row::JobRow;
 use obj_id::{
     CopyState, DirectoryMessage, Endpoint, FetchNo, ItemList, Message, ObjectId, Refusal, Reply,
 };
 use spill_work::Works;
 use std::alloc::{AllocError, Global};
 
-impl JobRow {
-    /// Get of a sealed copy: one more hold of the session, and the copy is the most recently used one.
-    /// `TooMany` at 64 holds. `None` if there is no sealed copy, and then nothing has changed.
-    fn get_sealed(
-        &mut self,
-        session: u32,
-        id: &ObjectId,
-    ) -> Result<Option<Reply<Bytes>>, AllocError>
-        requires { is_remembered self.old.ended_tasks id.now.task ≡ false }
-        ensures some { IfOk result (λ o. IfSome o (λ reply. (node : ℕ) (beside : SharedTables) (contents : Contents) → (id.now.job.0 == self.old.job) ≡ true → IsShown self.old beside contents
-            → RowStep node self.old beside contents (input.Call session (command.Get id.now)) (only reply) self.new beside)) }
-        ensures none { IfOk result (λ o. IfNone o (option_map_or (λ k. is_ready k.copy) (at self.old.copies id.now) false ≡ false)) }
-        ensures same { IfOk result (λ o. IfNone o (self.new ≡ self.old)) }
-        ensures memory_last { OnErr result ((node : ℕ) (line : WorkLine) → (id.now.job.0 == self.old.job) ≡ true → IsDueMore node self.old line (command.Get id.now)) }
-        ensures err { OnErr result (self.new ≡ self.old) }
-    {
-        match self.hold_copy(id, session) {
-            Ok(None) => Ok(None),
-            Ok(Some(length)) => Ok(Some(Reply::Got(length))),
-            Err(refusal) if refusal == Refusal::NoMemory => Err(AllocError),
-            Err(refusal) => Ok(Some(Reply::Refused(refusal))),
-        }
+/// Get of a sealed copy: one more hold of the session, and the copy is the most recently used one.
+/// `TooMany` at 64 holds. `None` if there is no sealed copy, and then nothing has changed.
+fn get_sealed(
+    row: &mut JobRow,
+    session: u32,
+    id: &ObjectId,
+) -> Result<Option<Reply<Bytes>>, AllocError>
+    requires { is_remembered row.old.ended_tasks id.now.task ≡ false }
+    ensures some { IfOk result (λ o. IfSome o (λ reply. (node : ℕ) (beside : SharedTables) (contents : Contents) → (id.now.job.0 == row.old.job) ≡ true → IsShown row.old beside contents
+        → RowStep node row.old beside contents (input.Call session (command.Get id.now)) (only reply) row.new beside)) }
+    ensures none { IfOk result (λ o. IfNone o (option_map_or (λ k. is_ready k.copy) (at row.old.copies id.now) false ≡ false)) }
+    ensures same { IfOk result (λ o. IfNone o (row.new ≡ row.old)) }
+    ensures memory_last { OnErr result ((node : ℕ) (line : WorkLine) → (id.now.job.0 == row.old.job) ≡ true → IsDueMore node row.old line (command.Get id.now)) }
+    ensures err { OnErr result (row.new ≡ row.old) }
+{
+    match row.hold_copy(id, session) {
+        Ok(None) => Ok(None),
+        Ok(Some(length)) => Ok(Some(Reply::Got(length))),
+        Err(refusal) if refusal == Refusal::NoMemory => Err(AllocError),
+        Err(refusal) => Ok(Some(Reply::Refused(refusal))),
     }
 }
 
-impl JobRow {
-    /// Get of an object that isn't here: its fetch begins, under the job's next number, and its source is
-    /// asked for. `TooMany` at 1,024 copies, and if no number is left; otherwise the answer is `Pending`.
-    fn begin_fetch(
-        &mut self,
-        alloc: Global,
-        node: u32,
-        id: &ObjectId,
-    ) -> Result<RowOutcome, AllocError>
-        requires alive { is_remembered self.old.ended_tasks id.now.task ≡ false }
-        requires none { at self.old.copies id.now ≡ None }
-        ensures ok { IfOk result (λ o. (session : ℕ) (beside : SharedTables) (contents : Contents) → (id.now.job.0 == self.old.job) ≡ true → IsShown self.old beside contents
-            → RowStep node self.old beside contents (input.Call session (command.Get id.now)) (row_given_of o) self.new beside) }
-        ensures bounded { IfOk result (λ o. length o.messages ≤ 1) }
-        ensures memory_last { OnErr result ((line : WorkLine) → (id.now.job.0 == self.old.job) ≡ true → IsDueMore node self.old line (command.Get id.now)) }
-        ensures err { OnErr result (self.new ≡ self.old) }
-    {
-        let begun = self.fetches_begun();
-        if let Some(refusal) = self.copies().fetch_check(begun) {
-            return Ok(RowOutcome::only(alloc, Reply::Refused(refusal)));
-        }
-        let number = FetchNo(begun + 1);
-        let messages = locate(alloc, node, *id, number)?;
-        self.enter_fetch(alloc, id, number)?;
-        Ok(pending(messages))
+/// Get of an object that isn't here: its fetch begins, under the job's next number, and its source is
+/// asked for. `TooMany` at 1,024 copies, and if no number is left; otherwise the answer is `Pending`.
+fn begin_fetch(
+    row: &mut JobRow,
+    alloc: Global,
+    node: u32,
+    id: &ObjectId,
+) -> Result<RowOutcome, AllocError>
+    requires alive { is_remembered row.old.ended_tasks id.now.task ≡ false }
+    requires none { at row.old.copies id.now ≡ None }
+    ensures ok { IfOk result (λ o. (session : ℕ) (beside : SharedTables) (contents : Contents) → (id.now.job.0 == row.old.job) ≡ true → IsShown row.old beside contents
+        → RowStep node row.old beside contents (input.Call session (command.Get id.now)) (row_given_of o) row.new beside) }
+    ensures bounded { IfOk result (λ o. length o.messages ≤ 1) }
+    ensures memory_last { OnErr result ((line : WorkLine) → (id.now.job.0 == row.old.job) ≡ true → IsDueMore node row.old line (command.Get id.now)) }
+    ensures err { OnErr result (row.new ≡ row.old) }
+{
+    let begun = row.fetches_begun();
+    if let Some(refusal) = row.copies().fetch_check(begun) {
+        return Ok(RowOutcome::only(alloc, Reply::Refused(refusal)));
+    }
+    let number = FetchNo(begun + 1);
+    let messages = locate(alloc, node, *id, number)?;
+    row.enter_fetch(alloc, id, number)?;
+    Ok(pending(messages))
+}
+
+/// Get of what isn't here as a sealed copy: what brings it here, or what its fetch or its restore came to. `Absent` if
+/// it is doomed, `NotSealed`, `Pending`, `TooMany`, and as `get_fetching` and `get_away`.
+fn get_unsealed(
+    row: &mut JobRow,
+    alloc: Global,
+    node: u32,
+    works: &mut Works,
+    id: &ObjectId,
+) -> Result<RowOutcome, AllocError>
+    requires alive { is_remembered row.old.ended_tasks id.now.task ≡ false }
+    requires unready { option_map_or (λ k. is_ready k.copy) (at row.old.copies id.now) false ≡ false }
+    ensures ok { IfOk result (λ o. (session : ℕ) (grants : List StandingGrant) (bytes : ObjectId → List ℕ) (contents : Contents) → (id.now.job.0 == row.old.job) ≡ true → IsShown row.old (beside_of works.old grants bytes row.old.job) contents
+        → RowStep node row.old (beside_of works.old grants bytes row.old.job) contents (input.Call session (command.Get id.now)) (row_given_of o) row.new (beside_of works.new grants bytes row.old.job)) }
+    ensures bounded { IfOk result (λ o. length o.messages ≤ length row.old.copies + 1) }
+    ensures line { OnOk result (HasAsked works.old id.now.job works.new) }
+    ensures memory_last { OnErr result ((id.now.job.0 == row.old.job) ≡ true → IsDueMore node row.old works.old (command.Get id.now)) }
+    ensures others { (other : JobNo) → same_work_job id.now.job other ≡ false → IsSameFor other works.old works.new }
+    ensures err { OnErr result (row.new ≡ row.old) }
+    ensures works { OnErr result (works.new ≡ works.old) }
+{
+    let state = match row.copies().visible_state(id) {
+        Err(refusal) => return refuse(alloc, refusal),
+        Ok(None) => return begin_fetch(row, alloc, node, id),
+        Ok(Some(state)) => state,
+    };
+    match state {
+        CopyState::Fetching => get_fetching(row, alloc, node, works, id),
+        CopyState::Created => refuse(alloc, Refusal::NotSealed),
+        CopyState::Restoring => refuse(alloc, Refusal::Pending),
+        CopyState::Away => get_away(row, alloc, node, works, id),
+        CopyState::Sealed => unreachable!(),
     }
 }
 
-impl JobRow {
-    /// Get of what isn't here as a sealed copy: what brings it here, or what its fetch or its restore came to. `Absent` if
-    /// it is doomed, `NotSealed`, `Pending`, `TooMany`, and as `get_fetching` and `get_away`.
-    fn get_unsealed(
-        &mut self,
-        alloc: Global,
-        node: u32,
-        works: &mut Works,
-        id: &ObjectId,
-    ) -> Result<RowOutcome, AllocError>
-        requires alive { is_remembered self.old.ended_tasks id.now.task ≡ false }
-        requires unready { option_map_or (λ k. is_ready k.copy) (at self.old.copies id.now) false ≡ false }
-        ensures ok { IfOk result (λ o. (session : ℕ) (grants : List StandingGrant) (bytes : ObjectId → List ℕ) (contents : Contents) → (id.now.job.0 == self.old.job) ≡ true → IsShown self.old (beside_of works.old grants bytes self.old.job) contents
-            → RowStep node self.old (beside_of works.old grants bytes self.old.job) contents (input.Call session (command.Get id.now)) (row_given_of o) self.new (beside_of works.new grants bytes self.old.job)) }
-        ensures bounded { IfOk result (λ o. length o.messages ≤ length self.old.copies + 1) }
-        ensures line { OnOk result (HasAsked works.old id.now.job works.new) }
-        ensures memory_last { OnErr result ((id.now.job.0 == self.old.job) ≡ true → IsDueMore node self.old works.old (command.Get id.now)) }
-        ensures others { (other : JobNo) → same_work_job id.now.job other ≡ false → IsSameFor other works.old works.new }
-        ensures err { OnErr result (self.new ≡ self.old) }
-        ensures works { OnErr result (works.new ≡ works.old) }
-    {
-        let state = match self.copies().visible_state(id) {
-            Err(refusal) => return refuse(alloc, refusal),
-            Ok(None) => return self.begin_fetch(alloc, node, id),
-            Ok(Some(state)) => state,
-        };
-        match state {
-            CopyState::Fetching => self.get_fetching(alloc, node, works, id),
-            CopyState::Created => refuse(alloc, Refusal::NotSealed),
-            CopyState::Restoring => refuse(alloc, Refusal::Pending),
-            CopyState::Away => self.get_away(alloc, node, works, id),
-            CopyState::Sealed => unreachable!(),
-        }
+/// Get: a hold on a copy that is here, and otherwise what brings it here. `Gone`, `Absent`, `NotSealed`, `Pending`,
+/// `TooMany`; `BadSize` of an object that the window can't have; once after its restore failed `DeviceFailed` or
+/// `Damaged`, and after its fetch failed `Absent` or `Damaged`, and then it isn't here any more. The error is out
+/// of memory: no other refusal was due then, and nothing has changed. The works that it asks for come last in the line,
+/// and those before them stay.
+/// It sends at most one message more than the job has copies.
+pub fn get(
+    row: &mut JobRow,
+    alloc: Global,
+    node: u32,
+    works: &mut Works,
+    session: u32,
+    id: &ObjectId,
+) -> Result<RowOutcome, AllocError>
+    ensures ok { IfOk result (λ o. (grants : List StandingGrant) (bytes : ObjectId → List ℕ) (contents : Contents) → (id.now.job.0 == row.old.job) ≡ true → IsShown row.old (beside_of works.old grants bytes row.old.job) contents
+        → RowStep node row.old (beside_of works.old grants bytes row.old.job) contents (input.Call session (command.Get id.now)) (row_given_of o) row.new (beside_of works.new grants bytes row.old.job)) }
+    ensures bounded { IfOk result (λ o. length o.messages ≤ length row.old.copies + 1) }
+    ensures line { OnOk result (HasAsked works.old id.now.job works.new) }
+    ensures memory_last { OnErr result ((id.now.job.0 == row.old.job) ≡ true → IsDueMore node row.old works.old (command.Get id.now)) }
+    ensures others { (other : JobNo) → same_work_job id.now.job other ≡ false → IsSameFor other works.old works.new }
+    ensures err { OnErr result (row.new ≡ row.old) }
+    ensures works { OnErr result (works.new ≡ works.old) }
+{
+    if row.has_ended(id.task()) {
+        return refuse(alloc, Refusal::Gone);
     }
-
-    /// Get: a hold on a copy that is here, and otherwise what brings it here. `Gone`, `Absent`, `NotSealed`, `Pending`,
-    /// `TooMany`; `BadSize` of an object that the window can't have; once after its restore failed `DeviceFailed` or
-    /// `Damaged`, and after its fetch failed `Absent` or `Damaged`, and then it isn't here any more. The error is out
-    /// of memory: no other refusal was due then, and nothing has changed. The works that it asks for come last in the line,
-    /// and those before them stay.
-    /// It sends at most one message more than the job has copies.
-    pub fn get(
-        &mut self,
-        alloc: Global,
-        node: u32,
-        works: &mut Works,
-        session: u32,
-        id: &ObjectId,
-    ) -> Result<RowOutcome, AllocError>
-        ensures ok { IfOk result (λ o. (grants : List StandingGrant) (bytes : ObjectId → List ℕ) (contents : Contents) → (id.now.job.0 == self.old.job) ≡ true → IsShown self.old (beside_of works.old grants bytes self.old.job) contents
-            → RowStep node self.old (beside_of works.old grants bytes self.old.job) contents (input.Call session (command.Get id.now)) (row_given_of o) self.new (beside_of works.new grants bytes self.old.job)) }
-        ensures bounded { IfOk result (λ o. length o.messages ≤ length self.old.copies + 1) }
-        ensures line { OnOk result (HasAsked works.old id.now.job works.new) }
-        ensures memory_last { OnErr result ((id.now.job.0 == self.old.job) ≡ true → IsDueMore node self.old works.old (command.Get id.now)) }
-        ensures others { (other : JobNo) → same_work_job id.now.job other ≡ false → IsSameFor other works.old works.new }
-        ensures err { OnErr result (self.new ≡ self.old) }
-        ensures works { OnErr result (works.new ≡ works.old) }
-    {
-        if self.has_ended(id.task()) {
-            return refuse(alloc, Refusal::Gone);
-        }
-        if let Some(reply) = self.get_sealed(session, id)? {
-            return Ok(RowOutcome::only(alloc, reply));
-        }
-        self.get_unsealed(alloc, node, works, id)
+    if let Some(reply) = get_sealed(row, session, id)? {
+        return Ok(RowOutcome::only(alloc, reply));
     }
+    get_unsealed(row, alloc, node, works, id)
 }
 
 /// A refusal, and nothing else.

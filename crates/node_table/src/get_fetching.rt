@@ -10,105 +10,103 @@ ghost use Rattle.private_store.specs.rules.Grants.{StandingGrant};
 ghost use Rattle.private_store.specs.rules.Contents.{Contents};
 ghost use Rattle.spill_work.specs.Line.{same_work_job, IsSameFor};
 ghost use Rattle.node_table.specs.Asked.{HasAsked};
-ghost use Rattle.node_table.specs.Checks.{visible_state, IsInPhase};
+ghost use Rattle.job_row.specs.Checks.{visible_state, IsInPhase};
 ghost use Rattle.node_table.specs.MemoryLast.{IsDueMore};
 ghost use Rattle.node_table.specs.Outcomes.{row_given_of};
-ghost use Rattle.node_table.specs.Row.{SharedTables, beside_of};
 ghost use Rattle.node_table.specs.Shown.{IsShown, RowStep};
 ghost use Rattle.obj_id.specs.declared.messages.PeerMessage.TheVariants.{Pull};
 ghost use Rattle.private_store.specs.rules.Shape.{sized, pulling, failed};
 ghost use Rattle.private_store.specs.rules.Contents.{no_digest};
 ghost use Rattle.private_store.specs.rules.Private.{to_peer};
 ghost use Rattle.fetch_core.specs.Fetching.{missing_of};
-ghost use Rattle.node_table.specs.CopyViews.{CopyView, store_fetch_of};
+ghost use Rattle.job_row.specs.CopyViews.{CopyView, store_fetch_of};
+ghost use Rattle.node_table.specs.Beside.{SharedTables, beside_of};
 
-use crate::copy::RowCopy;
+use crate::begin_pull::begin_pull;
 use crate::get_command::{locate, pending, refuse};
 use crate::outcome::RowOutcome;
-use crate::row::JobRow;
 use fetch_core::{FetchIn, Stage};
+use job_row::{JobRow, RowCopy};
 use obj_id::{Endpoint, ItemList, Message, NodeNo, ObjectId, PeerMessage, Refusal, Reply};
 use private_store::FetchFault;
 use spill_work::Works;
 use std::alloc::{AllocError, Global};
 
-impl JobRow {
-    /// Get of an object that is on its way: its fetch goes one step on, and the answer is `Pending`. What it came to if it
-    /// failed, `Absent` or `Damaged`, and then the copy is removed; and as `get_sized`.
-    pub(crate) fn get_fetching(
-        &mut self,
-        alloc: Global,
-        node: u32,
-        works: &mut Works,
-        id: &ObjectId,
-    ) -> Result<RowOutcome, AllocError>
-        requires alive { is_remembered self.old.ended_tasks id.now.task ≡ false }
-        requires visible { visible_state (at self.old.copies id.now) ≡ Ok (Some Fetching) }
-        ensures ok { IfOk result (λ o. (session : ℕ) (grants : List StandingGrant) (bytes : ObjectId → List ℕ) (contents : Contents) → (id.now.job.0 == self.old.job) ≡ true → IsShown self.old (beside_of works.old grants bytes self.old.job) contents
-            → RowStep node self.old (beside_of works.old grants bytes self.old.job) contents (input.Call session (command.Get id.now)) (row_given_of o) self.new (beside_of works.new grants bytes self.old.job)) }
-        ensures bounded { IfOk result (λ o. length o.messages ≤ length self.old.copies + 1) }
-        ensures line { OnOk result (HasAsked works.old id.now.job works.new) }
-        ensures memory_last { OnErr result ((id.now.job.0 == self.old.job) ≡ true → IsDueMore node self.old works.old (command.Get id.now)) }
-        ensures others { (other : JobNo) → same_work_job id.now.job other ≡ false → IsSameFor other works.old works.new }
-        ensures err { OnErr result (self.new ≡ self.old) }
-        ensures works { OnErr result (works.new ≡ works.old) }
-    {
-        let Some(copy) = self.copies().get(id) else {
-            unreachable!()
-        };
-        let Some(fetch) = copy.fetch() else {
-            return refuse(alloc, Refusal::Absent);
-        };
-        let len = copy.length();
-        match fetch.stage() {
-            Stage::Locating => Ok(pending(locate(alloc, node, *id, fetch.number())?)),
-            Stage::Pulling(source) => Ok(pending(pull(alloc, *id, copy, fetch, source)?)),
-            Stage::Sized(_) => self.get_sized(alloc, node, works, id, len),
-            Stage::Failed(fault) => Ok(self.tell_failed(alloc, id, fault)),
-        }
+/// Get of an object that is on its way: its fetch goes one step on, and the answer is `Pending`. What it came to if it
+/// failed, `Absent` or `Damaged`, and then the copy is removed; and as `get_sized`.
+pub(crate) fn get_fetching(
+    row: &mut JobRow,
+    alloc: Global,
+    node: u32,
+    works: &mut Works,
+    id: &ObjectId,
+) -> Result<RowOutcome, AllocError>
+    requires alive { is_remembered row.old.ended_tasks id.now.task ≡ false }
+    requires visible { visible_state (at row.old.copies id.now) ≡ Ok (Some Fetching) }
+    ensures ok { IfOk result (λ o. (session : ℕ) (grants : List StandingGrant) (bytes : ObjectId → List ℕ) (contents : Contents) → (id.now.job.0 == row.old.job) ≡ true → IsShown row.old (beside_of works.old grants bytes row.old.job) contents
+        → RowStep node row.old (beside_of works.old grants bytes row.old.job) contents (input.Call session (command.Get id.now)) (row_given_of o) row.new (beside_of works.new grants bytes row.old.job)) }
+    ensures bounded { IfOk result (λ o. length o.messages ≤ length row.old.copies + 1) }
+    ensures line { OnOk result (HasAsked works.old id.now.job works.new) }
+    ensures memory_last { OnErr result ((id.now.job.0 == row.old.job) ≡ true → IsDueMore node row.old works.old (command.Get id.now)) }
+    ensures others { (other : JobNo) → same_work_job id.now.job other ≡ false → IsSameFor other works.old works.new }
+    ensures err { OnErr result (row.new ≡ row.old) }
+    ensures works { OnErr result (works.new ≡ works.old) }
+{
+    let Some(copy) = row.copies().get(id) else {
+        unreachable!()
+    };
+    let Some(fetch) = copy.fetch() else {
+        return refuse(alloc, Refusal::Absent);
+    };
+    let len = copy.length();
+    match fetch.stage() {
+        Stage::Locating => Ok(pending(locate(alloc, node, *id, fetch.number())?)),
+        Stage::Pulling(source) => Ok(pending(pull(alloc, *id, copy, fetch, source)?)),
+        Stage::Sized(_) => get_sized(row, alloc, node, works, id, len),
+        Stage::Failed(fault) => Ok(tell_failed(row, alloc, id, fault)),
     }
+}
 
-    /// Get of an object of `len` bytes whose source is known: its bytes are asked for. `BadSize` if the window can't have
-    /// it, and as `begin_pull`.
-    fn get_sized(
-        &mut self,
-        alloc: Global,
-        node: u32,
-        works: &mut Works,
-        id: &ObjectId,
-        len: u32,
-    ) -> Result<RowOutcome, AllocError>
-        requires alive { is_remembered self.old.ended_tasks id.now.task ≡ false }
-        requires visible { visible_state (at self.old.copies id.now) ≡ Ok (Some Fetching) }
-        requires sized { (k : CopyView) → at self.old.copies id.now ≡ Some k → (source : ℕ) × IsInPhase k.copy (sized source) }
-        requires length { (k : CopyView) → at self.old.copies id.now ≡ Some k → len ≡ k.copy.length }
-        ensures ok { IfOk result (λ o. (session : ℕ) (grants : List StandingGrant) (bytes : ObjectId → List ℕ) (contents : Contents) → (id.now.job.0 == self.old.job) ≡ true → IsShown self.old (beside_of works.old grants bytes self.old.job) contents
-            → RowStep node self.old (beside_of works.old grants bytes self.old.job) contents (input.Call session (command.Get id.now)) (row_given_of o) self.new (beside_of works.new grants bytes self.old.job)) }
-        ensures bounded { IfOk result (λ o. length o.messages ≤ length self.old.copies + 1) }
-        ensures line { OnOk result (HasAsked works.old id.now.job works.new) }
-        ensures memory_last { OnErr result ((id.now.job.0 == self.old.job) ≡ true → IsDueMore node self.old works.old (command.Get id.now)) }
-        ensures others { (other : JobNo) → same_work_job id.now.job other ≡ false → IsSameFor other works.old works.new }
-        ensures err { OnErr result (self.new ≡ self.old) }
-        ensures works { OnErr result (works.new ≡ works.old) }
-    {
-        if !self.window().may_have(len) {
-            return refuse(alloc, Refusal::BadSize);
-        }
-        self.begin_pull(alloc, node, works, id)
+/// Get of an object of `len` bytes whose source is known: its bytes are asked for. `BadSize` if the window can't have
+/// it, and as `begin_pull`.
+fn get_sized(
+    row: &mut JobRow,
+    alloc: Global,
+    node: u32,
+    works: &mut Works,
+    id: &ObjectId,
+    len: u32,
+) -> Result<RowOutcome, AllocError>
+    requires alive { is_remembered row.old.ended_tasks id.now.task ≡ false }
+    requires visible { visible_state (at row.old.copies id.now) ≡ Ok (Some Fetching) }
+    requires sized { (k : CopyView) → at row.old.copies id.now ≡ Some k → (source : ℕ) × IsInPhase k.copy (sized source) }
+    requires length { (k : CopyView) → at row.old.copies id.now ≡ Some k → len ≡ k.copy.length }
+    ensures ok { IfOk result (λ o. (session : ℕ) (grants : List StandingGrant) (bytes : ObjectId → List ℕ) (contents : Contents) → (id.now.job.0 == row.old.job) ≡ true → IsShown row.old (beside_of works.old grants bytes row.old.job) contents
+        → RowStep node row.old (beside_of works.old grants bytes row.old.job) contents (input.Call session (command.Get id.now)) (row_given_of o) row.new (beside_of works.new grants bytes row.old.job)) }
+    ensures bounded { IfOk result (λ o. length o.messages ≤ length row.old.copies + 1) }
+    ensures line { OnOk result (HasAsked works.old id.now.job works.new) }
+    ensures memory_last { OnErr result ((id.now.job.0 == row.old.job) ≡ true → IsDueMore node row.old works.old (command.Get id.now)) }
+    ensures others { (other : JobNo) → same_work_job id.now.job other ≡ false → IsSameFor other works.old works.new }
+    ensures err { OnErr result (row.new ≡ row.old) }
+    ensures works { OnErr result (works.new ≡ works.old) }
+{
+    if !row.window().may_have(len) {
+        return refuse(alloc, Refusal::BadSize);
     }
+    begin_pull(row, alloc, node, works, id)
+}
 
-    /// Get of an object whose fetch failed: what it came to is answered, and the copy is removed.
-    fn tell_failed(&mut self, alloc: Global, id: &ObjectId, fault: FetchFault) -> RowOutcome
-        requires alive { is_remembered self.old.ended_tasks id.now.task ≡ false }
-        requires visible { visible_state (at self.old.copies id.now) ≡ Ok (Some Fetching) }
-        requires failed { (k : CopyView) → at self.old.copies id.now ≡ Some k → IsInPhase k.copy (failed fault) }
-        ensures step { (node session : ℕ) (beside : SharedTables) (contents : Contents) → (id.now.job.0 == self.old.job) ≡ true → IsShown self.old beside contents
-            → RowStep node self.old beside contents (input.Call session (command.Get id.now)) (row_given_of result) self.new beside }
-        ensures silent { result.messages ≡ [] }
-    {
-        self.drop_copy(id);
-        RowOutcome::only(alloc, Reply::Refused(fault.refusal()))
-    }
+/// Get of an object whose fetch failed: what it came to is answered, and the copy is removed.
+fn tell_failed(row: &mut JobRow, alloc: Global, id: &ObjectId, fault: FetchFault) -> RowOutcome
+    requires alive { is_remembered row.old.ended_tasks id.now.task ≡ false }
+    requires visible { visible_state (at row.old.copies id.now) ≡ Ok (Some Fetching) }
+    requires failed { (k : CopyView) → at row.old.copies id.now ≡ Some k → IsInPhase k.copy (failed fault) }
+    ensures step { (node session : ℕ) (beside : SharedTables) (contents : Contents) → (id.now.job.0 == row.old.job) ≡ true → IsShown row.old beside contents
+        → RowStep node row.old beside contents (input.Call session (command.Get id.now)) (row_given_of result) row.new beside }
+    ensures silent { result.messages ≡ [] }
+{
+    row.drop_copy(id);
+    RowOutcome::only(alloc, Reply::Refused(fault.refusal()))
 }
 
 /// The question for the chunks that are still missing, at the source.

@@ -3,74 +3,72 @@ ghost use Rattle.std.specs.Prelude.{◌≡◌, ◌==◌, ℕ, [], true, map, fol
 ghost use Rattle.obj_id.specs.declared.commands.Command.TheVariants as command;
 ghost use Rattle.private_store.specs.declared.inputs.Input.TheVariants as input;
 ghost use Rattle.private_store.specs.rules.Contents.{Contents};
-ghost use Rattle.node_table.specs.Row.{SharedTables};
-ghost use Rattle.node_table.specs.Dropping.{left_row, keys_left};
+ghost use Rattle.job_row.specs.Dropping.{left_row, keys_left};
 ghost use Rattle.node_table.specs.Outcomes.{row_given_of};
-ghost use Rattle.node_table.specs.Usages.{total, doomed_one};
+ghost use Rattle.job_row.specs.Usages.{total, doomed_one};
 ghost use Rattle.node_table.specs.Shown.{IsShown, RowStep};
+ghost use Rattle.node_table.specs.Beside.{SharedTables};
 
-use crate::marks::Mark;
 use crate::outcome::{Erase, RowOutcome};
-use crate::row::JobRow;
+use crate::scope_commands::settle_after;
+use job_row::{JobRow, Mark};
 use obj_id::{DeviceKey, ItemList, ObjectId, OwnItem, Reply};
 use std::alloc::{AllocError, Global};
 
-impl JobRow {
-    /// Release: one hold of the session on the copy less, which is removed if it is doomed and nothing else keeps it.
-    /// `Absent`, `NotHeld`; a refusal changes nothing. Takes no memory.
-    pub fn release(&mut self, alloc: Global, session: u32, id: &ObjectId) -> RowOutcome
-        ensures step { (node : ℕ) (beside : SharedTables) (contents : Contents) → (id.now.job.0 == self.old.job) ≡ true → IsShown self.old beside contents
-            → RowStep node self.old beside contents (input.Call session (command.Release id.now)) (row_given_of result) self.new beside }
-        ensures silent { result.messages ≡ [] }
-    {
-        match self.release_copy(id, session) {
-            Ok(over) => self.settle_after(id, over, ItemList::new(alloc)),
-            Err(refusal) => RowOutcome::only(alloc, Reply::Refused(refusal)),
-        }
+/// Release: one hold of the session on the copy less, which is removed if it is doomed and nothing else keeps it.
+/// `Absent`, `NotHeld`; a refusal changes nothing. Takes no memory.
+pub fn release(row: &mut JobRow, alloc: Global, session: u32, id: &ObjectId) -> RowOutcome
+    ensures step { (node : ℕ) (beside : SharedTables) (contents : Contents) → (id.now.job.0 == row.old.job) ≡ true → IsShown row.old beside contents
+        → RowStep node row.old beside contents (input.Call session (command.Release id.now)) (row_given_of result) row.new beside }
+    ensures silent { result.messages ≡ [] }
+{
+    match row.release_copy(id, session) {
+        Ok(over) => settle_after(row, id, over, ItemList::new(alloc)),
+        Err(refusal) => RowOutcome::only(alloc, Reply::Refused(refusal)),
     }
+}
 
-    /// Leave: no hold of the session on any copy, and a doomed one that nothing else keeps is removed. Takes two walks
-    /// over the job's copies. The error is out of memory, which only a job with a doomed copy takes, and then nothing has
-    /// changed.
-    pub fn leave(&mut self, alloc: Global, session: u32) -> Result<RowOutcome, AllocError>
-        ensures ok { IfOk result (λ o. (node : ℕ) (beside : SharedTables) (contents : Contents) → IsShown self.old beside contents
-            → RowStep node self.old beside contents (input.Call session command.Leave) (row_given_of o) self.new beside) }
-        ensures silent { IfOk result (λ o. o.messages ≡ []) }
-        ensures without_memory { total doomed_one self.old.copies ≡ 0 → IsOk result }
-        ensures err { OnErr result (self.new ≡ self.old) }
-    {
-        if self.copies().doomed_count() == 0 {
-            self.leave_copies(session);
-            return Ok(RowOutcome::only(alloc, Reply::Ok));
-        }
-        let items = self.copies().items(alloc)?;
-        let keys = self.leave_each(alloc, session, items.as_slice())?;
-        Ok(RowOutcome {
-            reply: Reply::Ok,
-            messages: ItemList::new(alloc),
-            erase: Erase::Many(keys),
-        })
+/// Leave: no hold of the session on any copy, and a doomed one that nothing else keeps is removed. Takes two walks
+/// over the job's copies. The error is out of memory, which only a job with a doomed copy takes, and then nothing has
+/// changed.
+pub fn leave(row: &mut JobRow, alloc: Global, session: u32) -> Result<RowOutcome, AllocError>
+    ensures ok { IfOk result (λ o. (node : ℕ) (beside : SharedTables) (contents : Contents) → IsShown row.old beside contents
+        → RowStep node row.old beside contents (input.Call session command.Leave) (row_given_of o) row.new beside) }
+    ensures silent { IfOk result (λ o. o.messages ≡ []) }
+    ensures without_memory { total doomed_one row.old.copies ≡ 0 → IsOk result }
+    ensures err { OnErr result (row.new ≡ row.old) }
+{
+    if row.copies().doomed_count() == 0 {
+        row.leave_copies(session);
+        return Ok(RowOutcome::only(alloc, Reply::Ok));
     }
+    let items = row.copies().items(alloc)?;
+    let keys = leave_each(row, alloc, session, items.as_slice())?;
+    Ok(RowOutcome {
+        reply: Reply::Ok,
+        messages: ItemList::new(alloc),
+        erase: Erase::Many(keys),
+    })
+}
 
-    /// No hold of the session on any of these copies, one after another, and those that are over are removed. Answers
-    /// the device keys that are to be erased. The error is out of memory, and then nothing has changed.
-    fn leave_each(
-        &mut self,
-        alloc: Global,
-        session: u32,
-        items: &[OwnItem],
-    ) -> Result<ItemList<DeviceKey>, AllocError>
-        ensures keys { IfOk result (λ keys. keys ≡ keys_left session self.old (map (λ item. item.id) items.now)) }
-        ensures row { OnOk result (self.new ≡ fold (left_row session) self.old (map (λ item. item.id) items.now)) }
-        ensures err { OnErr result (self.new ≡ self.old) }
-    {
-        let mut keys = Vec::with_capacity(alloc, items.len())?;
-        for item in items {
-            let after = self.apply(&item.id, Mark::Left(session));
-            push_key(&mut keys, self.settle(&item.id, after.over));
-        }
-        Ok(ItemList::from_vec(keys))
+/// No hold of the session on any of these copies, one after another, and those that are over are removed. Answers
+/// the device keys that are to be erased. The error is out of memory, and then nothing has changed.
+fn leave_each(
+    row: &mut JobRow,
+    alloc: Global,
+    session: u32,
+    items: &[OwnItem],
+) -> Result<ItemList<DeviceKey>, AllocError>
+    ensures keys { IfOk result (λ keys. keys ≡ keys_left session row.old (map (λ item. item.id) items.now)) }
+    ensures row { OnOk result (row.new ≡ fold (left_row session) row.old (map (λ item. item.id) items.now)) }
+    ensures err { OnErr result (row.new ≡ row.old) }
+{
+    let mut keys = Vec::with_capacity(alloc, items.len())?;
+    for item in items {
+        let after = row.apply(&item.id, Mark::Left(session));
+        push_key(&mut keys, row.settle(&item.id, after.over));
     }
+    Ok(ItemList::from_vec(keys))
 }
 
 /// The key comes last, if there is one. There is room for it.

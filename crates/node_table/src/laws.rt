@@ -15,11 +15,11 @@ ghost use Rattle.private_store.specs.rules.Shape.{Life};
 ghost use Rattle.grants.specs.Table.{AreGrants, given_by as grants_given, grant_check, withdraw_check};
 ghost use Rattle.grants.specs.Private.{as_given, HasGrants};
 ghost use Rattle.spill_work.specs.Line.{WorkLine};
-ghost use Rattle.node_table.specs.EndingTasks.{beside_ended};
 ghost use Rattle.node_table.specs.Granting.{peek_reply};
 ghost use Rattle.node_table.specs.Notes.{IsSeen, ends_to, beside_rest, received_view};
-ghost use Rattle.node_table.specs.Row.{Row, row_given_by, received_by, beside_of, shape_of};
+ghost use Rattle.job_row.specs.Row.{Row};
 ghost use Rattle.node_table.specs.Shown.{IsShown, only, RowStep};
+ghost use Rattle.node_table.specs.Beside.{row_given_by, received_by, beside_of, shape_of, beside_ended};
 
 /// A law of every row beside a table of grants: its job's store has the grants of the table.
 pub fn a_row_has_the_grants_beside_it()

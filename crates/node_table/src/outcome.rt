@@ -3,7 +3,7 @@ ghost use Rattle.std.specs.Prelude.{◌≡◌, ◌∷◌, [], IfOk, option_to_li
 ghost use Rattle.node_table.specs.Shown.{only as only_lem};
 ghost use Rattle.node_table.specs.Erased.{keys_of};
 ghost use Rattle.node_table.specs.Outcomes.{row_given_of};
-ghost use Rattle.node_table.specs.Scope.{notice_posts};
+ghost use Rattle.job_row.specs.Scope.{notice_posts};
 
 use bytes::Bytes;
 use obj_id::{DeviceKey, DirectoryMessage, Endpoint, ItemList, Message, Reply};

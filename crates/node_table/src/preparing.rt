@@ -2,8 +2,8 @@
 //! without it.
 ghost use Rattle.std.specs.Prelude.{◌≡◌};
 
-use crate::row::JobRow;
 use bytes::Bytes;
+use job_row::JobRow;
 use obj_id::limits::MOST_BYTES;
 use obj_id::{ChunkIndex, Command, CopyState, FetchNo, NodeNo, ObjectId};
 use std::alloc::Global;
@@ -20,72 +20,76 @@ pub fn may_want(command: &Command<Bytes>) -> bool {
     }
 }
 
-impl JobRow {
-    /// Whether something would best be prepared for the command.
-    pub fn wants(&self, command: &Command<Bytes>) -> bool {
-        matches!(command, Command::Seal(_)) || self.extent_wanted(command).is_some()
-    }
+/// Whether something would best be prepared for the command.
+pub fn wants(row: &JobRow, command: &Command<Bytes>) -> bool {
+    matches!(command, Command::Seal(_)) || extent_wanted(row, command).is_some()
+}
 
-    /// How long the object is for which the command may place an extent, if that is long.
-    pub fn extent_wanted(&self, command: &Command<Bytes>) -> Option<u32> {
-        let len = match command {
-            Command::Create {
-                id,
-                length: len,
-                ..
-            } if !self.copies().has(id) => *len,
-            Command::Get(id) => self.length_to_come(id)?,
-            _ => return None,
-        };
-        if len < LONG || !self.window().may_have(len) {
-            return None;
-        }
-        Some(len)
+/// How long the object is for which the command may place an extent, if that is long.
+pub fn extent_wanted(row: &JobRow, command: &Command<Bytes>) -> Option<u32> {
+    let len = match command {
+        Command::Create {
+            id,
+            length: len,
+            ..
+        } if !row.copies().has(id) => *len,
+        Command::Get(id) => length_to_come(row, id)?,
+        _ => return None,
+    };
+    if len < LONG || !row.window().may_have(len) {
+        return None;
     }
+    Some(len)
+}
 
-    /// How long a copy is that has no place yet.
-    fn length_to_come(&self, id: &ObjectId) -> Option<u32> {
-        let copy = self.copies().get(id)?;
-        if copy.offset().is_some() {
-            return None;
-        }
-        match copy.state() {
-            CopyState::Away => Some(copy.length()),
-            CopyState::Fetching => Some(copy.fetch()?.length()),
-            CopyState::Created | CopyState::Sealed | CopyState::Restoring => None,
-        }
+/// How long a copy is that has no place yet.
+fn length_to_come(row: &JobRow, id: &ObjectId) -> Option<u32> {
+    let copy = row.copies().get(id)?;
+    if copy.offset().is_some() {
+        return None;
     }
+    match copy.state() {
+        CopyState::Away => Some(copy.length()),
+        CopyState::Fetching => Some(copy.fetch()?.length()),
+        CopyState::Created | CopyState::Sealed | CopyState::Restoring => None,
+    }
+}
 
-    /// The bytes of a resident copy to be hashed, if they can be shared or are few.
-    pub fn share_copy(&mut self, alloc: Global, id: &ObjectId) -> Option<Bytes>
-        ensures { self.new ≡ self.old }
-    {
-        self.freeze(id);
-        let lent = self.lent(id);
-        if lent.shared.is_none() && lent.bytes.len() > MOST_BYTES {
-            return None;
-        }
-        lent.whole(alloc).ok()
+/// The bytes of a resident copy to be hashed, if they can be shared or are few.
+pub fn share_copy(row: &mut JobRow, alloc: Global, id: &ObjectId) -> Option<Bytes>
+    ensures { row.new ≡ row.old }
+{
+    row.freeze(id);
+    let lent = row.lent(id);
+    if lent.shared.is_none() && lent.bytes.len() > MOST_BYTES {
+        return None;
     }
+    lent.whole(alloc).ok()
+}
 
-    /// How long the object is of which no chunk but this one is missing, if the fetch of this number would take it.
-    pub fn length_with_last(
-        &self,
-        from: NodeNo,
-        id: &ObjectId,
-        number: FetchNo,
-        index: ChunkIndex,
-        len: usize,
-    ) -> Option<u32> {
-        let copy = self.copies().get(id)?;
-        if !copy.is_filled_by(number, index, from, len) || !copy.lacks_only(index) {
-            return None;
-        }
-        Some(copy.length())
+/// How long the object is of which no chunk but this one is missing, if the fetch of this number would take it.
+pub fn length_with_last(
+    row: &JobRow,
+    from: NodeNo,
+    id: &ObjectId,
+    number: FetchNo,
+    index: ChunkIndex,
+    len: usize,
+) -> Option<u32> {
+    let copy = row.copies().get(id)?;
+    if !copy.is_filled_by(number, index, from, len) || !copy.lacks_only(index) {
+        return None;
     }
+    Some(copy.length())
+}
 
-    /// Bytes of a resident copy: `len` from the offset on, or as many as there are.
-    pub fn copy_part(&self, alloc: Global, id: &ObjectId, offset: u32, len: u32) -> Option<Bytes> {
-        self.lent(id).part(alloc, offset, len).ok()
-    }
+/// Bytes of a resident copy: `len` from the offset on, or as many as there are.
+pub fn copy_part(
+    row: &JobRow,
+    alloc: Global,
+    id: &ObjectId,
+    offset: u32,
+    len: u32,
+) -> Option<Bytes> {
+    row.lent(id).part(alloc, offset, len).ok()
 }

@@ -14,152 +14,149 @@ ghost use Rattle.std.specs.Map.{lookup};
 ghost use Rattle.std.specs.Option.{option_map_or};
 ghost use Rattle.private_store.specs.rules.Limits.{most_works, has_numbers};
 ghost use Rattle.private_store.specs.rules.Room.{make_room};
-ghost use Rattle.node_table.specs.Evicting.{IsPlacement, MayGo};
-ghost use Rattle.node_table.specs.CopyViews.{waits_for_place};
+ghost use Rattle.job_row.specs.Evicting.{IsPlacement, MayGo};
+ghost use Rattle.job_row.specs.CopyViews.{waits_for_place};
 ghost use Rattle.node_table.specs.MemoryLast.{IsDueMore};
 ghost use Rattle.node_table.specs.RoomPlans.{MakesPlace, planned_by, refuses, makes_place};
 ghost use Rattle.node_table.specs.declared.room.RoomPlan.TheVariants.{Fits, Ask};
 ghost use Rattle.job_region.specs.Region.{place_for};
 ghost use Rattle.node_table.specs.Asked.{HasAsked};
-ghost use Rattle.node_table.specs.Checks.{fault_at, visible_state};
+ghost use Rattle.job_row.specs.Checks.{fault_at, visible_state};
 ghost use Rattle.node_table.specs.Outcomes.{row_given_of};
-ghost use Rattle.node_table.specs.Row.{beside_of, shape_of};
 ghost use Rattle.node_table.specs.Shown.{IsShown, RowStep};
+ghost use Rattle.node_table.specs.Beside.{beside_of, shape_of};
 
-use crate::copy::Awaited;
 use crate::create_command::removals;
 use crate::get_command::{pending, refuse};
 use crate::outcome::RowOutcome;
-use crate::room::{MadeRoom, Placement, RoomPlan};
-use crate::row::JobRow;
+use crate::room::{MadeRoom, RoomPlan, plan_room, room_by};
+use job_row::{Awaited, JobRow, Placement};
 use obj_id::limits::MOST_WORKS;
 use obj_id::{JobNo, ObjectId, Refusal, WorkKind};
 use spill_work::Works;
 use std::alloc::{AllocError, Global};
 
-impl JobRow {
-    /// Get of a copy that is away and has no fault to tell of, if the row is this job's: room is made for it, and its bytes are asked
-    /// for at the device; the answer is `Pending`. `Busy` at 8 works in flight, `TooMany` if the job has no number of works left, and
-    /// if there is no room the answer is that of Create. The error is out of memory: no other refusal was due then, and
-    /// nothing has changed. The works that it asks for come last in the line.
-    pub(crate) fn restore(
-        &mut self,
-        alloc: Global,
-        node: u32,
-        works: &mut Works,
-        job: JobNo,
-        id: &ObjectId,
-    ) -> Result<RowOutcome, AllocError>
-        requires visible { visible_state (at self.old.copies id.now) ≡ Ok (Some Away) }
-        requires sound { fault_at self.old.copies id.now ≡ None }
-        ensures ok { IfOk result (λ o. (session : ℕ) (grants : List StandingGrant) (bytes : ObjectId → List ℕ) (contents : Contents) → job ≡ record { 0 = self.old.job } → (id.now.job.0 == self.old.job) ≡ true
-            → is_remembered self.old.ended_tasks id.now.task ≡ false → IsShown self.old (beside_of works.old grants bytes self.old.job) contents
-            → RowStep node self.old (beside_of works.old grants bytes self.old.job) contents (input.Call session (command.Get id.now)) (row_given_of o) self.new (beside_of works.new grants bytes self.old.job)) }
-        ensures bounded { IfOk result (λ o. length o.messages ≤ length self.old.copies + 1) }
-        ensures line { OnOk result (HasAsked works.old job works.new) }
-        ensures memory_last { OnErr result (job ≡ record { 0 = self.old.job } → (id.now.job.0 == self.old.job) ≡ true → is_remembered self.old.ended_tasks id.now.task ≡ false → IsDueMore node self.old works.old (command.Get id.now)) }
-        ensures others { (other : JobNo) → same_work_job job other ≡ false → IsSameFor other works.old works.new }
-        ensures err { OnErr result (self.new ≡ self.old) }
-        ensures works { OnErr result (works.new ≡ works.old) }
-    {
-        if works.in_flight(job) >= MOST_WORKS {
-            return refuse(alloc, Refusal::Busy);
-        }
-        let Some(copy) = self.copies().get(id) else {
-            unreachable!()
-        };
-        // that it has no place is what the proof needs
-        let _place = copy.offset();
-        let len = copy.length();
-        let plan = self.plan_room(works, job, len);
-        let asked = works.asked(job);
-        // before anything grows
-        if plan.makes_place() && asked == u64::MAX {
-            return refuse(alloc, Refusal::TooMany);
-        }
-        self.restore_by(alloc, node, works, job, id, len, plan)
+/// Get of a copy that is away and has no fault to tell of, if the row is this job's: room is made for it, and its bytes are asked
+/// for at the device; the answer is `Pending`. `Busy` at 8 works in flight, `TooMany` if the job has no number of works left, and
+/// if there is no room the answer is that of Create. The error is out of memory: no other refusal was due then, and
+/// nothing has changed. The works that it asks for come last in the line.
+pub(crate) fn restore(
+    row: &mut JobRow,
+    alloc: Global,
+    node: u32,
+    works: &mut Works,
+    job: JobNo,
+    id: &ObjectId,
+) -> Result<RowOutcome, AllocError>
+    requires visible { visible_state (at row.old.copies id.now) ≡ Ok (Some Away) }
+    requires sound { fault_at row.old.copies id.now ≡ None }
+    ensures ok { IfOk result (λ o. (session : ℕ) (grants : List StandingGrant) (bytes : ObjectId → List ℕ) (contents : Contents) → job ≡ record { 0 = row.old.job } → (id.now.job.0 == row.old.job) ≡ true
+        → is_remembered row.old.ended_tasks id.now.task ≡ false → IsShown row.old (beside_of works.old grants bytes row.old.job) contents
+        → RowStep node row.old (beside_of works.old grants bytes row.old.job) contents (input.Call session (command.Get id.now)) (row_given_of o) row.new (beside_of works.new grants bytes row.old.job)) }
+    ensures bounded { IfOk result (λ o. length o.messages ≤ length row.old.copies + 1) }
+    ensures line { OnOk result (HasAsked works.old job works.new) }
+    ensures memory_last { OnErr result (job ≡ record { 0 = row.old.job } → (id.now.job.0 == row.old.job) ≡ true → is_remembered row.old.ended_tasks id.now.task ≡ false → IsDueMore node row.old works.old (command.Get id.now)) }
+    ensures others { (other : JobNo) → same_work_job job other ≡ false → IsSameFor other works.old works.new }
+    ensures err { OnErr result (row.new ≡ row.old) }
+    ensures works { OnErr result (works.new ≡ works.old) }
+{
+    if works.in_flight(job) >= MOST_WORKS {
+        return refuse(alloc, Refusal::Busy);
     }
-
-    /// The same by this plan, which is that of the row, where neither works nor numbers are too many.
-    fn restore_by(
-        &mut self,
-        alloc: Global,
-        node: u32,
-        works: &mut Works,
-        job: JobNo,
-        id: &ObjectId,
-        len: u32,
-        plan: RoomPlan,
-    ) -> Result<RowOutcome, AllocError>
-        requires visible { visible_state (at self.old.copies id.now) ≡ Ok (Some Away) }
-        requires sound { fault_at self.old.copies id.now ≡ None }
-        requires idle { in_flight works.old job < most_works }
-        requires waits { option_map_or (waits_for_place len) (at self.old.copies id.now) false ≡ true }
-        requires fits { (offset : ℕ) → plan ≡ Fits offset → place_for self.old.window len ≡ Some offset }
-        requires asks { (count : ℕ) → plan ≡ Ask count → room_for works.old job count ≡ true }
-        requires numbered { makes_place plan ≡ true → has_numbers (used_by works.old job) 1 ≡ true }
-        requires fresh { used_by works.old job ≡ 0 → lookup (same_work_job job) works.old.used ≡ None }
-        ensures ok { IfOk result (λ o. (session : ℕ) (grants : List StandingGrant) (bytes : ObjectId → List ℕ) (contents : Contents) → job ≡ record { 0 = self.old.job } → (id.now.job.0 == self.old.job) ≡ true
-            → is_remembered self.old.ended_tasks id.now.task ≡ false → IsShown self.old (beside_of works.old grants bytes self.old.job) contents
-            → plan ≡ planned_by self.old.order (shape_of self.old (beside_of works.old grants bytes self.old.job)) len
-            → RowStep node self.old (beside_of works.old grants bytes self.old.job) contents (input.Call session (command.Get id.now)) (row_given_of o) self.new (beside_of works.new grants bytes self.old.job)) }
-        ensures bounded { IfOk result (λ o. length o.messages ≤ length self.old.copies + 1) }
-        ensures line { OnOk result (HasAsked works.old job works.new) }
-        ensures memory_last { OnErr result (refuses plan ≡ false) }
-        ensures others { (other : JobNo) → same_work_job job other ≡ false → IsSameFor other works.old works.new }
-        ensures err { OnErr result (self.new ≡ self.old) }
-        ensures works { OnErr result (works.new ≡ works.old) }
-    {
-        match self.room_by(alloc, works, job, len, plan)? {
-            MadeRoom::Place(placement) => {
-                self.restore_in_place(alloc, node, works, job, id, len, &placement)
-            }
-            MadeRoom::Refused(refusal) => refuse(alloc, refusal),
-        }
+    let Some(copy) = row.copies().get(id) else {
+        unreachable!()
+    };
+    // that it has no place is what the proof needs
+    let _place = copy.offset();
+    let len = copy.length();
+    let plan = plan_room(row, works, job, len);
+    let asked = works.asked(job);
+    // before anything grows
+    if plan.makes_place() && asked == u64::MAX {
+        return refuse(alloc, Refusal::TooMany);
     }
+    restore_by(row, alloc, node, works, job, id, len, plan)
+}
 
-    /// The place is taken, the directory is notified of the victims, and the read is asked for.
-    fn restore_in_place(
-        &mut self,
-        alloc: Global,
-        node: u32,
-        works: &mut Works,
-        job: JobNo,
-        id: &ObjectId,
-        len: u32,
-        placement: &Placement,
-    ) -> Result<RowOutcome, AllocError>
-        requires visible { visible_state (at self.old.copies id.now) ≡ Ok (Some Away) }
-        requires sound { fault_at self.old.copies id.now ≡ None }
-        requires idle { in_flight works.old job < most_works }
-        requires waits { option_map_or (waits_for_place len) (at self.old.copies id.now) false ≡ true }
-        requires may_go { MayGo self.old.copies placement.now.victims }
-        requires place { IsPlacement self.old len placement.now }
-        requires numbered { has_numbers (used_by works.old job) 1 ≡ true }
-        requires fresh { used_by works.old job ≡ 0 → lookup (same_work_job job) works.old.used ≡ None }
-        ensures ok { IfOk result (λ o. (session : ℕ) (grants : List StandingGrant) (bytes : ObjectId → List ℕ) (contents : Contents) → job ≡ record { 0 = self.old.job } → (id.now.job.0 == self.old.job) ≡ true
-            → is_remembered self.old.ended_tasks id.now.task ≡ false → IsShown self.old (beside_of works.old grants bytes self.old.job) contents
-            → MakesPlace (make_room self.old.order (shape_of self.old (beside_of works.old grants bytes self.old.job)) len) (shape_of self.old (beside_of works.old grants bytes self.old.job)) len placement.now.victims
-            → RowStep node self.old (beside_of works.old grants bytes self.old.job) contents (input.Call session (command.Get id.now)) (row_given_of o) self.new (beside_of works.new grants bytes self.old.job)) }
-        ensures bounded { IfOk result (λ o. length o.messages ≤ length self.old.copies + 1) }
-        ensures line { OnOk result (HasAsked works.old job works.new) }
-        ensures others { (other : JobNo) → same_work_job job other ≡ false → IsSameFor other works.old works.new }
-        ensures err { OnErr result (self.new ≡ self.old) }
-        ensures works { OnErr result (works.new ≡ works.old) }
-    {
-        let victims = placement.victims.as_slice();
-        let messages = removals(alloc, node, self.copies(), victims)?;
-        // a copy that is away has some bytes, and the plan found a place for them
-        if !self.window().may_have(len) {
-            return refuse(alloc, Refusal::Full);
+/// The same by this plan, which is that of the row, where neither works nor numbers are too many.
+fn restore_by(
+    row: &mut JobRow,
+    alloc: Global,
+    node: u32,
+    works: &mut Works,
+    job: JobNo,
+    id: &ObjectId,
+    len: u32,
+    plan: RoomPlan,
+) -> Result<RowOutcome, AllocError>
+    requires visible { visible_state (at row.old.copies id.now) ≡ Ok (Some Away) }
+    requires sound { fault_at row.old.copies id.now ≡ None }
+    requires idle { in_flight works.old job < most_works }
+    requires waits { option_map_or (waits_for_place len) (at row.old.copies id.now) false ≡ true }
+    requires fits { (offset : ℕ) → plan ≡ Fits offset → place_for row.old.window len ≡ Some offset }
+    requires asks { (count : ℕ) → plan ≡ Ask count → room_for works.old job count ≡ true }
+    requires numbered { makes_place plan ≡ true → has_numbers (used_by works.old job) 1 ≡ true }
+    requires fresh { used_by works.old job ≡ 0 → lookup (same_work_job job) works.old.used ≡ None }
+    ensures ok { IfOk result (λ o. (session : ℕ) (grants : List StandingGrant) (bytes : ObjectId → List ℕ) (contents : Contents) → job ≡ record { 0 = row.old.job } → (id.now.job.0 == row.old.job) ≡ true
+        → is_remembered row.old.ended_tasks id.now.task ≡ false → IsShown row.old (beside_of works.old grants bytes row.old.job) contents
+        → plan ≡ planned_by row.old.order (shape_of row.old (beside_of works.old grants bytes row.old.job)) len
+        → RowStep node row.old (beside_of works.old grants bytes row.old.job) contents (input.Call session (command.Get id.now)) (row_given_of o) row.new (beside_of works.new grants bytes row.old.job)) }
+    ensures bounded { IfOk result (λ o. length o.messages ≤ length row.old.copies + 1) }
+    ensures line { OnOk result (HasAsked works.old job works.new) }
+    ensures memory_last { OnErr result (refuses plan ≡ false) }
+    ensures others { (other : JobNo) → same_work_job job other ≡ false → IsSameFor other works.old works.new }
+    ensures err { OnErr result (row.new ≡ row.old) }
+    ensures works { OnErr result (works.new ≡ works.old) }
+{
+    match room_by(row, alloc, works, job, len, plan)? {
+        MadeRoom::Place(placement) => {
+            restore_in_place(row, alloc, node, works, job, id, len, &placement)
         }
-        let number = ask_read(works, job, *id)?;
-        match self.place_copy(alloc, id, len, placement, Awaited::Device) {
-            Ok(_) => Ok(pending(messages)),
-            Err(error) => {
-                works.take_back(job, number);
-                Err(error)
-            }
+        MadeRoom::Refused(refusal) => refuse(alloc, refusal),
+    }
+}
+
+/// The place is taken, the directory is notified of the victims, and the read is asked for.
+fn restore_in_place(
+    row: &mut JobRow,
+    alloc: Global,
+    node: u32,
+    works: &mut Works,
+    job: JobNo,
+    id: &ObjectId,
+    len: u32,
+    placement: &Placement,
+) -> Result<RowOutcome, AllocError>
+    requires visible { visible_state (at row.old.copies id.now) ≡ Ok (Some Away) }
+    requires sound { fault_at row.old.copies id.now ≡ None }
+    requires idle { in_flight works.old job < most_works }
+    requires waits { option_map_or (waits_for_place len) (at row.old.copies id.now) false ≡ true }
+    requires may_go { MayGo row.old.copies placement.now.victims }
+    requires place { IsPlacement row.old len placement.now }
+    requires numbered { has_numbers (used_by works.old job) 1 ≡ true }
+    requires fresh { used_by works.old job ≡ 0 → lookup (same_work_job job) works.old.used ≡ None }
+    ensures ok { IfOk result (λ o. (session : ℕ) (grants : List StandingGrant) (bytes : ObjectId → List ℕ) (contents : Contents) → job ≡ record { 0 = row.old.job } → (id.now.job.0 == row.old.job) ≡ true
+        → is_remembered row.old.ended_tasks id.now.task ≡ false → IsShown row.old (beside_of works.old grants bytes row.old.job) contents
+        → MakesPlace (make_room row.old.order (shape_of row.old (beside_of works.old grants bytes row.old.job)) len) (shape_of row.old (beside_of works.old grants bytes row.old.job)) len placement.now.victims
+        → RowStep node row.old (beside_of works.old grants bytes row.old.job) contents (input.Call session (command.Get id.now)) (row_given_of o) row.new (beside_of works.new grants bytes row.old.job)) }
+    ensures bounded { IfOk result (λ o. length o.messages ≤ length row.old.copies + 1) }
+    ensures line { OnOk result (HasAsked works.old job works.new) }
+    ensures others { (other : JobNo) → same_work_job job other ≡ false → IsSameFor other works.old works.new }
+    ensures err { OnErr result (row.new ≡ row.old) }
+    ensures works { OnErr result (works.new ≡ works.old) }
+{
+    let victims = placement.victims.as_slice();
+    let messages = removals(alloc, node, row.copies(), victims)?;
+    // a copy that is away has some bytes, and the plan found a place for them
+    if !row.window().may_have(len) {
+        return refuse(alloc, Refusal::Full);
+    }
+    let number = ask_read(works, job, *id)?;
+    match row.place_copy(alloc, id, len, placement, Awaited::Device) {
+        Ok(_) => Ok(pending(messages)),
+        Err(error) => {
+            works.take_back(job, number);
+            Err(error)
         }
     }
 }

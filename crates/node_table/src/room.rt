@@ -4,12 +4,11 @@ ghost use Rattle.obj_id.specs.declared.ids.JobNo.{JobNo};
 ghost use Rattle.spill_work.specs.Line.{same_work_job, IsSameFor, room_for as room_for_lem};
 ghost use Rattle.node_table.specs.Asked.{HasAsked};
 ghost use Rattle.node_table.specs.MadeRooms.{IsRoomMade, IsPlannedFor, WaitsForPlace, tells_refusal};
-ghost use Rattle.node_table.specs.Evicting.{MayGo};
+ghost use Rattle.job_row.specs.Evicting.{MayGo};
 ghost use Rattle.obj_id.specs.declared.ids.ObjectId.{ObjectId};
 ghost use Rattle.private_store.specs.rules.Room.{make_room, plan};
 ghost use Rattle.private_store.specs.rules.Grants.{StandingGrant};
 ghost use Rattle.private_store.specs.rules.Contents.{Contents};
-ghost use Rattle.node_table.specs.Row.{SharedTables, beside_of, shape_of};
 ghost use Rattle.node_table.specs.Shown.{IsShown};
 ghost use Rattle.node_table.specs.RoomPlans.{AsksWrites, MakesPlace, by_kind, planned_by, refuses, makes_place as makes_place_lem};
 ghost use Rattle.lru_evictor.specs.Plans.{listed};
@@ -17,10 +16,10 @@ ghost use Rattle.node_table.specs.declared.room.RoomPlan.TheVariants.{Fits, Evic
 ghost use Rattle.lru_evictor.specs.declared.facts.Plan.TheVariants as found;
 ghost use Rattle.job_region.specs.Region.{place_for};
 ghost use Rattle.spill_work.specs.Line.{WorkLine};
+ghost use Rattle.node_table.specs.Beside.{SharedTables, beside_of, shape_of};
 
-use crate::copies::Copies;
-use crate::row::JobRow;
-use lru_evictor::{CopyFacts, CopyLookup, DeviceRoom, Plan, extents_by_offset};
+use job_row::{JobRow, Placement};
+use lru_evictor::{DeviceRoom, Plan, extents_by_offset};
 use obj_id::{Extent, ItemList, JobNo, ObjectId, Refusal, WorkKind};
 use spill_work::Works;
 use std::alloc::{AllocError, Global};
@@ -42,17 +41,6 @@ pub(crate) enum RoomPlan {
     Refuse(Refusal),
 }
 
-/// Where an object goes in the window.
-#[derive(Drop)]
-pub(crate) struct Placement {
-    /// The copies that are to be evicted for it, in this order and perhaps none.
-    pub(crate) victims: ItemList<ObjectId>,
-    /// Their extents, by rising offset.
-    pub(crate) gone: Vec<Extent>,
-    /// Where it fits first once they are evicted.
-    pub(crate) offset: u64,
-}
-
 /// What making room came to.
 #[derive(Drop)]
 pub(crate) enum MadeRoom {
@@ -71,181 +59,164 @@ impl RoomPlan {
     }
 }
 
-impl CopyLookup for Copies {
-    ghost use Rattle.std.specs.Option.{option_map};
-    ghost use Rattle.private_store.specs.rules.Tables.{at};
-    ghost use Rattle.node_table.specs.RoomPlans.{row_facts_of};
-
-    ghost facts = { λ copies id. option_map row_facts_of (at copies id) };
-
-    fn facts(&self, id: &ObjectId) -> Option<CopyFacts> {
-        let copy = self.get(id)?;
-        Some(copy.facts())
+/// How room for an object of `len` bytes is made in the window, by the rule of room, if the row is this job's. Takes no memory,
+/// and changes nothing in the end. It asks for no more works than the job may.
+///
+/// If there is a place as it is, takes one descent of the window's tree of holes. Otherwise it
+/// takes what `UseOrder::plan` does; what the copies take of the device is counted.
+pub(crate) fn plan_room(row: &mut JobRow, works: &Works, job: JobNo, len: u32) -> RoomPlan
+    ensures fits { (offset : ℕ) → result ≡ Fits offset → place_for row.old.window len ≡ Some offset }
+    ensures plan { (grants : List StandingGrant) (bytes : ObjectId → List ℕ) (contents : Contents) → job ≡ record { 0 = row.old.job } → IsShown row.old (beside_of works.now grants bytes row.old.job) contents
+        → result ≡ planned_by row.old.order (shape_of row.old (beside_of works.now grants bytes row.old.job)) len }
+    ensures asks { (count : ℕ) → result ≡ Ask count → room_for_lem works.now job count ≡ true }
+    ensures same { row.new ≡ row.old }
+{
+    let device = DeviceRoom {
+        quota: row.device_quota(),
+        used: row.copies().device_bytes(),
+        works: works.in_flight(job),
+    };
+    if let Some(offset) = row.window().search(len).0 {
+        return RoomPlan::Fits(offset);
     }
+    let failed = row.spill_failed();
+    let plan = row.plan(len, device);
+    room_plan(works.asked(job), failed, plan)
 }
 
-impl JobRow {
-    /// How room for an object of `len` bytes is made in the window, by the rule of room, if the row is this job's. Takes no memory,
-    /// and changes nothing in the end. It asks for no more works than the job may.
-    ///
-    /// If there is a place as it is, takes one descent of the window's tree of holes. Otherwise it
-    /// takes what `UseOrder::plan` does; what the copies take of the device is counted.
-    pub(crate) fn plan_room(&mut self, works: &Works, job: JobNo, len: u32) -> RoomPlan
-        ensures fits { (offset : ℕ) → result ≡ Fits offset → place_for self.old.window len ≡ Some offset }
-        ensures plan { (grants : List StandingGrant) (bytes : ObjectId → List ℕ) (contents : Contents) → job ≡ record { 0 = self.old.job } → IsShown self.old (beside_of works.now grants bytes self.old.job) contents
-            → result ≡ planned_by self.old.order (shape_of self.old (beside_of works.now grants bytes self.old.job)) len }
-        ensures asks { (count : ℕ) → result ≡ Ask count → room_for_lem works.now job count ≡ true }
-        ensures same { self.new ≡ self.old }
-    {
-        let device = DeviceRoom {
-            quota: self.device_quota(),
-            used: self.copies().device_bytes(),
-            works: works.in_flight(job),
-        };
-        if let Some(offset) = self.window().search(len).0 {
-            return RoomPlan::Fits(offset);
-        }
-        let failed = self.spill_failed();
-        let plan = self.plan(len, device);
-        room_plan(works.asked(job), failed, plan)
-    }
-
-    /// The copies that are to be evicted for an object of `len` bytes, in this order, if that is the plan.
-    fn victims(&self, alloc: Global, len: u32) -> Result<ItemList<ObjectId>, AllocError>
-        ensures victims { IfOk result (λ victims. (line : WorkLine) (grants : List StandingGrant) (bytes : ObjectId → List ℕ) (contents : Contents) → IsShown self.now (beside_of line grants bytes self.now.job) contents
-            → planned_by self.now.order (shape_of self.now (beside_of line grants bytes self.now.job)) len ≡ Evict → victims ≡ listed (plan self.now.order (shape_of self.now (beside_of line grants bytes self.now.job)) len)) }
-        ensures may_go { IfOk result (λ victims. MayGo self.now.copies victims) }
-    {
-        let order = self.use_order();
-        order.victims(alloc, len, self.window(), self.copies())
-    }
-
-    /// The first so many copies that may be spilled, the least recently used first.
-    fn spillable(&self, alloc: Global, count: usize) -> Result<ItemList<ObjectId>, AllocError>
-        ensures spillable { IfOk result (λ written. (line : WorkLine) (grants : List StandingGrant) (bytes : ObjectId → List ℕ) (contents : Contents) (n : ℕ) → IsShown self.now (beside_of line grants bytes self.now.job) contents
-            → planned_by self.now.order (shape_of self.now (beside_of line grants bytes self.now.job)) n ≡ Ask count → written ≡ listed (plan self.now.order (shape_of self.now (beside_of line grants bytes self.now.job)) n)) }
-        ensures bounded { IfOk result (λ written. length written ≤ count) }
-    {
-        self.use_order().spillable(alloc, count)
-    }
+/// The copies that are to be evicted for an object of `len` bytes, in this order, if that is the plan.
+fn victims(row: &JobRow, alloc: Global, len: u32) -> Result<ItemList<ObjectId>, AllocError>
+    ensures victims { IfOk result (λ victims. (line : WorkLine) (grants : List StandingGrant) (bytes : ObjectId → List ℕ) (contents : Contents) → IsShown row.now (beside_of line grants bytes row.now.job) contents
+        → planned_by row.now.order (shape_of row.now (beside_of line grants bytes row.now.job)) len ≡ Evict → victims ≡ listed (plan row.now.order (shape_of row.now (beside_of line grants bytes row.now.job)) len)) }
+    ensures may_go { IfOk result (λ victims. MayGo row.now.copies victims) }
+{
+    let order = row.use_order();
+    order.victims(alloc, len, row.window(), row.copies())
 }
 
-impl JobRow {
-    /// Room for an object of `len` bytes in the window, if the row is this job's, as far as it can be made without an eviction:
-    /// the writes that it needs are asked for, and that a spill failed is answered and forgotten. The error is out of
-    /// memory, and then the plan was no refusal, and nothing has changed. The works that it asks for come last in the
-    /// line, and those before them stay.
-    pub(crate) fn room_for(
-        &mut self,
-        alloc: Global,
-        works: &mut Works,
-        job: JobNo,
-        len: u32,
-    ) -> Result<MadeRoom, AllocError>
-        ensures ok { IfOk result (λ made. (grants : List StandingGrant) (bytes : ObjectId → List ℕ) (contents : Contents) → job ≡ record { 0 = self.old.job } → IsShown self.old (beside_of works.old grants bytes self.old.job) contents
-            → IsRoomMade made self.old (beside_of works.old grants bytes self.old.job) contents len self.new (beside_of works.new grants bytes self.old.job)) }
-        ensures place { IfOk result (λ made. WaitsForPlace made self.old works.old len self.new works.new) }
-        ensures made { IfOk result (λ made. tells_refusal made ≡ false → job ≡ record { 0 = self.old.job } → IsPlannedFor self.old works.old len) }
-        ensures line { OnOk result (HasAsked works.old job works.new) }
-        ensures others { (other : JobNo) → same_work_job job other ≡ false → IsSameFor other works.old works.new }
-        ensures memory_last { OnErr result (job ≡ record { 0 = self.old.job } → IsPlannedFor self.old works.old len) }
-        ensures err { OnErr result (self.new ≡ self.old) }
-        ensures works { OnErr result (works.new ≡ works.old) }
-    {
-        let plan = self.plan_room(works, job, len);
-        self.room_by(alloc, works, job, len, plan)
-    }
+/// The first so many copies that may be spilled, the least recently used first.
+fn spillable(row: &JobRow, alloc: Global, count: usize) -> Result<ItemList<ObjectId>, AllocError>
+    ensures spillable { IfOk result (λ written. (line : WorkLine) (grants : List StandingGrant) (bytes : ObjectId → List ℕ) (contents : Contents) (n : ℕ) → IsShown row.now (beside_of line grants bytes row.now.job) contents
+        → planned_by row.now.order (shape_of row.now (beside_of line grants bytes row.now.job)) n ≡ Ask count → written ≡ listed (plan row.now.order (shape_of row.now (beside_of line grants bytes row.now.job)) n)) }
+    ensures bounded { IfOk result (λ written. length written ≤ count) }
+{
+    row.use_order().spillable(alloc, count)
+}
 
-    /// The same by this plan, which is that of the row.
-    pub(crate) fn room_by(
-        &mut self,
-        alloc: Global,
-        works: &mut Works,
-        job: JobNo,
-        len: u32,
-        plan: RoomPlan,
-    ) -> Result<MadeRoom, AllocError>
-        requires fits { (offset : ℕ) → plan ≡ Fits offset → place_for self.old.window len ≡ Some offset }
-        requires asks { (count : ℕ) → plan ≡ Ask count → room_for_lem works.old job count ≡ true }
-        ensures ok { IfOk result (λ made. (grants : List StandingGrant) (bytes : ObjectId → List ℕ) (contents : Contents) → job ≡ record { 0 = self.old.job } → IsShown self.old (beside_of works.old grants bytes self.old.job) contents
-            → plan ≡ planned_by self.old.order (shape_of self.old (beside_of works.old grants bytes self.old.job)) len
-            → IsRoomMade made self.old (beside_of works.old grants bytes self.old.job) contents len self.new (beside_of works.new grants bytes self.old.job)) }
-        ensures place { IfOk result (λ made. WaitsForPlace made self.old works.old len self.new works.new) }
-        ensures made { IfOk result (λ made. tells_refusal made ≡ false → makes_place_lem plan ≡ true) }
-        ensures line { OnOk result (HasAsked works.old job works.new) }
-        ensures others { (other : JobNo) → same_work_job job other ≡ false → IsSameFor other works.old works.new }
-        ensures memory_last { OnErr result (refuses plan ≡ false) }
-        ensures err { OnErr result (self.new ≡ self.old) }
-        ensures works { OnErr result (works.new ≡ works.old) }
-    {
-        match plan {
-            RoomPlan::Fits(offset) => Ok(MadeRoom::Place(Placement {
-                victims: ItemList::new(alloc),
-                gone: Vec::new(alloc),
-                offset,
-            })),
-            RoomPlan::Evict => {
-                let victims = self.victims(alloc, len)?;
-                self.place_of_victims(alloc, len, victims)
-            }
-            RoomPlan::Ask(count) => {
-                let ids = self.spillable(alloc, count)?;
-                self.ask_writes(alloc, job, works, ids.as_slice())
-            }
-            RoomPlan::TellFailedSpill => {
-                self.forget_failed_spill();
-                Ok(MadeRoom::Refused(Refusal::DeviceFailed))
-            }
-            RoomPlan::Refuse(refusal) => Ok(MadeRoom::Refused(refusal)),
-        }
-    }
+/// Room for an object of `len` bytes in the window, if the row is this job's, as far as it can be made without an eviction:
+/// the writes that it needs are asked for, and that a spill failed is answered and forgotten. The error is out of
+/// memory, and then the plan was no refusal, and nothing has changed. The works that it asks for come last in the
+/// line, and those before them stay.
+pub(crate) fn room_for(
+    row: &mut JobRow,
+    alloc: Global,
+    works: &mut Works,
+    job: JobNo,
+    len: u32,
+) -> Result<MadeRoom, AllocError>
+    ensures ok { IfOk result (λ made. (grants : List StandingGrant) (bytes : ObjectId → List ℕ) (contents : Contents) → job ≡ record { 0 = row.old.job } → IsShown row.old (beside_of works.old grants bytes row.old.job) contents
+        → IsRoomMade made row.old (beside_of works.old grants bytes row.old.job) contents len row.new (beside_of works.new grants bytes row.old.job)) }
+    ensures place { IfOk result (λ made. WaitsForPlace made row.old works.old len row.new works.new) }
+    ensures made { IfOk result (λ made. tells_refusal made ≡ false → job ≡ record { 0 = row.old.job } → IsPlannedFor row.old works.old len) }
+    ensures line { OnOk result (HasAsked works.old job works.new) }
+    ensures others { (other : JobNo) → same_work_job job other ≡ false → IsSameFor other works.old works.new }
+    ensures memory_last { OnErr result (job ≡ record { 0 = row.old.job } → IsPlannedFor row.old works.old len) }
+    ensures err { OnErr result (row.new ≡ row.old) }
+    ensures works { OnErr result (works.new ≡ works.old) }
+{
+    let plan = plan_room(row, works, job, len);
+    room_by(row, alloc, works, job, len, plan)
+}
 
-    /// The place that there is for an object of `len` bytes once these copies are evicted, and otherwise `Full`.
-    fn place_of_victims(
-        &self,
-        alloc: Global,
-        len: u32,
-        victims: ItemList<ObjectId>,
-    ) -> Result<MadeRoom, AllocError>
-        requires { MayGo self.now.copies victims }
-        ensures place { IfOk result (λ made. (line : WorkLine) → WaitsForPlace made self.now line len self.now line) }
-        ensures ok { IfOk result (λ made. (beside : SharedTables) (contents : Contents) → IsShown self.now beside contents
-            → MakesPlace (make_room self.now.order (shape_of self.now beside) len) (shape_of self.now beside) len victims
-            → IsRoomMade made self.now beside contents len self.now beside) }
-    {
-        let gone = extents_by_offset(alloc, self.copies(), victims.as_slice())?;
-        let Some(offset) = self.window().fits_without(&gone, len) else {
-            return Ok(MadeRoom::Refused(Refusal::Full));
-        };
-        Ok(MadeRoom::Place(Placement {
-            victims,
-            gone,
+/// The same by this plan, which is that of the row.
+pub(crate) fn room_by(
+    row: &mut JobRow,
+    alloc: Global,
+    works: &mut Works,
+    job: JobNo,
+    len: u32,
+    plan: RoomPlan,
+) -> Result<MadeRoom, AllocError>
+    requires fits { (offset : ℕ) → plan ≡ Fits offset → place_for row.old.window len ≡ Some offset }
+    requires asks { (count : ℕ) → plan ≡ Ask count → room_for_lem works.old job count ≡ true }
+    ensures ok { IfOk result (λ made. (grants : List StandingGrant) (bytes : ObjectId → List ℕ) (contents : Contents) → job ≡ record { 0 = row.old.job } → IsShown row.old (beside_of works.old grants bytes row.old.job) contents
+        → plan ≡ planned_by row.old.order (shape_of row.old (beside_of works.old grants bytes row.old.job)) len
+        → IsRoomMade made row.old (beside_of works.old grants bytes row.old.job) contents len row.new (beside_of works.new grants bytes row.old.job)) }
+    ensures place { IfOk result (λ made. WaitsForPlace made row.old works.old len row.new works.new) }
+    ensures made { IfOk result (λ made. tells_refusal made ≡ false → makes_place_lem plan ≡ true) }
+    ensures line { OnOk result (HasAsked works.old job works.new) }
+    ensures others { (other : JobNo) → same_work_job job other ≡ false → IsSameFor other works.old works.new }
+    ensures memory_last { OnErr result (refuses plan ≡ false) }
+    ensures err { OnErr result (row.new ≡ row.old) }
+    ensures works { OnErr result (works.new ≡ works.old) }
+{
+    match plan {
+        RoomPlan::Fits(offset) => Ok(MadeRoom::Place(Placement {
+            victims: ItemList::new(alloc),
+            gone: Vec::new(alloc),
             offset,
-        }))
+        })),
+        RoomPlan::Evict => {
+            let victims = victims(row, alloc, len)?;
+            place_of_victims(row, alloc, len, victims)
+        }
+        RoomPlan::Ask(count) => {
+            let ids = spillable(row, alloc, count)?;
+            ask_writes(row, alloc, job, works, ids.as_slice())
+        }
+        RoomPlan::TellFailedSpill => {
+            row.forget_failed_spill();
+            Ok(MadeRoom::Refused(Refusal::DeviceFailed))
+        }
+        RoomPlan::Refuse(refusal) => Ok(MadeRoom::Refused(refusal)),
     }
+}
 
-    /// Asks for the job's writes of these copies, which is answered `Pending`.
-    fn ask_writes(
-        &mut self,
-        alloc: Global,
-        job: JobNo,
-        works: &mut Works,
-        ids: &[ObjectId],
-    ) -> Result<MadeRoom, AllocError>
-        requires { room_for_lem works.old job (length ids.now) ≡ true }
-        ensures ok { IfOk result (λ made. (grants : List StandingGrant) (bytes : ObjectId → List ℕ) (contents : Contents) (n : ℕ) → job ≡ record { 0 = self.old.job } → IsShown self.old (beside_of works.old grants bytes self.old.job) contents
-            → AsksWrites (make_room self.old.order (shape_of self.old (beside_of works.old grants bytes self.old.job)) n) (shape_of self.old (beside_of works.old grants bytes self.old.job)) ids.now
-            → IsRoomMade made self.old (beside_of works.old grants bytes self.old.job) contents n self.new (beside_of works.new grants bytes self.old.job)) }
-        ensures response { IfOk result (λ made. tells_refusal made ≡ true) }
-        ensures line { OnOk result (HasAsked works.old job works.new) }
-        ensures others { (other : JobNo) → same_work_job job other ≡ false → IsSameFor other works.old works.new }
-        ensures err { OnErr result (self.new ≡ self.old) }
-        ensures works { OnErr result (works.new ≡ works.old) }
-    {
-        works.ask_all(alloc, job, ids, WorkKind::Write)?;
-        self.spill_copies(ids);
-        Ok(MadeRoom::Refused(Refusal::Pending))
-    }
+/// The place that there is for an object of `len` bytes once these copies are evicted, and otherwise `Full`.
+fn place_of_victims(
+    row: &JobRow,
+    alloc: Global,
+    len: u32,
+    victims: ItemList<ObjectId>,
+) -> Result<MadeRoom, AllocError>
+    requires { MayGo row.now.copies victims }
+    ensures place { IfOk result (λ made. (line : WorkLine) → WaitsForPlace made row.now line len row.now line) }
+    ensures ok { IfOk result (λ made. (beside : SharedTables) (contents : Contents) → IsShown row.now beside contents
+        → MakesPlace (make_room row.now.order (shape_of row.now beside) len) (shape_of row.now beside) len victims
+        → IsRoomMade made row.now beside contents len row.now beside) }
+{
+    let gone = extents_by_offset(alloc, row.copies(), victims.as_slice())?;
+    let Some(offset) = row.window().fits_without(&gone, len) else {
+        return Ok(MadeRoom::Refused(Refusal::Full));
+    };
+    Ok(MadeRoom::Place(Placement {
+        victims,
+        gone,
+        offset,
+    }))
+}
+
+/// Asks for the job's writes of these copies, which is answered `Pending`.
+fn ask_writes(
+    row: &mut JobRow,
+    alloc: Global,
+    job: JobNo,
+    works: &mut Works,
+    ids: &[ObjectId],
+) -> Result<MadeRoom, AllocError>
+    requires { room_for_lem works.old job (length ids.now) ≡ true }
+    ensures ok { IfOk result (λ made. (grants : List StandingGrant) (bytes : ObjectId → List ℕ) (contents : Contents) (n : ℕ) → job ≡ record { 0 = row.old.job } → IsShown row.old (beside_of works.old grants bytes row.old.job) contents
+        → AsksWrites (make_room row.old.order (shape_of row.old (beside_of works.old grants bytes row.old.job)) n) (shape_of row.old (beside_of works.old grants bytes row.old.job)) ids.now
+        → IsRoomMade made row.old (beside_of works.old grants bytes row.old.job) contents n row.new (beside_of works.new grants bytes row.old.job)) }
+    ensures response { IfOk result (λ made. tells_refusal made ≡ true) }
+    ensures line { OnOk result (HasAsked works.old job works.new) }
+    ensures others { (other : JobNo) → same_work_job job other ≡ false → IsSameFor other works.old works.new }
+    ensures err { OnErr result (row.new ≡ row.old) }
+    ensures works { OnErr result (works.new ≡ works.old) }
+{
+    works.ask_all(alloc, job, ids, WorkKind::Write)?;
+    row.spill_copies(ids);
+    Ok(MadeRoom::Refused(Refusal::Pending))
 }
 
 /// What a plan for an object that doesn't fit as it is is to a job whose works had numbers up to this one, and of which a spill failed

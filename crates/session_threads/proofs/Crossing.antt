@@ -21,8 +21,8 @@ use Rattle.hashed_bytes.proofs.Hashed.TheSendSync.{the_send as hashed_send}
 use Rattle.bytes.proofs.shared.Bytes.TheSendSync.{the_send as bytes_send}
 use Rattle.spill_work.proofs.Works.TheSendSync.{the_send as works_send}
 use Rattle.job_admission.proofs.Admission.TheSendSync.{the_send as admission_send}
-use Rattle.node_table.specs.contracts.row.JobRow as JobRow
-use Rattle.node_table.proofs.copies.Copies.TheSendSync.{the_send as copies_send}
+use Rattle.job_row.specs.contracts.row.JobRow as JobRow
+use Rattle.job_row.proofs.copies.Copies.TheSendSync.{the_send as copies_send}
 use Rattle.node_core.specs.contracts.Node as Node
 use Rattle.node_journal.specs.contracts.kept.Kept as Kept
 use Rattle.node_journal.proofs.logs.Logs.TheSendSync.{the_send as logs_send}

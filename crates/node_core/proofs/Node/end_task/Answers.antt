@@ -14,8 +14,7 @@ use Rattle.private_store.specs.rules.Grants.{StandingGrant, grants_sorted, grant
 use Rattle.private_store.specs.rules.Jobs.{same_job}
 use Rattle.grants.specs.Table.{AreGrants}
 use Rattle.grants.proofs.ForCallers.{left_are_grants}
-use Rattle.node_table.specs.Checks.{end_task_check}
-use Rattle.node_table.specs.EndingTasks.{beside_after}
+use Rattle.job_row.specs.Checks.{end_task_check}
 use Rattle.node_table.specs.Erased.{keys_of}
 use Rattle.node_table.specs.Shown.{only, RowStep}
 use Rattle.node_core.specs.declared.outcome.Note.{Note}
@@ -29,6 +28,7 @@ use Rattle.node_core.proofs.Small.{grantees_noted}
 use Rattle.node_core.proofs.TaskEnds.{task_refused, task_unrefused, task_steps}
 use Rattle.node_core.proofs.Views.{node_of}
 use Rattle.node_core.proofs.Node.end_task.Goals as goal
+use Rattle.node_table.specs.Beside.{beside_after}
 
 pub returns-in-Some-clause-ok : goal.returns-in-Some-clause-ok
 returns-in-Some-clause-ok c =
@@ -42,17 +42,17 @@ pub returns-in_err-outcome-clause-err : goal.returns-in_err-outcome-clause-err
 returns-in_err-outcome-clause-err c =
     let rows = c.self.inside.rows.entries in
     let found = sym c.get_mut.ensures.value ∙ ap option_copied_mut c.in-Some-get_mut.is in
-    let wrote = c.get_mut.follows.holds c.end_task.new.self in
+    let wrote = c.get_mut.follows.holds c.end_task.new.row in
     always_err c.from_residual-in_err-outcome.result (ap (node_of c.self.inside.number c.self.inside.admission c.self.inside.works c.self.inside.grants)
     (wrote.0 ∙ ap (set_value (same_job c.args.job) rows) c.in_err-outcome.ensures.err ∙ set_value_same (same_job c.args.job) rows c.in-Some-get_mut.row.now found) ∙ c.self.view_is)
 
 pub invariant_of-self-2 : goal.invariant_of-self-2
 invariant_of-self-2 c =
     let rows = c.self.inside.rows.entries in
-    let wrote = c.get_mut.follows.holds c.end_task.new.self in
+    let wrote = c.get_mut.follows.holds c.end_task.new.row in
     let test = is_of_task c.args.job.0 c.args.task in
     record {
-      jobs = record { jobs = ap map_keys wrote.0 ∙ keys-set_value (same_job c.args.job) rows c.end_task.new.self ∙ c.self.invariant.jobs.jobs; within = c.self.invariant.jobs.within };
+      jobs = record { jobs = ap map_keys wrote.0 ∙ keys-set_value (same_job c.args.job) rows c.end_task.new.row ∙ c.self.invariant.jobs.jobs; within = c.self.invariant.jobs.within };
       table = subst AreGrants (sym (c.take_out.ensures.left test c.in_ok-ends.ensures.found)) (left_are_grants test c.self.inside.grants c.self.invariant.table);
     }
 
@@ -62,7 +62,7 @@ returns-clause-ok c =
     let task = c.args.task in
     let rows = c.self.inside.rows.entries in
     let row = c.in-Some-get_mut.row.now in
-    let after = c.end_task.new.self in
+    let after = c.end_task.new.row in
     let new = (c.get_mut.follows.lender after).entries in
     let outcome = c.in_ok-outcome.outcome in
     let e = Own (event.Call job c.args.session (command.EndTask task)) in

@@ -29,7 +29,7 @@ returns-in_default-clause-ok c =
 pub returns-clause-ok : goal.returns-clause-ok
 returns-clause-ok c =
     let rows = c.self.inside.rows.entries in
-    let after = c.finish-answered.new.self in
+    let after = c.finish-answered.new.row in
     let works = c.finish-answered.new.works in
     let response = row_given_of c.finish-answered.result.outcome in
     let new = (c.get_mut.follows.lender after).entries in
@@ -53,7 +53,7 @@ returns-clause-ok c =
 pub returns-clause-judged : goal.returns-clause-judged
 returns-clause-judged c view h =
     let rows = c.self.inside.rows.entries in
-    let after = c.finish-answered.new.self in
+    let after = c.finish-answered.new.row in
     let works = c.finish-answered.new.works in
     let response = row_given_of c.finish-answered.result.outcome in
     let new = (c.get_mut.follows.lender after).entries in

@@ -19,10 +19,10 @@ use Rattle.node_core.proofs.Node.requota.Goals as goal
 pub invariant_of-self-2 : goal.invariant_of-self-2
 invariant_of-self-2 c =
     let rows = c.self.inside.rows.entries in
-    let wrote = c.get_mut.follows.holds c.requota.new.self in
+    let wrote = c.get_mut.follows.holds c.requota.new.row in
     record {
-      jobs = resized_hosted c.self.inside.admission c.args.job c.args.quota c.resize.new.self rows (c.get_mut.follows.lender c.requota.new.self).entries c.self.invariant.jobs c.in-Ok-resize.ensures.ok
-          (ap keys_of wrote.0 ∙ keys-set_value (same_job c.args.job) rows c.requota.new.self);
+      jobs = resized_hosted c.self.inside.admission c.args.job c.args.quota c.resize.new.self rows (c.get_mut.follows.lender c.requota.new.row).entries c.self.invariant.jobs c.in-Ok-resize.ensures.ok
+          (ap keys_of wrote.0 ∙ keys-set_value (same_job c.args.job) rows c.requota.new.row);
       table = c.self.invariant.table;
     }
 
@@ -30,16 +30,16 @@ pub returns-in_default-requota-clause-err : goal.returns-in_default-requota-clau
 returns-in_default-requota-clause-err c =
     let rows = c.self.inside.rows.entries in
     let found = sym c.get_mut.ensures.value ∙ ap option_copied_mut c.in-Some-get_mut.is in
-    let wrote = c.get_mut.follows.holds c.requota.new.self in
+    let wrote = c.get_mut.follows.holds c.requota.new.row in
     ap (node_of c.self.inside.number c.self.inside.admission c.self.inside.works c.self.inside.grants)
     (wrote.0 ∙ ap (set_value (same_job c.args.job) rows) c.in_default-requota.ensures.err ∙ set_value_same (same_job c.args.job) rows c.in-Some-get_mut.own_row.now found) ∙ c.self.view_is
 
 pub returns-clause-ok : goal.returns-clause-ok
 returns-clause-ok c =
     let rows = c.self.inside.rows.entries in
-    let new = (c.get_mut.follows.lender c.requota.new.self).entries in
+    let new = (c.get_mut.follows.lender c.requota.new.row).entries in
     let found = sym c.get_mut.ensures.value ∙ ap option_copied_mut c.in-Some-get_mut.is in
-    let wrote = c.get_mut.follows.holds c.requota.new.self in
+    let wrote = c.get_mut.follows.holds c.requota.new.row in
     let after : Hosted = node_of c.self.inside.number c.resize.new.self c.self.inside.works c.self.inside.grants new in
     let none : requota_refusal (node_of c.self.inside.number c.self.inside.admission c.self.inside.works c.self.inside.grants rows) c.args.job c.args.quota ≡ None =
     ap (λ n. requota_refusal n c.args.job c.args.quota) c.self.view_is ∙ sym c.requota_check.ensures.refusal ∙ c.in_default.is in
@@ -48,5 +48,5 @@ returns-clause-ok c =
     (λ view h. sym c.in_default.is ∙ c.requota_check.ensures.shown view h) in
     subst (λ given. NodeStepOne c.args.self.now (event.Requota c.args.job c.args.quota) given after) (sym c.only-2.ensures)
     (subst (λ old. NodeStepOne old (event.Requota c.args.job c.args.quota) (only reply.Ok) after) c.self.view_is
-    (requota_steps c.self.inside.number c.self.inside.admission c.resize.new.self c.self.inside.works c.self.inside.grants c.self.invariant.table c.args.job c.args.quota rows new c.in-Some-get_mut.own_row.now c.requota.new.self
+    (requota_steps c.self.inside.number c.self.inside.admission c.resize.new.self c.self.inside.works c.self.inside.grants c.self.invariant.table c.args.job c.args.quota rows new c.in-Some-get_mut.own_row.now c.requota.new.row
     found (wrote.3 (ap is_some found)).0 c.in-Ok-resize.ensures.ok c.in-Ok-resize.ensures.lives c.in-Ok.ensures.ok none shown))

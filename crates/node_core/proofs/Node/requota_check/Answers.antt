@@ -3,8 +3,8 @@ use Rattle.std.specs.Option.{option_copied}
 use Rattle.obj_id.specs.declared.refusals.Refusal.TheVariants.{NotAdmitted}
 use Rattle.private_store.specs.rules.Contents.{View}
 use Rattle.job_admission.specs.Admissions.{resize_check}
-use Rattle.node_table.specs.Quotas.{row_requota_check as row_check}
-use Rattle.node_table.specs.Row.{Row}
+use Rattle.job_row.specs.Quotas.{row_requota_check as row_check}
+use Rattle.job_row.specs.Row.{Row}
 use Rattle.node_core.specs.Hosted.{Hosted, Shows}
 use Rattle.node_core.specs.Quotas.{refused_or, requota_refusal}
 use Rattle.node_core.specs.Steps.{requota_check}

@@ -7,16 +7,16 @@ use Rattle.private_store.specs.declared.inputs.Judged.TheVariants as judged
 use Rattle.private_store.specs.rules.Contents.{Contents, judge, source_in}
 use Rattle.private_store.specs.rules.Grants.{StandingGrant}
 use Rattle.node_table.specs.Outcomes.{row_given_of}
-use Rattle.node_table.specs.Row.{beside_of}
 use Rattle.node_table.specs.Shown.{seen, IsShown, RowStep}
 use Rattle.node_core.proofs.arrivals.deliver.Goals as goal
+use Rattle.node_table.specs.Beside.{beside_of}
 
 pub returns-in-Located-clause-ok : goal.returns-in-Located-clause-ok
 returns-in-Located-clause-ok c grants bytes contents shown =
     let beside = beside_of c.args.works.now grants bytes c.args.row.now.job in
-    subst (λ a. RowStep c.args.node c.args.row.now beside contents (input.Arrive a) (row_given_of c.only-outcome.result) c.located.new.self beside)
+    subst (λ a. RowStep c.args.node c.args.row.now beside contents (input.Arrive a) (row_given_of c.only-outcome.result) c.located.new.row beside)
     (ap (arrival.Located c.in-Located.id c.in-Located.number) c.as_slice-entries.ensures ∙ sym c.in-Located.is)
-    (subst (λ given. RowStep c.args.node c.args.row.now beside contents (input.Arrive (arrival.Located c.in-Located.id c.in-Located.number c.as_slice-entries.result.now)) given c.located.new.self beside) (sym c.only-outcome.ensures)
+    (subst (λ given. RowStep c.args.node c.args.row.now beside contents (input.Arrive (arrival.Located c.in-Located.id c.in-Located.number c.as_slice-entries.result.now)) given c.located.new.row beside) (sym c.only-outcome.ensures)
     (c.located.ensures beside contents shown))
 
 pub returns-in-FromPeer-clause-ok : goal.returns-in-FromPeer-clause-ok

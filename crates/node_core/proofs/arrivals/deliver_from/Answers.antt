@@ -5,15 +5,15 @@ use Rattle.private_store.specs.rules.Contents.{chunk_verdict, judge}
 use Rattle.private_store.specs.declared.inputs.Input.TheVariants as input
 use Rattle.private_store.specs.declared.inputs.Judged.TheVariants as judged
 use Rattle.node_table.specs.Outcomes.{row_given_of}
-use Rattle.node_table.specs.Row.{beside_of}
 use Rattle.node_table.specs.Shown.{seen, RowStep}
 use Rattle.node_core.proofs.arrivals.deliver_from.Goals as goal
+use Rattle.node_table.specs.Beside.{beside_of}
 
 pub returns-in_ok-outcome-in-Pull-clause-ok : goal.returns-in_ok-outcome-in-Pull-clause-ok
 returns-in_ok-outcome-in-Pull-clause-ok c grants bytes contents shown =
     let beside = beside_of c.args.works.now grants bytes c.args.row.now.job in
     let after = beside_of c.serve_pull.new.works grants bytes c.args.row.now.job in
-    subst (λ m. RowStep c.args.node c.args.row.now beside contents (input.Arrive (arrival.FromPeer c.args.from m)) (row_given_of c.in_ok-outcome-in-Pull.outcome) c.serve_pull.new.self after)
+    subst (λ m. RowStep c.args.node c.args.row.now beside contents (input.Arrive (arrival.FromPeer c.args.from m)) (row_given_of c.in_ok-outcome-in-Pull.outcome) c.serve_pull.new.row after)
     (ap (peer.Pull c.in-Pull.id c.in-Pull.number c.in-Pull.length c.in-Pull.digest) c.as_slice.ensures ∙ sym c.in-Pull.is) (c.in_ok-outcome-in-Pull.ensures.ok grants bytes contents shown)
 
 pub returns-in_ok-outcome-in-Pull-clause-judged : goal.returns-in_ok-outcome-in-Pull-clause-judged
@@ -25,7 +25,7 @@ returns-in_ok-outcome-in-Pull-clause-judged c grants bytes contents shown =
 pub returns-in_ok-taken-in-Chunk-clause-ok : goal.returns-in_ok-taken-in-Chunk-clause-ok
 returns-in_ok-taken-in-Chunk-clause-ok c grants bytes contents shown =
     let beside = beside_of c.args.works.now grants bytes c.args.row.now.job in
-    subst (λ m. RowStep c.args.node c.args.row.now beside contents (input.Arrive (arrival.FromPeer c.args.from m)) (row_given_of c.in_ok-taken-in-Chunk.taken.outcome) c.chunk.new.self beside)
+    subst (λ m. RowStep c.args.node c.args.row.now beside contents (input.Arrive (arrival.FromPeer c.args.from m)) (row_given_of c.in_ok-taken-in-Chunk.taken.outcome) c.chunk.new.row beside)
     (ap (peer.Chunk c.in-Chunk.id c.in-Chunk.number c.in-Chunk.index) c.deref.ensures ∙ sym c.in-Chunk.is) (c.in_ok-taken-in-Chunk.ensures.ok beside contents shown)
 
 pub returns-in_ok-taken-in-Chunk-clause-judged : goal.returns-in_ok-taken-in-Chunk-clause-judged
@@ -39,7 +39,7 @@ returns-in_ok-taken-in-Chunk-clause-judged c grants bytes contents shown =
 pub returns-in_ok-outcome-in-NotHere-clause-ok : goal.returns-in_ok-outcome-in-NotHere-clause-ok
 returns-in_ok-outcome-in-NotHere-clause-ok c grants bytes contents shown =
     let beside = beside_of c.args.works.now grants bytes c.args.row.now.job in
-    subst (λ m. RowStep c.args.node c.args.row.now beside contents (input.Arrive (arrival.FromPeer c.args.from m)) (row_given_of c.in_ok-outcome-in-NotHere.outcome) c.not_here.new.self beside)
+    subst (λ m. RowStep c.args.node c.args.row.now beside contents (input.Arrive (arrival.FromPeer c.args.from m)) (row_given_of c.in_ok-outcome-in-NotHere.outcome) c.not_here.new.row beside)
     (sym c.in-NotHere.is) (c.in_ok-outcome-in-NotHere.ensures.ok c.args.node beside contents shown)
 
 pub returns-in_ok-outcome-in-NotHere-clause-judged : goal.returns-in_ok-outcome-in-NotHere-clause-judged

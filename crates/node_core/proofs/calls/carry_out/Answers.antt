@@ -6,7 +6,6 @@ use Rattle.private_store.specs.declared.inputs.Input.TheVariants as input
 use Rattle.store_facts.proofs.Tests.{true_false}
 use Rattle.node_table.specs.Asked.{HasAsked}
 use Rattle.node_table.specs.Outcomes.{row_given_of}
-use Rattle.node_table.specs.Row.{beside_of}
 use Rattle.node_table.specs.Shown.{IsShown, RowStep}
 use Rattle.node_table.proofs.ForCallers.{each_err}
 use Rattle.node_core.specs.Calls.{is_own, is_plain}
@@ -14,6 +13,7 @@ use Rattle.node_core.specs.MemoryLast.{IsRoomDue, IsUnrefused}
 use Rattle.node_core.proofs.Calling.{if_ok, always_ok, always_err, both_err, no_err, not_granted, plain_waits_not}
 use Rattle.node_core.proofs.Lines.{asked_nothing}
 use Rattle.node_core.proofs.calls.carry_out.Goals as goal
+use Rattle.node_table.specs.Beside.{beside_of}
 
 pub returns-then-not-is_own-clause-ok : goal.returns-then-not-is_own-clause-ok
 returns-then-not-is_own-clause-ok c grants bytes contents own h =
@@ -25,8 +25,8 @@ pub returns-in-Create-clause-ok : goal.returns-in-Create-clause-ok
 returns-in-Create-clause-ok c =
     if_ok c.create.result c.create.ensures.ok (λ o response grants bytes contents own h.
     let mine = ap (λ n. c.in-Create.id.job.0 == n) own ∙ ap (is_own c.args.job.0) (sym c.in-Create.is) ∙ sym c.is_own.ensures ∙ c.if-not-is_own.false in
-    subst (λ d. RowStep c.args.node c.args.row.now (beside_of c.args.works.now grants bytes c.args.job.0) contents (input.Call c.args.session d) (row_given_of o) c.create.new.self (beside_of c.create.new.works grants bytes c.args.job.0)) (sym c.in-Create.is)
-    (subst (λ n. RowStep c.args.node c.args.row.now (beside_of c.args.works.now grants bytes n) contents (input.Call c.args.session (command.Create c.in-Create.id c.in-Create.kind c.in-Create.len)) (row_given_of o) c.create.new.self (beside_of c.create.new.works grants bytes n)) own
+    subst (λ d. RowStep c.args.node c.args.row.now (beside_of c.args.works.now grants bytes c.args.job.0) contents (input.Call c.args.session d) (row_given_of o) c.create.new.row (beside_of c.create.new.works grants bytes c.args.job.0)) (sym c.in-Create.is)
+    (subst (λ n. RowStep c.args.node c.args.row.now (beside_of c.args.works.now grants bytes n) contents (input.Call c.args.session (command.Create c.in-Create.id c.in-Create.kind c.in-Create.len)) (row_given_of o) c.create.new.row (beside_of c.create.new.works grants bytes n)) own
     (response c.args.session grants bytes contents mine (subst (λ n. IsShown c.args.row.now (beside_of c.args.works.now grants bytes n) contents) (sym own) h))))
 
 pub returns-in-Create-clause-line : goal.returns-in-Create-clause-line
@@ -38,8 +38,8 @@ pub returns-in-Get-clause-ok : goal.returns-in-Get-clause-ok
 returns-in-Get-clause-ok c =
     if_ok c.get.result c.get.ensures.ok (λ o response grants bytes contents own h.
     let mine = ap (λ n. c.in-Get.id.job.0 == n) own ∙ ap (is_own c.args.job.0) (sym c.in-Get.is) ∙ sym c.is_own.ensures ∙ c.if-not-is_own.false in
-    subst (λ d. RowStep c.args.node c.args.row.now (beside_of c.args.works.now grants bytes c.args.job.0) contents (input.Call c.args.session d) (row_given_of o) c.get.new.self (beside_of c.get.new.works grants bytes c.args.job.0)) (sym c.in-Get.is)
-    (subst (λ n. RowStep c.args.node c.args.row.now (beside_of c.args.works.now grants bytes n) contents (input.Call c.args.session (command.Get c.in-Get.id)) (row_given_of o) c.get.new.self (beside_of c.get.new.works grants bytes n)) own
+    subst (λ d. RowStep c.args.node c.args.row.now (beside_of c.args.works.now grants bytes c.args.job.0) contents (input.Call c.args.session d) (row_given_of o) c.get.new.row (beside_of c.get.new.works grants bytes c.args.job.0)) (sym c.in-Get.is)
+    (subst (λ n. RowStep c.args.node c.args.row.now (beside_of c.args.works.now grants bytes n) contents (input.Call c.args.session (command.Get c.in-Get.id)) (row_given_of o) c.get.new.row (beside_of c.get.new.works grants bytes n)) own
     (response grants bytes contents mine (subst (λ n. IsShown c.args.row.now (beside_of c.args.works.now grants bytes n) contents) (sym own) h))))
 
 pub returns-in-Get-clause-line : goal.returns-in-Get-clause-line

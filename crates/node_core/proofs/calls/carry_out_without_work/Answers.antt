@@ -1,52 +1,52 @@
 use Rattle.std.proofs.Common.{◌==◌, sym, ap, subst, ◌∙◌}
 use Rattle.private_store.specs.declared.inputs.Input.TheVariants as input
 use Rattle.node_table.specs.Outcomes.{row_given_of}
-use Rattle.node_table.specs.Row.{beside_of}
 use Rattle.node_table.specs.Shown.{RowStep}
 use Rattle.node_core.specs.Calls.{is_own}
 use Rattle.node_core.proofs.Calling.{if_ok}
 use Rattle.node_core.proofs.calls.carry_out_without_work.Goals as goal
+use Rattle.node_table.specs.Beside.{beside_of}
 
 pub returns-in_ok-seal-in-Seal-clause-ok : goal.returns-in_ok-seal-in-Seal-clause-ok
 returns-in_ok-seal-in-Seal-clause-ok c job owned grants bytes contents own h =
     let mine = ap (λ n. c.in-Seal.id.job.0 == n) own ∙ ap (is_own job) (sym c.in-Seal.is) ∙ owned in
-    subst (λ d. RowStep c.args.node c.args.row.now (beside_of c.args.works.now grants bytes job) contents (input.Call c.args.session d) (row_given_of c.in_ok-seal-in-Seal.field-0) c.seal.new.self (beside_of c.args.works.now grants bytes job)) (sym c.in-Seal.is)
+    subst (λ d. RowStep c.args.node c.args.row.now (beside_of c.args.works.now grants bytes job) contents (input.Call c.args.session d) (row_given_of c.in_ok-seal-in-Seal.field-0) c.seal.new.row (beside_of c.args.works.now grants bytes job)) (sym c.in-Seal.is)
     (c.in_ok-seal-in-Seal.ensures.ok c.args.session (beside_of c.args.works.now grants bytes job) contents mine h)
 
 pub returns-in-Release-clause-ok : goal.returns-in-Release-clause-ok
 returns-in-Release-clause-ok c job owned grants bytes contents own h =
     let mine = ap (λ n. c.in-Release.id.job.0 == n) own ∙ ap (is_own job) (sym c.in-Release.is) ∙ owned in
-    subst (λ d. RowStep c.args.node c.args.row.now (beside_of c.args.works.now grants bytes job) contents (input.Call c.args.session d) (row_given_of c.release.result) c.release.new.self (beside_of c.args.works.now grants bytes job)) (sym c.in-Release.is)
+    subst (λ d. RowStep c.args.node c.args.row.now (beside_of c.args.works.now grants bytes job) contents (input.Call c.args.session d) (row_given_of c.release.result) c.release.new.row (beside_of c.args.works.now grants bytes job)) (sym c.in-Release.is)
     (c.release.ensures.step c.args.node (beside_of c.args.works.now grants bytes job) contents mine h)
 
 pub returns-in_ok-unpin-in-Unpin-clause-ok : goal.returns-in_ok-unpin-in-Unpin-clause-ok
 returns-in_ok-unpin-in-Unpin-clause-ok c job owned grants bytes contents own h =
     let mine = ap (λ n. c.in-Unpin.id.job.0 == n) own ∙ ap (is_own job) (sym c.in-Unpin.is) ∙ owned in
-    subst (λ d. RowStep c.args.node c.args.row.now (beside_of c.args.works.now grants bytes job) contents (input.Call c.args.session d) (row_given_of c.in_ok-unpin-in-Unpin.field-0) c.unpin.new.self (beside_of c.args.works.now grants bytes job)) (sym c.in-Unpin.is)
+    subst (λ d. RowStep c.args.node c.args.row.now (beside_of c.args.works.now grants bytes job) contents (input.Call c.args.session d) (row_given_of c.in_ok-unpin-in-Unpin.field-0) c.unpin.new.row (beside_of c.args.works.now grants bytes job)) (sym c.in-Unpin.is)
     (c.in_ok-unpin-in-Unpin.ensures.ok c.args.session (beside_of c.args.works.now grants bytes job) contents mine h)
 
 pub returns-in_ok-give_up-in-GiveUp-clause-ok : goal.returns-in_ok-give_up-in-GiveUp-clause-ok
 returns-in_ok-give_up-in-GiveUp-clause-ok c job owned grants bytes contents own h =
     let mine = ap (λ n. c.in-GiveUp.id.job.0 == n) own ∙ ap (is_own job) (sym c.in-GiveUp.is) ∙ owned in
-    subst (λ d. RowStep c.args.node c.args.row.now (beside_of c.args.works.now grants bytes job) contents (input.Call c.args.session d) (row_given_of c.in_ok-give_up-in-GiveUp.field-0) c.give_up.new.self (beside_of c.args.works.now grants bytes job)) (sym c.in-GiveUp.is)
+    subst (λ d. RowStep c.args.node c.args.row.now (beside_of c.args.works.now grants bytes job) contents (input.Call c.args.session d) (row_given_of c.in_ok-give_up-in-GiveUp.field-0) c.give_up.new.row (beside_of c.args.works.now grants bytes job)) (sym c.in-GiveUp.is)
     (c.in_ok-give_up-in-GiveUp.ensures.ok c.args.session (beside_of c.args.works.now grants bytes job) contents mine h)
 
 pub returns-in_ok-delete-in-Delete-clause-ok : goal.returns-in_ok-delete-in-Delete-clause-ok
 returns-in_ok-delete-in-Delete-clause-ok c job owned grants bytes contents own h =
     let mine = ap (λ n. c.in-Delete.id.job.0 == n) own ∙ ap (is_own job) (sym c.in-Delete.is) ∙ owned in
-    subst (λ d. RowStep c.args.node c.args.row.now (beside_of c.args.works.now grants bytes job) contents (input.Call c.args.session d) (row_given_of c.in_ok-delete-in-Delete.field-0) c.delete.new.self (beside_of c.args.works.now grants bytes job)) (sym c.in-Delete.is)
+    subst (λ d. RowStep c.args.node c.args.row.now (beside_of c.args.works.now grants bytes job) contents (input.Call c.args.session d) (row_given_of c.in_ok-delete-in-Delete.field-0) c.delete.new.row (beside_of c.args.works.now grants bytes job)) (sym c.in-Delete.is)
     (c.in_ok-delete-in-Delete.ensures.ok c.args.session (beside_of c.args.works.now grants bytes job) contents mine h)
 
 pub returns-in_ok-leave-in-Leave-clause-ok : goal.returns-in_ok-leave-in-Leave-clause-ok
 returns-in_ok-leave-in-Leave-clause-ok c job owned grants bytes contents own h =
-    subst (λ d. RowStep c.args.node c.args.row.now (beside_of c.args.works.now grants bytes job) contents (input.Call c.args.session d) (row_given_of c.in_ok-leave-in-Leave.field-0) c.leave.new.self (beside_of c.args.works.now grants bytes job)) (sym c.in-Leave.is)
+    subst (λ d. RowStep c.args.node c.args.row.now (beside_of c.args.works.now grants bytes job) contents (input.Call c.args.session d) (row_given_of c.in_ok-leave-in-Leave.field-0) c.leave.new.row (beside_of c.args.works.now grants bytes job)) (sym c.in-Leave.is)
     (c.in_ok-leave-in-Leave.ensures.ok c.args.node (beside_of c.args.works.now grants bytes job) contents h)
 
 pub returns-in-Borrow-clause-ok : goal.returns-in-Borrow-clause-ok
 returns-in-Borrow-clause-ok c =
     if_ok c.borrow.result c.borrow.ensures.ok (λ o response job owned grants bytes contents own h.
     let mine = ap (λ n. c.in-Borrow.id.job.0 == n) own ∙ ap (is_own job) (sym c.in-Borrow.is) ∙ owned in
-    subst (λ d. RowStep c.args.node c.args.row.now (beside_of c.args.works.now grants bytes job) contents (input.Call c.args.session d) (row_given_of o) c.borrow.new.self (beside_of c.args.works.now grants bytes job)) (sym c.in-Borrow.is)
+    subst (λ d. RowStep c.args.node c.args.row.now (beside_of c.args.works.now grants bytes job) contents (input.Call c.args.session d) (row_given_of o) c.borrow.new.row (beside_of c.args.works.now grants bytes job)) (sym c.in-Borrow.is)
     (response c.args.node c.args.session (beside_of c.args.works.now grants bytes job) contents mine h))
 
 pub returns-in_ok-reply-in_default-clause-ok : goal.returns-in_ok-reply-in_default-clause-ok

@@ -7,7 +7,7 @@ use Rattle.node_core.proofs.granting.give.Goals as goal
 
 pub returns-then-job-clause-step : goal.returns-then-job-clause-step
 returns-then-job-clause-step c session =
-    own_given c.args.row.now c.grant.new.self c.args.job session c.args.id.now c.args.target (row_given_of c.grant.result) (eq-eqb _ _ (ap (λ (j : JobNo). j.0) (sym c.job.ensures.value) ∙ c.if-job.true)) c.args.table c.requires (λ node. c.grant.ensures.step node session)
+    own_given c.args.row.now c.grant.new.row c.args.job session c.args.id.now c.args.target (row_given_of c.grant.result) (eq-eqb _ _ (ap (λ (j : JobNo). j.0) (sym c.job.ensures.value) ∙ c.if-job.true)) c.args.table c.requires (λ node. c.grant.ensures.step node session)
 
 pub returns-clause-step : goal.returns-clause-step
 returns-clause-step c session =

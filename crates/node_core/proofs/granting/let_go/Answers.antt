@@ -7,7 +7,7 @@ use Rattle.node_core.proofs.granting.let_go.Goals as goal
 
 pub returns-then-job-clause-step : goal.returns-then-job-clause-step
 returns-then-job-clause-step c session =
-    own_withdrawn c.args.row.now c.withdraw.new.self c.args.job session c.args.id.now c.args.target (row_given_of c.withdraw.result) (eq-eqb _ _ (ap (λ (j : JobNo). j.0) (sym c.job.ensures.value) ∙ c.if-job.true)) c.args.granted (λ node. c.withdraw.ensures.step node session)
+    own_withdrawn c.args.row.now c.withdraw.new.row c.args.job session c.args.id.now c.args.target (row_given_of c.withdraw.result) (eq-eqb _ _ (ap (λ (j : JobNo). j.0) (sym c.job.ensures.value) ∙ c.if-job.true)) c.args.granted (λ node. c.withdraw.ensures.step node session)
 
 pub returns-clause-step : goal.returns-clause-step
 returns-clause-step c session =

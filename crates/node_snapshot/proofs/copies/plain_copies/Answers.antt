@@ -3,7 +3,7 @@ use Rattle.std.specs.FinMap.{is_sorted}
 use Rattle.std.proofs.lemmas.List.{drop_all}
 use Rattle.obj_id.specs.Ids.{id_cmp}
 use Rattle.store_facts.proofs.Tests.{T_true}
-use Rattle.node_table.proofs.ForCallers.{sorted-copies}
+use Rattle.job_row.proofs.ForCallers.{sorted-copies}
 use Rattle.node_snapshot.proofs.Gathered.{gathered, gathered_all}
 use Rattle.node_snapshot.proofs.copies.plain_copies.Goals as goal
 

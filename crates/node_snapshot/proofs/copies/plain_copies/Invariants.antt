@@ -1,5 +1,5 @@
 use Rattle.std.proofs.Common.{◌≡◌, ◌++◌, drop}
-use Rattle.node_table.specs.Row.{copies_of}
+use Rattle.job_row.specs.Row.{copies_of}
 use Rattle.node_snapshot.proofs.Gathered.{gathered}
 use Rattle.node_snapshot.proofs.copies.plain_copies.Given as goal
 

@@ -1,5 +1,5 @@
 use Rattle.std.proofs.Common.{◌≡◌, ◌++◌, drop}
-use Rattle.node_table.specs.Evicting.{removals}
+use Rattle.job_row.specs.Evicting.{removals}
 use Rattle.node_table.proofs.create_command.removals.Given as goal
 
 -- those so far and those of what is left are all

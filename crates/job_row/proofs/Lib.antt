@@ -1,0 +1,23 @@
+mod Changes
+mod CopyTables
+mod Places
+mod Rising
+mod Holding
+mod MarkedPlaces
+mod Totals
+mod Sums
+mod Removing
+mod Evicting
+mod Replacing
+mod Shared
+mod Listed
+mod FollowsCopies
+mod AllChanged
+mod AwaitedSources
+mod FreedPlaces
+mod LendChecks
+mod Members
+mod Settled
+mod Ungranting
+mod Waiting
+pub mod ForCallers

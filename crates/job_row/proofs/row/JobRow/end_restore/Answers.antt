@@ -1,0 +1,11 @@
+use Rattle.std.proofs.Common.{sym, ap, ◌∙◌}
+use Rattle.private_store.specs.rules.Tables.{at}
+use Rattle.job_row.specs.CopyViews.{after_restore}
+use Rattle.job_row.specs.Scope.{with_copy}
+use Rattle.job_row.proofs.row.JobRow.end_restore.Goals as goal
+
+pub apply-requires-clause-can : goal.apply-requires-clause-can
+apply-requires-clause-can c k found = c.requires k (ap (λ t. at t c.args.id.now) (sym c.put_all_bytes.ensures.copies) ∙ found)
+
+pub returns : goal.returns
+returns c e lies fits = c.apply.ensures.row ∙ ap (λ r. with_copy after_restore r c.args.id.now) (c.put_all_bytes.ensures.row e lies fits)

@@ -1,0 +1,72 @@
+-- A hold that was asked for: what was answered, and what is left.
+use Rattle.std.specs.Prelude.{◌≡◌, ◌≢◌, ℕ, true, false, Some, None}
+use Rattle.std.specs.Option.{option_map_or}
+use Rattle.obj_id.specs.declared.ids.ObjectId.{ObjectId}
+use Rattle.obj_id.specs.declared.refusals.Refusal.{Refusal}
+use Rattle.obj_id.specs.declared.refusals.Refusal.TheVariants.{NoMemory}
+use Rattle.private_store.specs.rules.Tables.{ById, at}
+use Rattle.lru_evictor.specs.Facts.{info_of, info_at}
+use Rattle.lru_evictor.specs.Orders.{touched}
+use Rattle.job_row.specs.declared.copy.Held.{Held}
+use Rattle.job_row.specs.Checks.{hold_check_of}
+use Rattle.job_row.specs.Entries.{changed}
+use Rattle.job_row.specs.InSync.{facts_in}
+use Rattle.job_row.specs.CopyViews.{CopyView, is_ready, after_hold}
+use Rattle.job_row.specs.RowFacts.{row_facts_of}
+use Rattle.job_row.specs.Row.{Row}
+
+-- ---- of one copy
+
+-- the copy is ready, and has one more hold: this is told of it
+pub record IsHeld (old : CopyView) (session : ℕ) (response : Held) (new : CopyView) : Type 0 where
+  pub ready : is_ready old.copy ≡ true
+  pub passed : hold_check_of old ≡ None
+  pub length : response.length ≡ old.copy.length
+  pub eviction_info : response.eviction_info ≡ info_of (row_facts_of new)
+  pub copy : new ≡ after_hold session old
+
+-- it isn't ready
+pub record IsUnready (old new : CopyView) : Type 0 where
+  pub unready : is_ready old.copy ≡ false
+  pub same : new ≡ old
+
+-- it is ready, and can't have one more
+pub record IsHoldRefused (old : CopyView) (r : Refusal) (new : CopyView) : Type 0 where
+  pub ready : is_ready old.copy ≡ true
+  pub refused : r ≢ NoMemory → hold_check_of old ≡ Some r
+  pub late : r ≡ NoMemory → hold_check_of old ≡ None
+  pub same : new ≡ old
+
+-- ---- of the copies of a job, where the one of an id is meant
+
+pub record IsHeldAt (old : ById CopyView) (session : ℕ) (id : ObjectId) (response : Held) (new : ById CopyView) : Type 0 where
+  pub kept : CopyView
+  pub found : at old id ≡ Some kept
+  pub ready : is_ready kept.copy ≡ true
+  pub passed : hold_check_of kept ≡ None
+  pub length : response.length ≡ kept.copy.length
+  pub eviction_info : response.eviction_info ≡ info_at (facts_in new) id
+  pub copies : new ≡ changed (after_hold session) old id
+
+-- it isn't there, or isn't ready
+pub record IsUnreadyAt (old : ById CopyView) (id : ObjectId) (new : ById CopyView) : Type 0 where
+  pub unready : option_map_or (λ k. is_ready k.copy) (at old id) false ≡ false
+  pub same : new ≡ old
+
+pub record IsHoldRefusedAt (old : ById CopyView) (id : ObjectId) (r : Refusal) (new : ById CopyView) : Type 0 where
+  pub kept : CopyView
+  pub found : at old id ≡ Some kept
+  pub ready : is_ready kept.copy ≡ true
+  pub refused : r ≢ NoMemory → hold_check_of kept ≡ Some r
+  pub late : r ≡ NoMemory → hold_check_of kept ≡ None
+  pub same : new ≡ old
+
+-- ---- of a row: the copy is its most recently used one as well, and n is its length
+
+pub record IsRowHeld (old : Row) (session : ℕ) (id : ObjectId) (n : ℕ) (new : Row) : Type 0 where
+  pub kept : CopyView
+  pub found : at old.copies id ≡ Some kept
+  pub ready : is_ready kept.copy ≡ true
+  pub passed : hold_check_of kept ≡ None
+  pub length : n ≡ kept.copy.length
+  pub row : new ≡ record old { copies = changed (after_hold session) old.copies id; order = touched id old.order }

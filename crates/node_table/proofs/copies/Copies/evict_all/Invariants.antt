@@ -1,7 +1,0 @@
-use Rattle.std.proofs.Common.{◌≡◌, drop}
-use Rattle.node_table.specs.Evicting.{all_evicted}
-use Rattle.node_table.proofs.copies.Copies.evict_all.Given as goal
-
--- once those that are left are evicted they are what they are to be
-abbrev pub invariant-loop-id : goal.invariant-loop-id
-invariant-loop-id l = all_evicted (drop l.id-index l.ids) l.self ≡ all_evicted l.ids l.initial.self

@@ -1,7 +1,0 @@
-use Rattle.std.proofs.Common.{sym, subst}
-use Rattle.job_region.specs.Region.{IsAt}
-use Rattle.node_table.specs.Row.{Row}
-use Rattle.node_table.proofs.row.JobRow.freeze_at.Goals as goal
-
-pub freeze-requires : goal.freeze-requires
-freeze-requires c = subst (λ (r : Row). IsAt c.in-Some.extent r.window.placed) (sym c.self.view_is) (c.requires c.in-Some.extent c.in-Some.is)

@@ -1,9 +1,0 @@
-use Rattle.std.proofs.Common.{sym, ◌∙◌}
-use Rattle.node_table.proofs.Releasing.{row_kept, keys_kept}
-use Rattle.node_table.proofs.row.JobRow.settle.Goals as goal
-
-pub returns-then-not-over-clause-row : goal.returns-then-not-over-clause-row
-returns-then-not-over-clause-row c = sym (row_kept c.args.self.now c.args.id.now (sym c.requires ∙ c.if-not-over.true))
-
-pub returns-then-not-over-clause-keys : goal.returns-then-not-over-clause-keys
-returns-then-not-over-clause-keys c = sym (keys_kept c.args.self.now c.args.id.now (sym c.requires ∙ c.if-not-over.true))
