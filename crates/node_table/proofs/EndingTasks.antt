@@ -1,28 +1,27 @@
 -- A row takes EndTask: the grants of the task's own objects end, and two walks over all copies follow.
-use Rattle.std.proofs.Common.{◌≡◌, ℕ, Bool, true, false, not, ◌&&◌, ◌||◌, ◌==◌, cond, List, [], ◌∷◌, ◌++◌, fold, filter, map, flat_map, take, Option, Some, None, is_some, is_none, option_map, unwrap_or, inl, inr, refl, sym, ap, subst, ◌∙◌, T, arith}
+use Rattle.std.proofs.Common.{◌≡◌, ℕ, Bool, true, false, not, ◌&&◌, ◌||◌, ◌==◌, cond, List, [], ◌∷◌, ◌++◌, fold, filter, map, flat_map, take, Option, Some, None, is_some, is_none, option_map, unwrap_or, refl, sym, ap, subst, ◌∙◌, T, arith}
 use Rattle.std.specs.Prelude.{option_to_list}
 use Rattle.std.proofs.lemmas.List.{append-nil, append_assoc}
 use Rattle.std.proofs.lemmas.Bool.Decides.{nat_tests}
 use Rattle.std.specs.List.{cons_option}
 use Rattle.std.specs.Option.{option_map_or, option_and_then}
-use Rattle.std.specs.FinMap.Entries.{is_sorted, is_sorted-put, is_sorted-where_key, below_all}
+use Rattle.std.specs.FinMap.Entries.{is_sorted, below_all}
 use Rattle.obj_id.specs.declared.ids.TaskNo.{TaskNo}
 use Rattle.obj_id.specs.declared.ids.ObjectId.{ObjectId}
 use Rattle.obj_id.specs.declared.works.DeviceKey.{DeviceKey}
-use Rattle.obj_id.specs.declared.works.Extent.{Extent}
 use Rattle.obj_id.specs.declared.refusals.Refusal.{Refusal}
 use Rattle.obj_id.specs.declared.commands.Command.TheVariants as command
 use Rattle.obj_id.specs.declared.commands.Reply.TheVariants as reply
 use Rattle.obj_id.specs.declared.messages.DirectoryMessage.TheVariants.{RemoveLocation, Free}
 use Rattle.obj_id.specs.Ids.{id_cmp, same_id, same_task}
 use Rattle.obj_id.specs.Kinds.{is_primary}
-use Rattle.store_facts.proofs.Ids.{same_id-equal, id_cmp-IsTotalOrder}
+use Rattle.store_facts.proofs.Ids.{same_id-equal}
 use Rattle.private_store.specs.declared.inputs.Input.{Input}
 use Rattle.private_store.specs.declared.inputs.Input.TheVariants as input
-use Rattle.private_store.specs.rules.Tables.{ById, at, with_entry, ids_of, is_among}
+use Rattle.private_store.specs.rules.Tables.{ById, at, ids_of}
 use Rattle.private_store.specs.rules.Shape.{Copy, Shape, Change, Sending, GrantGiven, free, remove_location}
-use Rattle.private_store.specs.rules.Copies.{extent_of, is_held, is_granted, is_working, is_idle, in_scope, was_sealed}
-use Rattle.private_store.specs.rules.Room.{set_copy, drop_copy}
+use Rattle.private_store.specs.rules.Copies.{extent_of, in_scope, was_sealed}
+use Rattle.private_store.specs.rules.Room.{set_copy}
 use Rattle.private_store.specs.rules.Change.{done, sending, erasing, settled, keys_gone, doom, doom_notice}
 use Rattle.private_store.specs.rules.Change as changes
 use Rattle.private_store.specs.rules.Commands.{end_task_checks, at_each, give_up_one, of_task, task_ended, end_task, has_borrower, without_borrower}
@@ -37,22 +36,20 @@ use Rattle.job_region.specs.Region.{region_bytes_at as placed_bytes}
 use Rattle.lru_evictor.specs.Orders.{AreThere}
 use Rattle.lru_evictor.proofs.ForCallers.{reordered-unused}
 use Rattle.job_row.specs.Checks.{end_task_check}
-use Rattle.job_row.specs.Dropping.{dropped, is_over, settled_row}
+use Rattle.job_row.specs.Dropping.{settled_row}
 use Rattle.job_row.specs.EndingTasks.{task_row, doomed_row, doom_posts, given_up_row, give_up_posts, posts_of_each, keys_of_copies, gone_keys, gone_key}
 use Rattle.job_row.specs.CopyViews.{CopyView, after_doom, after_give_up, after_grants_ended}
 use Rattle.job_row.specs.Row.{Row, copies_of, place_of, ArePlaced}
 use Rattle.job_row.specs.Scope.{removal_notice, removal_notice_at, notice_posts, with_copy}
-use Rattle.node_table.specs.Shown.{seen, work_on, IsShown, RowGiven, only, RowStep}
+use Rattle.node_table.specs.Shown.{seen, IsShown, RowGiven, only, RowStep}
 use Rattle.node_table.proofs.ByChecks.{called, by-checks, unless_refused, sending-is}
-use Rattle.job_row.proofs.ForCallers.{changed-absent, at-first, at-rest, at-copies, at-copies_found, at-copies_none, copies-changed, copies-without, sorted-copies, changed_placed, left_placed, same_part, copies-ended, from_ended, ended_placed}
-use Rattle.node_table.proofs.Changing.{From, from_changed, there_with}
-use Rattle.node_table.proofs.Described.{working-on, idle_same}
-use Rattle.node_table.proofs.Dropping.{moves_left}
-use Rattle.node_table.proofs.LeavingEach.{reordered-with, ids-copies}
+use Rattle.job_row.proofs.ForCallers.{at-first, at-rest, at-copies, at-copies_found, at-copies_none, sorted-copies, same_part, copies-ended, from_ended, ended_placed}
+use Rattle.node_table.proofs.LeavingEach.{ids-copies}
 use Rattle.node_table.proofs.Scoping.{doom-is, scoped-is, scoped-copy, scoped_copy, scoped_told, scoped-minor, doomed-minor, notice_of}
 use Rattle.node_table.proofs.Settling.{IsMinor}
-use Rattle.node_table.proofs.Stepping.{TakesChange, moved, change, bytes_now, digests_now, same_bytes, received_stays, stays}
+use Rattle.node_table.proofs.Stepping.{TakesChange, moved, change, bytes_now, same_bytes, received_stays, stays}
 use Rattle.node_table.specs.Beside.{SharedTables, shape_of, beside_ended, beside_after}
+use Rattle.node_table.proofs.Walking.{Good, touched-shape, touched, settled_shape, settled_good, untouched}
 
 -- ---- the grants that end
 
@@ -168,109 +165,9 @@ module _ (node : ℕ) (row : Row) (beside : SharedTables) (contents : Contents) 
   abbrev s_of : Row → Shape
   s_of r = shape_of r after
 
-  record Good (r : Row) : Type 0 where
-    pub moves : TakesChange node row beside contents h x (done (s_of r)) (only reply.Ok) r after
-    pub placed : ArePlaced r.window.placed (place_of r.copies)
-    pub sorted : T (is_sorted id_cmp (copies_of r.copies))
-
-  -- one copy is changed where it lies
-  module _ (r : Row) (g : Good r) (id : ObjectId) (k : CopyView) (found : at r.copies id ≡ Some k) (f : CopyView → CopyView) (minor : (z : CopyView) → IsMinor f z) where
-    abbrev r_now : Row
-    r_now = with_copy f r id
-
-    copies_is : copies_of r_now.copies ≡ with_entry (copies_of r.copies) id (f k).copy
-    copies_is = copies-changed f r.copies id k found
-
-    touched-shape : s_of r_now ≡ set_copy (s_of r) id (f k).copy
-    touched-shape = ap (λ t. record (s_of r) { copies = t }) copies_is
-
-    carried : (P : CopyView → Type 0) → ((z : CopyView) → P z → P (f z)) → (q : ObjectId) (y : CopyView) → at r_now.copies q ≡ Some y → ((z : CopyView) → at r.copies q ≡ Some z → P z) → P y
-    carried P still q y e was = by (from_changed f r.copies id k found q y e)
-      where
-        by : (z : CopyView) × (at r.copies q ≡ Some z) × From f r.copies id q y z → P y
-        by (z, there, inl t) = subst P (sym t.1) (still z (was z there))
-        by (z, there, inr t) = subst P (sym t.1) (was z there)
-
-    same_extent : (z : CopyView) → extent_of (f z).copy ≡ extent_of z.copy
-    same_extent z = ap (λ p. extent_of (record (f z).copy { offset = p })) ((minor z).lies z).0 ∙ ap (λ n. extent_of (record z.copy { length = n })) ((minor z).lies z).1
-
-    touched : Good r_now
-    touched = record {
-      moves = record {
-        shape = refl;
-        order =
-            ap (λ t. reordered row.order t None) copies_is
-            ∙ reordered-with row.order (copies_of r.copies) id (f k).copy (ap is_some (at-copies_found r.copies id k found)) ∙ g.moves.order;
-        there = subst (λ t. AreThere t r.order) (sym copies_is) (there_with (copies_of r.copies) id (f k).copy r.order g.moves.there);
-        listed = λ q y e. carried (λ z. is_among r.order q ≡ true) (λ z p. p) q y e (λ z there. g.moves.listed q z there);
-        bytes = λ q y e found lies.
-            carried (λ z. (e : Extent) → extent_of z.copy ≡ Some e → filled (at (bytes_now node row beside contents h x (done (s_of r))) q) z.copy ≡ take z.copy.length (placed_bytes e r.window.placed))
-            (λ z p e lies.
-            ap (λ n. filled (at (bytes_now node row beside contents h x (done (s_of r))) q) (record z.copy { length = n })) ((minor z).lies z).1
-            ∙ p e (sym (same_extent z) ∙ lies) ∙ ap (λ n. take n (placed_bytes e r.window.placed)) (sym ((minor z).lies z).1))
-            q y found (λ z there e lies. g.moves.bytes q z e there lies) e lies;
-        digests = λ q y found keeps.
-            carried (λ z. keeps_digest z.copy ≡ true → unwrap_or (at (digests_now node row beside contents h x (done (s_of r))) q) no_digest ≡ unwrap_or z.digest no_digest)
-            (λ z p keep. p ((minor z).keeps keep) ∙ ap (λ d. unwrap_or d no_digest) (sym (minor z).digest)) q y found (λ z there keep. g.moves.digests q z there keep) keeps;
-        working = λ q y found. carried (λ z. z.working ≡ work_on after.works q) (λ z p. (minor z).working ∙ p) q y found (λ z there. g.moves.working q z there);
-        granted = λ q y found. carried (λ z. z.granted ≡ has_grant after.given q) (λ z p. (minor z).granted ∙ p) q y found (λ z there. g.moves.granted q z there);
-        received = g.moves.received;
-        reply = g.moves.reply;
-        erased = g.moves.erased;
-      };
-      placed = changed_placed r.window.placed r.copies g.placed f same_extent id;
-      sorted = subst (λ t. T (is_sorted id_cmp t)) (sym copies_is) (is_sorted-put id_cmp id_cmp-IsTotalOrder id (f k).copy (copies_of r.copies) g.sorted);
-    }
-
-  -- and removed if nothing keeps it
-  module _ (r : Row) (g : Good r) (id : ObjectId) where
-    over_is : (k : CopyView) → at r.copies id ≡ Some k → is_over k ≡ k.copy.doomed && is_idle (s_of r) id k.copy
-    over_is k found =
-        ap (λ b. k.copy.doomed && b)
-        (idle_same (is_held k.copy) k.granted (is_granted (s_of r) id) (is_working (s_of r) id) k.working (g.moves.granted id k found) (ap is_some (g.moves.working id k found) ∙ working-on after.works id))
-
-    left : TakesChange node row beside contents h x (done (drop_copy (s_of r) id)) (only reply.Ok) (dropped r id) after
-    left = moves_left node row beside contents h x (done (s_of r)) (only reply.Ok) r after g.moves refl g.placed id [] (only reply.Ok) refl refl
-
-    dropped_good : Good (dropped r id)
-    dropped_good = record {
-      moves = subst (λ s. TakesChange node row beside contents h x (done s) (only reply.Ok) (dropped r id) after) left.shape left;
-      placed = left_placed r.window.placed r.copies g.placed id;
-      sorted = subst (λ t. T (is_sorted id_cmp t)) (sym (copies-without r.copies id)) (is_sorted-where_key id_cmp (λ k. not (same_id id k)) (copies_of r.copies) g.sorted);
-    }
-
-    settled_shape : settled (s_of r) id ≡ s_of (settled_row r id)
-    settled_shape = by (at r.copies id) refl
-      where
-        last : (b : Bool) → cond b (drop_copy (s_of r) id) (s_of r) ≡ s_of (cond b (dropped r id) r)
-        last true = left.shape
-        last false = refl
-
-        by : (o : Option CopyView) → at r.copies id ≡ o → settled (s_of r) id ≡ s_of (option_map_or (λ kept. cond (is_over kept) (dropped r id) r) o r)
-        by None none = ap (λ o. option_map_or (λ (copy : Copy). cond (copy.doomed && is_idle (s_of r) id copy) (drop_copy (s_of r) id) (s_of r)) o (s_of r)) (at-copies_none r.copies id none)
-        by (Some k) found =
-            ap (λ o. option_map_or (λ (copy : Copy). cond (copy.doomed && is_idle (s_of r) id copy) (drop_copy (s_of r) id) (s_of r)) o (s_of r)) (at-copies_found r.copies id k found)
-            ∙ ap (λ b. cond b (drop_copy (s_of r) id) (s_of r)) (sym (over_is k found)) ∙ last (is_over k)
-
-    settled_good : Good (settled_row r id)
-    settled_good = by (at r.copies id)
-      where
-        over : (b : Bool) → Good (cond b (dropped r id) r)
-        over true = dropped_good
-        over false = g
-
-        by : (o : Option CopyView) → Good (option_map_or (λ kept. cond (is_over kept) (dropped r id) r) o r)
-        by None = g
-        by (Some k) = over (is_over k)
-
-  untouched : (r : Row) (id : ObjectId) (f : CopyView → CopyView) → at r.copies id ≡ None → settled_row (with_copy f r id) id ≡ r
-  untouched r id f none =
-      ap (λ t. settled_row (record r { copies = t }) id) (changed-absent f id r.copies none)
-      ∙ ap (λ o. option_map_or (λ kept. cond (is_over kept) (dropped r id) r) o r) none
-
   -- the row after this change, and what it tells
   record Fits (c : Change) (r : Row) (said : List Post) : Type 0 where
-    pub good : Good r
+    pub good : Good node row beside contents h x after r
     pub shape : c.shape ≡ s_of r
     pub response : (o : View) → said ≡ flat_map (posts_of node o x) c.sent
 
@@ -280,16 +177,16 @@ module _ (node : ℕ) (row : Row) (beside : SharedTables) (contents : Contents) 
   -- ---- a walk
 
   module _ (f : Shape → ObjectId → Change) (p : ObjectId → Bool) (next : Row → ObjectId → Row) (says : Row → ObjectId → List Post)
-      (one : (r : Row) → Good r → (id : ObjectId) → Fits (meant f p (s_of r) id) (next r id) (says r id)) where
-    each_good : (ids : List ObjectId) (r : Row) → Good r → Good (fold next r ids)
+      (one : (r : Row) → Good node row beside contents h x after r → (id : ObjectId) → Fits (meant f p (s_of r) id) (next r id) (says r id)) where
+    each_good : (ids : List ObjectId) (r : Row) → Good node row beside contents h x after r → Good node row beside contents h x after (fold next r ids)
     each_good [] r g = g
     each_good (id ∷ ids) r g = each_good ids (next r id) (one r g id).good
 
-    each_shape : (ids : List ObjectId) (r : Row) → Good r → shape_each f p (s_of r) ids ≡ s_of (fold next r ids)
+    each_shape : (ids : List ObjectId) (r : Row) → Good node row beside contents h x after r → shape_each f p (s_of r) ids ≡ s_of (fold next r ids)
     each_shape [] r g = refl
     each_shape (id ∷ ids) r g = ap (λ s. shape_each f p s ids) (one r g id).shape ∙ each_shape ids (next r id) (one r g id).good
 
-    each_told : (o : View) (ids : List ObjectId) (r : Row) → Good r → posts_of_each next says r ids ≡ flat_map (posts_of node o x) (sent_each f p (s_of r) ids)
+    each_told : (o : View) (ids : List ObjectId) (r : Row) → Good node row beside contents h x after r → posts_of_each next says r ids ≡ flat_map (posts_of node o x) (sent_each f p (s_of r) ids)
     each_told o [] r g = refl
     each_told o (id ∷ ids) r g =
         ap (λ t. t ++ posts_of_each next says (next r id) ids) ((one r g id).response o)
@@ -299,7 +196,7 @@ module _ (node : ℕ) (row : Row) (beside : SharedTables) (contents : Contents) 
 
   -- ---- the first walk: the task's copies are doomed
 
-  module _ (task : TaskNo) (r : Row) (g : Good r) (id : ObjectId) where
+  module _ (task : TaskNo) (r : Row) (g : Good node row beside contents h x after r) (id : ObjectId) where
     abbrev row_doomed : Row
     row_doomed = settled_row (with_copy after_doom r id) id
 
@@ -314,15 +211,15 @@ module _ (node : ℕ) (row : Row) (beside : SharedTables) (contents : Contents) 
             fits_as (doom (s_of r) id) (done (s_of r)) row_doomed r (doomed_said (at r.copies id)) []
             (sending-is (option_to_list (doom_notice (s_of r) id)) (done (changes.doomed (s_of r) id))
             ∙ ap (λ (o : Option Copy). record (done (option_map_or (λ copy. settled (set_copy (s_of r) id (record copy { doomed = true })) id) o (s_of r))) { sent = option_to_list (option_map_or (notice_of id) o None) ++ [] }) (at-copies_none r.copies id none))
-            (untouched r id after_doom none) (ap doomed_said none)
+            (untouched node row beside contents h x after r id after_doom none) (ap doomed_said none)
             (record { good = g; shape = refl; response = λ o. refl })
         by (Some k) found =
-            let again = touched r g id k found after_doom doomed-minor in
+            let again = touched node row beside contents h x after r g id k found after_doom doomed-minor in
             fits_as (doom (s_of r) id) (record (done (settled (set_copy (s_of r) id (record k.copy { doomed = true })) id)) { sent = option_to_list (notice_of id k.copy) }) row_doomed row_doomed (doomed_said (at r.copies id)) (doomed_said (Some k))
             (doom-is (s_of r) id k.copy (at-copies_found r.copies id k found)) refl (ap doomed_said found)
             (record {
-              good = settled_good (with_copy after_doom r id) again id;
-              shape = ap (λ t. settled t id) (sym (touched-shape r g id k found after_doom doomed-minor)) ∙ settled_shape (with_copy after_doom r id) again id;
+              good = settled_good node row beside contents h x after (with_copy after_doom r id) again id;
+              shape = ap (λ t. settled t id) (sym (touched-shape node row beside contents h x after r g id k found after_doom doomed-minor)) ∙ settled_shape node row beside contents h x after (with_copy after_doom r id) again id;
               response = λ o. doom_told node id o x k;
             })
 
@@ -350,11 +247,11 @@ module _ (node : ℕ) (row : Row) (beside : SharedTables) (contents : Contents) 
       minor z = scoped-minor (λ y. record y { copy = without_borrower y.copy task }) z
           (record { lies = λ y. (refl, refl); digest = refl; keeps = λ keep. keep; working = refl; granted = refl; backed = refl })
 
-      again : Good row_given_up
-      again = touched r g id k found (after_give_up task) minor
+      again : Good node row beside contents h x after row_given_up
+      again = touched node row beside contents h x after r g id k found (after_give_up task) minor
 
       shape_is : s_of row_given_up ≡ set_copy (s_of r) id (scoped_copy without.copy)
-      shape_is = touched-shape r g id k found (after_give_up task) minor ∙ ap (λ a. set_copy (s_of r) id a) (scoped-copy without)
+      shape_is = touched-shape node row beside contents h x after r g id k found (after_give_up task) minor ∙ ap (λ a. set_copy (s_of r) id a) (scoped-copy without)
 
       doomed_still : k.copy.doomed ≡ true → (b : Bool) → cond b without.copy (record without.copy { doomed = true }) ≡ without.copy
       doomed_still d true = refl
@@ -371,8 +268,8 @@ module _ (node : ℕ) (row : Row) (beside : SharedTables) (contents : Contents) 
       by_state false d true =
           let is = scoped-is (s_of r) id without.copy g.sorted d in
           record {
-            good = settled_good row_given_up again id;
-            shape = ap (λ (c : Change). c.shape) is ∙ ap (λ t. settled t id) (sym shape_is) ∙ settled_shape row_given_up again id;
+            good = settled_good node row beside contents h x after row_given_up again id;
+            shape = ap (λ (c : Change). c.shape) is ∙ ap (λ t. settled t id) (sym shape_is) ∙ settled_shape node row beside contents h x after row_given_up again id;
             response = λ o. scoped_told node id o x k without.copy refl refl d r.copies found ∙ sym (ap (λ (c : Change). flat_map (posts_of node o x) c.sent) is);
           }
       by_state false d false = record { good = g; shape = refl; response = λ o. refl }

@@ -1,12 +1,11 @@
 -- A row takes Leave copy by copy, where there are doomed ones.
-use Rattle.std.proofs.Common.{◌≡◌, ℕ, Bool, true, false, not, ◌&&◌, cond, List, [], ◌∷◌, ◌++◌, fold, filter, map, flat_map, take, Option, Some, None, is_some, is_none, option_map, unwrap_or, inl, inr, refl, sym, ap, subst, ◌∙◌, T}
+use Rattle.std.proofs.Common.{◌≡◌, ℕ, Bool, true, false, not, cond, List, [], ◌∷◌, ◌++◌, fold, map, flat_map, Option, Some, None, is_none, option_map, refl, sym, ap, subst, ◌∙◌, T}
 use Rattle.std.specs.Prelude.{option_to_list}
 use Rattle.std.proofs.lemmas.List.{map-append}
 use Rattle.std.specs.List.{cons_option}
 use Rattle.std.specs.Option.{option_map_or}
 use Rattle.std.specs.FinMap.Entries.{is_sorted, below_all}
 use Rattle.obj_id.specs.declared.ids.ObjectId.{ObjectId}
-use Rattle.obj_id.specs.declared.works.Extent.{Extent}
 use Rattle.obj_id.specs.declared.commands.Command.TheVariants as command
 use Rattle.obj_id.specs.declared.commands.OwnItem.{OwnItem}
 use Rattle.obj_id.specs.declared.commands.Reply.TheVariants as reply
@@ -14,34 +13,30 @@ use Rattle.obj_id.specs.Ids.{id_cmp, same_id}
 use Rattle.store_facts.proofs.Ids.{same_id-itself, same_id-equal, same_id-flip}
 use Rattle.private_store.specs.declared.inputs.Input.{Input}
 use Rattle.private_store.specs.declared.inputs.Input.TheVariants as input
-use Rattle.private_store.specs.rules.Tables.{ById, at, with_entry, ids_of, is_among}
+use Rattle.private_store.specs.rules.Tables.{ById, at, with_entry, ids_of}
 use Rattle.private_store.specs.rules.Shape.{Copy, Shape, Change}
-use Rattle.private_store.specs.rules.Copies.{extent_of, is_held, is_granted, is_working, is_idle}
-use Rattle.private_store.specs.rules.Room.{set_copy, drop_copy}
+use Rattle.private_store.specs.rules.Room.{set_copy}
 use Rattle.private_store.specs.rules.Change.{done, sending, erasing, settled, keys_gone}
 use Rattle.private_store.specs.rules.Commands.{leave_one, at_each, with_holds}
-use Rattle.private_store.specs.rules.Contents.{Contents, judge, keeps_digest, no_digest}
-use Rattle.private_store.specs.laws.Invariants.{has_grant}
+use Rattle.private_store.specs.rules.Contents.{Contents, judge}
 use Rattle.private_store.specs.rules.Private.{key_of}
-use Rattle.private_store.specs.rules.Step.{step, reordered}
-use Rattle.store_facts.proofs.Filling.{filled, below_none}
+use Rattle.private_store.specs.rules.Step.{step}
+use Rattle.store_facts.proofs.Filling.{below_none}
 use Rattle.store_facts.proofs.Rows.{at-put, at-put_here, at-drop}
 use Rattle.store_facts.proofs.Tests.{T_true, and_left, and_right, none_some, some_value}
-use Rattle.job_region.specs.Region.{region_bytes_at as placed_bytes}
-use Rattle.lru_evictor.specs.Orders.{AreThere}
 use Rattle.lru_evictor.proofs.ForCallers.{reordered-unused}
 use Rattle.job_row.specs.CopyViews.{CopyView, after_leave}
 use Rattle.job_row.specs.Row.{Row, copies_of, place_of, ArePlaced}
 use Rattle.job_row.specs.Dropping.{dropped, is_over, settled_row, keys_settled, unheld_row, left_row, keys_left}
-use Rattle.node_table.specs.Shown.{seen, work_on, IsShown, RowGiven, only, RowStep}
+use Rattle.node_table.specs.Shown.{seen, IsShown, RowGiven, only, RowStep}
 use Rattle.job_row.specs.Usages.{own_item_of}
 use Rattle.node_table.proofs.ByChecks.{called}
-use Rattle.job_row.proofs.ForCallers.{changed-found, changed-absent, at-first, at-rest, at-copies, at-copies_found, at-copies_none, copies-changed, sorted-copies, changed_placed, left_placed}
-use Rattle.node_table.proofs.Changing.{From, from_changed, there_with}
-use Rattle.node_table.proofs.Described.{working-on, idle_same}
-use Rattle.node_table.proofs.Dropping.{moves_left}
-use Rattle.node_table.proofs.Stepping.{TakesChange, moved, bytes_now, digests_now, same_bytes, received_stays}
+use Rattle.job_row.proofs.ForCallers.{changed-found, at-first, at-rest, at-copies, at-copies_found, at-copies_none, sorted-copies}
+use Rattle.node_table.proofs.Stepping.{TakesChange, moved, same_bytes, received_stays}
 use Rattle.node_table.specs.Beside.{SharedTables, shape_of}
+use Rattle.node_table.proofs.Walking.{Good, touched-shape, touched, settled_shape, settled_good, untouched}
+use Rattle.node_table.proofs.Settling.{IsMinor}
+use Rattle.job_row.specs.Scope.{with_copy}
 
 -- ---- the definition, copy by copy
 
@@ -64,138 +59,42 @@ module _ (session : ℕ) where
   leaves-each [] store = refl
   leaves-each (id ∷ ids) store = ap (λ c. at_each (leave_one session) ids c) (leaves-one store id) ∙ leaves-each ids (left_shape store id)
 
--- ---- one copy
-
--- the order of use where a copy that was there is put again
-pub reordered-with : (order : List ObjectId) (copies : ById Copy) (id : ObjectId) (now : Copy) → is_some (at copies id) ≡ true → reordered order (with_entry copies id now) None ≡ reordered order copies None
-reordered-with order copies id now there = ap (λ ids. ids ++ []) (same order)
-  where
-    there_too : (q : ObjectId) → is_some (at (with_entry copies id now) q) ≡ is_some (at copies q)
-    there_too q = ap is_some (at-put copies id now q) ∙ by (same_id q id) refl
-      where
-        by : (b : Bool) → same_id q id ≡ b → is_some (cond b (Some now) (at copies q)) ≡ is_some (at copies q)
-        by true s = sym (ap (λ i. is_some (at copies i)) (same_id-equal q id s) ∙ there)
-        by false s = refl
-
-    same : (ids : List ObjectId) → filter (λ q. is_some (at (with_entry copies id now) q) && true) ids ≡ filter (λ q. is_some (at copies q) && true) ids
-    same [] = refl
-    same (q ∷ ids) = λ i. cond (there_too q i && true) (q ∷ same ids i) (same ids i)
+-- ---- one copy after another
 
 module _ (node : ℕ) (row : Row) (beside : SharedTables) (contents : Contents) (h : IsShown row beside contents) (x : Input) (session : ℕ) where
-  -- what was done so far gave this store
-  abbrev pub so_far : Shape → Change
-  so_far s = done s
+  abbrev GoodRow : Row → Type 0
+  GoodRow r = Good node row beside contents h x beside r
 
-  abbrev pub MovedTo : Shape → Row → Type 0
-  MovedTo s r = TakesChange node row beside contents h x (so_far s) (only reply.Ok) r beside
+  minor : (z : CopyView) → IsMinor (after_leave session) z
+  minor z = record { lies = λ y. (refl, refl); digest = refl; keeps = λ keep. keep; working = refl; granted = refl; backed = refl }
 
-  module _ (s : Shape) (r : Row) (m : MovedTo s r) (placed : ArePlaced r.window.placed (place_of r.copies)) (id : ObjectId) where
-    module _ (k : CopyView) (found : at r.copies id ≡ Some k) where
-      abbrev now : Copy
-      now = (after_leave session k).copy
+  module _ (r : Row) (g : GoodRow r) (id : ObjectId) where
+    abbrev one_left : Option Copy → Shape
+    one_left o = option_map_or (λ copy. settled (set_copy (shape_of r beside) id (unheld session copy)) id) o (shape_of r beside)
 
-      abbrev s_r : Shape
-      s_r = shape_of r beside
-
-      -- what is so of a copy, whichever holds it has
-      carried : (P : CopyView → Type 0) → ((z : CopyView) → P z → P (after_leave session z)) → (q : ObjectId) (y : CopyView) → at (unheld_row session r id).copies q ≡ Some y → ((z : CopyView) → at r.copies q ≡ Some z → P z) → P y
-      carried P still q y e was = by (from_changed (after_leave session) r.copies id k found q y e)
-        where
-          by : (z : CopyView) × (at r.copies q ≡ Some z) × From (after_leave session) r.copies id q y z → P y
-          by (z, there, inl t) = subst P (sym t.1) (still z (was z there))
-          by (z, there, inr t) = subst P (sym t.1) (was z there)
-
-      copies_is : copies_of (unheld_row session r id).copies ≡ with_entry (copies_of r.copies) id now
-      copies_is = copies-changed (after_leave session) r.copies id k found
-
-      m_unheld : MovedTo (set_copy s_r id now) (unheld_row session r id)
-      m_unheld = record {
-        shape = ap (λ t. record s_r { copies = t }) (sym copies_is);
-        order =
-            ap (λ t. reordered row.order t None) copies_is
-            ∙ reordered-with row.order (copies_of r.copies) id now (ap is_some (at-copies_found r.copies id k found)) ∙ m.order;
-        there = subst (λ t. AreThere t r.order) (sym copies_is) (there_with (copies_of r.copies) id now r.order m.there);
-        listed = λ q y e. carried (λ z. is_among r.order q ≡ true) (λ z p. p) q y e (λ z there. m.listed q z there);
-        bytes = λ q y e found lies.
-            carried (λ z. (e : Extent) → extent_of z.copy ≡ Some e → filled (at (bytes_now node row beside contents h x (so_far s)) q) z.copy ≡ take z.copy.length (placed_bytes e r.window.placed)) (λ z p. p) q y found
-            (λ z there e lies. m.bytes q z e there lies) e lies;
-        digests = λ q y found keeps.
-            carried (λ z. keeps_digest z.copy ≡ true → unwrap_or (at (digests_now node row beside contents h x (so_far s)) q) no_digest ≡ unwrap_or z.digest no_digest) (λ z p. p) q y found
-            (λ z there keeps. m.digests q z there keeps) keeps;
-        working = λ q y found. carried (λ z. z.working ≡ work_on beside.works q) (λ z p. p) q y found (λ z there. m.working q z there);
-        granted = λ q y found. carried (λ z. z.granted ≡ has_grant beside.given q) (λ z p. p) q y found (λ z there. m.granted q z there);
-        received = m.received;
-        reply = m.reply;
-        erased = m.erased;
-      }
-
-      placed_unheld : ArePlaced r.window.placed (place_of (unheld_row session r id).copies)
-      placed_unheld = changed_placed r.window.placed r.copies placed (after_leave session) (λ z. refl) id
-
-      over_is : is_over (after_leave session k) ≡ now.doomed && is_idle (set_copy s_r id now) id now
-      over_is = ap (λ b. now.doomed && b) (idle_same (is_held now) k.granted (is_granted s_r id) (is_working s_r id) k.working (m.granted id k found) (ap is_some (m.working id k found) ∙ working-on beside.works id))
-
-      left_is : left_shape session s id ≡ cond (is_over (after_leave session k)) (drop_copy (set_copy s_r id now) id) (set_copy s_r id now)
-      left_is =
-          ap (λ t. left_shape session t id) m.shape
-          ∙ ap (λ o. option_map_or (λ copy. settled (set_copy s_r id (with_holds copy session 0)) id) o s_r) (at-copies_found r.copies id k found)
-          ∙ ap (λ o. option_map_or (λ copy. cond (copy.doomed && is_idle (set_copy s_r id now) id copy) (drop_copy (set_copy s_r id now) id) (set_copy s_r id now)) o (set_copy s_r id now)) (at-put_here (copies_of r.copies) id now)
-          ∙ ap (λ b. cond b (drop_copy (set_copy s_r id now) id) (set_copy s_r id now)) (sym over_is)
-
-      found_now : at (unheld_row session r id).copies id ≡ Some (after_leave session k)
-      found_now = ap (λ t. at t id) (changed-found (after_leave session) id r.copies k found) ∙ at-put_here r.copies id (after_leave session k)
-
-      row_is : left_row session r id ≡ cond (is_over (after_leave session k)) (dropped (unheld_row session r id) id) (unheld_row session r id)
-      row_is = ap (λ o. option_map_or (λ kept. cond (is_over kept) (dropped (unheld_row session r id) id) (unheld_row session r id)) o (unheld_row session r id)) found_now
-
-      by_over : (b : Bool) → MovedTo (cond b (drop_copy (set_copy s_r id now) id) (set_copy s_r id now)) (cond b (dropped (unheld_row session r id) id) (unheld_row session r id))
-      by_over false = m_unheld
-      by_over true = moves_left node row beside contents h x (so_far (set_copy s_r id now)) (only reply.Ok) (unheld_row session r id) beside m_unheld refl placed_unheld id [] (only reply.Ok) refl refl
-
-      placed_over : (b : Bool) → ArePlaced (cond b (dropped (unheld_row session r id) id) (unheld_row session r id)).window.placed (place_of (cond b (dropped (unheld_row session r id) id) (unheld_row session r id)).copies)
-      placed_over false = placed_unheld
-      placed_over true = left_placed r.window.placed (unheld_row session r id).copies placed_unheld id
-
-      pub found_moves : MovedTo (left_shape session s id) (left_row session r id)
-      found_moves = subst (λ t. MovedTo t (left_row session r id)) (sym left_is) (subst (MovedTo (cond (is_over (after_leave session k)) (drop_copy (set_copy s_r id now) id) (set_copy s_r id now))) (sym row_is) (by_over (is_over (after_leave session k))))
-
-      pub found_placed : ArePlaced (left_row session r id).window.placed (place_of (left_row session r id).copies)
-      found_placed = subst (λ r. ArePlaced r.window.placed (place_of r.copies)) (sym row_is) (placed_over (is_over (after_leave session k)))
-
-    module _ (none : at r.copies id ≡ None) where
-      same_row : left_row session r id ≡ r
-      same_row =
-          ap (λ t. settled_row (record r { copies = t }) id) (changed-absent (after_leave session) id r.copies none)
-          ∙ ap (λ o. option_map_or (λ kept. cond (is_over kept) (dropped r id) r) o r) none
-
-      same_shape : left_shape session s id ≡ s
-      same_shape = ap (λ o. option_map_or (λ copy. settled (set_copy s id (with_holds copy session 0)) id) o s) (ap (λ t. at t.copies id) m.shape ∙ at-copies_none r.copies id none)
-
-      pub none_moves : MovedTo (left_shape session s id) (left_row session r id)
-      none_moves = subst (λ t. MovedTo t (left_row session r id)) (sym same_shape) (subst (MovedTo s) (sym same_row) m)
-
-      pub none_placed : ArePlaced (left_row session r id).window.placed (place_of (left_row session r id).copies)
-      none_placed = subst (λ r. ArePlaced r.window.placed (place_of r.copies)) (sym same_row) placed
-
-    pub one_moves : MovedTo (left_shape session s id) (left_row session r id)
+    one_moves : GoodRow (left_row session r id) × (left_shape session (shape_of r beside) id ≡ shape_of (left_row session r id) beside)
     one_moves = by (at r.copies id) refl
       where
-        by : (o : Option CopyView) → at r.copies id ≡ o → MovedTo (left_shape session s id) (left_row session r id)
-        by (Some k) found = found_moves k found
-        by None none = none_moves none
+        by : (o : Option CopyView) → at r.copies id ≡ o → GoodRow (left_row session r id) × (left_shape session (shape_of r beside) id ≡ shape_of (left_row session r id) beside)
+        by None none =
+            let same = untouched node row beside contents h x beside r id (after_leave session) none in
+            (subst GoodRow (sym same) g, ap one_left (at-copies_none r.copies id none) ∙ ap (λ t. shape_of t beside) (sym same))
+        by (Some k) found =
+            let again = touched node row beside contents h x beside r g id k found (after_leave session) minor in
+            let now = with_copy (after_leave session) r id in (
+              settled_good node row beside contents h x beside now again id,
+              ap one_left (at-copies_found r.copies id k found)
+                  ∙ ap (λ t. settled t id) (sym (touched-shape node row beside contents h x beside r g id k found (after_leave session) minor))
+                  ∙ settled_shape node row beside contents h x beside now again id,
+            )
 
-    pub one_placed : ArePlaced (left_row session r id).window.placed (place_of (left_row session r id).copies)
-    one_placed = by (at r.copies id) refl
-      where
-        by : (o : Option CopyView) → at r.copies id ≡ o → ArePlaced (left_row session r id).window.placed (place_of (left_row session r id).copies)
-        by (Some k) found = found_placed k found
-        by None none = none_placed none
-
-  -- ---- each copy
-
-  pub each_moves : (ids : List ObjectId) (s : Shape) (r : Row) → MovedTo s r → ArePlaced r.window.placed (place_of r.copies) → MovedTo (fold (left_shape session) s ids) (fold (left_row session) r ids)
-  each_moves [] s r m placed = m
-  each_moves (id ∷ ids) s r m placed = each_moves ids (left_shape session s id) (left_row session r id) (one_moves s r m placed id) (one_placed s r m placed id)
+  pub each_moves : (ids : List ObjectId) (r : Row) → GoodRow r
+      → GoodRow (fold (left_row session) r ids) × (fold (left_shape session) (shape_of r beside) ids ≡ shape_of (fold (left_row session) r ids) beside)
+  each_moves [] r g = (g, refl)
+  each_moves (id ∷ ids) r g =
+      let one = one_moves r g id in
+      let rest = each_moves ids (left_row session r id) one.0 in
+      (rest.0, ap (λ s. fold (left_shape session) s ids) one.1 ∙ rest.1)
 
 -- ---- other copies
 
@@ -352,27 +251,34 @@ module _ (node : ℕ) (row : Row) (beside : SharedTables) (contents : Contents) 
   sorted : T (is_sorted id_cmp row.copies)
   sorted = subst T (sorted-copies row.copies) (T_true _ h.kept.kept.shape.by_id)
 
-  begins : MovedTo node row beside contents h x session s row
+  begins : Good node row beside contents h x beside row
   begins = record {
-    shape = refl;
-    order = sym (reordered-unused row.order (copies_of row.copies) h.there);
-    there = h.there;
-    listed = h.listed;
-    bytes = same_bytes node row beside contents h x;
-    digests = h.digests;
-    working = h.working;
-    granted = h.granted;
-    received = received_stays node row beside contents h x refl;
-    reply = refl;
-    erased = refl;
+    moves = record {
+      shape = refl;
+      order = sym (reordered-unused row.order (copies_of row.copies) h.there);
+      there = h.there;
+      listed = h.listed;
+      bytes = same_bytes node row beside contents h x;
+      digests = h.digests;
+      working = h.working;
+      granted = h.granted;
+      received = received_stays node row beside contents h x refl;
+      reply = refl;
+      erased = refl;
+    };
+    placed = placed;
+    sorted = T_true _ h.kept.kept.shape.by_id;
   }
 
-  ends : MovedTo node row beside contents h x session shape_after row_after
-  ends = each_moves node row beside contents h x session (ids_of row.copies) s row begins placed
+  walk : Good node row beside contents h x beside row_after × (shape_after ≡ shape_of row_after beside)
+  walk = each_moves node row beside contents h x session (ids_of row.copies) row begins
+
+  ends : TakesChange node row beside contents h x (done (shape_of row_after beside)) (only reply.Ok) row_after beside
+  ends = walk.0.moves
 
   gone : (q : ObjectId) (k : CopyView) → at row.copies q ≡ Some k → is_none (at shape_after.copies q) ≡ is_over (after_leave session k)
   gone q k found =
-      ap (λ t. is_none (at t.copies q)) ends.shape ∙ ap is_none (at-copies row_after.copies q) ∙ none_too (at row_after.copies q)
+      ap (λ t. is_none (at t.copies q)) walk.1 ∙ ap is_none (at-copies row_after.copies q) ∙ none_too (at row_after.copies q)
       ∙ fold_found session row.copies row sorted (λ q k f. f) q k found
     where
       none_too : (o : Option CopyView) → is_none (option_map (λ (k : CopyView). k.copy) o) ≡ is_none o
@@ -392,7 +298,7 @@ module _ (node : ℕ) (row : Row) (beside : SharedTables) (contents : Contents) 
 
   m : TakesChange node row beside contents h x c given row_after beside
   m = record {
-    shape = ends.shape;
+    shape = walk.1;
     order = ends.order;
     there = ends.there;
     listed = ends.listed;

@@ -13,6 +13,7 @@ mod Getting
 mod Settling
 mod Releasing
 mod Leaving
+mod Walking
 mod LeavingEach
 mod Telling
 mod Described
