@@ -15,7 +15,7 @@ ghost use Rattle.job_row.specs.Dropping.{is_over_at};
 ghost use Rattle.job_row.specs.Scope.{removal_notice_at};
 ghost use Rattle.job_row.specs.EndingTasks.{copies_ungranted, is_doomed_at, borrows_at};
 ghost use Rattle.job_row.specs.Holding.{IsHeldAt, IsUnreadyAt, IsHoldRefusedAt};
-ghost use Rattle.std.specs.Prelude.{◌≡◌, ◌≢◌, ◌<◌, ◌^◌, [], true, false, Some, None, OnOk, OnErr, IsOk, IsErrOf, IfOk, IfErr, IfSome, IfNone, map, length, is_some, IsTrue};
+ghost use Rattle.std.specs.Prelude.{◌≡◌, ◌≢◌, ◌<◌, ◌^◌, [], false, Some, None, OnOk, OnErr, IsOk, IsErrOf, IfOk, IfErr, IfSome, IfNone, map, length, is_some, IsTrue};
 ghost use Rattle.std.specs.FinMap.{is_sorted};
 ghost use Rattle.obj_id.specs.Ids.{id_cmp};
 ghost use Rattle.job_row.specs.Usages.{own_item_of, total, window_bytes as window_bytes_lem, device_bytes as device_bytes_lem, doomed_one};

@@ -5,7 +5,6 @@ ghost use Rattle.std.specs.Option.{option_and_then, option_copied, option_map_or
 ghost use Rattle.obj_id.specs.declared.refusals.Refusal.{Refusal};
 ghost use Rattle.obj_id.specs.declared.refusals.Refusal.TheVariants.{NoMemory};
 ghost use Rattle.obj_id.specs.Ids.{same_task};
-ghost use Rattle.obj_id.specs.Kinds.{is_primary};
 ghost use Rattle.private_store.specs.rules.Copies.{extent_of, is_away, is_held, in_scope, was_sealed};
 ghost use Rattle.private_store.specs.rules.Commands.{holds_of as holds_of_lem, has_borrower, without_borrower};
 ghost use Rattle.private_store.specs.rules.Extents.{rounded as rounded_lem};

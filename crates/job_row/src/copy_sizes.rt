@@ -1,6 +1,5 @@
 //! What List and Usage show of a copy.
 ghost use Rattle.std.specs.Prelude.{◌≡◌};
-ghost use Rattle.obj_id.specs.declared.ids.ObjectId.{ObjectId};
 ghost use Rattle.job_row.specs.Usages.{own_item_of, window_bytes as window_bytes_lem, device_bytes as device_bytes_lem, doomed_one as doomed_one_lem};
 
 use crate::copy::RowCopy;

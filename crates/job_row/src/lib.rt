@@ -1,4 +1,4 @@
-//! The row of one job at a node: its window, its copies, and what may happen to each of them.
+//! The row of one job at a node: its window, its copies, and what may happen to each of them. A row knows no other job.
 #![tactic(auto)]
 
 mod checks;

@@ -1,5 +1,5 @@
-//! The row of one job at a node: its window, its copies and its order of use, and what the commands of its
-//! sessions do to them. A row knows no other job.
+//! What the commands of a job's sessions, the messages that arrive for it and the answers of devices do to the job's row at a node. Each is
+//! a function over the row, and knows no other job's.
 #![tactic(auto)]
 
 mod arrivals;
