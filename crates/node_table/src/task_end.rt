@@ -111,7 +111,7 @@ fn doom_each(
 )
     requires { vec_len messages.old + length items.now ≤ vec_capacity messages.old }
     ensures row { row.new ≡ fold (doomed_row task) row.old (map (λ item. item.id) items.now) }
-    ensures response { messages.new.items ≡ messages.old.items ++ posts_of_each (doomed_row task) (doom_posts node task) row.old (map (λ item. item.id) items.now) }
+    ensures sent { messages.new.items ≡ messages.old.items ++ posts_of_each (doomed_row task) (doom_posts node task) row.old (map (λ item. item.id) items.now) }
     ensures len { vec_len messages.new ≤ vec_len messages.old + length items.now }
     ensures capacity { vec_capacity messages.old ≤ vec_capacity messages.new }
 {
@@ -131,7 +131,7 @@ fn give_up_each(
 )
     requires { vec_len messages.old + length items.now ≤ vec_capacity messages.old }
     ensures row { row.new ≡ fold (given_up_row task) row.old (map (λ item. item.id) items.now) }
-    ensures response { messages.new.items ≡ messages.old.items ++ posts_of_each (given_up_row task) (give_up_posts node task) row.old (map (λ item. item.id) items.now) }
+    ensures sent { messages.new.items ≡ messages.old.items ++ posts_of_each (given_up_row task) (give_up_posts node task) row.old (map (λ item. item.id) items.now) }
     ensures len { vec_len messages.new ≤ vec_len messages.old + length items.now }
     ensures capacity { vec_capacity messages.old ≤ vec_capacity messages.new }
 {
@@ -150,7 +150,7 @@ fn doom_one(
 )
     requires { vec_len messages.old < vec_capacity messages.old }
     ensures row { row.new ≡ doomed_row task row.old id.now }
-    ensures response { messages.new.items ≡ messages.old.items ++ doom_posts node task row.old id.now }
+    ensures sent { messages.new.items ≡ messages.old.items ++ doom_posts node task row.old id.now }
     ensures len { vec_len messages.new ≤ vec_len messages.old + 1 }
     ensures capacity { vec_capacity messages.old ≤ vec_capacity messages.new }
 {
@@ -178,7 +178,7 @@ fn give_up_one(
 )
     requires { vec_len messages.old < vec_capacity messages.old }
     ensures row { row.new ≡ given_up_row task row.old id.now }
-    ensures response { messages.new.items ≡ messages.old.items ++ give_up_posts node task row.old id.now }
+    ensures sent { messages.new.items ≡ messages.old.items ++ give_up_posts node task row.old id.now }
     ensures len { vec_len messages.new ≤ vec_len messages.old + 1 }
     ensures capacity { vec_capacity messages.old ≤ vec_capacity messages.new }
 {

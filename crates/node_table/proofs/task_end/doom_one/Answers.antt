@@ -18,8 +18,8 @@ returns-then-not-own-clause-row c =
     let id = c.args.id.now in
     sym (ap (λ b. cond b (settled_row (with_copy after_doom r id) id) r) (own c.args.task c.args.id.now.task c.eq-own.result (c.eq-own.ensures ∙ ap (λ t. task_eq c.args.task t) c.task.ensures) ∙ c.if-not-own.true))
 
-pub returns-then-not-own-clause-response : goal.returns-then-not-own-clause-response
-returns-then-not-own-clause-response c =
+pub returns-then-not-own-clause-sent : goal.returns-then-not-own-clause-sent
+returns-then-not-own-clause-sent c =
     let r = c.args.row.now in
     let id = c.args.id.now in
     sym (ap (λ b. c.args.messages.now.items ++ notice_posts (removal_notice_at c.args.node r.copies id (b && not (is_doomed_at r.copies id)))) (own c.args.task c.args.id.now.task c.eq-own.result (c.eq-own.ensures ∙ ap (λ t. task_eq c.args.task t) c.task.ensures) ∙ c.if-not-own.true) ∙ append-nil c.args.messages.now.items)
@@ -31,8 +31,8 @@ returns-clause-row c =
     c.settle.ensures.row ∙ ap (λ t. settled_row t id) c.apply-after.ensures.row
     ∙ sym (ap (λ b. cond b (settled_row (with_copy after_doom r id) id) r) (own c.args.task c.args.id.now.task c.eq-own.result (c.eq-own.ensures ∙ ap (λ t. task_eq c.args.task t) c.task.ensures) ∙ c.if-not-own.false))
 
-pub returns-clause-response : goal.returns-clause-response
-returns-clause-response c =
+pub returns-clause-sent : goal.returns-clause-sent
+returns-clause-sent c =
     let r = c.args.row.now in
     let id = c.args.id.now in
     c.push_message.ensures.items

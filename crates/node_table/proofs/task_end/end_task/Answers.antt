@@ -29,8 +29,8 @@ returns-clause-ok c session beside contents h =
     let e0 = c.in_ok-remember_end.ensures.ok in
     let e1 = c.doom_each.ensures.row ∙ (λ i. fold (doomed_row task) (e0 i) (ids-3 i)) in
     let e2 = c.give_up_each.ensures.row ∙ (λ i. fold (given_up_row task) (e1 i) (ids-4 i)) in
-    let first = c.doom_each.ensures.response ∙ (λ i. c.in_ok-messages.ensures.items i ++ posts_of_each (doomed_row task) (doom_posts node task) (e0 i) (ids-3 i)) in
-    let posts = c.from_vec.ensures ∙ c.give_up_each.ensures.response ∙ (λ i. first i ++ posts_of_each (given_up_row task) (give_up_posts node task) (e1 i) (ids-4 i)) in
+    let first = c.doom_each.ensures.sent ∙ (λ i. c.in_ok-messages.ensures.items i ++ posts_of_each (doomed_row task) (doom_posts node task) (e0 i) (ids-3 i)) in
+    let posts = c.from_vec.ensures ∙ c.give_up_each.ensures.sent ∙ (λ i. first i ++ posts_of_each (given_up_row task) (give_up_posts node task) (e1 i) (ids-4 i)) in
     let erased = c.from_vec-2.ensures ∙ c.push_gone.ensures ∙ (λ i. c.in_ok-erased.ensures.items i ++ gone_keys (e2 i) (keys i)) in
     subst (λ g. RowStep node row beside contents (input.Call session (command.EndTask task)) g c.give_up_each.new.row (beside_after row task beside)) (sym (λ i. record { reply = reply.Ok; posts = posts i; erased = erased i }))
     (subst (λ r. RowStep node row beside contents (input.Call session (command.EndTask task)) (given node row beside contents session task h) r (beside_after row task beside)) (sym e2)

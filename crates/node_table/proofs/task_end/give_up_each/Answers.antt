@@ -7,7 +7,7 @@ use Rattle.node_table.proofs.task_end.give_up_each.Goals as goal
 pub loop-item-init : goal.loop-item-init
 loop-item-init c = record {
   row = refl;
-  response = refl;
+  sent = refl;
   few = omega arith;
   room = c.requires;
   grows = omega arith;
@@ -23,8 +23,8 @@ loop-item-preserved c =
     record {
       row = ap (λ r. fold (given_up_row c.args.task) r rest) c.give_up_one.ensures.row
           ∙ ap (λ xs. fold (given_up_row c.args.task) c.loop-item.row (map (λ (item : OwnItem). item.id) xs)) (sym next) ∙ c.loop-item.invariant.row;
-      response = (λ i. c.give_up_one.ensures.response i ++ posts_of_each (given_up_row c.args.task) (give_up_posts c.args.node c.args.task) (c.give_up_one.ensures.row i) rest) ∙ append_assoc c.loop-item.messages.items _ _
-          ∙ ap (λ xs. c.loop-item.messages.items ++ posts_of_each (given_up_row c.args.task) (give_up_posts c.args.node c.args.task) c.loop-item.row (map (λ (item : OwnItem). item.id) xs)) (sym next) ∙ c.loop-item.invariant.response;
+      sent = (λ i. c.give_up_one.ensures.sent i ++ posts_of_each (given_up_row c.args.task) (give_up_posts c.args.node c.args.task) (c.give_up_one.ensures.row i) rest) ∙ append_assoc c.loop-item.messages.items _ _
+          ∙ ap (λ xs. c.loop-item.messages.items ++ posts_of_each (given_up_row c.args.task) (give_up_posts c.args.node c.args.task) c.loop-item.row (map (λ (item : OwnItem). item.id) xs)) (sym next) ∙ c.loop-item.invariant.sent;
       few = omega (arith, c.give_up_one.ensures.len, c.loop-item.invariant.few);
       room = c.loop-item.invariant.room;
       grows = omega (arith, c.give_up_one.ensures.capacity, c.loop-item.invariant.grows);
@@ -34,7 +34,7 @@ pub returns-clause-row : goal.returns-clause-row
 returns-clause-row c =
     ap (λ xs. fold (given_up_row c.args.task) c.loop-item.row (map (λ (item : OwnItem). item.id) xs)) (sym (drop_all c.loop-item.item-index c.args.items.now c.loop-item-test.false)) ∙ c.loop-item.invariant.row
 
-pub returns-clause-response : goal.returns-clause-response
-returns-clause-response c =
+pub returns-clause-sent : goal.returns-clause-sent
+returns-clause-sent c =
     sym (append-nil c.loop-item.messages.items)
-    ∙ ap (λ xs. c.loop-item.messages.items ++ posts_of_each (given_up_row c.args.task) (give_up_posts c.args.node c.args.task) c.loop-item.row (map (λ (item : OwnItem). item.id) xs)) (sym (drop_all c.loop-item.item-index c.args.items.now c.loop-item-test.false)) ∙ c.loop-item.invariant.response
+    ∙ ap (λ xs. c.loop-item.messages.items ++ posts_of_each (given_up_row c.args.task) (give_up_posts c.args.node c.args.task) c.loop-item.row (map (λ (item : OwnItem). item.id) xs)) (sym (drop_all c.loop-item.item-index c.args.items.now c.loop-item-test.false)) ∙ c.loop-item.invariant.sent

@@ -7,7 +7,7 @@ use Rattle.node_table.proofs.task_end.give_up_each.Given as goal
 abbrev pub invariant-loop-item : goal.invariant-loop-item
 invariant-loop-item l = record {
   row : fold (given_up_row l.task) l.row (map (λ item. item.id) (drop l.item-index l.items)) ≡ fold (given_up_row l.task) l.initial.row (map (λ item. item.id) l.items);
-  response : l.messages.items ++ posts_of_each (given_up_row l.task) (give_up_posts l.node l.task) l.row (map (λ item. item.id) (drop l.item-index l.items))
+  sent : l.messages.items ++ posts_of_each (given_up_row l.task) (give_up_posts l.node l.task) l.row (map (λ item. item.id) (drop l.item-index l.items))
       ≡ l.initial.messages.items ++ posts_of_each (given_up_row l.task) (give_up_posts l.node l.task) l.initial.row (map (λ item. item.id) l.items);
   few : vec_len l.messages ≤ vec_len l.initial.messages + l.item-index;
   room : vec_len l.initial.messages + length l.items ≤ vec_capacity l.initial.messages;
