@@ -1,5 +1,5 @@
 -- What List and Usage tell of a row.
-use Rattle.std.specs.Prelude.{ℕ, ◌-◌, ◌^◌, min, Bool, false, ◌||◌, if◌then◌else◌, length, sum_by, is_some}
+use Rattle.std.specs.Prelude.{ℕ, ◌-◌, ◌^◌, min, Bool, false, ◌||◌, if◌then◌else◌, sum_by, is_some}
 use Rattle.std.specs.Option.{option_map_or}
 use Rattle.obj_id.specs.declared.ids.ObjectId.{ObjectId}
 use Rattle.obj_id.specs.declared.commands.OwnItem.{OwnItem}
