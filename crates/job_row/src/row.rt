@@ -657,8 +657,10 @@ impl JobRow {
         self.copies.sync_all(&mut self.order);
     }
 
-    /// Writes bytes into a resident copy from the offset on.
+    /// Writes bytes into a resident copy from the offset on. Does nothing if it isn't resident, or they pass the end of its extent.
     pub fn put_bytes(&mut self, id: &ObjectId, offset: u32, bytes: &[u8])
+        ensures absent { place_of self.old.copies id.now ≡ None → self.new ≡ self.old }
+        ensures outside { (e : Extent) → place_of self.old.copies id.now ≡ Some e → e.length < offset + length bytes.now → self.new ≡ self.old }
         ensures copies { self.new.copies ≡ self.old.copies }
         ensures row { (e : Extent) → place_of self.old.copies id.now ≡ Some e → offset + length bytes.now ≤ e.length
             → self.new ≡ record self.old { window = record self.old.window { placed = set_value (nat_eq e.offset) self.old.window.placed (overwritten (placed_bytes e self.old.window.placed) offset bytes.now) } } }
@@ -672,6 +674,8 @@ impl JobRow {
     /// The same of the copy that lies there, if it is resident. Looks no copy up.
     pub fn put_bytes_at(&mut self, place: Option<Extent>, offset: u32, bytes: &[u8])
         requires { (e : Extent) → place ≡ Some e → IsAt e self.old.window.placed }
+        ensures absent { place ≡ None → self.new ≡ self.old }
+        ensures outside { (e : Extent) → place ≡ Some e → e.length < offset + length bytes.now → self.new ≡ self.old }
         ensures copies { self.new.copies ≡ self.old.copies }
         ensures row { (e : Extent) → place ≡ Some e → offset + length bytes.now ≤ e.length
             → self.new ≡ record self.old { window = record self.old.window { placed = set_value (nat_eq e.offset) self.old.window.placed (overwritten (placed_bytes e self.old.window.placed) offset bytes.now) } } }

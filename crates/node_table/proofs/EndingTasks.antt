@@ -49,7 +49,7 @@ use Rattle.node_table.proofs.Scoping.{doom-is, scoped-is, scoped-copy, scoped_co
 use Rattle.node_table.proofs.Settling.{IsMinor}
 use Rattle.node_table.proofs.Stepping.{TakesChange, moved, change, bytes_now, same_bytes, received_stays, stays}
 use Rattle.node_table.specs.Beside.{SharedTables, shape_of, beside_ended, beside_after}
-use Rattle.node_table.proofs.Walking.{Good, touched-shape, touched, settled_shape, settled_good, untouched}
+use Rattle.node_table.proofs.Walking.{IsOnItsWay, touched-shape, touched, settled_shape, settled_on, untouched}
 
 -- ---- the grants that end
 
@@ -167,7 +167,7 @@ module _ (node : ℕ) (row : Row) (beside : SharedTables) (contents : Contents) 
 
   -- the row after this change, and what it tells
   record Fits (c : Change) (r : Row) (said : List Post) : Type 0 where
-    pub good : Good node row beside contents h x after r
+    pub underway : IsOnItsWay node row beside contents h x after r
     pub shape : c.shape ≡ s_of r
     pub response : (o : View) → said ≡ flat_map (posts_of node o x) c.sent
 
@@ -177,26 +177,26 @@ module _ (node : ℕ) (row : Row) (beside : SharedTables) (contents : Contents) 
   -- ---- a walk
 
   module _ (f : Shape → ObjectId → Change) (p : ObjectId → Bool) (next : Row → ObjectId → Row) (says : Row → ObjectId → List Post)
-      (one : (r : Row) → Good node row beside contents h x after r → (id : ObjectId) → Fits (meant f p (s_of r) id) (next r id) (says r id)) where
-    each_good : (ids : List ObjectId) (r : Row) → Good node row beside contents h x after r → Good node row beside contents h x after (fold next r ids)
-    each_good [] r g = g
-    each_good (id ∷ ids) r g = each_good ids (next r id) (one r g id).good
+      (one : (r : Row) → IsOnItsWay node row beside contents h x after r → (id : ObjectId) → Fits (meant f p (s_of r) id) (next r id) (says r id)) where
+    each_on : (ids : List ObjectId) (r : Row) → IsOnItsWay node row beside contents h x after r → IsOnItsWay node row beside contents h x after (fold next r ids)
+    each_on [] r g = g
+    each_on (id ∷ ids) r g = each_on ids (next r id) (one r g id).underway
 
-    each_shape : (ids : List ObjectId) (r : Row) → Good node row beside contents h x after r → shape_each f p (s_of r) ids ≡ s_of (fold next r ids)
+    each_shape : (ids : List ObjectId) (r : Row) → IsOnItsWay node row beside contents h x after r → shape_each f p (s_of r) ids ≡ s_of (fold next r ids)
     each_shape [] r g = refl
-    each_shape (id ∷ ids) r g = ap (λ s. shape_each f p s ids) (one r g id).shape ∙ each_shape ids (next r id) (one r g id).good
+    each_shape (id ∷ ids) r g = ap (λ s. shape_each f p s ids) (one r g id).shape ∙ each_shape ids (next r id) (one r g id).underway
 
-    each_told : (o : View) (ids : List ObjectId) (r : Row) → Good node row beside contents h x after r → posts_of_each next says r ids ≡ flat_map (posts_of node o x) (sent_each f p (s_of r) ids)
+    each_told : (o : View) (ids : List ObjectId) (r : Row) → IsOnItsWay node row beside contents h x after r → posts_of_each next says r ids ≡ flat_map (posts_of node o x) (sent_each f p (s_of r) ids)
     each_told o [] r g = refl
     each_told o (id ∷ ids) r g =
         ap (λ t. t ++ posts_of_each next says (next r id) ids) ((one r g id).response o)
         ∙ ap (λ t. flat_map (posts_of node o x) (meant f p (s_of r) id).sent ++ t)
-        (each_told o ids (next r id) (one r g id).good ∙ ap (λ s. flat_map (posts_of node o x) (sent_each f p s ids)) (sym (one r g id).shape))
+        (each_told o ids (next r id) (one r g id).underway ∙ ap (λ s. flat_map (posts_of node o x) (sent_each f p s ids)) (sym (one r g id).shape))
         ∙ sym (flat_map-append (posts_of node o x) (meant f p (s_of r) id).sent (sent_each f p (meant f p (s_of r) id).shape ids))
 
   -- ---- the first walk: the task's copies are doomed
 
-  module _ (task : TaskNo) (r : Row) (g : Good node row beside contents h x after r) (id : ObjectId) where
+  module _ (task : TaskNo) (r : Row) (g : IsOnItsWay node row beside contents h x after r) (id : ObjectId) where
     abbrev row_doomed : Row
     row_doomed = settled_row (with_copy after_doom r id) id
 
@@ -212,13 +212,13 @@ module _ (node : ℕ) (row : Row) (beside : SharedTables) (contents : Contents) 
             (sending-is (option_to_list (doom_notice (s_of r) id)) (done (changes.doomed (s_of r) id))
             ∙ ap (λ (o : Option Copy). record (done (option_map_or (λ copy. settled (set_copy (s_of r) id (record copy { doomed = true })) id) o (s_of r))) { sent = option_to_list (option_map_or (notice_of id) o None) ++ [] }) (at-copies_none r.copies id none))
             (untouched node row beside contents h x after r id after_doom none) (ap doomed_said none)
-            (record { good = g; shape = refl; response = λ o. refl })
+            (record { underway = g; shape = refl; response = λ o. refl })
         by (Some k) found =
             let again = touched node row beside contents h x after r g id k found after_doom doomed-minor in
             fits_as (doom (s_of r) id) (record (done (settled (set_copy (s_of r) id (record k.copy { doomed = true })) id)) { sent = option_to_list (notice_of id k.copy) }) row_doomed row_doomed (doomed_said (at r.copies id)) (doomed_said (Some k))
             (doom-is (s_of r) id k.copy (at-copies_found r.copies id k found)) refl (ap doomed_said found)
             (record {
-              good = settled_good node row beside contents h x after (with_copy after_doom r id) again id;
+              underway = settled_on node row beside contents h x after (with_copy after_doom r id) again id;
               shape = ap (λ t. settled t id) (sym (touched-shape node row beside contents h x after r g id k found after_doom doomed-minor)) ∙ settled_shape node row beside contents h x after (with_copy after_doom r id) again id;
               response = λ o. doom_told node id o x k;
             })
@@ -229,7 +229,7 @@ module _ (node : ℕ) (row : Row) (beside : SharedTables) (contents : Contents) 
         by : (b : Bool) → Fits (cond b (doom (s_of r) id) (done (s_of r))) (cond b row_doomed r)
             (notice_posts (removal_notice_at node r.copies id (b && not (option_map_or (λ (k : CopyView). k.copy.doomed) (at r.copies id) false))))
         by true = doom_fits
-        by false = record { good = g; shape = refl; response = λ o. refl }
+        by false = record { underway = g; shape = refl; response = λ o. refl }
 
     -- ---- the second walk: its borrows are given up
 
@@ -247,7 +247,7 @@ module _ (node : ℕ) (row : Row) (beside : SharedTables) (contents : Contents) 
       minor z = scoped-minor (λ y. record y { copy = without_borrower y.copy task }) z
           (record { lies = λ y. (refl, refl); digest = refl; keeps = λ keep. keep; working = refl; granted = refl; backed = refl })
 
-      again : Good node row beside contents h x after row_given_up
+      again : IsOnItsWay node row beside contents h x after row_given_up
       again = touched node row beside contents h x after r g id k found (after_give_up task) minor
 
       shape_is : s_of row_given_up ≡ set_copy (s_of r) id (scoped_copy without.copy)
@@ -261,18 +261,18 @@ module _ (node : ℕ) (row : Row) (beside : SharedTables) (contents : Contents) 
           → Fits (cond d (done (set_copy (s_of r) id without.copy)) (cond b (commands.scoped (s_of r) id without.copy) (done (s_of r))))
           (cond d row_given_up (cond b (settled_row row_given_up id) r)) (given_up_said d b (in_scope without.copy))
       by_state true d b = record {
-        good = again;
+        underway = again;
         shape = sym (shape_is ∙ ap (λ a. set_copy (s_of r) id a) (doomed_still d (in_scope without.copy)));
         response = λ o. refl;
       }
       by_state false d true =
           let is = scoped-is (s_of r) id without.copy g.sorted d in
           record {
-            good = settled_good node row beside contents h x after row_given_up again id;
+            underway = settled_on node row beside contents h x after row_given_up again id;
             shape = ap (λ (c : Change). c.shape) is ∙ ap (λ t. settled t id) (sym shape_is) ∙ settled_shape node row beside contents h x after row_given_up again id;
             response = λ o. scoped_told node id o x k without.copy refl refl d r.copies found ∙ sym (ap (λ (c : Change). flat_map (posts_of node o x) c.sent) is);
           }
-      by_state false d false = record { good = g; shape = refl; response = λ o. refl }
+      by_state false d false = record { underway = g; shape = refl; response = λ o. refl }
 
     abbrev changed_by : Option Copy → Change
     changed_by o = option_map_or (λ copy.
@@ -291,7 +291,7 @@ module _ (node : ℕ) (row : Row) (beside : SharedTables) (contents : Contents) 
         by None none =
             fits_as (give_up_one task (s_of r) id) (done (s_of r)) (given_up_row task r id) r (give_up_posts node task r id) []
             (ap changed_by (at-copies_none r.copies id none)) (ap row_by none) (ap said_by none)
-            (record { good = g; shape = refl; response = λ o. refl })
+            (record { underway = g; shape = refl; response = λ o. refl })
         by (Some k) found =
             fits_as (give_up_one task (s_of r) id) (changed_by (Some k.copy)) (given_up_row task r id) (row_by (Some k)) (give_up_posts node task r id) (said_by (Some k))
             (ap changed_by (at-copies_found r.copies id k found)) (ap row_by found) (ap said_by found)
@@ -408,7 +408,7 @@ module _ (node : ℕ) (row : Row) (beside : SharedTables) (contents : Contents) 
   start_shape = ap (λ t. record (shape_of r0 after) { copies = t }) (sym (copies-ended task row.copies))
 
   module _ (placed : ArePlaced row.window.placed (place_of row.copies)) where
-    begins : Good node row beside contents h x after r0
+    begins : IsOnItsWay node row beside contents h x after r0
     begins = record {
       moves = record {
         shape = refl;
@@ -439,19 +439,19 @@ module _ (node : ℕ) (row : Row) (beside : SharedTables) (contents : Contents) 
       sorted = subst (λ t. T (is_sorted id_cmp t)) (sym (copies-ended task row.copies)) (T_true _ h.kept.kept.shape.by_id);
     }
 
-    one_doomed : (r : Row) → Good node row beside contents h x after r → (id : ObjectId)
+    one_doomed : (r : Row) → IsOnItsWay node row beside contents h x after r → (id : ObjectId)
         → Fits node row beside contents h x after (meant doom (λ id. same_task task id.task) (shape_of r after) id) (doomed_row task r id) (doom_posts node task r id)
     one_doomed r g id = first_fits node row beside contents h x after task r g id
 
-    one_given_up : (r : Row) → Good node row beside contents h x after r → (id : ObjectId)
+    one_given_up : (r : Row) → IsOnItsWay node row beside contents h x after r → (id : ObjectId)
         → Fits node row beside contents h x after (meant (give_up_one task) (λ id. true) (shape_of r after) id) (given_up_row task r id) (give_up_posts node task r id)
     one_given_up r g id = second_fits node row beside contents h x after task r g id
 
-    g1 : Good node row beside contents h x after r1
-    g1 = each_good node row beside contents h x after doom (λ id. same_task task id.task) (doomed_row task) (doom_posts node task) one_doomed ids r0 begins
+    g1 : IsOnItsWay node row beside contents h x after r1
+    g1 = each_on node row beside contents h x after doom (λ id. same_task task id.task) (doomed_row task) (doom_posts node task) one_doomed ids r0 begins
 
-    g2 : Good node row beside contents h x after r2
-    g2 = each_good node row beside contents h x after (give_up_one task) (λ id. true) (given_up_row task) (give_up_posts node task) one_given_up ids r1 g1
+    g2 : IsOnItsWay node row beside contents h x after r2
+    g2 = each_on node row beside contents h x after (give_up_one task) (λ id. true) (given_up_row task) (give_up_posts node task) one_given_up ids r1 g1
 
     abbrev first_sent : List Sending
     first_sent = sent_each doom (λ id. same_task task id.task) (shape_of r0 after) ids

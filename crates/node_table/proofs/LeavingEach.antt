@@ -34,7 +34,7 @@ use Rattle.node_table.proofs.ByChecks.{called}
 use Rattle.job_row.proofs.ForCallers.{changed-found, at-first, at-rest, at-copies, at-copies_found, at-copies_none, sorted-copies}
 use Rattle.node_table.proofs.Stepping.{TakesChange, moved, same_bytes, received_stays}
 use Rattle.node_table.specs.Beside.{SharedTables, shape_of}
-use Rattle.node_table.proofs.Walking.{Good, touched-shape, touched, settled_shape, settled_good, untouched}
+use Rattle.node_table.proofs.Walking.{IsOnItsWay, touched-shape, touched, settled_shape, settled_on, untouched}
 use Rattle.node_table.proofs.Settling.{IsMinor}
 use Rattle.job_row.specs.Scope.{with_copy}
 
@@ -62,34 +62,34 @@ module _ (session : ℕ) where
 -- ---- one copy after another
 
 module _ (node : ℕ) (row : Row) (beside : SharedTables) (contents : Contents) (h : IsShown row beside contents) (x : Input) (session : ℕ) where
-  abbrev GoodRow : Row → Type 0
-  GoodRow r = Good node row beside contents h x beside r
+  abbrev IsUnderway : Row → Type 0
+  IsUnderway r = IsOnItsWay node row beside contents h x beside r
 
   minor : (z : CopyView) → IsMinor (after_leave session) z
   minor z = record { lies = λ y. (refl, refl); digest = refl; keeps = λ keep. keep; working = refl; granted = refl; backed = refl }
 
-  module _ (r : Row) (g : GoodRow r) (id : ObjectId) where
+  module _ (r : Row) (g : IsUnderway r) (id : ObjectId) where
     abbrev one_left : Option Copy → Shape
     one_left o = option_map_or (λ copy. settled (set_copy (shape_of r beside) id (unheld session copy)) id) o (shape_of r beside)
 
-    one_moves : GoodRow (left_row session r id) × (left_shape session (shape_of r beside) id ≡ shape_of (left_row session r id) beside)
+    one_moves : IsUnderway (left_row session r id) × (left_shape session (shape_of r beside) id ≡ shape_of (left_row session r id) beside)
     one_moves = by (at r.copies id) refl
       where
-        by : (o : Option CopyView) → at r.copies id ≡ o → GoodRow (left_row session r id) × (left_shape session (shape_of r beside) id ≡ shape_of (left_row session r id) beside)
+        by : (o : Option CopyView) → at r.copies id ≡ o → IsUnderway (left_row session r id) × (left_shape session (shape_of r beside) id ≡ shape_of (left_row session r id) beside)
         by None none =
             let same = untouched node row beside contents h x beside r id (after_leave session) none in
-            (subst GoodRow (sym same) g, ap one_left (at-copies_none r.copies id none) ∙ ap (λ t. shape_of t beside) (sym same))
+            (subst IsUnderway (sym same) g, ap one_left (at-copies_none r.copies id none) ∙ ap (λ t. shape_of t beside) (sym same))
         by (Some k) found =
             let again = touched node row beside contents h x beside r g id k found (after_leave session) minor in
             let now = with_copy (after_leave session) r id in (
-              settled_good node row beside contents h x beside now again id,
+              settled_on node row beside contents h x beside now again id,
               ap one_left (at-copies_found r.copies id k found)
                   ∙ ap (λ t. settled t id) (sym (touched-shape node row beside contents h x beside r g id k found (after_leave session) minor))
                   ∙ settled_shape node row beside contents h x beside now again id,
             )
 
-  pub each_moves : (ids : List ObjectId) (r : Row) → GoodRow r
-      → GoodRow (fold (left_row session) r ids) × (fold (left_shape session) (shape_of r beside) ids ≡ shape_of (fold (left_row session) r ids) beside)
+  pub each_moves : (ids : List ObjectId) (r : Row) → IsUnderway r
+      → IsUnderway (fold (left_row session) r ids) × (fold (left_shape session) (shape_of r beside) ids ≡ shape_of (fold (left_row session) r ids) beside)
   each_moves [] r g = (g, refl)
   each_moves (id ∷ ids) r g =
       let one = one_moves r g id in
@@ -251,7 +251,7 @@ module _ (node : ℕ) (row : Row) (beside : SharedTables) (contents : Contents) 
   sorted : T (is_sorted id_cmp row.copies)
   sorted = subst T (sorted-copies row.copies) (T_true _ h.kept.kept.shape.by_id)
 
-  begins : Good node row beside contents h x beside row
+  begins : IsOnItsWay node row beside contents h x beside row
   begins = record {
     moves = record {
       shape = refl;
@@ -270,7 +270,7 @@ module _ (node : ℕ) (row : Row) (beside : SharedTables) (contents : Contents) 
     sorted = T_true _ h.kept.kept.shape.by_id;
   }
 
-  walk : Good node row beside contents h x beside row_after × (shape_after ≡ shape_of row_after beside)
+  walk : IsOnItsWay node row beside contents h x beside row_after × (shape_after ≡ shape_of row_after beside)
   walk = each_moves node row beside contents h x session (ids_of row.copies) row begins
 
   ends : TakesChange node row beside contents h x (done (shape_of row_after beside)) (only reply.Ok) row_after beside

@@ -37,7 +37,7 @@ use Rattle.node_table.proofs.ByChecks.{called}
 use Rattle.job_row.proofs.ForCallers.{at-first, at-rest, sorted-copies, at-copies_found}
 use Rattle.node_table.proofs.Stepping.{stays}
 use Rattle.node_table.specs.Beside.{SharedTables, beside_of, shape_of}
-use Rattle.node_table.specs.UsageTold.{used}
+use Rattle.node_table.specs.RowUsage.{used}
 
 -- ---- List
 

@@ -52,14 +52,14 @@ module _ (node : ℕ) (row : Row) (beside : SharedTables) (contents : Contents) 
   abbrev pub s_of : Row → Shape
   s_of r = shape_of r after
 
-  -- the row has taken the step so far, where its copies lie in the window and by rising id
-  pub record Good (r : Row) : Type 0 where
+  -- what the step has done so far made this row of the store; its copies are where the window has them, and by rising id
+  pub record IsOnItsWay (r : Row) : Type 0 where
     pub moves : TakesChange node row beside contents h x (done (s_of r)) (only reply.Ok) r after
     pub placed : ArePlaced r.window.placed (place_of r.copies)
     pub sorted : T (is_sorted id_cmp (copies_of r.copies))
 
   -- one copy is changed where it lies
-  module _ (r : Row) (g : Good r) (id : ObjectId) (k : CopyView) (found : at r.copies id ≡ Some k) (f : CopyView → CopyView) (minor : (z : CopyView) → IsMinor f z) where
+  module _ (r : Row) (g : IsOnItsWay r) (id : ObjectId) (k : CopyView) (found : at r.copies id ≡ Some k) (f : CopyView → CopyView) (minor : (z : CopyView) → IsMinor f z) where
     abbrev r_now : Row
     r_now = with_copy f r id
 
@@ -79,7 +79,7 @@ module _ (node : ℕ) (row : Row) (beside : SharedTables) (contents : Contents) 
     same_extent : (z : CopyView) → extent_of (f z).copy ≡ extent_of z.copy
     same_extent z = ap (λ p. extent_of (record (f z).copy { offset = p })) ((minor z).lies z).0 ∙ ap (λ n. extent_of (record z.copy { length = n })) ((minor z).lies z).1
 
-    pub touched : Good r_now
+    pub touched : IsOnItsWay r_now
     touched = record {
       moves = record {
         shape = refl;
@@ -108,7 +108,7 @@ module _ (node : ℕ) (row : Row) (beside : SharedTables) (contents : Contents) 
     }
 
   -- and removed if nothing keeps it
-  module _ (r : Row) (g : Good r) (id : ObjectId) where
+  module _ (r : Row) (g : IsOnItsWay r) (id : ObjectId) where
     over_is : (k : CopyView) → at r.copies id ≡ Some k → is_over k ≡ k.copy.doomed && is_idle (s_of r) id k.copy
     over_is k found =
         ap (λ b. k.copy.doomed && b)
@@ -117,8 +117,8 @@ module _ (node : ℕ) (row : Row) (beside : SharedTables) (contents : Contents) 
     left : TakesChange node row beside contents h x (done (drop_copy (s_of r) id)) (only reply.Ok) (dropped r id) after
     left = moves_left node row beside contents h x (done (s_of r)) (only reply.Ok) r after g.moves refl g.placed id [] (only reply.Ok) refl refl
 
-    dropped_good : Good (dropped r id)
-    dropped_good = record {
+    dropped_on : IsOnItsWay (dropped r id)
+    dropped_on = record {
       moves = subst (λ s. TakesChange node row beside contents h x (done s) (only reply.Ok) (dropped r id) after) left.shape left;
       placed = left_placed r.window.placed r.copies g.placed id;
       sorted = subst (λ t. T (is_sorted id_cmp t)) (sym (copies-without r.copies id)) (is_sorted-where_key id_cmp (λ k. not (same_id id k)) (copies_of r.copies) g.sorted);
@@ -137,14 +137,14 @@ module _ (node : ℕ) (row : Row) (beside : SharedTables) (contents : Contents) 
             ap (λ o. option_map_or (λ (copy : Copy). cond (copy.doomed && is_idle (s_of r) id copy) (drop_copy (s_of r) id) (s_of r)) o (s_of r)) (at-copies_found r.copies id k found)
             ∙ ap (λ b. cond b (drop_copy (s_of r) id) (s_of r)) (sym (over_is k found)) ∙ last (is_over k)
 
-    pub settled_good : Good (settled_row r id)
-    settled_good = by (at r.copies id)
+    pub settled_on : IsOnItsWay (settled_row r id)
+    settled_on = by (at r.copies id)
       where
-        over : (b : Bool) → Good (cond b (dropped r id) r)
-        over true = dropped_good
+        over : (b : Bool) → IsOnItsWay (cond b (dropped r id) r)
+        over true = dropped_on
         over false = g
 
-        by : (o : Option CopyView) → Good (option_map_or (λ kept. cond (is_over kept) (dropped r id) r) o r)
+        by : (o : Option CopyView) → IsOnItsWay (option_map_or (λ kept. cond (is_over kept) (dropped r id) r) o r)
         by None = g
         by (Some k) = over (is_over k)
 

@@ -1,6 +1,6 @@
 pub mod Beside
 pub mod EndedWorks
-pub mod UsageTold
+pub mod RowUsage
 pub mod Shown
 pub mod Erased
 pub mod Outcomes

@@ -8,7 +8,7 @@ ghost use Rattle.private_store.specs.rules.Contents.{Contents};
 ghost use Rattle.private_store.specs.rules.Grants.{StandingGrant};
 ghost use Rattle.node_table.specs.Shown.{IsShown, RowStep, only};
 ghost use Rattle.node_table.specs.Beside.{SharedTables, beside_of, shape_of};
-ghost use Rattle.node_table.specs.UsageTold.{used};
+ghost use Rattle.node_table.specs.RowUsage.{used};
 
 use bytes::Bytes;
 use job_row::{JobRow, RowCopy};
