@@ -1,6 +1,6 @@
 -- The indexes of an object's chunks, one after the other.
 use Rattle.std.proofs.Common.{◌≡◌, ℕ, zero, suc, ◌+◌, [], ◌∷◌, ◌++◌, ap, ◌∙◌, arith}
-use Rattle.private_store.specs.rules.Commands.{counted}
+use Rattle.private_store.specs.rules.Marks.{counted}
 
 counted-suc : (start n : ℕ) → counted start (suc n) ≡ counted start n ++ (start + n) ∷ []
 counted-suc start zero = ap (λ k. k ∷ []) (omega arith)

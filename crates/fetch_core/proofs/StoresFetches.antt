@@ -13,6 +13,8 @@ use Rattle.private_store.specs.declared.inputs.ChunkVerdict.TheVariants as verdi
 use Rattle.private_store.specs.declared.faults.FetchFault.TheVariants.{Absent, Damaged}
 use Rattle.private_store.specs.rules.Tables.{at}
 use Rattle.private_store.specs.rules.Shape.{Copy, Shape, Change, Fetch, Phase, locating, sized, pulling, failed, remove_source}
+use Rattle.private_store.specs.rules.Marks.{marked}
+use Rattle.private_store.specs.rules.Marks as mark
 use Rattle.private_store.specs.rules.Change.{done, sending}
 use Rattle.private_store.specs.rules.Room.{set_copy}
 use Rattle.private_store.specs.rules.Commands.{begin_pull}
@@ -62,13 +64,13 @@ module _ (store : Shape) (id : ObjectId) (copy : Copy) (fetch : Fetch) (there : 
 
   module _ (node : ℕ) (entries : List Location) where
     abbrev located_in : Phase → Change
-    located_in p = elim p [ locating ↦ done (set_copy store id (events.located_copy copy fetch (source_in node entries))) | _ ↦ done store ]
+    located_in p = elim p [ locating ↦ done (set_copy store id (marked (mark.located fetch (source_in node entries)) copy)) | _ ↦ done store ]
 
     abbrev sized_in : Phase → fetching.Fetching
     sized_in p = elim p [ locating ↦ sized_by f (entry_elsewhere node entries) | _ ↦ f ]
 
     by_entry : (o : Option Location)
-        → IsFetchAt (set_copy store id (events.located_copy copy fetch (option_map (λ (e : Location). record { node = e.node; length = e.length }) o))) id (sized_by f o)
+        → IsFetchAt (set_copy store id (marked (mark.located fetch (option_map (λ (e : Location). record { node = e.node; length = e.length }) o)) copy)) id (sized_by f o)
     by_entry None = in_phase store _ (failed Absent) None refl
     by_entry (Some e) = in_phase store _ (sized e.node) (Some e.digest) refl
 
@@ -78,14 +80,14 @@ module _ (store : Shape) (id : ObjectId) (copy : Copy) (fetch : Fetch) (there : 
     by_phase (pulling source missing) = stays
     by_phase (failed fault) = stays
 
-    by_number : (b : Bool) → IsFetchAt (option_map_or (λ (p : Copy × Fetch). elim p.1.phase [ locating ↦ done (set_copy store id (events.located_copy p.0 p.1 (source_in node entries))) | _ ↦ done store ]) (cond b (Some (copy, fetch)) None) (done store)).shape id
+    by_number : (b : Bool) → IsFetchAt (option_map_or (λ (p : Copy × Fetch). elim p.1.phase [ locating ↦ done (set_copy store id (marked (mark.located p.1 (source_in node entries)) p.0)) | _ ↦ done store ]) (cond b (Some (copy, fetch)) None) (done store)).shape id
         (cond b (sized_in fetch.phase) f)
     by_number true = by_phase fetch.phase
     by_number false = stays
 
     located_at : (number : ℕ) → IsFetchAt (events.located store id number (source_in node entries)).shape id (fetch_after_located node number entries f)
     located_at number =
-        subst (λ o. IsFetchAt (option_map_or (λ (p : Copy × Fetch). elim p.1.phase [ locating ↦ done (set_copy store id (events.located_copy p.0 p.1 (source_in node entries))) | _ ↦ done store ]) o (done store)).shape id (fetch_after_located node number entries f))
+        subst (λ o. IsFetchAt (option_map_or (λ (p : Copy × Fetch). elim p.1.phase [ locating ↦ done (set_copy store id (marked (mark.located p.1 (source_in node entries)) p.0)) | _ ↦ done store ]) o (done store)).shape id (fetch_after_located node number entries f))
         (sym (fetch_is number)) (by_number (number == fetch.number))
 
   -- ---- the source has none

@@ -6,7 +6,7 @@ use Rattle.obj_id.specs.declared.messages.Location.{Location}
 use Rattle.private_store.specs.declared.faults.FetchFault.{FetchFault}
 use Rattle.private_store.specs.declared.faults.FetchFault.TheVariants.{Absent}
 use Rattle.private_store.specs.rules.Shape.{Phase, locating, sized, pulling, failed}
-use Rattle.private_store.specs.rules.Commands.{counted, chunk_count}
+use Rattle.private_store.specs.rules.Marks.{chunk_count, counted}
 use Rattle.private_store.specs.rules.Events.{is_missing}
 use Rattle.private_store.specs.rules.Contents.{entry_elsewhere, has_digest, chunk_length}
 

@@ -6,7 +6,7 @@
 ghost use Rattle.std.specs.Prelude.{◌≡◌, ℕ, ◌*◌, not, if◌then◌else◌, OnOk, OnErr, IfOk, IfSome, length, take, drop, filter, is_some, nat_lt, nat_eq};
 ghost use Rattle.private_store.specs.declared.faults.FetchFault.TheVariants.{Damaged, Absent};
 ghost use Rattle.private_store.specs.rules.Shape.{sized};
-ghost use Rattle.private_store.specs.rules.Commands.{counted, chunk_count};
+ghost use Rattle.private_store.specs.rules.Marks.{chunk_count, counted};
 ghost use Rattle.private_store.specs.rules.Events.{is_missing as is_missing_lem};
 ghost use Rattle.private_store.specs.rules.Contents.{chunk_length, entry_elsewhere, digest_of as digest_of_lem};
 ghost use Rattle.private_store.specs.rules.Private.{chunks_asked as chunks_asked_for};

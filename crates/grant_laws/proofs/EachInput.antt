@@ -21,11 +21,13 @@ use Rattle.private_store.specs.declared.inputs.WorkVerdict.{WorkVerdict}
 use Rattle.private_store.specs.declared.inputs.WorkVerdict.TheVariants as work
 use Rattle.private_store.specs.rules.Tables.{at, ids_of}
 use Rattle.private_store.specs.rules.Shape.{Copy, Shape, Change, Sending, Fetch, locating, sized, pulling, failed, GrantGiven, WorkInFlight, chunks, not_here, remove_source}
+use Rattle.private_store.specs.rules.Marks.{marked, read_mark, without_borrower}
+use Rattle.private_store.specs.rules.Marks as mark
 use Rattle.private_store.specs.rules.Copies.{visible, in_scope}
 use Rattle.private_store.specs.rules.Room.{set_copy}
 use Rattle.private_store.specs.rules.Change.{refused, done, sending, erasing, settled, doom}
-use Rattle.private_store.specs.rules.Commands.{restore, scoped, at_each, then_change, give_up_one, has_borrower, without_borrower, of_task, task_ended, grant, grant_own, grant_foreign, oldest, list, usage}
-use Rattle.private_store.specs.rules.Events.{end_job_here, answer, written, without_work, read_back, with_fetch, fetch_of, located, located_copy, fetch_failed, chunk_taken, chunk_arrived, is_missing, not_here_arrived, quiet, pull_answer, pull_arrived, is_live}
+use Rattle.private_store.specs.rules.Commands.{restore, scoped, at_each, then_change, give_up_one, has_borrower, of_task, task_ended, grant, grant_own, grant_foreign, oldest, list, usage}
+use Rattle.private_store.specs.rules.Events.{end_job_here, answer, written, without_work, with_fetch, fetch_of, located, fetch_failed, chunk_taken, chunk_arrived, is_missing, not_here_arrived, quiet, pull_answer, pull_arrived, is_live}
 use Rattle.private_store.specs.rules.Step.{step, owned, commanded}
 use Rattle.store_facts.proofs.Checks.{checked-nil, checked-true, checked-false, checked_has, needing_has}
 use Rattle.grant_laws.proofs.GrantsStay.{SameGrants, same_grants, then_grants, IsStill, settled_still, set_still, stays, checked_still, needing_still, sending_still, erasing_still, create_still, write_still, seal_still, restore_still, get_still, read_still, release_still, doom_still, delete_still, borrow_still, unpin_still, give_up_still, give_up_one_still, peek_still, begin_still, requota_still, at_each_still, leave_still}
@@ -43,9 +45,9 @@ module _ (store : Shape) where
   answer_still number verdict = needing_still store _ _ _ (λ w. needing_still store _ _ _ (λ copy.
       let rest = without_work store number in
       let h : SameGrants store rest = record { job = refl; given = refl; received = refl } in
-      elim w.writes as (λ b. IsStill store (cond b (written rest w copy verdict) (erasing rest (done (settled (set_copy rest w.id (read_back copy verdict)) w.id))))) [
+      elim w.writes as (λ b. IsStill store (cond b (written rest w copy verdict) (erasing rest (done (settled (set_copy rest w.id (marked (read_mark verdict) copy)) w.id))))) [
         | true ↦ written_still rest w copy verdict h
-        | false ↦ record { is = then_grants h (then_grants (set_still rest w.id (read_back copy verdict)) (settled_still (set_copy rest w.id (read_back copy verdict)) w.id)) }
+        | false ↦ record { is = then_grants h (then_grants (set_still rest w.id (marked (read_mark verdict) copy)) (settled_still (set_copy rest w.id (marked (read_mark verdict) copy)) w.id)) }
       ]))
 
   with_fetch_still : (id : ObjectId) (number : ℕ) (f : Copy → Fetch → Change) → ((copy : Copy) (fetch : Fetch) → IsStill store (f copy fetch)) → IsStill store (with_fetch store id number f)
@@ -54,8 +56,8 @@ module _ (store : Shape) where
 
   located_still : (id : ObjectId) (number : ℕ) (source : Option Source) → IsStill store (located store id number source)
   located_still id number source = with_fetch_still id number _ (λ copy fetch.
-      elim fetch.phase as (λ p. IsStill store (elim p [ locating ↦ done (set_copy store id (located_copy copy fetch source)) | _ ↦ done store ])) [
-        | locating ↦ stays store _ (set_still store id (located_copy copy fetch source))
+      elim fetch.phase as (λ p. IsStill store (elim p [ locating ↦ done (set_copy store id (marked (mark.located fetch source) copy)) | _ ↦ done store ])) [
+        | locating ↦ stays store _ (set_still store id (marked (mark.located fetch source) copy))
         | sized _ ↦ same
         | pulling _ _ ↦ same
         | failed _ ↦ same

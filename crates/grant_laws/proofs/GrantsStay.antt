@@ -13,10 +13,11 @@ use Rattle.private_store.specs.rules.Limits.{has_numbers, is_quota}
 use Rattle.private_store.specs.rules.Tables.{at, ids_of}
 use Rattle.private_store.specs.rules.Shape.{Copy, Shape, Change, Sending, Fetch, Phase, locating, sized, pulling, failed, not_begun, live, ended, locate}
 use Rattle.obj_id.specs.Kinds.{is_primary}
+use Rattle.private_store.specs.rules.Marks.{with_holds, without_borrower}
 use Rattle.private_store.specs.rules.Copies.{is_idle, in_scope}
 use Rattle.private_store.specs.rules.Room.{Plan, fits, wait, full, busy, evict, spill, set_copy, drop_copy, evicted, asked, no_room, spill_room, room_by, make_room, plan}
 use Rattle.private_store.specs.rules.Change.{refused, done, checked, needing, sending, in_room, erasing, settled, doomed, doom}
-use Rattle.private_store.specs.rules.Commands.{create, created, write, seal, get, get_sealed, refusal_of, get_away, get_fetching, get_copy, begin_fetch, fetch_begun, begin_pull, restore, restoring, read, release, unpin, borrow, give_up, delete, scoped, at_each, then_change, give_up_one, leave_one, has_borrower, without_borrower, with_holds, peek, leave}
+use Rattle.private_store.specs.rules.Commands.{create, created, write, seal, get, get_sealed, refusal_of, get_away, get_fetching, get_copy, begin_fetch, fetch_begun, begin_pull, restore, restoring, read, release, unpin, borrow, give_up, delete, scoped, at_each, then_change, give_up_one, leave_one, has_borrower, peek, leave}
 use Rattle.private_store.specs.rules.Events.{begin, requota}
 use Rattle.store_facts.proofs.Checks.{checked_has, needing_has}
 

@@ -22,11 +22,13 @@ use Rattle.private_store.specs.declared.inputs.WorkVerdict.TheVariants as work
 use Rattle.private_store.specs.rules.Limits.{is_quota}
 use Rattle.private_store.specs.rules.Tables.{ById, at, ids_of}
 use Rattle.private_store.specs.rules.Shape.{Copy, Shape, Change, Fetch, Phase, locating, sized, pulling, failed, GrantGiven, WorkInFlight, not_begun, live, ended, chunks, not_here, remove_source}
+use Rattle.private_store.specs.rules.Marks.{marked, read_mark, with_holds, without_borrower}
+use Rattle.private_store.specs.rules.Marks as mark
 use Rattle.private_store.specs.rules.Copies.{visible, in_scope}
 use Rattle.private_store.specs.rules.Room.{set_copy}
 use Rattle.private_store.specs.rules.Change.{refused, done, checked, needing, sending, in_room, erasing, settled, doom}
-use Rattle.private_store.specs.rules.Commands.{create, created, write, seal, get, get_copy, get_sealed, get_away, get_fetching, begin_fetch, begin_pull, restore, restoring, refusal_of, read, release, unpin, borrow, give_up, delete, end_task, withdraw, leave, scoped, has_borrower, without_borrower, with_holds, holds_of, at_each, then_change, give_up_one, leave_one, of_task, task_ended}
-use Rattle.private_store.specs.rules.Events.{begin, end_job_here, answer, written, without_work, read_back, with_fetch, fetch_of, located, located_copy, chunk_arrived, chunk_taken, fetch_failed, is_missing, not_here_arrived, quiet, pull_answer, pull_arrived}
+use Rattle.private_store.specs.rules.Commands.{create, created, write, seal, get, get_copy, get_sealed, get_away, get_fetching, begin_fetch, begin_pull, restore, restoring, refusal_of, read, release, unpin, borrow, give_up, delete, end_task, withdraw, leave, scoped, has_borrower, holds_of, at_each, then_change, give_up_one, leave_one, of_task, task_ended}
+use Rattle.private_store.specs.rules.Events.{begin, end_job_here, answer, written, without_work, with_fetch, fetch_of, located, chunk_arrived, chunk_taken, fetch_failed, is_missing, not_here_arrived, quiet, pull_answer, pull_arrived}
 use Rattle.private_store.specs.rules.Step.{owned, commanded, step}
 use Rattle.store_facts.proofs.Tests.{true_false, both, both_left, both_right}
 use Rattle.store_facts.proofs.Ids.{same_id-itself}
@@ -253,10 +255,10 @@ module _ (store : Shape) (has : HasOwn store) where
   answer_own : (number : ℕ) (verdict : WorkVerdict) → answer (own_part store) number verdict ≡ own_change (answer store number verdict)
   answer_own number verdict = needing_own store _ _ _ _ (λ w _. needing_own store _ _ _ _ (λ copy e.
       let rest = without_work store number in
-      elim w.writes as (λ b. cond b (written (own_part rest) w copy verdict) (erasing (own_part rest) (done (settled (set_copy (own_part rest) w.id (read_back copy verdict)) w.id)))
-      ≡ own_change (cond b (written rest w copy verdict) (erasing rest (done (settled (set_copy rest w.id (read_back copy verdict)) w.id))))) [
+      elim w.writes as (λ b. cond b (written (own_part rest) w copy verdict) (erasing (own_part rest) (done (settled (set_copy (own_part rest) w.id (marked (read_mark verdict) copy)) w.id)))
+      ≡ own_change (cond b (written rest w copy verdict) (erasing rest (done (settled (set_copy rest w.id (marked (read_mark verdict) copy)) w.id))))) [
         | true ↦ written_own rest w copy verdict (has w.id copy e)
-        | false ↦ erasing_own rest (done (settled (set_copy rest w.id (read_back copy verdict)) w.id)) _ (ap done (settled_own (set_copy rest w.id (read_back copy verdict)) w.id (has w.id copy e)))
+        | false ↦ erasing_own rest (done (settled (set_copy rest w.id (marked (read_mark verdict) copy)) w.id)) _ (ap done (settled_own (set_copy rest w.id (marked (read_mark verdict) copy)) w.id (has w.id copy e)))
       ]))
 
   with_fetch_own : (id : ObjectId) (number : ℕ) (f g : Copy → Fetch → Change) → ((copy : Copy) (fetch : Fetch) → g copy fetch ≡ own_change (f copy fetch)) → with_fetch (own_part store) id number g ≡ own_change (with_fetch store id number f)
@@ -265,7 +267,7 @@ module _ (store : Shape) (has : HasOwn store) where
 
   located_own : (id : ObjectId) (number : ℕ) (source : Option Source) → located (own_part store) id number source ≡ own_change (located store id number source)
   located_own id number source = with_fetch_own id number _ _ (λ copy fetch.
-      elim fetch.phase as (λ p. elim p [ locating ↦ done (set_copy (own_part store) id (located_copy copy fetch source)) | _ ↦ done (own_part store) ] ≡ own_change (elim p [ locating ↦ done (set_copy store id (located_copy copy fetch source)) | _ ↦ done store ])) [
+      elim fetch.phase as (λ p. elim p [ locating ↦ done (set_copy (own_part store) id (marked (mark.located fetch source) copy)) | _ ↦ done (own_part store) ] ≡ own_change (elim p [ locating ↦ done (set_copy store id (marked (mark.located fetch source) copy)) | _ ↦ done store ])) [
         | locating ↦ refl
         | sized _ ↦ refl
         | pulling _ _ ↦ refl

@@ -1,5 +1,6 @@
 -- Which marks leave a copy where it lies.
 use Rattle.std.proofs.Common.{◌≡◌, true, refl, ap, Bool, false, cond}
+use Rattle.private_store.specs.rules.Marks.{without_borrower}
 use Rattle.private_store.specs.rules.Copies.{extent_of, in_scope}
 use Rattle.store_facts.proofs.Tests.{true_false}
 use Rattle.job_row.specs.declared.marks.Mark.{Mark}
@@ -7,7 +8,6 @@ use Rattle.job_row.specs.declared.marks.Mark.TheVariants as mark
 use Rattle.job_row.specs.CopyViews.{CopyView, can_spill, after_spill_begun, spill_begun_if, view_in_scope, after_doom, after_unpin, after_give_up}
 use Rattle.job_row.specs.Marks.{marked_by, lies_still}
 use Rattle.obj_id.specs.declared.ids.TaskNo.{TaskNo}
-use Rattle.private_store.specs.rules.Commands.{without_borrower}
 
 pub same_copy : (k : CopyView) → (spill_begun_if k).copy ≡ k.copy
 same_copy k = by (can_spill k)

@@ -12,8 +12,9 @@ use Rattle.obj_id.specs.Kinds.{is_primary}
 use Rattle.obj_id.specs.declared.ids.ObjectId.{ObjectId}
 use Rattle.obj_id.specs.declared.ids.TaskNo.{TaskNo}
 use Rattle.private_store.specs.rules.Tables.{ById, at}
+use Rattle.private_store.specs.rules.Marks.{chunk_count, counted, with_holds, without_borrower}
 use Rattle.private_store.specs.rules.Copies.{is_sealed, is_away, in_scope, was_sealed}
-use Rattle.private_store.specs.rules.Commands.{new_copy, fetched_copy, with_holds, holds_of, without_borrower, counted, chunk_count}
+use Rattle.private_store.specs.rules.Commands.{new_copy, fetched_copy, holds_of}
 use Rattle.private_store.specs.rules.Contents.{is_sized, same_digest, no_digest}
 use Rattle.private_store.specs.laws.Invariants.{is_fetching}
 use Rattle.object_state.specs.Marks.{Marks}

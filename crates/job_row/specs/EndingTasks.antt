@@ -6,8 +6,9 @@ use Rattle.obj_id.specs.declared.ids.ObjectId.{ObjectId}
 use Rattle.obj_id.specs.declared.works.DeviceKey.{DeviceKey}
 use Rattle.obj_id.specs.Ids.{same_task}
 use Rattle.private_store.specs.rules.Tables.{ById, at}
+use Rattle.private_store.specs.rules.Marks.{without_borrower}
 use Rattle.private_store.specs.rules.Copies.{in_scope}
-use Rattle.private_store.specs.rules.Commands.{has_borrower, without_borrower}
+use Rattle.private_store.specs.rules.Commands.{has_borrower}
 use Rattle.private_store.specs.rules.Private.{Post}
 use Rattle.job_row.specs.Dropping.{settled_row}
 use Rattle.job_row.specs.Ending.{key_at}

@@ -5,8 +5,8 @@ ghost use Rattle.private_store.specs.rules.Tables.{ById, at, with_entry, without
 ghost use Rattle.job_row.specs.Entries.{changed, all_changed, each_changed};
 ghost use Rattle.job_row.specs.CopyViews.{after_release, after_leave, spill_begun_if, after_borrow, CopyView};
 ghost use Rattle.job_row.specs.Marks.{marked_by, CanTake};
+ghost use Rattle.private_store.specs.rules.Marks.{without_borrower};
 ghost use Rattle.private_store.specs.rules.Copies.{in_scope};
-ghost use Rattle.private_store.specs.rules.Commands.{without_borrower};
 ghost use Rattle.job_row.specs.Evicting.{has_secondary, evicted_one, all_evicted};
 ghost use Rattle.obj_id.specs.declared.refusals.Refusal.{Refusal};
 ghost use Rattle.obj_id.specs.declared.refusals.Refusal.TheVariants.{NoMemory};

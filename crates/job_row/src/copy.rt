@@ -5,8 +5,9 @@ ghost use Rattle.std.specs.Option.{option_and_then, option_copied, option_map_or
 ghost use Rattle.obj_id.specs.declared.refusals.Refusal.{Refusal};
 ghost use Rattle.obj_id.specs.declared.refusals.Refusal.TheVariants.{NoMemory};
 ghost use Rattle.obj_id.specs.Ids.{same_task};
+ghost use Rattle.private_store.specs.rules.Marks.{without_borrower};
 ghost use Rattle.private_store.specs.rules.Copies.{extent_of, is_away, is_held, in_scope, was_sealed};
-ghost use Rattle.private_store.specs.rules.Commands.{holds_of as holds_of_lem, has_borrower, without_borrower};
+ghost use Rattle.private_store.specs.rules.Commands.{holds_of as holds_of_lem, has_borrower};
 ghost use Rattle.private_store.specs.rules.Extents.{rounded as rounded_lem};
 ghost use Rattle.job_row.specs.RowFacts.{row_facts_of};
 ghost use Rattle.job_row.specs.CopyViews.{new_copy_view, fetched_copy_view, after_release, spill_begun_if, after_unpin, after_borrow, after_give_up, after_grants_ended, view_in_scope, store_fetch_of, after_eviction, is_unasked, after_pull, after_restore_begun, after_placing, CanAwait, after_failed_restore, was_sealed_with as was_sealed_with_lem};

@@ -22,6 +22,7 @@ use Rattle.private_store.specs.rules.Grants.{StandingGrant}
 use Rattle.private_store.specs.rules.Jobs.{same_job}
 use Rattle.private_store.specs.rules.Tables.{at}
 use Rattle.private_store.specs.rules.Shape.{Copy, Shape, Change, WorkInFlight}
+use Rattle.private_store.specs.rules.Marks.{marked, read_mark}
 use Rattle.private_store.specs.rules.Room.{set_copy}
 use Rattle.private_store.specs.rules.Change.{refused, done, needing, erasing, settled}
 use Rattle.private_store.specs.rules.Events as events
@@ -141,7 +142,7 @@ module _ (job : JobNo) (number : ℕ) where
 abbrev ended : Shape → ℕ → WorkVerdict → WorkInFlight → Copy → Change
 ended store number verdict w copy =
     let rest = events.without_work store number in
-    cond w.writes (events.written rest w copy verdict) (erasing rest (done (settled (set_copy rest w.id (events.read_back copy verdict)) w.id)))
+    cond w.writes (events.written rest w copy verdict) (erasing rest (done (settled (set_copy rest w.id (marked (read_mark verdict) copy)) w.id)))
 
 abbrev ended_work : Shape → ℕ → WorkVerdict → WorkInFlight → Change
 ended_work store number verdict w = needing store (at store.copies w.id) Stale (ended store number verdict w)

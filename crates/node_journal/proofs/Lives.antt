@@ -15,11 +15,12 @@ use Rattle.private_store.specs.declared.inputs.WorkVerdict.{WorkVerdict}
 use Rattle.private_store.specs.declared.inputs.WorkVerdict.TheVariants as work
 use Rattle.private_store.specs.rules.Tables.{at}
 use Rattle.private_store.specs.rules.Shape.{Copy, Shape, Change, Life, WorkInFlight, Seen, not_begun, live, ended}
+use Rattle.private_store.specs.rules.Marks.{marked, read_mark}
 use Rattle.private_store.specs.rules.Change.{checked, needing, settled, done, refused, erasing}
 use Rattle.private_store.specs.rules.Copies.{is_idle}
 use Rattle.private_store.specs.rules.Limits.{is_quota}
 use Rattle.private_store.specs.rules.Room.{set_copy, drop_copy}
-use Rattle.private_store.specs.rules.Events.{is_live, begin, answer, written, read_back, work_of, without_work, is_the_grant, grant_ended, withdrawn}
+use Rattle.private_store.specs.rules.Events.{is_live, begin, answer, written, work_of, without_work, is_the_grant, grant_ended, withdrawn}
 use Rattle.private_store.specs.laws.Made.{Edit, marks, drops, creates, fetches, asks, finishes, flags, ends_task, gives, leaves, receives, loses, begins, requotas, ends, Edits, none, then_edit}
 use Rattle.private_store.specs.rules.Step.{step}
 use Rattle.private_store.specs.rules.Replay.{ReplayState, Line as Replayed, replayed, replay_after}
@@ -33,7 +34,7 @@ use Rattle.node_journal.specs.declared.entries.Line.{Line}
 -- ---- one that was admitted
 
 edit_begun : {x : Judged} {used : Option ObjectId} (store after : Shape) → Edit x used store after → has_begun store.life ≡ true → has_begun after.life ≡ true
-edit_begun store after (marks id copy d found marked) h = h
+edit_begun store after (marks id copy m found can) h = h
 edit_begun store after (drops id copy found goes) h = h
 edit_begun store after (creates id kind n offset is) h = h
 edit_begun store after (fetches id is absent fine) h = h
@@ -79,9 +80,9 @@ module _ (store : Shape) where
   answer_same number verdict =
       needing_same (work_of store number) Stale _ (λ w. needing_same (at store.copies w.id) Stale _ (λ copy.
       let rest = without_work store number in
-      elim w.writes as (λ b. Same (cond b (written rest w copy verdict) (erasing rest (done (settled (set_copy rest w.id (read_back copy verdict)) w.id))))) [
+      elim w.writes as (λ b. Same (cond b (written rest w copy verdict) (erasing rest (done (settled (set_copy rest w.id (marked (read_mark verdict) copy)) w.id))))) [
         | true ↦ written_same rest w copy verdict
-        | false ↦ settled_same (set_copy rest w.id (read_back copy verdict)) w.id
+        | false ↦ settled_same (set_copy rest w.id (marked (read_mark verdict) copy)) w.id
       ]))
 
   withdrawn_same : (id : ObjectId) (grantor depth : ℕ) → Same (withdrawn store id grantor depth)

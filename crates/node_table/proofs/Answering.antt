@@ -27,10 +27,11 @@ use Rattle.private_store.specs.declared.inputs.WorkVerdict.TheVariants as work
 use Rattle.private_store.specs.rules.Tables.{ById, at, with_entry}
 use Rattle.private_store.specs.rules.Extents.{rounded}
 use Rattle.private_store.specs.rules.Shape.{Copy, Shape, Change, WorkInFlight}
+use Rattle.private_store.specs.rules.Marks.{marked, read_mark}
 use Rattle.private_store.specs.rules.Copies.{extent_of, is_sealed, is_held, is_granted, is_working, is_idle}
 use Rattle.private_store.specs.rules.Room.{set_copy, drop_copy}
 use Rattle.private_store.specs.rules.Change.{refused, done, needing, erasing, settled, keys_gone}
-use Rattle.private_store.specs.rules.Events.{work_of, without_work, read_back}
+use Rattle.private_store.specs.rules.Events.{work_of, without_work}
 use Rattle.private_store.specs.rules.Events as events
 use Rattle.private_store.specs.rules.Contents.{Contents, View, judge, digest_at, keeps_digest, no_digest, has_digest, overwritten, bytes_brought, brought, write_verdict, work_verdict, is_read_back}
 use Rattle.private_store.specs.rules.Contents as contents_of
@@ -210,12 +211,12 @@ module _ (node : ℕ) (row : Row) (beside : SharedTables) (contents : Contents) 
 
   -- what is done, by the verdict
   abbrev ended_by : WorkVerdict → Copy → Change
-  ended_by v copy = cond w.writes (events.written rest w copy v) (erasing rest (done (settled (set_copy rest id (read_back copy v)) id)))
+  ended_by v copy = cond w.writes (events.written rest w copy v) (erasing rest (done (settled (set_copy rest id (marked (read_mark v) copy)) id)))
 
   -- what is done with the work that is found
   abbrev with_work : WorkVerdict → WorkInFlight → Change
   with_work v u = needing s (at s.copies u.id) Stale (λ copy.
-      cond u.writes (events.written rest u copy v) (erasing rest (done (settled (set_copy rest u.id (read_back copy v)) u.id))))
+      cond u.writes (events.written rest u copy v) (erasing rest (done (settled (set_copy rest u.id (marked (read_mark v) copy)) u.id))))
 
   change_is : (v : WorkVerdict) → work_verdict view number answer ≡ v → step row.order s (judge node view x) ≡ ended_by v k.copy
   change_is v is =
@@ -381,7 +382,7 @@ module _ (node : ℕ) (row : Row) (beside : SharedTables) (contents : Contents) 
         keeps = λ keep. keep;
         bytes = write_bytes false;
         looked = base (g false) row.spill_failed row.window.placed;
-        is = change_is v (write_judged ∙ is) ∙ ap (λ b. cond b (events.written rest w k.copy v) (erasing rest (done (settled (set_copy rest id (read_back k.copy v)) id)))) writes ∙ made;
+        is = change_is v (write_judged ∙ is) ∙ ap (λ b. cond b (events.written rest w k.copy v) (erasing rest (done (settled (set_copy rest id (marked (read_mark v) k.copy)) id)))) writes ∙ made;
         none_gone = keys_none (with_entry s.copies id (g false k).copy) (with_entry s.copies id (g false k).copy) (all_found (with_entry s.copies id (g false k).copy));
         one_gone = key_dropped (with_entry s.copies id (g false k).copy) id (g false k).copy (is_sorted-put id_cmp id_cmp-IsTotalOrder id (g false k).copy s.copies sorted) (at-put_here s.copies id (g false k).copy);
         placed = write_placed false;
@@ -398,7 +399,7 @@ module _ (node : ℕ) (row : Row) (beside : SharedTables) (contents : Contents) 
         looked = rest;
         is =
             change_is work.Failed (write_judged ∙ is)
-            ∙ ap (λ b. cond b (events.written rest w k.copy work.Failed) (erasing rest (done (settled (set_copy rest id (read_back k.copy work.Failed)) id)))) writes
+            ∙ ap (λ b. cond b (events.written rest w k.copy work.Failed) (erasing rest (done (settled (set_copy rest id (marked (read_mark work.Failed) k.copy)) id)))) writes
             ∙ ap (λ t. erasing rest (done (settled (record rest { copies = t; spill_failed = true }) id))) (sym (with-same s.copies id k.copy sorted found_copy));
         none_gone = keys_with s.copies id k.copy;
         one_gone = key_removed s.copies id k.copy k.copy sorted found_copy;
@@ -443,9 +444,9 @@ module _ (node : ℕ) (row : Row) (beside : SharedTables) (contents : Contents) 
         ∙ ap (λ b. cond b (write_verdict answer) (contents_of.read_verdict view id answer)) reads
         ∙ read_is answer
 
-    read_change : (v : WorkVerdict) → view_read_verdict k answer ≡ v → step row.order s (judge node view x) ≡ erasing rest (done (settled (set_copy rest id (read_back k.copy v)) id))
+    read_change : (v : WorkVerdict) → view_read_verdict k answer ≡ v → step row.order s (judge node view x) ≡ erasing rest (done (settled (set_copy rest id (marked (read_mark v) k.copy)) id))
     read_change v is =
-        change_is v (read_judged ∙ is) ∙ ap (λ b. cond b (events.written rest w k.copy v) (erasing rest (done (settled (set_copy rest id (read_back k.copy v)) id)))) reads
+        change_is v (read_judged ∙ is) ∙ ap (λ b. cond b (events.written rest w k.copy v) (erasing rest (done (settled (set_copy rest id (marked (read_mark v) k.copy)) id)))) reads
 
     module _ (placed : ArePlaced row.window.placed (place_of row.copies)) where
       is_place : place_of row.copies id ≡ Some e
@@ -456,7 +457,7 @@ module _ (node : ℕ) (row : Row) (beside : SharedTables) (contents : Contents) 
       abbrev placed_left : List (ℕ × List ℕ)
       placed_left = without (option_to_list (place_of row.copies id)) row.window.placed
 
-      module _ (fault : Fault) (v : WorkVerdict) (is : view_read_verdict k answer ≡ v) (back : read_back k.copy v ≡ (after_failed_restore fault k).copy) (nothing : bytes_brought view x (judged.Answer number v) reply.Ok ≡ None) where
+      module _ (fault : Fault) (v : WorkVerdict) (is : view_read_verdict k answer ≡ v) (back : marked (read_mark v) k.copy ≡ (after_failed_restore fault k).copy) (nothing : bytes_brought view x (judged.Answer number v) reply.Ok ≡ None) where
         lost_bytes : (q : ObjectId) (y : CopyView) (f : Extent) → at (changed (after_failed_restore fault) row.copies id) q ≡ Some y → extent_of y.copy ≡ Some f
             → filled (at (brought contents.bytes (bytes_brought view x (judge node view x) reply.Ok)) q) y.copy ≡ take y.copy.length (placed_bytes f placed_left)
         lost_bytes q y f there in_f = by (was_one q y there).0 (was_one q y there).1 (was_one q y there).2

@@ -20,11 +20,13 @@ use Rattle.private_store.specs.declared.inputs.Input.{Input}
 use Rattle.private_store.specs.declared.inputs.Input.TheVariants as input
 use Rattle.private_store.specs.rules.Tables.{ById, at, with_entry, is_among}
 use Rattle.private_store.specs.rules.Shape.{Copy, Shape, Change, Fetch, Phase, locating, sized, pulling, failed, Sending}
+use Rattle.private_store.specs.rules.Marks.{marked}
+use Rattle.private_store.specs.rules.Marks as mark
 use Rattle.private_store.specs.rules.Copies.{extent_of}
 use Rattle.private_store.specs.rules.Room.{set_copy}
 use Rattle.private_store.specs.rules.Change.{done, erasing}
 use Rattle.private_store.specs.rules.Step.{if_live}
-use Rattle.private_store.specs.rules.Events.{is_live, fetch_of, located_copy}
+use Rattle.private_store.specs.rules.Events.{is_live, fetch_of}
 use Rattle.private_store.specs.rules.Events as events
 use Rattle.private_store.specs.rules.Contents.{Contents, View, judge, source_in, entry_elsewhere, is_locating, is_sized, keeps_digest, no_digest, bytes_brought, digest_brought, brought, bytes_received}
 use Rattle.private_store.specs.rules.Private.{Post, posts_of, view_after}
@@ -224,7 +226,7 @@ module _ (node : ℕ) (row : Row) (beside : SharedTables) (contents : Contents) 
   entry = entry_elsewhere node entries
 
   abbrev by_phase : Copy → Fetch → Phase → Change
-  by_phase copy fetch p = elim p [ locating ↦ done (set_copy t id (located_copy copy fetch (source_in node entries))) | _ ↦ done t ]
+  by_phase copy fetch p = elim p [ locating ↦ done (set_copy t id (marked (mark.located fetch (source_in node entries)) copy)) | _ ↦ done t ]
 
   abbrev of_fetch : Option (Copy × Fetch) → Change
   of_fetch o = option_map_or (λ p. by_phase p.0 p.1 p.1.phase) o (done t)
@@ -269,7 +271,7 @@ module _ (node : ℕ) (row : Row) (beside : SharedTables) (contents : Contents) 
     abbrev moved_to : Change
     moved_to = done (set_copy t id (f k).copy)
 
-    copy_is : (o : Option Location) → located_copy k.copy a.of.fetch (option_map (λ (e : Location). record { node = e.node; length = e.length }) o) ≡ (after_source o k).copy
+    copy_is : (o : Option Location) → marked (mark.located a.of.fetch (option_map (λ (e : Location). record { node = e.node; length = e.length }) o)) k.copy ≡ (after_source o k).copy
     copy_is None = ap (λ p. record k.copy { fetch = in_phase (failed Absent) p }) (sym a.of.fetched)
     copy_is (Some e) = ap (λ p. record k.copy { length = e.length; fetch = in_phase (sized e.node) p }) (sym a.of.fetched)
 

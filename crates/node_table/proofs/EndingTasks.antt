@@ -20,11 +20,12 @@ use Rattle.private_store.specs.declared.inputs.Input.{Input}
 use Rattle.private_store.specs.declared.inputs.Input.TheVariants as input
 use Rattle.private_store.specs.rules.Tables.{ById, at, ids_of}
 use Rattle.private_store.specs.rules.Shape.{Copy, Shape, Change, Sending, GrantGiven, free, remove_location}
+use Rattle.private_store.specs.rules.Marks.{without_borrower}
 use Rattle.private_store.specs.rules.Copies.{extent_of, in_scope, was_sealed}
 use Rattle.private_store.specs.rules.Room.{set_copy}
 use Rattle.private_store.specs.rules.Change.{done, sending, erasing, settled, keys_gone, doom, doom_notice}
 use Rattle.private_store.specs.rules.Change as changes
-use Rattle.private_store.specs.rules.Commands.{end_task_checks, at_each, give_up_one, of_task, task_ended, end_task, has_borrower, without_borrower}
+use Rattle.private_store.specs.rules.Commands.{end_task_checks, at_each, give_up_one, of_task, task_ended, end_task, has_borrower}
 use Rattle.private_store.specs.rules.Commands as commands
 use Rattle.private_store.specs.rules.Contents.{Contents, View, judge, keeps_digest, no_digest}
 use Rattle.private_store.specs.laws.Invariants.{has_grant}

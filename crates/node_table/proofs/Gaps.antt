@@ -25,11 +25,11 @@ use Rattle.private_store.specs.declared.inputs.Input.TheVariants as input
 use Rattle.private_store.specs.rules.Limits.{longest_object}
 use Rattle.private_store.specs.rules.Tables.{at}
 use Rattle.private_store.specs.rules.Shape.{Copy, Shape, Change, Fetch, Phase, locating, sized, pulling, failed, Sending, add_location}
+use Rattle.private_store.specs.rules.Marks.{chunk_count}
 use Rattle.private_store.specs.rules.Copies.{extent_of, was_sealed}
 use Rattle.private_store.specs.rules.Extents.{rounded}
 use Rattle.private_store.specs.rules.Room.{set_copy}
 use Rattle.private_store.specs.rules.Change.{done}
-use Rattle.private_store.specs.rules.Commands.{chunk_count, set_phase}
 use Rattle.private_store.specs.rules.Events.{fetch_of, is_missing, chunk_arrived, fetch_failed}
 use Rattle.private_store.specs.rules.Events as events
 use Rattle.private_store.specs.rules.Contents.{Contents, View, judge, digest_at, no_digest, has_digest, chunk_length, with_chunk, gap_verdict, pulled_verdict, chunk_verdict, bytes_brought, brought as brought_to, keeps_digest, is_sized}
@@ -356,7 +356,7 @@ module _ (node : ℕ) (row : Row) (beside : SharedTables) (contents : Contents) 
           (λ q z f differs was there. shows_others _ (brings verdict.Part is) q z f differs was there)
           (λ keeps. h.digests id k a.of.found keeps_now) (λ q differs. refl)
           (change_is verdict.Part is ∙ ap (λ l. events.chunk_taken s id k.copy fetch a.source l verdict.Part) rest.2
-          ∙ ap (λ l. done (set_phase s id k.copy fetch (pulling a.source l))) (sym rest.2) ∙ ap (λ copy. done (set_copy s id copy)) (sym closed_is)) (λ o. refl)
+          ∙ ap (λ l. done (set_copy s id (marked (mark.lacking fetch a.source l) k.copy))) (sym rest.2) ∙ ap (λ copy. done (set_copy s id copy)) (sym closed_is)) (λ o. refl)
 
       -- ---- it was the last one
 

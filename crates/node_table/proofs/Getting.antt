@@ -11,10 +11,11 @@ use Rattle.private_store.specs.declared.inputs.Input.{Input}
 use Rattle.private_store.specs.declared.inputs.Input.TheVariants as input
 use Rattle.private_store.specs.rules.Tables.{ById, at, with_entry, is_among}
 use Rattle.private_store.specs.rules.Shape.{Copy, Shape, Change}
+use Rattle.private_store.specs.rules.Marks.{with_holds}
 use Rattle.private_store.specs.rules.Copies.{is_sealed}
 use Rattle.private_store.specs.rules.Room.{set_copy}
 use Rattle.private_store.specs.rules.Change.{replied, refused, erasing, checked, needing, has_ended}
-use Rattle.private_store.specs.rules.Commands.{hold_checks, get, get_copy, get_sealed, get_away, get_fetching, begin_fetch, with_holds, holds_of}
+use Rattle.private_store.specs.rules.Commands.{hold_checks, get, get_copy, get_sealed, get_away, get_fetching, begin_fetch, holds_of}
 use Rattle.private_store.specs.rules.Contents.{Contents, judge}
 use Rattle.private_store.specs.rules.Private.{key_of}
 use Rattle.private_store.specs.rules.Step.{step}

@@ -15,9 +15,10 @@ use Rattle.private_store.specs.declared.inputs.Input.{Input}
 use Rattle.private_store.specs.declared.inputs.Input.TheVariants as input
 use Rattle.private_store.specs.rules.Tables.{ById, at, with_entry, ids_of}
 use Rattle.private_store.specs.rules.Shape.{Copy, Shape, Change}
+use Rattle.private_store.specs.rules.Marks.{with_holds}
 use Rattle.private_store.specs.rules.Room.{set_copy}
 use Rattle.private_store.specs.rules.Change.{done, sending, erasing, settled, keys_gone}
-use Rattle.private_store.specs.rules.Commands.{leave_one, at_each, with_holds}
+use Rattle.private_store.specs.rules.Commands.{leave_one, at_each}
 use Rattle.private_store.specs.rules.Contents.{Contents, judge}
 use Rattle.private_store.specs.rules.Private.{key_of}
 use Rattle.private_store.specs.rules.Step.{step}

@@ -20,12 +20,13 @@ use Rattle.private_store.specs.declared.inputs.Input.TheVariants as input
 use Rattle.private_store.specs.rules.Limits.{most_works, has_numbers}
 use Rattle.private_store.specs.rules.Tables.{ById, at, ids_of}
 use Rattle.private_store.specs.rules.Shape.{Copy, Shape, Change, Fetch, Phase, locating, sized, pulling, failed, add_location, locate, pull}
+use Rattle.private_store.specs.rules.Marks.{chunk_count, counted, with_holds}
 use Rattle.private_store.specs.rules.Copies.{is_sealed}
 use Rattle.private_store.specs.rules.Grants.{StandingGrant}
 use Rattle.private_store.specs.laws.Invariants.{is_remembered}
 use Rattle.private_store.specs.rules.Room.{Room, set_copy, works_left, make_room}
 use Rattle.private_store.specs.rules.Change.{refused, replied, done, sending, in_room, erasing}
-use Rattle.private_store.specs.rules.Commands.{hold_checks, is_length, created, granted_items, holds_of, with_holds, restore, restoring, get_fetching, set_phase, begin_pull, counted, chunk_count}
+use Rattle.private_store.specs.rules.Commands.{hold_checks, is_length, created, granted_items, holds_of, restore, restoring, get_fetching, begin_pull}
 use Rattle.private_store.specs.rules.Contents.{Contents, View, judge, whole_reply}
 use Rattle.private_store.specs.rules.Private.{Post, to_directory, posts_of, pull_of, pull_posts, view_after, view_step}
 use Rattle.private_store.specs.rules.Step.{step}
@@ -254,7 +255,7 @@ module _ (node : ℕ) (row : Row) (beside : SharedTables) (contents : Contents) 
         now offset = record k.copy { offset = Some offset; fetch = Some asked }
 
         then : ℕ → Shape
-        then offset = set_phase room.shape id (record k.copy { offset = Some offset }) z.fetch (pulling z.source missing)
+        then offset = set_copy room.shape id (record k.copy { offset = Some offset; fetch = Some (record z.fetch { phase = pulling z.source missing }) })
 
         pulls : ℕ → Change
         pulls offset = record (refused (then offset) Pending) { sent = pull id ∷ [] }

@@ -10,8 +10,9 @@ use Rattle.private_store.specs.declared.inputs.Input.{Input}
 use Rattle.private_store.specs.declared.inputs.Input.TheVariants as input
 use Rattle.obj_id.specs.declared.commands.Command.TheVariants as command
 use Rattle.job_row.specs.Checks.{can_pull, can_pull_at, visible_state}
+use Rattle.private_store.specs.rules.Marks.{chunk_count, counted}
 use Rattle.private_store.specs.rules.Change.{refused, erasing, in_room}
-use Rattle.private_store.specs.rules.Commands.{is_length, get_fetching, set_phase, counted, chunk_count}
+use Rattle.private_store.specs.rules.Commands.{is_length, get_fetching}
 use Rattle.private_store.specs.rules.Contents.{Contents, View, judge, is_sized, keeps_digest, no_digest}
 use Rattle.private_store.specs.rules.Private.{Post, to_peer, pull_of, pull_posts, view_after}
 use Rattle.private_store.specs.rules.Room.{make_room}
@@ -122,13 +123,13 @@ module _ (node : ℕ) (row : Row) (beside : SharedTables) (contents : Contents) 
 
   -- what is done with the place
   abbrev pub f : Shape → ℕ → Change
-  f store offset = record (refused (set_phase store id (record k.copy { offset = Some offset }) fetch (pulling source missing)) Pending) { sent = pull id ∷ [] }
+  f store offset = record (refused (set_copy store id (record k.copy { offset = Some offset; fetch = Some (record fetch { phase = pulling source missing }) })) Pending) { sent = pull id ∷ [] }
 
   pub by_room : step row.order s (judge node (seen row beside contents) x) ≡ erasing s (in_room (make_room row.order s n) f)
   by_room =
       by_phase
       ∙ ap (erasing s) (checked-false s (not (is_length s n)) BadSize [] _ (ap not fine) ∙ checked-nil s _
-      ∙ (λ i. in_room (make_room row.order s n) (λ store offset. sending-is (pull id ∷ []) (refused (set_phase store id (record k.copy { offset = Some offset }) fetch (pulling source missing)) Pending) i)))
+      ∙ (λ i. in_room (make_room row.order s n) (λ store offset. sending-is (pull id ∷ []) (refused (set_copy store id (record k.copy { offset = Some offset; fetch = Some (record fetch { phase = pulling source missing }) })) Pending) i)))
 
   fetch_now : option_map (with_chunks n) k.copy.fetch ≡ Some asked
   fetch_now = ap (option_map (with_chunks n)) fetched ∙ ap (λ p. Some (by p)) at_source

@@ -10,9 +10,10 @@ use Rattle.private_store.specs.declared.inputs.Input.{Input}
 use Rattle.private_store.specs.declared.inputs.Input.TheVariants as input
 use Rattle.private_store.specs.rules.Tables.{at}
 use Rattle.private_store.specs.rules.Shape.{Copy, Shape, Change}
+use Rattle.private_store.specs.rules.Marks.{with_holds}
 use Rattle.private_store.specs.rules.Room.{set_copy}
 use Rattle.private_store.specs.rules.Change.{refused, done, erasing, settled}
-use Rattle.private_store.specs.rules.Commands.{release_checks, release, holds_of, with_holds}
+use Rattle.private_store.specs.rules.Commands.{release_checks, release, holds_of}
 use Rattle.private_store.specs.rules.Contents.{Contents}
 use Rattle.private_store.specs.rules.Shared.{first_refusal}
 use Rattle.job_row.specs.CopyViews.{CopyView, after_release}

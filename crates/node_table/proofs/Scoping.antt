@@ -18,12 +18,13 @@ use Rattle.private_store.specs.declared.inputs.Input.{Input}
 use Rattle.private_store.specs.declared.inputs.Input.TheVariants as input
 use Rattle.private_store.specs.rules.Tables.{ById, at, with_entry}
 use Rattle.private_store.specs.rules.Shape.{Copy, Shape, Change, Sending, free, remove_location}
+use Rattle.private_store.specs.rules.Marks.{without_borrower}
 use Rattle.private_store.specs.rules.Copies.{in_scope, was_sealed}
 use Rattle.private_store.specs.laws.Invariants.{is_remembered}
 use Rattle.private_store.specs.rules.Room.{set_copy}
 use Rattle.private_store.specs.rules.Change.{refused, done, checked, erasing, settled, doom, doom_notice, has_ended}
 use Rattle.private_store.specs.rules.Change as changes
-use Rattle.private_store.specs.rules.Commands.{unpin_checks, borrow_checks, give_up_checks, delete_checks, unpin, borrow, give_up, delete, without_borrower}
+use Rattle.private_store.specs.rules.Commands.{unpin_checks, borrow_checks, give_up_checks, delete_checks, unpin, borrow, give_up, delete}
 use Rattle.private_store.specs.rules.Commands as commands
 use Rattle.private_store.specs.rules.Contents.{Contents, View, keeps_digest}
 use Rattle.private_store.specs.rules.Private.{Post, posts_of}

@@ -11,6 +11,7 @@ use Rattle.private_store.specs.declared.inputs.WorkVerdict.{WorkVerdict}
 use Rattle.private_store.specs.declared.inputs.WorkVerdict.TheVariants as work
 use Rattle.private_store.specs.rules.Tables.{at}
 use Rattle.private_store.specs.rules.Shape.{Copy, Shape, Change, WorkInFlight}
+use Rattle.private_store.specs.rules.Marks.{marked, read_mark}
 use Rattle.private_store.specs.rules.Copies.{is_idle, is_held, is_granted, is_working}
 use Rattle.private_store.specs.rules.Copies as copies
 use Rattle.private_store.specs.rules.Room.{set_copy, drop_copy}
@@ -32,7 +33,7 @@ settled_stays store id copy after e now =
     by false k = sym e ∙ k
     by true k = none_some after (sym (at-drop store.copies id id ∙ ap (λ b. cond (not b) (at store.copies id) None) (same_id-itself id)) ∙ k)
 
-read_marks : (copy : Copy) (digest : Option Digest) (verdict : WorkVerdict) → marks_of (events.read_back copy verdict) digest None ≡ marks_read_back (marks_of copy digest (Some Read)) verdict
+read_marks : (copy : Copy) (digest : Option Digest) (verdict : WorkVerdict) → marks_of (marked (read_mark verdict) copy) digest None ≡ marks_read_back (marks_of copy digest (Some Read)) verdict
 read_marks copy digest work.Fine = refl
 read_marks copy digest work.Failed = refl
 read_marks copy digest work.Damaged = refl
@@ -45,11 +46,11 @@ module _ (store : Shape) (w : WorkInFlight) (copy after : Copy) (digest : Option
   written_marks work.Damaged now = ap (λ c. marks_of c digest None) (sym (settled_stays (set_copy store w.id (record copy { backed = Some w.number })) w.id (record copy { backed = Some w.number }) after (at-put_here store.copies w.id (record copy { backed = Some w.number })) now))
 
   answered_marks : (verdict : WorkVerdict) (writes : Bool)
-      → at (cond writes (events.written store w copy verdict) (erasing store (done (settled (set_copy store w.id (events.read_back copy verdict)) w.id)))).shape.copies w.id ≡ Some after
+      → at (cond writes (events.written store w copy verdict) (erasing store (done (settled (set_copy store w.id (marked (read_mark verdict) copy)) w.id)))).shape.copies w.id ≡ Some after
       → marks_of after digest None ≡ cond writes (marks_written (marks_of copy digest (Some Write)) w.number (has_failed verdict)) (marks_read_back (marks_of copy digest (Some Read)) verdict)
   answered_marks verdict true now = written_marks verdict now
   answered_marks verdict false now =
-      ap (λ c. marks_of c digest None) (sym (settled_stays (set_copy store w.id (events.read_back copy verdict)) w.id (events.read_back copy verdict) after (at-put_here store.copies w.id (events.read_back copy verdict)) now))
+      ap (λ c. marks_of c digest None) (sym (settled_stays (set_copy store w.id (marked (read_mark verdict) copy)) w.id (marked (read_mark verdict) copy) after (at-put_here store.copies w.id (marked (read_mark verdict) copy)) now))
       ∙ read_marks copy digest verdict
 
 pub marks_are_answered : (store : Shape) (number : ℕ) (verdict : WorkVerdict) (w : WorkInFlight) (copy after : Copy) (digest : Option Digest)
@@ -59,7 +60,7 @@ marks_are_answered store number verdict w copy after digest found e now =
     answered_marks (without_work store number) w copy after digest e verdict w.writes (sym (ap (λ (c : Change). at c.shape.copies w.id) is) ∙ now)
   where
     rest : WorkInFlight → Copy → Change
-    rest w copy = cond w.writes (events.written (without_work store number) w copy verdict) (erasing (without_work store number) (done (settled (set_copy (without_work store number) w.id (events.read_back copy verdict)) w.id)))
+    rest w copy = cond w.writes (events.written (without_work store number) w copy verdict) (erasing (without_work store number) (done (settled (set_copy (without_work store number) w.id (marked (read_mark verdict) copy)) w.id)))
 
     is : answer store number verdict ≡ rest w copy
     is = needing-some store (work_of store number) w Stale _ found ∙ needing-some store (at store.copies w.id) copy Stale _ e

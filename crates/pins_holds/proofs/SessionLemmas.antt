@@ -12,7 +12,7 @@ use Rattle.std.specs.BTreeMap.{is_at, insert_entry}
 use Rattle.std.proofs.lemmas.List.Sums.{sum_by-cons}
 use Rattle.std.proofs.lemmas.Bool.Decides.{nat_tests}
 use Rattle.obj_id.specs.declared.commands.CopyState.TheVariants.{Sealed}
-use Rattle.private_store.specs.rules.Commands.{without_session}
+use Rattle.private_store.specs.rules.Marks.{without_session}
 use Rattle.store_facts.proofs.KeptHolds.{holds_keep}
 use Rattle.pins_holds.specs.Sessions.{count_of, with_count, sessions_total, AreHolds}
 use Rattle.store_facts.proofs.Tests.{T_true, both_left}

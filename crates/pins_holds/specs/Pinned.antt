@@ -8,6 +8,7 @@ use Rattle.private_store.specs.rules.Limits.{most_holds, most_borrowers}
 use Rattle.private_store.specs.rules.Shape.{Copy}
 use Rattle.obj_id.specs.Kinds.{is_primary}
 use Rattle.private_store.specs.rules.Copies as copies
+use Rattle.private_store.specs.rules.Marks.{with_holds, without_borrower}
 use Rattle.private_store.specs.rules.Commands as commands
 
 pub record Pinned : Type 0 where
@@ -51,13 +52,13 @@ pins_have_borrower pins task = commands.has_borrower (copy_of pins) task
 
 -- n holds of the session, where none means no entry
 abbrev pub pins_with_holds : Pinned → ℕ → ℕ → Pinned
-pins_with_holds pins session n = record pins { holds = (commands.with_holds (copy_of pins) session n).holds }
+pins_with_holds pins session n = record pins { holds = (with_holds (copy_of pins) session n).holds }
 
 abbrev pub with_borrower : Pinned → TaskNo → Pinned
 with_borrower pins task = record pins { borrowers = pins.borrowers ++ task ∷ [] }
 
 abbrev pub pins_without_borrower : Pinned → TaskNo → Pinned
-pins_without_borrower pins task = record pins { borrowers = (commands.without_borrower (copy_of pins) task).borrowers }
+pins_without_borrower pins task = record pins { borrowers = (without_borrower (copy_of pins) task).borrowers }
 
 -- ---- the checks
 

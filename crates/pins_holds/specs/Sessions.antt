@@ -3,7 +3,7 @@ use Rattle.std.specs.Prelude.{ℕ, ◌+◌, ◌==◌, if◌then◌else◌, List,
 use Rattle.std.specs.Ordering.{nat_cmp}
 use Rattle.std.specs.FinMap.{find, put}
 use Rattle.obj_id.specs.declared.commands.CopyState.TheVariants.{Sealed}
-use Rattle.private_store.specs.rules.Commands.{without_session}
+use Rattle.private_store.specs.rules.Marks.{without_session}
 use Rattle.private_store.specs.laws.Invariants.{AreHoldsKept}
 
 -- how many the session has

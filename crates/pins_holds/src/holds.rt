@@ -2,8 +2,8 @@
 ghost use Rattle.std.specs.Prelude.{◌≡◌, ◌+◌, ◌-◌, ◌<◌, ◌≤◌, [], not, IfOk, OnOk, OnErr, IsOk, IsTrue};
 ghost use Rattle.std.specs.Ordering.{nat_cmp};
 ghost use Rattle.std.specs.FinMap.{put, is_sorted};
+ghost use Rattle.private_store.specs.rules.Marks.{without_session};
 ghost use Rattle.private_store.specs.laws.Invariants.{are_held};
-ghost use Rattle.private_store.specs.rules.Commands.{without_session};
 ghost use Rattle.pins_holds.specs.Sessions.{AreHolds, count_of, with_count, sessions_total};
 
 use obj_id::ItemList;

@@ -3,6 +3,7 @@ use Rattle.std.proofs.Common.{◌≡◌, ℕ, true, false, if◌then◌else◌, 
 use Rattle.std.specs.Option.{option_map_or}
 use Rattle.obj_id.specs.declared.ids.TaskNo.{TaskNo}
 use Rattle.private_store.specs.rules.Tables.{at, ids_of}
+use Rattle.private_store.specs.rules.Marks.{with_holds, without_borrower}
 use Rattle.private_store.specs.rules.Copies.{in_scope}
 use Rattle.private_store.specs.rules.Room.{set_copy}
 use Rattle.private_store.specs.rules.Replay.{ReplayState}
@@ -12,7 +13,7 @@ use Rattle.obj_id.specs.declared.ids.ObjectId.{ObjectId}
 use Rattle.obj_id.specs.declared.commands.Reply.TheVariants as reply
 use Rattle.private_store.specs.rules.Shape.{Copy, Shape, Change}
 use Rattle.private_store.specs.rules.Change.{sending, done, doom, doomed, settled}
-use Rattle.private_store.specs.rules.Commands.{at_each, then_change, give_up_one, has_borrower, leave, leave_one, of_task, scoped, task_ended, with_holds, without_borrower}
+use Rattle.private_store.specs.rules.Commands.{at_each, then_change, give_up_one, has_borrower, leave, leave_one, of_task, scoped, task_ended}
 
 abbrev pub shapes : (Shape → ObjectId → Change) → Shape → List ObjectId → Shape
 shapes f store ids = fold (λ before id. (f before id).shape) store ids

@@ -9,8 +9,8 @@ use Rattle.std.specs.FinMap.Entries.{by_order}
 use Rattle.std.specs.Map.{lookup, values_of}
 use Rattle.std.specs.BTreeMap.{is_at, insert_entry}
 use Rattle.std.proofs.lemmas.List.Sums.{sum_by_from, sum-map}
+use Rattle.private_store.specs.rules.Marks.{with_holds, without_session}
 use Rattle.private_store.specs.rules.Shape.{Copy}
-use Rattle.private_store.specs.rules.Commands.{with_holds, without_session}
 use Rattle.obj_id.specs.declared.ids.TaskNo.{TaskNo}
 
 -- a look-up

@@ -7,11 +7,12 @@ use Rattle.private_store.specs.rules.Tables.{at}
 use Rattle.private_store.specs.rules.Shape.{Copy, Fetch, Shape, sized, pulling}
 use Rattle.private_store.specs.rules.Replay.{ReplayState}
 use Rattle.private_store.specs.laws.Listed.{IsReplayStateKept}
+use Rattle.private_store.specs.rules.Marks.{chunk_count, counted}
 use Rattle.private_store.specs.rules.Copies.{is_sealed}
 use Rattle.private_store.specs.rules.Events.{is_live}
 use Rattle.private_store.specs.rules.Room.{make_room, set_copy}
 use Rattle.private_store.specs.rules.Change.{needing, in_room, sending}
-use Rattle.private_store.specs.rules.Commands.{is_length, begin_pull, get_fetching, counted, chunk_count, set_phase}
+use Rattle.private_store.specs.rules.Commands.{is_length, begin_pull, get_fetching}
 use Rattle.store_facts.proofs.Checks.{needing-some}
 use Rattle.store_facts.proofs.Tests.{false_true}
 use Rattle.plain_store.specs.Fetches.{get_sized, pulled, pulled_copy}
@@ -29,7 +30,7 @@ counted-more chunks more i count all lt is so =
     ∙ so
 
 begin_pull-shape : (id : ObjectId) (copy : Copy) (fetch : Fetch) (source : ℕ) (store : Shape) (offset : ℕ)
-    → (begin_pull id copy fetch source store offset).shape ≡ set_phase store id (record copy { offset = Some offset }) fetch (pulling source (counted 0 (chunk_count copy.length)))
+    → (begin_pull id copy fetch source store offset).shape ≡ set_copy store id (marked (mark.pulled fetch offset source) copy)
 unfolding sending
 begin_pull-shape id copy fetch source store offset = refl
 

@@ -7,12 +7,14 @@ use Rattle.private_store.specs.declared.faults.FetchFault.{FetchFault}
 use Rattle.private_store.specs.declared.faults.FetchFault.TheVariants as fetch_fault
 use Rattle.private_store.specs.declared.inputs.ChunkVerdict.{ChunkVerdict}
 use Rattle.private_store.specs.declared.inputs.ChunkVerdict.TheVariants as chunk
-use Rattle.obj_id.specs.declared.commands.CopyState.TheVariants.{Sealed}
 use Rattle.private_store.specs.rules.Tables.{at}
-use Rattle.private_store.specs.rules.Shape.{Copy, Fetch, Phase, Shape, locating, pulling, failed}
+use Rattle.private_store.specs.rules.Shape.{Copy, Fetch, Phase, Shape, pulling}
+use Rattle.private_store.specs.rules.Marks.{marked}
+use Rattle.private_store.specs.rules.Marks as mark
 use Rattle.private_store.specs.rules.Room.{set_copy}
+use Rattle.plain_store.specs.Marks.{fetch_under}
 use Rattle.private_store.specs.rules.Contents.{is_locating}
-use Rattle.private_store.specs.rules.Events.{is_missing, located_copy}
+use Rattle.private_store.specs.rules.Events.{is_missing}
 
 abbrev pub pulls_from : ℕ → Phase → Bool
 pulls_from from (pulling source missing) = from == source
@@ -40,11 +42,11 @@ awaits number index from copy = is_fetched number (lacks_from index from) copy
 
 -- a source, or that there is no copy anywhere
 abbrev pub located_under : ℕ → Option Source → Copy → Copy
-located_under number source copy = located_copy copy (record { number = number; phase = locating }) source
+located_under number source copy = marked (mark.located (fetch_under number) source) copy
 
 -- the fetch is over with this fault, and the extent is given back
 abbrev pub lost : ℕ → FetchFault → Copy → Copy
-lost number fault copy = record copy { offset = None; fetch = Some (record { number = number; phase = failed fault }) }
+lost number fault copy = marked (mark.fetch_failed (fetch_under number) fault) copy
 
 -- another copy in place of the id's own, if there is one that passes the test
 abbrev pub changed_if : (Copy → Bool) → (Copy → Copy) → Shape → ObjectId → Shape
@@ -53,9 +55,9 @@ changed_if test f store id = option_map_or (λ copy. if test copy then set_copy 
 -- the copy after a chunk, with what is missing then: a copy of a fetch that lacks none is sealed, or damaged
 abbrev pub filled : ℕ → ℕ → List ℕ → ChunkVerdict → Copy → Copy
 filled number source missing chunk.Ignored copy = copy
-filled number source (i ∷ missing) _ copy = record copy { fetch = Some (record { number = number; phase = pulling source (i ∷ missing) }) }
+filled number source (i ∷ missing) _ copy = marked (mark.lacking (fetch_under number) source (i ∷ missing)) copy
 filled number source [] chunk.Damaged copy = lost number fetch_fault.Damaged copy
-filled number source [] _ copy = record copy { state = Sealed; fetch = None }
+filled number source [] _ copy = marked mark.brought copy
 
 -- the copy after a chunk in this phase
 abbrev pub chunked_in : Copy → Fetch → Phase → ℕ → ChunkVerdict → Copy

@@ -1,13 +1,15 @@
 -- Get of a copy that is on its way, by its fetch.
-use Rattle.std.specs.Prelude.{ℕ, List, Some}
+use Rattle.std.specs.Prelude.{ℕ, List}
 use Rattle.std.specs.Option.{option_map_or}
 use Rattle.obj_id.specs.declared.ids.ObjectId.{ObjectId}
 use Rattle.obj_id.specs.declared.refusals.Refusal.TheVariants.{Absent}
 use Rattle.private_store.specs.rules.Tables.{at}
 use Rattle.private_store.specs.rules.Shape.{Copy, Shape, Change, Phase, locating, sized, pulling, failed}
+use Rattle.private_store.specs.rules.Marks.{marked}
+use Rattle.private_store.specs.rules.Marks as mark
 use Rattle.private_store.specs.rules.Room.{set_copy}
 use Rattle.private_store.specs.rules.Change.{needing}
-use Rattle.private_store.specs.rules.Commands.{get_fetching, counted, chunk_count}
+use Rattle.private_store.specs.rules.Commands.{get_fetching}
 use Rattle.plain_store.specs.declared.fetching.NextStep.{NextStep}
 use Rattle.plain_store.specs.declared.fetching.NextStep.TheVariants.{Wait, Pull, Tell}
 
@@ -28,7 +30,7 @@ get_sized order store id source copy = needing store copy.fetch Absent (λ fetch
 -- the copy takes its extent, and waits for all chunks
 abbrev pub pulled_copy : Copy → ℕ → ℕ → Copy
 pulled_copy copy source offset =
-    option_map_or (λ fetch. record copy { offset = Some offset; fetch = Some (record fetch { phase = pulling source (counted 0 (chunk_count copy.length)) }) }) copy.fetch copy
+    option_map_or (λ fetch. marked (mark.pulled fetch offset source) copy) copy.fetch copy
 
 abbrev pub pulled : Shape → ObjectId → ℕ → ℕ → Shape
 pulled store id source offset = option_map_or (λ copy. set_copy store id (pulled_copy copy source offset)) (at store.copies id) store

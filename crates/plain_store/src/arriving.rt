@@ -6,8 +6,9 @@ ghost use Rattle.private_store.specs.rules.Events.{chunk_arrived, is_missing as 
 ghost use Rattle.plain_store.specs.Arrivals.{awaits, awaits_from, changed_if, chunked, filled, awaits_location, located_under, lost};
 
 use crate::copies::{FetchPhase, PlainCopy, PlainFetch};
+use crate::marks::Mark;
 use crate::store::PlainStore;
-use obj_id::{ChunkIndex, CopyState, FetchNo, NodeNo, ObjectId, Reply};
+use obj_id::{ChunkIndex, FetchNo, NodeNo, ObjectId, Reply};
 use private_store::{ChunkVerdict, FetchFault, Source};
 
 impl PlainCopy {
@@ -49,31 +50,6 @@ impl PlainCopy {
         }
     }
 
-    /// Its fetch, under this number, has a source and a length, or there is no copy anywhere.
-    pub(crate) fn locate(&mut self, number: FetchNo, source: Option<Source>)
-        ensures { self.new ≡ located_under number source self.old }
-    {
-        let phase = match source {
-            Some(source) => {
-                self.length = source.length;
-                FetchPhase::Sized(NodeNo(source.node))
-            }
-            None => FetchPhase::Failed(FetchFault::Absent),
-        };
-        self.fetch = Some(PlainFetch { number, phase });
-    }
-
-    /// Its fetch, under this number, is over with this fault, and its extent is given back.
-    pub(crate) fn lose(&mut self, number: FetchNo, fault: FetchFault)
-        ensures { self.new ≡ lost number fault self.old }
-    {
-        self.offset = None;
-        self.fetch = Some(PlainFetch {
-            number,
-            phase: FetchPhase::Failed(fault),
-        });
-    }
-
     /// A chunk of its fetch, if it is pulled.
     pub(crate) fn take_chunk(&mut self, index: ChunkIndex, verdict: ChunkVerdict)
         ensures { self.new ≡ chunked index verdict self.old }
@@ -105,18 +81,19 @@ impl PlainCopy {
             return;
         }
         if !missing.is_empty() {
-            self.fetch = Some(PlainFetch {
+            self.apply(Mark::Lacking {
                 number,
-                phase: FetchPhase::Pulling(source, missing),
+                source,
+                missing,
             });
-            return;
+        } else if verdict == ChunkVerdict::Damaged {
+            self.apply(Mark::FetchFailed {
+                number,
+                fault: FetchFault::Damaged,
+            });
+        } else {
+            self.apply(Mark::Brought);
         }
-        if verdict == ChunkVerdict::Damaged {
-            self.lose(number, FetchFault::Damaged);
-            return;
-        }
-        self.state = CopyState::Sealed;
-        self.fetch = None;
     }
 }
 
@@ -146,9 +123,7 @@ impl PlainStore {
         if !copy.is_locating(number) {
             return;
         }
-        if let Some(copy) = self.copy_mut(id) {
-            copy.locate(number, source);
-        }
+        self.apply(id, Mark::Located { number, source });
     }
 
     /// Located: the directory's answer, which counts while the source isn't known. Takes no memory.
@@ -176,9 +151,13 @@ impl PlainStore {
         if !copy.awaits_from(number, from) {
             return;
         }
-        if let Some(copy) = self.copy_mut(id) {
-            copy.lose(number, FetchFault::Absent);
-        }
+        self.apply(
+            id,
+            Mark::FetchFailed {
+                number,
+                fault: FetchFault::Absent,
+            },
+        );
     }
 
     /// NotHere: the source has no such copy, and the fetch is over. Takes no memory.

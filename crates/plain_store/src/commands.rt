@@ -4,7 +4,8 @@
 ghost use Rattle.std.specs.Prelude.{◌≡◌, IfOk, OnOk};
 ghost use Rattle.private_store.specs.rules.Commands.{borrow, delete, give_up, is_unsealed as is_unsealed_lem, read, release, seal, unpin, write};
 
-use crate::marks::{is_created, same_task};
+use crate::marks::Mark;
+use crate::predicates::{is_created, same_task};
 use crate::store::PlainStore;
 use obj_id::limits::{MOST_BORROWERS, MOST_BYTES};
 use obj_id::{CopyState, ObjectId, Refusal, Reply, TaskNo};
@@ -51,9 +52,7 @@ impl PlainStore {
         if !is_created(copy.state) {
             return Reply::Refused(Refusal::AlreadySealed);
         }
-        if let Some(copy) = self.copy_mut(id) {
-            copy.state = CopyState::Sealed;
-        }
+        self.apply(id, Mark::Sealed);
         Reply::Ok
     }
 
@@ -114,7 +113,7 @@ impl PlainStore {
         if !copy.pinned {
             return Reply::Refused(Refusal::NotHeld);
         }
-        self.unpinned(id);
+        self.apply_scoped(id, Mark::Unpinned);
         Reply::Ok
     }
 
@@ -160,7 +159,7 @@ impl PlainStore {
         if !copy.has_borrower(task) {
             return Reply::Refused(Refusal::Absent);
         }
-        self.unborrowed(id, task);
+        self.apply_scoped(id, Mark::GivenUp(task));
         Reply::Ok
     }
 

@@ -7,7 +7,7 @@ ghost use Rattle.private_store.specs.rules.Commands.{is_length, is_full_of_copie
 ghost use Rattle.private_store.specs.rules.Shared.{first_refusal};
 
 use crate::copies::PlainCopy;
-use crate::marks::same_task;
+use crate::predicates::same_task;
 use crate::response::Response;
 use crate::store::PlainStore;
 use obj_id::limits::{LONGEST_OBJECT, MOST_COPIES};

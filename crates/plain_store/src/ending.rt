@@ -1,11 +1,14 @@
 //! How a copy ends.
 ghost use Rattle.std.specs.Prelude.{◌≡◌, OnOk, false};
-ghost use Rattle.private_store.specs.rules.Commands.{with_holds, without_borrower};
 ghost use Rattle.plain_store.specs.Changing.{store_changed, scoped_by};
+ghost use Rattle.plain_store.specs.Marks.{mark_of};
+ghost use Rattle.private_store.specs.rules.Marks.{marked};
+ghost use Rattle.private_store.specs.rules.Marks as mark;
 ghost use Rattle.private_store.specs.rules.Change.{doomed, settled};
 
+use crate::marks::Mark;
 use crate::store::PlainStore;
-use obj_id::{ObjectId, TaskNo};
+use obj_id::ObjectId;
 use std::alloc::AllocError;
 
 impl PlainStore {
@@ -28,7 +31,7 @@ impl PlainStore {
         let Some(copy) = self.copy_mut(id) else {
             return;
         };
-        copy.doomed = true;
+        copy.apply(Mark::Doomed);
         self.settled(id);
     }
 
@@ -39,51 +42,29 @@ impl PlainStore {
         session: u32,
         count: u32,
     ) -> Result<(), AllocError>
-        ensures { OnOk result (self.new ≡ record self.old { shape = store_changed (λ copy. with_holds copy session count) self.old.shape id }) }
+        ensures { OnOk result (self.new ≡ record self.old { shape = store_changed (marked (mark.held session count)) self.old.shape id }) }
     {
         let Some(copy) = self.copy_mut(id) else {
             return Ok(());
         };
         if count == 0 {
-            copy.remove_holds(session);
+            copy.apply(Mark::Left(session));
             return Ok(());
         }
         copy.set_holds(session, count)?;
         Ok(())
     }
 
-    /// The owner task keeps the copy no longer, which is doomed if nothing else refers to it. Takes no memory.
-    pub(crate) fn unpinned(&mut self, id: ObjectId)
-        ensures { self.new ≡ record self.old { shape = scoped_by (λ copy. record copy { pinned = false }) self.old.shape id } }
+    /// This happens to the copy, if there is one, which is doomed if nothing refers to it then. Takes no memory.
+    pub(crate) fn apply_scoped(&mut self, id: ObjectId, mark: Mark)
+        ensures { self.new ≡ record self.old { shape = scoped_by (marked (mark_of mark)) self.old.shape id } }
     {
         let Some(copy) = self.copy_mut(id) else {
             return;
         };
-        copy.pinned = false;
+        copy.apply(mark);
         if !copy.in_scope() {
             self.doomed(id);
-        }
-    }
-
-    /// The task refers to the copy no longer, which is doomed if nothing else does. Takes no memory.
-    pub(crate) fn unborrowed(&mut self, id: ObjectId, task: TaskNo)
-        ensures { self.new ≡ record self.old { shape = scoped_by (λ copy. without_borrower copy task) self.old.shape id } }
-    {
-        let Some(copy) = self.copy_mut(id) else {
-            return;
-        };
-        copy.remove_borrower(task);
-        if !copy.in_scope() {
-            self.doomed(id);
-        }
-    }
-
-    /// The task refers to the copy no longer, if there is one. Takes no memory.
-    pub(crate) fn forget_borrower(&mut self, id: ObjectId, task: TaskNo)
-        ensures { self.new ≡ record self.old { shape = store_changed (λ copy. without_borrower copy task) self.old.shape id } }
-    {
-        if let Some(copy) = self.copy_mut(id) {
-            copy.remove_borrower(task);
         }
     }
 }

@@ -5,13 +5,15 @@ ghost use Rattle.std.specs.Prelude.{◌≡◌, ◌≤◌, length, option_map, If
 ghost use Rattle.std.specs.Option.{option_copied};
 ghost use Rattle.private_store.specs.rules.Limits.{is_quota as is_quota_lem, most_copies};
 ghost use Rattle.private_store.specs.rules.Events.{begin, is_live, over, requota, without_work, work_of};
-ghost use Rattle.private_store.specs.rules.Events.{answer, read_back, written};
-ghost use Rattle.plain_store.specs.Changing.{store_changed};
+ghost use Rattle.private_store.specs.rules.Marks.{read_mark as read_mark_lem};
+ghost use Rattle.plain_store.specs.Marks.{mark_of};
+ghost use Rattle.private_store.specs.rules.Events.{answer, written};
 
-use crate::copies::{PlainCopy, PlainWork};
+use crate::copies::PlainWork;
+use crate::marks::Mark;
 use crate::store::{Life, PlainStore};
 use obj_id::limits::{GREATEST_DEVICE_QUOTA, UNIT, WIDEST_WINDOW};
-use obj_id::{CopyState, ObjectId, Quota, Refusal, Reply};
+use obj_id::{Quota, Refusal, Reply};
 use private_store::{Fault, WorkVerdict};
 use std::alloc::Global;
 
@@ -25,25 +27,14 @@ fn is_quota(quota: Quota) -> bool
         && quota.device <= GREATEST_DEVICE_QUOTA
 }
 
-impl PlainCopy {
-    /// The copy as the answer of its read leaves it.
-    pub(crate) fn read_back(&mut self, verdict: WorkVerdict)
-        ensures { self.new ≡ read_back self.old verdict }
-    {
-        match verdict {
-            WorkVerdict::Fine => self.state = CopyState::Sealed,
-            WorkVerdict::Failed => self.take_away(Fault::DeviceFailed),
-            WorkVerdict::Damaged => self.take_away(Fault::Damaged),
-        }
-    }
-
-    /// The copy is on the device alone, with a fault for the next Get to tell of.
-    fn take_away(&mut self, fault: Fault)
-        ensures { self.new ≡ record self.old { state = CopyState.Away; offset = None; fault = Some fault } }
-    {
-        self.state = CopyState::Away;
-        self.offset = None;
-        self.fault = Some(fault);
+/// What the answer of its read makes of a copy.
+fn read_mark(verdict: WorkVerdict) -> Mark
+    ensures { mark_of result ≡ read_mark_lem verdict }
+{
+    match verdict {
+        WorkVerdict::Fine => Mark::Restored,
+        WorkVerdict::Failed => Mark::Lost(Fault::DeviceFailed),
+        WorkVerdict::Damaged => Mark::Lost(Fault::Damaged),
     }
 }
 
@@ -115,24 +106,6 @@ impl PlainStore {
         self.works.retain(|work| work.number != number);
     }
 
-    /// The copy's bytes are on the device, under the number of the write. Takes no memory.
-    fn back(&mut self, id: ObjectId, number: u64)
-        ensures { self.new ≡ record self.old { shape = store_changed (λ copy. record copy { backed = Some number }) self.old.shape id } }
-    {
-        if let Some(copy) = self.copy_mut(id) {
-            copy.backed = Some(number);
-        }
-    }
-
-    /// The copy is as the answer of its read leaves it. Takes no memory.
-    fn bring_back(&mut self, id: ObjectId, verdict: WorkVerdict)
-        ensures { self.new ≡ record self.old { shape = store_changed (λ copy. read_back copy verdict) self.old.shape id } }
-    {
-        if let Some(copy) = self.copy_mut(id) {
-            copy.read_back(verdict);
-        }
-    }
-
     /// A device's answer: the work ends. Takes no memory.
     pub(crate) fn answer(&mut self, number: u64, verdict: WorkVerdict) -> Reply<u64>
         ensures reply { result ≡ (answer self.old.shape number verdict).reply }
@@ -148,11 +121,11 @@ impl PlainStore {
         }
         self.without_work(number);
         if !writes {
-            self.bring_back(id, verdict);
+            self.apply(id, read_mark(verdict));
         } else if verdict == WorkVerdict::Failed {
             self.spill_failed = true;
         } else {
-            self.back(id, number_of_write);
+            self.apply(id, Mark::Backed(number_of_write));
         }
         self.settled(id);
         Reply::Ok

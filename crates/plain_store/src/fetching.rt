@@ -4,10 +4,11 @@ ghost use Rattle.obj_id.specs.declared.refusals.Refusal.TheVariants.{Absent};
 ghost use Rattle.private_store.specs.rules.Tables.{at};
 ghost use Rattle.private_store.specs.laws.Listed.{IsReplayStateKept};
 ghost use Rattle.private_store.specs.rules.Shape.{Copy};
+ghost use Rattle.private_store.specs.rules.Marks.{chunk_count as chunk_count_lem, counted};
 ghost use Rattle.private_store.specs.rules.Copies.{is_sealed};
 ghost use Rattle.private_store.specs.rules.Events.{is_live};
 ghost use Rattle.private_store.specs.rules.Change.{needing};
-ghost use Rattle.private_store.specs.rules.Commands.{chunk_count as chunk_count_lem, counted, fetch_refusal as fetch_refusal_lem};
+ghost use Rattle.private_store.specs.rules.Commands.{fetch_refusal as fetch_refusal_lem};
 ghost use Rattle.plain_store.specs.Parts.{plain_phase_of};
 ghost use Rattle.plain_store.specs.Fetches.{next_step_of, get_fetch, get_sized, pulled, pulled_copy};
 

@@ -9,9 +9,10 @@ ghost use Rattle.private_store.specs.rules.Copies.{is_sealed};
 ghost use Rattle.private_store.specs.rules.Events.{is_live};
 ghost use Rattle.private_store.specs.rules.Change.{needing};
 ghost use Rattle.private_store.specs.rules.Commands.{holds_of, fetched_copy as fetched_copy_lem, begin_fetch, get_sealed, get_away, get};
-ghost use Rattle.plain_store.specs.Checks.{fault_forgotten, held_more};
+ghost use Rattle.plain_store.specs.Checks.{held_more};
 
 use crate::copies::{FetchPhase, PlainCopy, PlainFetch};
+use crate::marks::Mark;
 use crate::response::Response;
 use crate::store::PlainStore;
 use obj_id::{CopyState, FetchNo, Kind, ObjectId, Refusal, Reply};
@@ -78,16 +79,6 @@ impl PlainStore {
         })
     }
 
-    /// The fault of the copy, if there is one, is forgotten.
-    fn forget_fault(&mut self, id: ObjectId)
-        ensures { self.new ≡ record self.old { shape = fault_forgotten self.old.shape id } }
-    {
-        let Some(copy) = self.copy_mut(id) else {
-            return;
-        };
-        copy.fault = None;
-    }
-
     /// Get of a copy that is away: its fault is the answer, once; otherwise it is read back. `DeviceFailed`, `Damaged`, and as
     /// `restore`. The error is out of memory.
     #[tactic(auto, unfolding(private_store::specs::rules::Change::needing))]
@@ -104,7 +95,7 @@ impl PlainStore {
         };
         match copy.fault {
             Some(fault) => {
-                self.forget_fault(id);
+                self.apply(id, Mark::FaultTold);
                 Ok(Response::refused(fault.refusal()))
             }
             None => self.restore(alloc, id),

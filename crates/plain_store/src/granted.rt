@@ -11,7 +11,7 @@ ghost use Rattle.private_store.specs.rules.Events.{is_child_of, is_the_grant, re
 ghost use Rattle.plain_store.specs.Granted.{store_with_seen, without_seen, with_other_grants, without_hanging, forgotten};
 
 use crate::job_grants::{GivenGrant, SeenObject, TakenGrant};
-use crate::marks::same_id;
+use crate::predicates::same_id;
 use crate::store::PlainStore;
 use obj_id::{JobNo, ObjectId, Reply};
 use std::alloc::{AllocError, Global};

@@ -7,7 +7,7 @@ ghost use Rattle.private_store.specs.rules.Commands.{grant, grant_foreign, grant
 
 use crate::copies::PlainCopy;
 use crate::job_grants::GivenGrant;
-use crate::marks::{is_sealed, same_id};
+use crate::predicates::{is_sealed, same_id};
 use crate::store::PlainStore;
 use obj_id::limits::{GREATEST_DEPTH, MOST_BYTES, MOST_GRANTS};
 use obj_id::{JobNo, ObjectId, Refusal, Reply};

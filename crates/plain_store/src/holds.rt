@@ -4,7 +4,8 @@ ghost use Rattle.std.specs.Option.{unwrap_or};
 ghost use Rattle.std.specs.Ordering.{nat_cmp};
 ghost use Rattle.std.specs.FinMap.{find, put};
 ghost use Rattle.private_store.specs.rules.Limits.{most_holds};
-ghost use Rattle.private_store.specs.rules.Commands.{holds_of as holds_of_lem, all_holds, with_holds};
+ghost use Rattle.private_store.specs.rules.Marks.{with_holds};
+ghost use Rattle.private_store.specs.rules.Commands.{holds_of as holds_of_lem, all_holds};
 ghost use Rattle.plain_store.specs.Sessions.{IsHoldPlace};
 
 use crate::copies::PlainCopy;

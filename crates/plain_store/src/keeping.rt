@@ -1,10 +1,11 @@
 //! The tasks that keep a copy, and those that ended.
 ghost use Rattle.std.specs.Prelude.{◌≡◌};
-ghost use Rattle.private_store.specs.rules.Commands.{has_borrower, without_borrower};
+ghost use Rattle.private_store.specs.rules.Marks.{without_borrower};
+ghost use Rattle.private_store.specs.rules.Commands.{has_borrower};
 ghost use Rattle.private_store.specs.rules.Change.{has_ended};
 
 use crate::copies::PlainCopy;
-use crate::marks::same_task;
+use crate::predicates::same_task;
 use crate::store::PlainStore;
 use obj_id::TaskNo;
 

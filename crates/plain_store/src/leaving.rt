@@ -7,7 +7,8 @@ ghost use Rattle.private_store.specs.rules.Change.{doom};
 ghost use Rattle.private_store.specs.rules.Commands.{end_task, give_up_one, leave, leave_one, of_task, task_ended};
 ghost use Rattle.plain_store.specs.Changing.{task_over};
 
-use crate::marks::same_task;
+use crate::marks::Mark;
+use crate::predicates::same_task;
 use crate::store::PlainStore;
 use obj_id::limits::MOST_ENDED_TASKS;
 use obj_id::{ObjectId, Refusal, Reply, TaskNo};
@@ -28,7 +29,7 @@ impl PlainStore {
         let Some(copy) = self.copy_mut(id) else {
             return;
         };
-        copy.remove_holds(session);
+        copy.apply(Mark::Left(session));
         self.settled(id);
     }
 
@@ -71,9 +72,9 @@ impl PlainStore {
             return;
         };
         if copy.doomed {
-            self.forget_borrower(id, task);
+            self.apply(id, Mark::GivenUp(task));
         } else if copy.has_borrower(task) {
-            self.unborrowed(id, task);
+            self.apply_scoped(id, Mark::GivenUp(task));
         }
     }
 

@@ -22,6 +22,7 @@ mod listing;
 mod marks;
 mod order;
 mod planning;
+mod predicates;
 mod response;
 mod restore;
 mod room;

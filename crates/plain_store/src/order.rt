@@ -4,7 +4,7 @@ ghost use Rattle.private_store.specs.rules.Tables.{at};
 ghost use Rattle.private_store.specs.rules.Step.{is_used, reordered};
 
 use crate::copies::PlainCopy;
-use crate::marks::same_id;
+use crate::predicates::same_id;
 use crate::store::PlainStore;
 use obj_id::ObjectId;
 use std::alloc::AllocError;

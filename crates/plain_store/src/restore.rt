@@ -13,10 +13,11 @@ ghost use Rattle.private_store.specs.rules.Commands.{restore};
 ghost use Rattle.plain_store.specs.Checks.{restore_checks, restored};
 ghost use Rattle.private_store.specs.rules.Shared.{first_refusal};
 
+use crate::marks::Mark;
 use crate::planning::Plan;
 use crate::response::Response;
 use crate::store::PlainStore;
-use obj_id::{CopyState, ObjectId, Refusal};
+use obj_id::{ObjectId, Refusal};
 use std::alloc::{AllocError, Global};
 
 impl PlainStore {
@@ -55,8 +56,7 @@ impl PlainStore {
         let Some(copy) = self.copy_mut(id) else {
             return Ok(());
         };
-        copy.state = CopyState::Restoring;
-        copy.offset = Some(u64::from(offset));
+        copy.apply(Mark::Restoring(offset));
         self.ask(false, id)
     }
 

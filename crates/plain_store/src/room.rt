@@ -8,10 +8,11 @@ ghost use Rattle.private_store.specs.rules.Extents.{rounded as rounded_lem};
 ghost use Rattle.private_store.specs.rules.Room.{evicted, asked, evict_room, spill_room, make_room, works_left, bytes_of_copies};
 
 use crate::copies::PlainWork;
+use crate::marks::Mark;
 use crate::planning::Plan;
 use crate::store::PlainStore;
 use obj_id::limits::MOST_WORKS;
-use obj_id::{CopyState, ObjectId, Refusal};
+use obj_id::{ObjectId, Refusal};
 use private_store::rounded;
 use std::alloc::{AllocError, Global};
 
@@ -25,13 +26,9 @@ impl PlainStore {
     {
         if self.has_secondary(id) {
             self.remove(id);
-            return;
+        } else {
+            self.apply(id, Mark::Evicted);
         }
-        let Some(copy) = self.copy_mut(id) else {
-            return;
-        };
-        copy.state = CopyState::Away;
-        copy.offset = None;
     }
 
     /// Whether there is a secondary copy of the id.

@@ -4,6 +4,7 @@ pub mod Jobs
 pub mod Tables
 pub mod Extents
 pub mod Shape
+pub mod Marks
 pub mod Copies
 pub mod Room
 pub mod Change

@@ -7,10 +7,11 @@ use Rattle.obj_id.specs.declared.ids.TaskNo.{TaskNo}
 use Rattle.obj_id.specs.declared.refusals.Refusal.{Refusal}
 use Rattle.private_store.specs.rules.Tables.{at, ids_of, with_entry, without_entry}
 use Rattle.private_store.specs.rules.Shape.{Copy, Shape, Change, Sending, Seen, GrantTaken}
+use Rattle.private_store.specs.rules.Marks.{with_holds, without_borrower}
 use Rattle.private_store.specs.rules.Copies.{in_scope}
 use Rattle.private_store.specs.rules.Room.{set_copy}
 use Rattle.private_store.specs.rules.Change.{done, checked, needing, sending, settled, doomed, doom}
-use Rattle.private_store.specs.rules.Commands.{of_task, task_ended, scoped, give_up_one, leave_one, has_borrower, without_borrower, with_holds, grant_own, grant_foreign, at_each, then_change, write, read, release, unpin, borrow, give_up, delete, end_task, grant, withdraw, peek, leave}
+use Rattle.private_store.specs.rules.Commands.{of_task, task_ended, scoped, give_up_one, leave_one, has_borrower, grant_own, grant_foreign, at_each, then_change, write, read, release, unpin, borrow, give_up, delete, end_task, grant, withdraw, peek, leave}
 use Rattle.private_store.specs.rules.Events.{withdrawn, is_the_grant, grant_ended, without_grant}
 use Rattle.store_facts.proofs.Tests.{none_some}
 use Rattle.store_facts.proofs.Checks.{checked_has, needing_has}
@@ -21,8 +22,8 @@ pub record IsCalm (store : Shape) (c : Change) : Type 0 where
   pub is : Quiet store c.shape
 
 -- the copy that stands there, with other marks
-pub marked : (store : Shape) (id : ObjectId) (c d : Copy) → at store.copies id ≡ Some c → d.length ≡ c.length → d.backed ≡ c.backed → d.offset ≡ c.offset → d.state ≡ c.state → Quiet store (set_copy store id d)
-marked store id c d e length backed offset state = quiet_set store id c d e (record { length = length; backed = backed; stands = inl (offset, state) })
+pub quiet_marked : (store : Shape) (id : ObjectId) (c d : Copy) → at store.copies id ≡ Some c → d.length ≡ c.length → d.backed ≡ c.backed → d.offset ≡ c.offset → d.state ≡ c.state → Quiet store (set_copy store id d)
+quiet_marked store id c d e length backed offset state = quiet_set store id c d e (record { length = length; backed = backed; stands = inl (offset, state) })
 
 module _ (store : Shape) where
   stays : (c : Change) → c.shape ≡ store → IsCalm store c
@@ -46,10 +47,10 @@ module _ (store : Shape) where
 
   settled_calm : (c : Change) (id : ObjectId) (copy d : Copy) → at store.copies id ≡ Some copy → c.shape ≡ settled (set_copy store id d) id → d.length ≡ copy.length → d.backed ≡ copy.backed → d.offset ≡ copy.offset → d.state ≡ copy.state → IsCalm store c
   settled_calm c id copy d e is length backed offset state =
-      record { is = subst (Quiet store) (sym is) (quiet_settled store (set_copy store id d) id (marked store id copy d e length backed offset state)) }
+      record { is = subst (Quiet store) (sym is) (quiet_settled store (set_copy store id d) id (quiet_marked store id copy d e length backed offset state)) }
 
   marked_calm : (c : Change) (id : ObjectId) (copy d : Copy) → at store.copies id ≡ Some copy → c.shape ≡ set_copy store id d → d.length ≡ copy.length → d.backed ≡ copy.backed → d.offset ≡ copy.offset → d.state ≡ copy.state → IsCalm store c
-  marked_calm c id copy d e is length backed offset state = record { is = subst (Quiet store) (sym is) (marked store id copy d e length backed offset state) }
+  marked_calm c id copy d e is length backed offset state = record { is = subst (Quiet store) (sym is) (quiet_marked store id copy d e length backed offset state) }
 
   pub release_calm : (session : ℕ) (id : ObjectId) → IsCalm store (release store session id)
   release_calm session id = needing_calm _ _ _ (λ copy e. checked_calm _ _ (settled_calm _ id copy _ e refl refl refl refl refl))
@@ -65,7 +66,7 @@ module _ (store : Shape) where
 
   scoped_calm : (id : ObjectId) (copy d : Copy) → at store.copies id ≡ Some copy → d.length ≡ copy.length → d.backed ≡ copy.backed → d.offset ≡ copy.offset → d.state ≡ copy.state → IsCalm store (scoped store id d)
   scoped_calm id copy d e length backed offset state =
-      let set = marked store id copy d e length backed offset state in
+      let set = quiet_marked store id copy d e length backed offset state in
       elim (in_scope d) as (λ b. IsCalm store (cond b (done (set_copy store id d)) (doom (set_copy store id d) id))) [
         | true ↦ record { is = set }
         | false ↦ sending_calm _ _ (record { is = quiet_then store (set_copy store id d) (doomed (set_copy store id d) id) set (quiet_doomed (set_copy store id d) id) })

@@ -36,9 +36,10 @@ use Rattle.private_store.specs.declared.inputs.WorkVerdict.TheVariants as work
 use Rattle.private_store.specs.rules.Tables.{at, with_entry}
 use Rattle.private_store.specs.rules.Limits.{chunk_size}
 use Rattle.private_store.specs.rules.Shape.{Sending, Copy, Change, Seen, Fetch, Phase, locating, sized, pulling, failed, WorkInFlight}
+use Rattle.private_store.specs.rules.Marks.{chunk_count}
 use Rattle.private_store.specs.rules.Copies.{is_sealed, is_created}
 use Rattle.private_store.specs.rules.Change.{refused, done, sending}
-use Rattle.private_store.specs.rules.Commands.{write, seal, chunk_count}
+use Rattle.private_store.specs.rules.Commands.{write, seal}
 use Rattle.private_store.specs.rules.Events.{grants_of, work_of, fetch_of, is_missing}
 use Rattle.private_store.specs.rules.Step.{step, owned}
 use Rattle.private_store.specs.rules.Contents.{has_digest, is_read_back, work_verdict, read_verdict, write_verdict, chunk_verdict, pulled_verdict, gap_verdict, with_chunk, chunk_length, source_in, entry_elsewhere, is_locating, peer_arrival, View, bytes_at, digest_at, digest_of, overwritten, judge, without_payload, contents_after, brought}

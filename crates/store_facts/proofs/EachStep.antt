@@ -29,15 +29,17 @@ use Rattle.private_store.specs.rules.Limits.{has_numbers, is_quota}
 use Rattle.private_store.specs.rules.Tables.{at, ids_of}
 use Rattle.private_store.specs.rules.Shape.{Copy, Shape, Change, Fetch, Phase, locating, sized, pulling, failed, Sending, locate, chunks, not_here, remove_source, WorkInFlight, not_begun, live, ended, add_location, remove_location, free, end_job, pull}
 use Rattle.obj_id.specs.Kinds.{is_primary}
+use Rattle.private_store.specs.rules.Marks.{Mark, chunk_count, counted, marked, read_mark, with_holds, without_borrower}
+use Rattle.private_store.specs.rules.Marks as mark
 use Rattle.private_store.specs.rules.Copies.{is_sealed, is_evictable, is_idle, in_scope, visible, device_used, fits_quota, was_sealed}
 use Rattle.private_store.specs.rules.Room.{Room, shortest_from, in_order, fits, wait, full, busy, evict, spill, victims, spilled, spill_plan, bytes_of_copies, works_left, offset_without, set_copy, drop_copy, evicted, asked, no_room, spill_room, evict_room, room_by, make_room, eviction_notice}
 use Rattle.private_store.specs.rules.Change.{replied, refused, done, checked, needing, sending, in_room, erasing, settled, doomed, doom, doom_notice}
-use Rattle.private_store.specs.rules.Commands.{refusal_of, fetch_refusal, create, end_task, created, new_copy, get, grant, grant_own, grant_foreign, restore, restoring, get_away, get_fetching, get_copy, get_sealed, begin_pull, begin_fetch, fetched_copy, at_each, then_change, scoped, give_up_one, leave_one, has_borrower, without_borrower, with_holds, of_task, set_phase, counted, chunk_count}
-use Rattle.private_store.specs.rules.Events.{begin, requota, end_job_here, answer, written, read_back, without_work, located, located_copy, with_fetch, fetch_of, fetch_failed, chunk_taken, chunk_arrived, is_missing, not_here_arrived, quiet, pull_answer, pull_arrived, withdrawn, grant_ended, is_child_of, is_the_grant}
+use Rattle.private_store.specs.rules.Commands.{refusal_of, fetch_refusal, create, end_task, created, new_copy, get, grant, grant_own, grant_foreign, restore, restoring, get_away, get_fetching, get_copy, get_sealed, begin_pull, begin_fetch, fetched_copy, at_each, then_change, scoped, give_up_one, leave_one, has_borrower, of_task}
+use Rattle.private_store.specs.rules.Events.{begin, requota, end_job_here, answer, written, without_work, located, with_fetch, fetch_of, fetch_failed, chunk_taken, chunk_arrived, is_missing, not_here_arrived, quiet, pull_answer, pull_arrived, withdrawn, grant_ended, is_child_of, is_the_grant}
 use Rattle.private_store.specs.rules.Step.{step, owned, commanded, if_live}
 use Rattle.private_store.specs.laws.Invariants.{is_end}
 use Rattle.private_store.specs.laws.Made
-use Rattle.private_store.specs.laws.Made.{is_want, Marked, Goes, Edit, Edits, none, then_edit, marks, drops, creates, fetches, asks, finishes, flags, ends_task, gives, leaves, receives, loses, begins, requotas, ends, BytesAnswered, Response, response_ok, response_placed, response_got, response_bytes, response_list, response_usage, response_refused, IsUsedThere, IsMadeOf, IsMade, command_sends, may_send}
+use Rattle.private_store.specs.laws.Made.{is_want, Can, Goes, Edit, Edits, none, then_edit, marks, drops, creates, fetches, asks, finishes, flags, ends_task, gives, leaves, receives, loses, begins, requotas, ends, BytesAnswered, Response, response_ok, response_placed, response_got, response_bytes, response_list, response_usage, response_refused, IsUsedThere, IsMadeOf, IsMade, command_sends, may_send}
 use Rattle.store_facts.proofs.Checks.{Fails, visible_at, fetch_found}
 use Rattle.store_facts.proofs.Rows.{at-put, at-drop, at-put_here}
 use Rattle.store_facts.proofs.Tests.{both, both_left, false_true, both_right, passed, refuted, some_value, none_some}
@@ -124,8 +126,8 @@ module _ (x : Judged) where
     edits_both h (then_edit k e) = then_edit (edits_both h k) e
 
     -- a copy is marked, over what went before
-    set_edits : {store : Shape} (mid : Shape) (id : ObjectId) (copy d : Copy) → at mid.copies id ≡ Some copy → Marked copy d → Edits x used store mid → Edits x used store (set_copy mid id d)
-    set_edits mid id copy d e m h = then_edit h (marks id copy d e m)
+    set_edits : {store : Shape} (mid : Shape) (id : ObjectId) (copy : Copy) (m : Mark) → at mid.copies id ≡ Some copy → Can m copy → Edits x used store mid → Edits x used store (set_copy mid id (marked m copy))
+    set_edits mid id copy m e can h = then_edit h (marks id copy m e can)
 
     settled_edits : {store : Shape} (mid : Shape) (id : ObjectId) → Edits x used store mid → Edits x used store (settled mid id)
     settled_edits {store} mid id h =
@@ -141,7 +143,7 @@ module _ (x : Judged) where
     doomed_edits {store} mid id h =
         elim (at mid.copies id) as (λ o. at mid.copies id ≡ o → Edits x used store (option_map_or (λ copy. settled (set_copy mid id (record copy { doomed = true })) id) o mid)) [
           | None ↦ λ _. h
-          | Some copy ↦ λ e. settled_edits (set_copy mid id (record copy { doomed = true })) id (set_edits mid id copy (record copy { doomed = true }) e Made.to_doomed h)
+          | Some copy ↦ λ e. settled_edits (set_copy mid id (marked mark.doomed copy)) id (set_edits mid id copy mark.doomed e tt h)
         ] refl
 
     evicted_edits : (store : Shape) (id : ObjectId) → Edits x used store (evicted store id)
@@ -149,7 +151,7 @@ module _ (x : Judged) where
         elim (at store.copies id) as (λ o. at store.copies id ≡ o → Edits x used store (option_map_or (λ copy. cond (is_primary copy.kind) (set_copy store id (record copy { state = Away; offset = None })) (drop_copy store id)) o store)) [
           | None ↦ λ _. none
           | Some copy ↦ λ e. elim (is_primary copy.kind) as (λ b. is_primary copy.kind ≡ b → Edits x used store (cond b (set_copy store id (record copy { state = Away; offset = None })) (drop_copy store id))) [
-            | true ↦ λ p. set_edits store id copy (record copy { state = Away; offset = None }) e (Made.to_away p) none
+            | true ↦ λ p. set_edits store id copy mark.evicted e p none
             | false ↦ λ s. one (drops id copy e (Made.as_secondary s))
           ] refl
         ] refl
@@ -325,9 +327,10 @@ module _ (x : Judged) where
   unfolding sending
   doom_unused dm found mid id h = record { edits = doomed_edits None mid id h; response = response_ok; unused = refl; sent = all_of_both (may_send x) (option_to_list (doom_notice mid id)) [] (notice_sent dm mid id) refl }
 
-  scoped_unused : Dooms → (found store : Shape) (id : ObjectId) (copy d : Copy) → at store.copies id ≡ Some copy → Marked copy d → MakesUnused found store (scoped store id d)
-  scoped_unused dm found store id copy d e m =
-      let set = set_edits None store id copy d e m none in
+  scoped_unused : Dooms → (found store : Shape) (id : ObjectId) (copy : Copy) (m : Mark) → at store.copies id ≡ Some copy → Can m copy → MakesUnused found store (scoped store id (marked m copy))
+  scoped_unused dm found store id copy m e can =
+      let d = marked m copy in
+      let set = set_edits None store id copy m e can none in
       elim (in_scope d) as (λ b. MakesUnused found store (cond b (done (set_copy store id d)) (doom (set_copy store id d) id))) [
         | true ↦ done_unused found set
         | false ↦ doom_unused dm found (set_copy store id d) id set
@@ -338,22 +341,22 @@ module _ (x : Judged) where
       elim (at store.copies id) as (λ o. at store.copies id ≡ o → MakesUnused found store (option_map_or (λ copy. cond copy.doomed (done (set_copy store id (without_borrower copy task))) (cond (has_borrower copy task) (scoped store id (without_borrower copy task)) (done store))) o (done store))) [
         | None ↦ λ _. done_unused found none
         | Some copy ↦ λ e. elim copy.doomed as (λ b. MakesUnused found store (cond b (done (set_copy store id (without_borrower copy task))) (cond (has_borrower copy task) (scoped store id (without_borrower copy task)) (done store)))) [
-          | true ↦ done_unused found (set_edits None store id copy (without_borrower copy task) e (Made.to_given_up task) none)
+          | true ↦ done_unused found (set_edits None store id copy (mark.given_up task) e tt none)
           | false ↦ elim (has_borrower copy task) as (λ b. MakesUnused found store (cond b (scoped store id (without_borrower copy task)) (done store))) [
-            | true ↦ scoped_unused dm found store id copy (without_borrower copy task) e (Made.to_given_up task)
+            | true ↦ scoped_unused dm found store id copy (mark.given_up task) e tt
             | false ↦ done_unused found none
           ]
         ]
       ] refl
 
-  set_settled : (found store : Shape) (id : ObjectId) (copy d : Copy) → at store.copies id ≡ Some copy → Marked copy d → MakesUnused found store (done (settled (set_copy store id d) id))
-  set_settled found store id copy d e m = done_unused found (settled_edits None (set_copy store id d) id (set_edits None store id copy d e m none))
+  set_settled : (found store : Shape) (id : ObjectId) (copy : Copy) (m : Mark) → at store.copies id ≡ Some copy → Can m copy → MakesUnused found store (done (settled (set_copy store id (marked m copy)) id))
+  set_settled found store id copy m e can = done_unused found (settled_edits None (set_copy store id (marked m copy)) id (set_edits None store id copy m e can none))
 
   leave_one_unused : (found : Shape) (session : ℕ) (store : Shape) (id : ObjectId) → MakesUnused found store (leave_one session store id)
   leave_one_unused found session store id =
       elim (at store.copies id) as (λ o. at store.copies id ≡ o → MakesUnused found store (option_map_or (λ copy. done (settled (set_copy store id (with_holds copy session 0)) id)) o (done store))) [
         | None ↦ λ _. done_unused found none
-        | Some copy ↦ λ e. set_settled found store id copy (with_holds copy session 0) e (Made.to_held session 0)
+        | Some copy ↦ λ e. set_settled found store id copy (mark.held session 0) e tt
       ] refl
 
   at_each_unused : (found : Shape) {store : Shape} (f : Shape → ObjectId → Change) → ((mid : Shape) (id : ObjectId) → MakesUnused found mid (f mid id)) → (ids : List ObjectId) (c : Change) → MakesUnused found store c → MakesUnused found store (at_each f ids c)
@@ -385,12 +388,12 @@ module _ (x : Judged) where
         let room = make_room order store copy.length in
         let r = make_room_made order store copy.length in
         made_checked store store _ _ refl (λ _. made_checked store store _ _ refl (λ _. made_in_room store store room (restoring id copy) ev r (λ offset f.
-        made_refused store Pending refl (then_edit (set_edits None room.shape id copy (record copy { state = Restoring; offset = Some offset }) (r.stays offset f id copy e s) (Made.to_restoring offset) none) (asks false id)))))
+        made_refused store Pending refl (then_edit (set_edits None room.shape id copy (mark.restoring offset) (r.stays offset f id copy e s) tt none) (asks false id)))))
 
     get_away_made : Evicts → (id : ObjectId) (copy : Copy) → at store.copies id ≡ Some copy → is_sealed copy.state ≡ false → IsMade x store (get_away order store id copy)
     get_away_made ev id copy e s =
         elim copy.fault as (λ o. copy.fault ≡ o → IsMade x store (elim o [ Some response ↦ refused (set_copy store id (record copy { fault = None })) (refusal_of response) | None ↦ restore order store id copy ])) [
-          | Some response ↦ λ f. made_refused store (refusal_of response) (never_want response) (set_edits None store id copy (record copy { fault = None }) e Made.to_told none)
+          | Some response ↦ λ f. made_refused store (refusal_of response) (never_want response) (set_edits None store id copy mark.fault_told e tt none)
           | None ↦ λ f. restore_made ev id copy e s
         ] refl
 
@@ -401,8 +404,7 @@ module _ (x : Judged) where
         let r = make_room_made order store copy.length in
         let missing = counted 0 (chunk_count copy.length) in
         made_checked store store _ _ refl (λ _. made_in_room store store room (begin_pull id copy fetch source) (λ q. g (remove_location q) refl) r (λ offset found.
-        made_sending store room.shape _ _ (one_sent _ (g (pull id) refl)) (made_refused store Pending refl (set_edits None room.shape id copy (record copy { offset = Some offset; fetch = Some (record fetch { phase = pulling source missing }) })
-        (r.stays offset found id copy e s) (Made.to_pulled fetch offset source missing f) none))))
+        made_sending store room.shape _ _ (one_sent _ (g (pull id) refl)) (made_refused store Pending refl (set_edits None room.shape id copy (mark.pulled fetch offset source) (r.stays offset found id copy e s) f none))))
     get_fetching_made id g copy fetch (pulling source missing) e s f p = made_sending store store _ _ (one_sent _ (g _ refl)) (made_refused store Pending refl none)
     get_fetching_made id g copy fetch (failed response) e s f p = made_refused store (fetch_refusal response) (fetch_never_wants response) (one None (drops id copy e (Made.as_failed fetch response f p)))
 
@@ -416,7 +418,7 @@ module _ (x : Judged) where
         ])
     get_copy_made session id g copy Created e s = made_refused store NotSealed refl none
     get_copy_made session id g copy Sealed e s = made_checked store store _ _ refl (λ _. record {
-      edits = set_edits (Some id) store id copy (with_holds copy session _) e (Made.to_held session _) none;
+      edits = set_edits (Some id) store id copy (mark.held session _) e tt none;
       response = response_got id copy e;
       used = ap is_some (at-put_here store.copies id (with_holds copy session _));
       sent = refl;
@@ -467,18 +469,18 @@ module _ (x : Judged) where
         owned_made id _ (made_checked store store _ _ refl (λ _. made_needing store store _ _ _ refl (λ copy e. made_checked store store _ _ refl (λ _. made_done store none))))
     silent_made session (command.Seal id) h t =
         owned_made id _ (made_needing store store _ _ _ refl (λ copy e. made_checked store store _ _ refl (λ _. made_sending store store _ _ (one_sent _ (h (add_location id) refl))
-        (made_done store (set_edits None store id copy (record copy { state = Sealed }) (visible_at store id copy e) Made.to_sealed none)))))
+        (made_done store (set_edits None store id copy mark.sealed (visible_at store id copy e) tt none)))))
     silent_made session (command.Get id) h t = owned_made id _ (get_made session id h)
     silent_made session (command.Read id offset n) h t = false_true t
     silent_made session (command.Release id) h t =
-        owned_made id _ (made_needing store store _ _ _ refl (λ copy e. made_checked store store _ _ refl (λ _. unused_made store store _ (set_settled store store id copy (with_holds copy session _) e (Made.to_held session _)))))
+        owned_made id _ (made_needing store store _ _ _ refl (λ copy e. made_checked store store _ _ refl (λ _. unused_made store store _ (set_settled store store id copy (mark.held session _) e tt))))
     silent_made session (command.Unpin id task) h t =
-        owned_made id _ (made_needing store store _ _ _ refl (λ copy e. made_checked store store _ _ refl (λ _. unused_made store store _ (scoped_unused (λ q. (h (remove_location q) refl, h (free q) refl)) store store id copy (record copy { pinned = false }) (visible_at store id copy e) Made.to_unpinned))))
+        owned_made id _ (made_needing store store _ _ _ refl (λ copy e. made_checked store store _ _ refl (λ _. unused_made store store _ (scoped_unused (λ q. (h (remove_location q) refl, h (free q) refl)) store store id copy mark.unpinned (visible_at store id copy e) tt))))
     silent_made session (command.Borrow id task) h t =
         owned_made id _ (made_checked store store _ _ refl (λ _. made_needing store store _ _ _ refl (λ copy e. made_checked store store _ _ refl (λ _.
-        made_done store (set_edits None store id copy (record copy { borrowers = copy.borrowers ++ task ∷ [] }) (visible_at store id copy e) (Made.to_borrowed task) none)))))
+        made_done store (set_edits None store id copy (mark.borrowed task) (visible_at store id copy e) tt none)))))
     silent_made session (command.GiveUp id task) h t =
-        owned_made id _ (made_needing store store _ _ _ refl (λ copy e. made_checked store store _ _ refl (λ _. unused_made store store _ (scoped_unused (λ q. (h (remove_location q) refl, h (free q) refl)) store store id copy (without_borrower copy task) (visible_at store id copy e) (Made.to_given_up task)))))
+        owned_made id _ (made_needing store store _ _ _ refl (λ copy e. made_checked store store _ _ refl (λ _. unused_made store store _ (scoped_unused (λ q. (h (remove_location q) refl, h (free q) refl)) store store id copy (mark.given_up task) (visible_at store id copy e) tt))))
     silent_made session (command.Delete id) h t =
         owned_made id _ (made_needing store store _ _ _ refl (λ copy e. made_checked store store _ _ refl (λ _. unused_made store store _ (doom_unused (λ q. (h (remove_location q) refl, h (free q) refl)) store store id none))))
     silent_made session (command.EndTask task) h t = end_task_made (λ q. (h (remove_location q) refl, h (free q) refl)) task
@@ -528,7 +530,7 @@ module _ (x : Judged) where
     was_written number w copy e =
         let rest = without_work store number in
         let d : Copy = record copy { backed = Some w.number } in
-        made_erasing store store (set_copy rest w.id d) _ (made_done store (settled_edits None (set_copy rest w.id d) w.id (set_edits None rest w.id copy d e (Made.to_backed w.number) (one None (finishes number)))))
+        made_erasing store store (set_copy rest w.id d) _ (made_done store (settled_edits None (set_copy rest w.id d) w.id (set_edits None rest w.id copy (mark.backed w.number) e tt (one None (finishes number)))))
 
     written_made : (number : ℕ) (w : WorkInFlight) (copy : Copy) (verdict : WorkVerdict) → at store.copies w.id ≡ Some copy → IsMade x store (written (without_work store number) w copy verdict)
     written_made number w copy work.Failed e =
@@ -536,14 +538,19 @@ module _ (x : Judged) where
     written_made number w copy work.Fine e = was_written number w copy e
     written_made number w copy work.Damaged e = was_written number w copy e
 
+    read_can : (verdict : WorkVerdict) (copy : Copy) → Can (read_mark verdict) copy
+    read_can work.Fine copy = tt
+    read_can work.Failed copy = tt
+    read_can work.Damaged copy = tt
+
     answer_made : (number : ℕ) (verdict : WorkVerdict) → IsMade x store (answer store number verdict)
     answer_made number verdict =
         made_needing store store _ _ _ refl (λ w _. made_needing store store _ _ _ refl (λ copy e.
         let rest = without_work store number in
-        elim w.writes as (λ b. IsMade x store (cond b (written rest w copy verdict) (erasing rest (done (settled (set_copy rest w.id (read_back copy verdict)) w.id))))) [
+        elim w.writes as (λ b. IsMade x store (cond b (written rest w copy verdict) (erasing rest (done (settled (set_copy rest w.id (marked (read_mark verdict) copy)) w.id))))) [
           | true ↦ written_made number w copy verdict e
-          | false ↦ made_erasing store store rest _ (made_done store (settled_edits None (set_copy rest w.id (read_back copy verdict)) w.id
-              (set_edits None rest w.id copy (read_back copy verdict) e (Made.to_read_back verdict) (one None (finishes number)))))
+          | false ↦ made_erasing store store rest _ (made_done store (settled_edits None (set_copy rest w.id (marked (read_mark verdict) copy)) w.id
+              (set_edits None rest w.id copy (read_mark verdict) e (read_can verdict copy) (one None (finishes number)))))
         ]))
 
     -- ---- messages
@@ -558,21 +565,21 @@ module _ (x : Judged) where
 
     located_made : (id : ObjectId) (number : ℕ) (source : Option Source) → IsMade x store (located store id number source)
     located_made id number source = with_fetch_made id number _ (λ copy fetch e f.
-        elim fetch.phase as (λ p. IsMade x store (elim p [ locating ↦ done (set_copy store id (located_copy copy fetch source)) | _ ↦ done store ])) [
-          | locating ↦ made_done store (set_edits None store id copy (located_copy copy fetch source) e (Made.to_located fetch source f) none)
+        elim fetch.phase as (λ p. IsMade x store (elim p [ locating ↦ done (set_copy store id (marked (mark.located fetch source) copy)) | _ ↦ done store ])) [
+          | locating ↦ made_done store (set_edits None store id copy (mark.located fetch source) e f none)
           | sized _ ↦ made_done store none
           | pulling _ _ ↦ made_done store none
           | failed _ ↦ made_done store none
         ])
 
     failed_made : (id : ObjectId) (copy : Copy) (fetch : Fetch) (response : FetchFault) → at store.copies id ≡ Some copy → copy.fetch ≡ Some fetch → IsMade x store (done (fetch_failed store id copy fetch response))
-    failed_made id copy fetch response e f = made_done store (set_edits None store id copy _ e (Made.to_failed fetch response f) none)
+    failed_made id copy fetch response e f = made_done store (set_edits None store id copy (mark.fetch_failed fetch response) e f none)
 
-    part_made : (id : ObjectId) (copy : Copy) (fetch : Fetch) (source : ℕ) (missing : List ℕ) → at store.copies id ≡ Some copy → copy.fetch ≡ Some fetch → IsMade x store (done (set_phase store id copy fetch (pulling source missing)))
-    part_made id copy fetch source missing e f = made_done store (set_edits None store id copy _ e (Made.to_part fetch source missing f) none)
+    part_made : (id : ObjectId) (copy : Copy) (fetch : Fetch) (source : ℕ) (missing : List ℕ) → at store.copies id ≡ Some copy → copy.fetch ≡ Some fetch → IsMade x store (done (set_copy store id (marked (mark.lacking fetch source missing) copy)))
+    part_made id copy fetch source missing e f = made_done store (set_edits None store id copy (mark.lacking fetch source missing) e f none)
 
-    whole_made : (id : ObjectId) (copy : Copy) (sent : List Sending) → AreSent sent → at store.copies id ≡ Some copy → IsMade x store (sending sent (done (set_copy store id (record copy { state = Sealed; fetch = None }))))
-    whole_made id copy sent t e = made_sending store store sent _ t (made_done store (set_edits None store id copy _ e Made.to_whole none))
+    whole_made : (id : ObjectId) (copy : Copy) (sent : List Sending) → AreSent sent → at store.copies id ≡ Some copy → IsMade x store (sending sent (done (set_copy store id (marked mark.brought copy))))
+    whole_made id copy sent t e = made_sending store store sent _ t (made_done store (set_edits None store id copy mark.brought e tt none))
 
     chunk_taken_made : ((id : ObjectId) → may_send x (add_location id) ≡ true) → (id : ObjectId) (copy : Copy) (fetch : Fetch) (source : ℕ) (missing : List ℕ) (verdict : ChunkVerdict) → at store.copies id ≡ Some copy → copy.fetch ≡ Some fetch → IsMade x store (chunk_taken store id copy fetch source missing verdict)
     chunk_taken_made adds id copy fetch source missing chunk.Ignored e f = made_done store none

@@ -12,10 +12,11 @@ use Rattle.private_store.specs.rules.Limits.{most_copies}
 use Rattle.private_store.specs.rules.Tables.{at, ById, with_entry}
 use Rattle.private_store.specs.rules.Shape.{Copy, Shape, WorkInFlight}
 use Rattle.obj_id.specs.Kinds.{is_primary}
+use Rattle.private_store.specs.rules.Marks.{marked, read_mark}
 use Rattle.private_store.specs.rules.Copies.{is_sealed, is_away}
 use Rattle.private_store.specs.rules.Room.{set_copy}
 use Rattle.private_store.specs.rules.Change.{done, erasing, settled}
-use Rattle.private_store.specs.rules.Events.{work_of, without_work, written, read_back, answer}
+use Rattle.private_store.specs.rules.Events.{work_of, without_work, written, answer}
 use Rattle.private_store.specs.laws.Invariants.{IsCopyKept, IsUseKept, has_extent, has_work, has_read, has_write, has_grant, is_fetching, is_restoring}
 use Rattle.store_facts.proofs.KeptCopy.{IsLoose, sealed_is, restoring_is, has_work-split}
 use Rattle.store_facts.proofs.KeptLists.{find-any}
@@ -130,21 +131,21 @@ module _ {store : Shape} (h : IsLiveKept store) (number : ℕ) (w : WorkInFlight
       scope = kept.scope;
     }
 
-    read_loose : (verdict : WorkVerdict) → IsLoose store.job rest.works store.given store.ended_tasks w.id (read_back copy verdict)
+    read_loose : (verdict : WorkVerdict) → IsLoose store.job rest.works store.given store.ended_tasks w.id (marked (read_mark verdict) copy)
     read_loose work.Fine = back
     read_loose work.Failed = lost restore_fault.DeviceFailed
     read_loose work.Damaged = lost restore_fault.Damaged
 
-    read_keeps : (verdict : WorkVerdict) → Keeps (erasing rest (done (settled (set_copy rest w.id (read_back copy verdict)) w.id)))
+    read_keeps : (verdict : WorkVerdict) → Keeps (erasing rest (done (settled (set_copy rest w.id (marked (read_mark verdict) copy)) w.id)))
     read_keeps verdict =
-        let after = read_back copy verdict in
+        let after = marked (read_mark verdict) copy in
         record { is = answered store.spill_failed after (with_entry store.copies w.id after) (put_row h w.id copy after e) (read_loose verdict) }
 
 pub answer_keeps : {store : Shape} → IsLiveKept store → (number : ℕ) (verdict : WorkVerdict) → Keeps (answer store number verdict)
 answer_keeps {store} h number verdict =
     needing_keeps h _ _ _ (λ w found. needing_keeps h _ _ _ (λ copy e.
     let rest = without_work store number in
-    elim w.writes as (λ b. w.writes ≡ b → Keeps (cond b (written rest w copy verdict) (erasing rest (done (settled (set_copy rest w.id (read_back copy verdict)) w.id))))) [
+    elim w.writes as (λ b. w.writes ≡ b → Keeps (cond b (written rest w copy verdict) (erasing rest (done (settled (set_copy rest w.id (marked (read_mark verdict) copy)) w.id))))) [
       | true ↦ λ t. written_keeps h number w found copy e t verdict
       | false ↦ λ t. read_keeps h number w found copy e t verdict
     ] refl))

@@ -14,8 +14,9 @@ use Rattle.obj_id.specs.declared.commands.CopyState.TheVariants.{Created, Sealed
 use Rattle.private_store.specs.rules.Limits.{longest_object, most_borrowers, most_holds}
 use Rattle.private_store.specs.rules.Shape.{Copy, Fetch, WorkInFlight, GrantGiven}
 use Rattle.obj_id.specs.Kinds.{is_primary}
+use Rattle.private_store.specs.rules.Marks.{with_holds, without_borrower}
 use Rattle.private_store.specs.rules.Copies.{is_sealed, is_away}
-use Rattle.private_store.specs.rules.Commands.{new_copy, fetched_copy, holds_of, all_holds, with_holds, without_borrower}
+use Rattle.private_store.specs.rules.Commands.{new_copy, fetched_copy, holds_of, all_holds}
 use Rattle.private_store.specs.laws.Invariants.{AreMarksKept, AreHoldsKept, IsUseKept, IsScopeKept, IsCopyKept, are_held, are_gaps, has_extent, has_work, has_read, has_write, has_grant, is_remembered, is_restoring, is_fetching, is_pulling}
 use Rattle.store_facts.proofs.KeptCopy.{IsBare, IsLoose, IsAbsentKept, has_work-split}
 use Rattle.store_facts.proofs.KeptLists.{any-filter-only, length-filter-le}

@@ -11,10 +11,11 @@ use Rattle.private_store.specs.rules.Limits.{most_borrowers}
 use Rattle.private_store.specs.rules.Tables.{at, ids_of, with_entry}
 use Rattle.private_store.specs.rules.Shape.{Shape, Change}
 use Rattle.obj_id.specs.Kinds.{is_primary}
+use Rattle.private_store.specs.rules.Marks.{with_holds, without_borrower}
 use Rattle.private_store.specs.rules.Copies.{is_created}
 use Rattle.private_store.specs.rules.Room.{set_copy}
 use Rattle.private_store.specs.rules.Change.{done, sending, has_ended, settled}
-use Rattle.private_store.specs.rules.Commands.{write, seal, read, release, unpin, borrow, give_up, delete, peek, leave, leave_one, holds_of, with_holds, without_borrower, has_borrower, at_each}
+use Rattle.private_store.specs.rules.Commands.{write, seal, read, release, unpin, borrow, give_up, delete, peek, leave, leave_one, holds_of, has_borrower, at_each}
 use Rattle.private_store.specs.laws.Invariants.{are_held}
 use Rattle.store_facts.proofs.KeptCopy.{bare, created_is}
 use Rattle.store_facts.proofs.KeptRows.{IsLiveKept, row_same}

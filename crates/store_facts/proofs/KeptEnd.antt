@@ -12,10 +12,11 @@ use Rattle.obj_id.specs.Ids.{id_cmp, same_id, same_task, task_cmp}
 use Rattle.private_store.specs.rules.Limits.{most_copies, most_borrowers}
 use Rattle.private_store.specs.rules.Tables.{ById, at, is_among, ids_of, with_entry}
 use Rattle.private_store.specs.rules.Shape.{Copy, Shape}
+use Rattle.private_store.specs.rules.Marks.{without_borrower}
 use Rattle.private_store.specs.rules.Copies.{in_scope}
 use Rattle.private_store.specs.rules.Room.{set_copy}
 use Rattle.private_store.specs.rules.Change.{done, doom, doomed, settled, sending}
-use Rattle.private_store.specs.rules.Commands.{of_task, task_ended, scoped, give_up_one, has_borrower, without_borrower}
+use Rattle.private_store.specs.rules.Commands.{of_task, task_ended, scoped, give_up_one, has_borrower}
 use Rattle.private_store.specs.laws.Invariants.{IsCopyKept, AreMarksKept, are_held, has_work, is_remembered}
 use Rattle.store_facts.proofs.KeptCopy.{IsBare, IsAbsentKept, IsRowKept, is_kept_up}
 use Rattle.store_facts.proofs.KeptLists.{any-filter, any-filter-le, any-filter-only, length-filter-le}

@@ -15,11 +15,13 @@ use Rattle.private_store.specs.rules.Tables.{at}
 use Rattle.private_store.specs.declared.faults.FetchFault.{FetchFault}
 use Rattle.private_store.specs.declared.faults.FetchFault.TheVariants as fetch_fault
 use Rattle.private_store.specs.rules.Shape.{Copy, Shape, Change, Fetch, Phase, locating, sized, pulling, failed, chunks, not_here, remove_source}
+use Rattle.private_store.specs.rules.Marks.{chunk_count, marked}
+use Rattle.private_store.specs.rules.Marks as mark
 use Rattle.private_store.specs.rules.Copies.{visible}
 use Rattle.private_store.specs.rules.Room.{set_copy}
 use Rattle.private_store.specs.rules.Change.{done, sending}
-use Rattle.private_store.specs.rules.Commands.{chunk_count, restore}
-use Rattle.private_store.specs.rules.Events.{with_fetch, fetch_of, located, located_copy, fetch_failed, chunk_taken, chunk_arrived, is_missing, not_here_arrived, quiet, pull_answer, pull_arrived}
+use Rattle.private_store.specs.rules.Commands.{restore}
+use Rattle.private_store.specs.rules.Events.{with_fetch, fetch_of, located, fetch_failed, chunk_taken, chunk_arrived, is_missing, not_here_arrived, quiet, pull_answer, pull_arrived}
 use Rattle.private_store.specs.laws.Invariants.{IsOrderOfUse, IsCopyKept, are_gaps, has_extent, is_pulling}
 use Rattle.store_facts.proofs.KeptCopy.{fetching_is, none_of}
 use Rattle.store_facts.proofs.KeptLists.{all-filter}
@@ -80,7 +82,7 @@ module _ {store : Shape} (h : IsLiveKept store) where
     goes_on n offset phase r g = set_keeps h id copy (record copy { length = n; offset = offset; fetch = Some (record fetch { phase = phase }) }) f.is
         (fetched_on copy kept on_its_way n offset (record fetch { phase = phase }) r g)
 
-    located_keep : (source : Option Source) → fetch.phase ≡ locating → IsLiveKept (set_copy store id (located_copy copy fetch source))
+    located_keep : (source : Option Source) → fetch.phase ≡ locating → IsLiveKept (set_copy store id (marked (mark.located fetch source) copy))
     located_keep None p = goes_on copy.length copy.offset (failed fetch_fault.Absent) (in_place ∙ ap is_pulling p) refl
     located_keep (Some source) p = goes_on source.length copy.offset (sized source.node) (in_place ∙ ap is_pulling p) refl
 
@@ -128,7 +130,7 @@ module _ {store : Shape} (h : IsLiveKept store) where
   pub located_keeps : (id : ObjectId) (number : ℕ) (source : Option Source) → Keeps (located store id number source)
   located_keeps id number source = with_fetch_keeps id number _ (λ copy fetch f. by_phase copy fetch f fetch.phase refl)
     where
-      by_phase : (copy : Copy) (fetch : Fetch) → IsFetchOf store id copy fetch → (phase : Phase) → fetch.phase ≡ phase → Keeps (elim phase [ locating ↦ done (set_copy store id (located_copy copy fetch source)) | _ ↦ done store ])
+      by_phase : (copy : Copy) (fetch : Fetch) → IsFetchOf store id copy fetch → (phase : Phase) → fetch.phase ≡ phase → Keeps (elim phase [ locating ↦ done (set_copy store id (marked (mark.located fetch source) copy)) | _ ↦ done store ])
       by_phase copy fetch f locating p = record { is = located_keep id copy fetch f source p }
       by_phase copy fetch f (sized _) p = same_keeps h _ refl
       by_phase copy fetch f (pulling _ _) p = same_keeps h _ refl

@@ -13,10 +13,11 @@ use Rattle.private_store.specs.rules.Limits.{longest_object, most_holds, most_co
 use Rattle.private_store.specs.rules.Extents.{rounded}
 use Rattle.private_store.specs.rules.Tables.{at, with_entry}
 use Rattle.private_store.specs.rules.Shape.{Copy, Shape, Fetch, Phase, locating, sized, pulling, failed}
+use Rattle.private_store.specs.rules.Marks.{chunk_count, counted, with_holds}
 use Rattle.private_store.specs.rules.Copies.{is_sealed, is_away}
 use Rattle.private_store.specs.rules.Room.{make_room, works_left, set_copy}
 use Rattle.private_store.specs.rules.Change.{refused, checked, needing, sending, has_ended}
-use Rattle.private_store.specs.rules.Commands.{refusal_of, is_length, is_full_of_copies, new_copy, created, create, get_sealed, restoring, restore, get_away, counted, chunk_count, begin_pull, get_fetching, get_copy, fetched_copy, fetch_begun, begin_fetch, get, holds_of, all_holds, with_holds}
+use Rattle.private_store.specs.rules.Commands.{refusal_of, is_length, is_full_of_copies, new_copy, created, create, get_sealed, restoring, restore, get_away, begin_pull, get_fetching, get_copy, fetched_copy, fetch_begun, begin_fetch, get, holds_of, all_holds}
 use Rattle.private_store.specs.laws.Invariants.{IsOrderOfUse, IsCopyKept, are_held, are_gaps, has_work, has_grant, is_fetching, is_restoring}
 use Rattle.store_facts.proofs.KeptCopy.{tight}
 use Rattle.store_facts.proofs.KeptRows.{row_put, rows_changed, IsLiveKept}

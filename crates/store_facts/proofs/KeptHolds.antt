@@ -11,8 +11,8 @@ use Rattle.std.proofs.lemmas.Bool.{eqb-false, lt-ltb}
 use Rattle.std.proofs.lemmas.List.Sums.{sum_by-cons}
 use Rattle.obj_id.specs.declared.commands.CopyState.{CopyState}
 use Rattle.private_store.specs.rules.Limits.{most_holds}
+use Rattle.private_store.specs.rules.Marks.{without_session}
 use Rattle.private_store.specs.rules.Copies.{is_sealed}
-use Rattle.private_store.specs.rules.Commands.{without_session}
 use Rattle.private_store.specs.laws.Invariants.{AreHoldsKept, are_held}
 use Rattle.store_facts.proofs.KeptLists.{all-filter}
 use Rattle.store_facts.proofs.Tests.{T_true, and_left, and_right, both, both_left, both_right, less_is, true_T}

@@ -8,15 +8,15 @@ use Rattle.std.proofs.lemmas.Bool.{leb-true, le-leb, lt-ltb}
 use Rattle.std.proofs.lemmas.List.{append-nil}
 use Rattle.obj_id.specs.declared.ids.ObjectId.{ObjectId}
 use Rattle.obj_id.specs.Ids.{id_cmp, same_id}
-use Rattle.private_store.specs.declared.inputs.WorkVerdict.TheVariants as work
 use Rattle.private_store.specs.declared.inputs.Judged.{Judged}
 use Rattle.private_store.specs.rules.Tables.{ById, at, with_entry, without_entry}
 use Rattle.private_store.specs.rules.Shape.{Copy, Shape, GrantTaken, WorkInFlight, Seen, unbegun}
+use Rattle.private_store.specs.rules.Marks.{Mark, marked}
+use Rattle.private_store.specs.rules.Marks as mark
 use Rattle.private_store.specs.rules.Commands.{new_copy, fetched_copy}
 use Rattle.private_store.specs.rules.Events.{grants_of, is_the_grant}
 use Rattle.private_store.specs.rules.Step.{step, is_used, reordered, order_after}
-use Rattle.private_store.specs.laws.Made
-use Rattle.private_store.specs.laws.Made.{Marked, Edit, marks, drops, creates, fetches, asks, finishes, receives, loses, ends, IsUsedThere}
+use Rattle.private_store.specs.laws.Made.{Can, Edit, marks, drops, creates, fetches, asks, finishes, receives, loses, ends, IsUsedThere}
 use Rattle.private_store.specs.laws.Listed.{IsOrderOf, fetch_number, AreFetchesKept, are_rising, AreWorksRising, AreSeenKept, AreListsKept}
 use Rattle.store_facts.proofs.EachStep.{step_made, input_keeps}
 use Rattle.store_facts.proofs.Sound.{step_adds}
@@ -73,17 +73,14 @@ order_is_kept order copies new (Some id) h adds there q =
 
 -- ---- the numbers of fetches
 
-mark_number : (copy d : Copy) (n : ℕ) → Marked copy d → fetch_number (Some d) ≡ Some n → fetch_number (Some copy) ≡ Some n
-mark_number copy d n (Made.to_read_back work.Fine) t = t
-mark_number copy d n (Made.to_read_back work.Failed) t = t
-mark_number copy d n (Made.to_read_back work.Damaged) t = t
-mark_number copy d n (Made.to_located fetch None f) t = ap (λ o. fetch_number (Some (record copy { fetch = o }))) f ∙ t
-mark_number copy d n (Made.to_located fetch (Some source) f) t = ap (λ o. fetch_number (Some (record copy { fetch = o }))) f ∙ t
-mark_number copy d n (Made.to_pulled fetch offset source missing f) t = ap (λ o. fetch_number (Some (record copy { fetch = o }))) f ∙ t
-mark_number copy d n (Made.to_part fetch source missing f) t = ap (λ o. fetch_number (Some (record copy { fetch = o }))) f ∙ t
-mark_number copy d n (Made.to_failed fetch refusal f) t = ap (λ o. fetch_number (Some (record copy { fetch = o }))) f ∙ t
-mark_number copy d n Made.to_whole t = none_some n t
-mark_number copy d n _ t = t
+mark_number : (m : Mark) (copy : Copy) (n : ℕ) → Can m copy → fetch_number (Some (marked m copy)) ≡ Some n → fetch_number (Some copy) ≡ Some n
+mark_number (mark.located fetch None) copy n f t = ap (λ o. fetch_number (Some (record copy { fetch = o }))) f ∙ t
+mark_number (mark.located fetch (Some source)) copy n f t = ap (λ o. fetch_number (Some (record copy { fetch = o }))) f ∙ t
+mark_number (mark.pulled fetch offset source) copy n f t = ap (λ o. fetch_number (Some (record copy { fetch = o }))) f ∙ t
+mark_number (mark.lacking fetch source missing) copy n f t = ap (λ o. fetch_number (Some (record copy { fetch = o }))) f ∙ t
+mark_number (mark.fetch_failed fetch fault) copy n f t = ap (λ o. fetch_number (Some (record copy { fetch = o }))) f ∙ t
+mark_number mark.brought copy n can t = none_some n t
+mark_number _ copy n can t = t
 
 -- no number is new
 fewer_fetches : {old new : ById Copy} {begun : ℕ} → ((q : ObjectId) (n : ℕ) → fetch_number (at new q) ≡ Some n → fetch_number (at old q) ≡ Some n) → AreFetchesKept old begun → AreFetchesKept new begun
@@ -115,8 +112,8 @@ next_fetch copies begun id h = record {
     by_both a b n (inr s) (inr t) = h.apart a b n s t
 
 edit_fetches : {x : Judged} (used : Option ObjectId) (store after : Shape) → Edit x used store after → AreFetchesKept store.copies store.fetches_begun → AreFetchesKept after.copies after.fetches_begun
-edit_fetches used store after (marks id copy d e m) h =
-    fewer_fetches (λ q n. put_rows (λ q o. fetch_number o ≡ Some n → fetch_number (at store.copies q) ≡ Some n) store.copies id d (λ t. ap fetch_number e ∙ mark_number copy d n m t) (λ q _ t. t) q) h
+edit_fetches used store after (marks id copy m e can) h =
+    fewer_fetches (λ q n. put_rows (λ q o. fetch_number o ≡ Some n → fetch_number (at store.copies q) ≡ Some n) store.copies id (marked m copy) (λ t. ap fetch_number e ∙ mark_number m copy n can t) (λ q _ t. t) q) h
 edit_fetches used store after (drops id copy e g) h =
     fewer_fetches (λ q n. drop_rows (λ q o. fetch_number o ≡ Some n → fetch_number (at store.copies q) ≡ Some n) store.copies id (λ q t. none_some n t) (λ q t. t) q) h
 edit_fetches used store after (creates id kind n offset u) h =

@@ -8,7 +8,7 @@ use Rattle.private_store.specs.rules.Step.{step}
 use Rattle.store_facts.proofs.EachStep.{step_made}
 
 edit_job : {x : Judged} {used : Option ObjectId} (store after : Shape) → Edit x used store after → after.job ≡ store.job
-edit_job store after (marks id copy d found marked) = refl
+edit_job store after (marks id copy m found can) = refl
 edit_job store after (drops id copy found goes) = refl
 edit_job store after (creates id kind n offset is) = refl
 edit_job store after (fetches id is absent fine) = refl

@@ -7,6 +7,7 @@ use Rattle.obj_id.specs.Ids.{id_cmp, same_id}
 use Rattle.private_store.specs.declared.inputs.Judged.{Judged}
 use Rattle.private_store.specs.rules.Tables.{ById, at}
 use Rattle.private_store.specs.rules.Shape.{Copy, Shape, Change}
+use Rattle.private_store.specs.rules.Marks.{marked}
 use Rattle.private_store.specs.rules.Commands.{new_copy, fetched_copy}
 use Rattle.private_store.specs.rules.Step.{step, is_used}
 use Rattle.private_store.specs.laws.Made.{Edit, marks, drops, creates, fetches, ends, IsUsedThere}
@@ -27,7 +28,7 @@ pub record IsSound (store : Shape) (c : Change) : Type 0 where
   pub is : Sound store.copies c.shape.copies c.used
 
 edit_sorted : {x : Judged} (used : Option ObjectId) (store after : Shape) → Edit x used store after → InOrder store → InOrder after
-edit_sorted used store after (marks id copy d e m) h = is_sorted-put id_cmp id_cmp-IsTotalOrder id d store.copies h
+edit_sorted used store after (marks id copy m e can) h = is_sorted-put id_cmp id_cmp-IsTotalOrder id (marked m copy) store.copies h
 edit_sorted used store after (drops id copy e g) h = is_sorted-where_key id_cmp (λ x. not (same_id id x)) store.copies h
 edit_sorted used store after (creates id kind n offset u) h = is_sorted-put id_cmp id_cmp-IsTotalOrder id (new_copy kind n offset) store.copies h
 edit_sorted used store after (fetches id u e n) h = is_sorted-put id_cmp id_cmp-IsTotalOrder id (fetched_copy (store.fetches_begun + 1)) store.copies h
@@ -36,8 +37,8 @@ edit_sorted used store after _ h = h
 
 -- no copy is new but the one that is used
 edit_adds : {x : Judged} (used : Option ObjectId) (store after : Shape) → Edit x used store after → (q : ObjectId) → is_some (at after.copies q) ≡ true → (is_some (at store.copies q) ≡ true) ⊎ (is_used used q ≡ true)
-edit_adds used store after (marks id copy d e m) =
-    put_rows (λ q o. is_some o ≡ true → (is_some (at store.copies q) ≡ true) ⊎ (is_used used q ≡ true)) store.copies id d (λ _. inl (ap is_some e)) (λ q _ t. inl t)
+edit_adds used store after (marks id copy m e can) =
+    put_rows (λ q o. is_some o ≡ true → (is_some (at store.copies q) ≡ true) ⊎ (is_used used q ≡ true)) store.copies id (marked m copy) (λ _. inl (ap is_some e)) (λ q _ t. inl t)
 edit_adds used store after (drops id copy e g) =
     drop_rows (λ q o. is_some o ≡ true → (is_some (at store.copies q) ≡ true) ⊎ (is_used used q ≡ true)) store.copies id (λ q t. true_false t) (λ q t. inl t)
 edit_adds used store after (creates id kind n offset u) =

@@ -23,11 +23,13 @@ use Rattle.private_store.specs.declared.faults.FetchFault.{FetchFault}
 use Rattle.private_store.specs.declared.faults.FetchFault.TheVariants as fetch_fault
 use Rattle.private_store.specs.rules.Limits.{is_quota}
 use Rattle.private_store.specs.rules.Shape.{Copy, Shape, Change, Sending, WorkInFlight, Fetch, Phase, locating, sized, pulling, failed, not_begun, live, ended, chunks, not_here, remove_source}
+use Rattle.private_store.specs.rules.Marks.{chunk_count, counted, marked, read_mark}
+use Rattle.private_store.specs.rules.Marks as mark
 use Rattle.private_store.specs.rules.Copies.{visible, is_sealed, fits_quota, is_idle}
 use Rattle.private_store.specs.rules.Room.{Room, make_room, set_copy, drop_copy, asked}
 use Rattle.private_store.specs.rules.Change.{refused, done, checked, needing, sending, in_room, settled, erasing}
-use Rattle.private_store.specs.rules.Commands.{refusal_of, create, new_copy, seal, get, get_sealed, get_away, get_fetching, get_copy, begin_fetch, restore, set_phase, counted, chunk_count, fetched_copy, list, usage}
-use Rattle.private_store.specs.rules.Events.{begin, requota, end_job_here, written, read_back, without_work, work_of, answer, with_fetch, fetch_of, located, located_copy, fetch_failed, chunk_taken, chunk_arrived, is_missing, not_here_arrived, quiet, pull_answer, pull_arrived}
+use Rattle.private_store.specs.rules.Commands.{refusal_of, create, new_copy, seal, get, get_sealed, get_away, get_fetching, get_copy, begin_fetch, restore, fetched_copy, list, usage}
+use Rattle.private_store.specs.rules.Events.{begin, requota, end_job_here, written, without_work, work_of, answer, with_fetch, fetch_of, located, fetch_failed, chunk_taken, chunk_arrived, is_missing, not_here_arrived, quiet, pull_answer, pull_arrived}
 use Rattle.private_store.specs.rules.Step.{step, owned, commanded, if_live}
 use Rattle.private_store.specs.laws.Invariants.{IsShapeKept, has_write, has_extent, is_fetching, is_pulling}
 use Rattle.store_facts.proofs.WorksHaveCopies.{works_have_copies}
@@ -36,7 +38,7 @@ use Rattle.store_facts.proofs.Checks.{Fails, checked_past, needing_has}
 pub use Rattle.store_facts.proofs.Checks.{fetch_found}
 use Rattle.store_facts.proofs.Rows.{Quiet, quiet_stays, quiet_put, quiet_set, quiet_drop, quiet_settled}
 use Rattle.store_facts.proofs.Clearing.{Cleared, SpillsIn, RoomDone, room_done}
-use Rattle.store_facts.proofs.CalmSteps.{IsCalm, visible_at, marked, write_calm, read_calm, release_calm, delete_calm, borrow_calm, unpin_calm, give_up_calm, grant_calm, withdraw_calm, peek_calm, withdrawn_calm, end_task_calm, leave_calm}
+use Rattle.store_facts.proofs.CalmSteps.{IsCalm, visible_at, quiet_marked, write_calm, read_calm, release_calm, delete_calm, borrow_calm, unpin_calm, give_up_calm, grant_calm, withdraw_calm, peek_calm, withdrawn_calm, end_task_calm, leave_calm}
 use Rattle.store_facts.proofs.Turns.{weight, weight_of, weight_less, weight_same, weightless, reads_write, filtered_any, found_any, unwritten, not_written, resident, nowhere, same, Puts, calm, spills, puts, requotas, empties, receives, IsTurn, put_turn, placed_stands, quiet_put_dropped}
 use Rattle.store_facts.proofs.Ids.{same_id-itself}
 
@@ -190,7 +192,7 @@ module _ (s : ObjectId → Bool) (store : Shape) (sh : IsShapeKept store) where
   get_away_turn : (order : List ObjectId) (id : ObjectId) (copy : Copy) → at store.copies id ≡ Some copy → copy.state ≡ Away → IsTurn s store (get_away order store id copy)
   get_away_turn order id copy e away =
       elim copy.fault as (λ o. IsTurn s store (elim o [ Some fault ↦ refused (set_copy store id (record copy { fault = None })) (refusal_of fault) | None ↦ restore order store id copy ])) [
-        | Some fault ↦ record { is = calm (marked store id copy (record copy { fault = None }) e refl refl refl refl) }
+        | Some fault ↦ record { is = calm (quiet_marked store id copy (record copy { fault = None }) e refl refl refl refl) }
         | None ↦ restore_turn order id copy e away
       ]
 
@@ -228,7 +230,7 @@ module _ (s : ObjectId → Bool) (store : Shape) (sh : IsShapeKept store) where
         | Away ↦ get_away order store id copy
       ])
   get_copy_turn order session id copy Created e is = refused_turn s store NotSealed
-  get_copy_turn order session id copy Sealed e is = checked_turn s store _ _ (λ _. record { is = calm (marked store id copy _ e refl refl refl refl) })
+  get_copy_turn order session id copy Sealed e is = checked_turn s store _ _ (λ _. record { is = calm (quiet_marked store id copy _ e refl refl refl refl) })
   get_copy_turn order session id copy Restoring e is = refused_turn s store Pending
   get_copy_turn order session id copy Fetching e is = needing_turn s store _ _ _ (λ fetch f. get_fetching_turn order id copy fetch fetch.phase e f refl)
   get_copy_turn order session id copy Away e is = get_away_turn order id copy e is
@@ -314,7 +316,7 @@ module _ (s : ObjectId → Bool) (store : Shape) (sh : IsShapeKept store) where
   written_turn number w copy work.Damaged e h = record { is = (backed_turn number w copy e h).is }
 
   read_turn : (number : ℕ) (w : WorkInFlight) (copy : Copy) (verdict : WorkVerdict) → ReadsBack s store number verdict → work_of store number ≡ Some w → w.writes ≡ false → at store.copies w.id ≡ Some copy
-      → IsTurn s store (done (settled (set_copy (without_work store number) w.id (read_back copy verdict)) w.id))
+      → IsTurn s store (done (settled (set_copy (without_work store number) w.id (marked (read_mark verdict) copy)) w.id))
   read_turn number w copy work.Fine t is reads e =
       let rest = without_work store number in
       let d : Copy = record copy { state = Sealed } in
@@ -322,15 +324,15 @@ module _ (s : ObjectId → Bool) (store : Shape) (sh : IsShapeKept store) where
       (known_weight rest.works w.id copy d ((quiet_rest number).writes w.id) e refl refl)
       (same copy e refl refl (λ f. true_false (sym f ∙ t w is reads))))
   read_turn number w copy work.Failed t is reads e =
-      record { is = calm (quiet_settled store (set_copy (without_work store number) w.id (read_back copy work.Failed)) w.id (quiet_put store (without_work store number) w.id copy (read_back copy work.Failed) (quiet_rest number) e (record { length = refl; backed = refl; stands = inr (refl, refl) }))) }
+      record { is = calm (quiet_settled store (set_copy (without_work store number) w.id (marked (read_mark work.Failed) copy)) w.id (quiet_put store (without_work store number) w.id copy (marked (read_mark work.Failed) copy) (quiet_rest number) e (record { length = refl; backed = refl; stands = inr (refl, refl) }))) }
   read_turn number w copy work.Damaged t is reads e =
-      record { is = calm (quiet_settled store (set_copy (without_work store number) w.id (read_back copy work.Damaged)) w.id (quiet_put store (without_work store number) w.id copy (read_back copy work.Damaged) (quiet_rest number) e (record { length = refl; backed = refl; stands = inr (refl, refl) }))) }
+      record { is = calm (quiet_settled store (set_copy (without_work store number) w.id (marked (read_mark work.Damaged) copy)) w.id (quiet_put store (without_work store number) w.id copy (marked (read_mark work.Damaged) copy) (quiet_rest number) e (record { length = refl; backed = refl; stands = inr (refl, refl) }))) }
 
   answer_turn : (number : ℕ) (verdict : WorkVerdict) → ReadsBack s store number verdict → IsTurn s store (answer store number verdict)
   answer_turn number verdict t =
       needing_turn s store _ _ _ (λ w is. needing_turn s store _ _ _ (λ copy e.
       let rest = without_work store number in
-      elim w.writes as (λ b. w.writes ≡ b → IsTurn s store (cond b (written rest w copy verdict) (erasing rest (done (settled (set_copy rest w.id (read_back copy verdict)) w.id))))) [
+      elim w.writes as (λ b. w.writes ≡ b → IsTurn s store (cond b (written rest w copy verdict) (erasing rest (done (settled (set_copy rest w.id (marked (read_mark verdict) copy)) w.id))))) [
         | true ↦ λ writes. written_turn number w copy verdict e (found_any (λ work. work.number == number) (λ work. same_id w.id work.id && work.writes) store.works w is (ap (λ b. b && w.writes) (same_id-itself w.id) ∙ writes))
         | false ↦ λ reads. record { is = (read_turn number w copy verdict t is reads e).is }
       ] refl))
@@ -348,21 +350,21 @@ module _ (s : ObjectId → Bool) (store : Shape) (sh : IsShapeKept store) where
   located_turn : (id : ObjectId) (number : ℕ) (source : Option Source) → IsTurn s store (located store id number source)
   located_turn id number source = with_fetch_turn id number _ (λ copy fetch is e f. by_phase copy fetch fetch.phase e f refl)
     where
-      placeless : (copy : Copy) (fetch : Fetch) (source : Option Source) → copy.offset ≡ None → (located_copy copy fetch source).offset ≡ None
+      placeless : (copy : Copy) (fetch : Fetch) (source : Option Source) → copy.offset ≡ None → (marked (mark.located fetch source) copy).offset ≡ None
       placeless copy fetch None e = e
       placeless copy fetch (Some _) e = e
 
-      unsealed : (copy : Copy) (fetch : Fetch) (source : Option Source) → is_sealed copy.state ≡ false → is_sealed (located_copy copy fetch source).state ≡ false
+      unsealed : (copy : Copy) (fetch : Fetch) (source : Option Source) → is_sealed copy.state ≡ false → is_sealed (marked (mark.located fetch source) copy).state ≡ false
       unsealed copy fetch None e = e
       unsealed copy fetch (Some _) e = e
 
-      unbacked : (copy : Copy) (fetch : Fetch) (source : Option Source) → copy.backed ≡ None → (located_copy copy fetch source).backed ≡ None
+      unbacked : (copy : Copy) (fetch : Fetch) (source : Option Source) → copy.backed ≡ None → (marked (mark.located fetch source) copy).backed ≡ None
       unbacked copy fetch None e = e
       unbacked copy fetch (Some _) e = e
 
-      by_phase : (copy : Copy) (fetch : Fetch) (phase : Phase) → at store.copies id ≡ Some copy → copy.fetch ≡ Some fetch → fetch.phase ≡ phase → IsTurn s store (elim phase [ locating ↦ done (set_copy store id (located_copy copy fetch source)) | _ ↦ done store ])
+      by_phase : (copy : Copy) (fetch : Fetch) (phase : Phase) → at store.copies id ≡ Some copy → copy.fetch ≡ Some fetch → fetch.phase ≡ phase → IsTurn s store (elim phase [ locating ↦ done (set_copy store id (marked (mark.located fetch source) copy)) | _ ↦ done store ])
       by_phase copy fetch locating e f p =
-          let d = located_copy copy fetch source in
+          let d = marked (mark.located fetch source) copy in
           record {
             is = puts id d (put_turn s store store store.works id d (quiet_stays store) (λ q w. w)
                 (weightless store.works id d _ (unbacked copy fetch source (fetching_unbacked store sh id copy e fetch f)) (fetching_unwritten store sh id copy e fetch f))
@@ -380,8 +382,8 @@ module _ (s : ObjectId → Bool) (store : Shape) (sh : IsShapeKept store) where
   chunk_taken_turn : (id : ObjectId) (copy : Copy) (fetch : Fetch) (source : ℕ) (missing : List ℕ) (verdict : ChunkVerdict) → (missing ≡ [] → is_taken verdict ≡ true → s id ≡ true) → at store.copies id ≡ Some copy → copy.fetch ≡ Some fetch → IsTurn s store (chunk_taken store id copy fetch source missing verdict)
   chunk_taken_turn id copy fetch source missing verdict t e f = by_verdict missing verdict t
     where
-      gap : (missing : List ℕ) → IsTurn s store (done (set_phase store id copy fetch (pulling source missing)))
-      gap missing = record { is = calm (marked store id copy (record copy { fetch = Some (record fetch { phase = pulling source missing }) }) e refl refl refl refl) }
+      gap : (missing : List ℕ) → IsTurn s store (done (set_copy store id (marked (mark.lacking fetch source missing) copy)))
+      gap missing = record { is = calm (quiet_marked store id copy (record copy { fetch = Some (record fetch { phase = pulling source missing }) }) e refl refl refl refl) }
 
       whole : s id ≡ true → IsTurn s store (done (set_copy store id (record copy { state = Sealed; fetch = None })))
       whole t =

@@ -14,6 +14,8 @@ use Rattle.private_store.specs.rules.Tables.{at}
 use Rattle.private_store.specs.declared.faults.FetchFault.TheVariants as fetch_fault
 use Rattle.private_store.specs.rules.Shape.{Copy, Shape, Change, Fetch, Phase, locating, sized, pulling, failed, Sending}
 use Rattle.obj_id.specs.Kinds.{is_primary}
+use Rattle.private_store.specs.rules.Marks.{marked, read_mark, with_holds, without_borrower}
+use Rattle.private_store.specs.rules.Marks as mark
 use Rattle.private_store.specs.rules.Copies.{device_used}
 use Rattle.private_store.specs.rules.Room.{Room, fits, wait, full, busy, evict, spill, victims, spilled, spill_plan, bytes_of_copies, works_left, offset_without, set_copy, drop_copy, evicted, asked, no_room, spill_room, evict_room, room_by, make_room}
 use Rattle.obj_id.specs.declared.ids.TaskNo.{TaskNo}
@@ -23,7 +25,7 @@ use Rattle.private_store.specs.rules.Copies.{in_scope}
 use Rattle.private_store.specs.rules.Tables.{ids_of}
 use Rattle.private_store.specs.rules.Shape.{locate}
 use Rattle.private_store.specs.rules.Change.{settled, doom}
-use Rattle.private_store.specs.rules.Commands.{refusal_of, fetch_refusal, create, created, write, seal, get, read, release, unpin, borrow, give_up, delete, end_task, grant, grant_own, grant_foreign, withdraw, peek, leave, restore, restoring, get_away, get_fetching, get_copy, get_sealed, begin_pull, begin_fetch, fetch_begun, at_each, then_change, scoped, give_up_one, leave_one, has_borrower, without_borrower, with_holds, of_task, task_ended}
+use Rattle.private_store.specs.rules.Commands.{refusal_of, fetch_refusal, create, created, write, seal, get, read, release, unpin, borrow, give_up, delete, end_task, grant, grant_own, grant_foreign, withdraw, peek, leave, restore, restoring, get_away, get_fetching, get_copy, get_sealed, begin_pull, begin_fetch, fetch_begun, at_each, then_change, scoped, give_up_one, leave_one, has_borrower, of_task, task_ended}
 use Rattle.obj_id.specs.declared.works.Quota.{Quota}
 use Rattle.private_store.specs.declared.inputs.Source.{Source}
 use Rattle.private_store.specs.declared.inputs.WorkVerdict.{WorkVerdict}
@@ -35,7 +37,7 @@ use Rattle.private_store.specs.declared.inputs.Judged.TheVariants as judged
 use Rattle.private_store.specs.rules.Limits.{is_quota}
 use Rattle.private_store.specs.rules.Shape.{WorkInFlight, not_begun, live, ended, chunks, not_here, remove_source}
 use Rattle.private_store.specs.rules.Copies.{visible}
-use Rattle.private_store.specs.rules.Events.{begin, end_job_here, answer, written, without_work, read_back, located, located_copy, with_fetch, fetch_of, chunk_taken, chunk_arrived, is_missing, not_here_arrived, fetch_failed, pull_answer, pull_arrived, quiet}
+use Rattle.private_store.specs.rules.Events.{begin, end_job_here, answer, written, without_work, located, with_fetch, fetch_of, chunk_taken, chunk_arrived, is_missing, not_here_arrived, fetch_failed, pull_answer, pull_arrived, quiet}
 use Rattle.private_store.specs.rules.Step.{owned, commanded, if_live, step}
 use Rattle.private_store.specs.rules.Change.{refused, done, checked, needing, sending, in_room, keys_gone, erasing}
 use Rattle.store_laws.specs.Refusing.{Waits, none, then_wait, evicts, asks, restores, pulls, fetches, IsWaiting, IsExcused, unchanged, spill_told, fault_told, fetch_told, waits, RefusesCleanly}
@@ -443,7 +445,7 @@ module _ (store : Shape) where
   located_told : (id : ObjectId) (number : ℕ) (source : Option Source) → (located store id number source).reply ≡ reply.Ok
   located_told id number source = with_fetch_told store id number _ (λ copy fetch. by_phase copy fetch fetch.phase)
     where
-      by_phase : (copy : Copy) (fetch : Fetch) (phase : Phase) → ToldOk (elim phase [ locating ↦ done (set_copy store id (located_copy copy fetch source)) | _ ↦ done store ])
+      by_phase : (copy : Copy) (fetch : Fetch) (phase : Phase) → ToldOk (elim phase [ locating ↦ done (set_copy store id (marked (mark.located fetch source) copy)) | _ ↦ done store ])
       by_phase copy fetch locating = refl
       by_phase copy fetch (sized _) = refl
       by_phase copy fetch (pulling _ _) = refl
@@ -523,7 +525,7 @@ module _ (store : Shape) where
   answer_clean number verdict =
       needing_clean store _ _ _ (λ w _. needing_clean store _ _ _ (λ copy _.
       let rest = without_work store number in
-      elim w.writes as (λ b. RefusesCleanly store (cond b (written rest w copy verdict) (erasing rest (done (settled (set_copy rest w.id (read_back copy verdict)) w.id))))) [
+      elim w.writes as (λ b. RefusesCleanly store (cond b (written rest w copy verdict) (erasing rest (done (settled (set_copy rest w.id (marked (read_mark verdict) copy)) w.id))))) [
         | true ↦ ok_clean store _ (written_told rest w copy verdict)
         | false ↦ λ r e. cc
       ]))

@@ -1,5 +1,5 @@
 use Rattle.std.proofs.Common.{◌≡◌}
-use Rattle.private_store.specs.rules.Commands.{counted}
+use Rattle.private_store.specs.rules.Marks.{counted}
 use Rattle.fetch_core.proofs.all_chunks.Given as goal
 
 abbrev pub invariant-loop-index : goal.invariant-loop-index

@@ -20,8 +20,8 @@ use Rattle.private_store.specs.rules.Tables.{at}
 use Rattle.private_store.specs.rules.Extents.{end_of, is_apart}
 use Rattle.private_store.specs.rules.Shape.{Copy, Shape, Phase, pulling, Fetch, WorkInFlight, GrantGiven, Seen}
 use Rattle.obj_id.specs.Kinds.{is_primary}
+use Rattle.private_store.specs.rules.Marks.{chunk_count}
 use Rattle.private_store.specs.rules.Copies.{is_sealed, is_away, extent_of, device_used}
-use Rattle.private_store.specs.rules.Commands.{chunk_count}
 use Rattle.private_store.specs.rules.Events.{is_live}
 use Rattle.private_store.specs.rules.Contents.{Contents, View, bytes_at, digest_at, digest_of, keeps_digest}
 

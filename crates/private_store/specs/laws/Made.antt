@@ -1,14 +1,13 @@
 -- What every input's change is made of: edits of the store, one after another, and an answer. An
 -- invariant that each edit keeps is kept by every input, and a fact of each answer is a fact of every
 -- input's; so a law is proved by its cases over these few, and never over commands.
-use Rattle.std.specs.Prelude.{◌≡◌, ℕ, ◌+◌, ◌==◌, nat_lt, Bool, true, false, ◌&&◌, List, [], ◌∷◌, ◌++◌, filter, Option, Some, None, is_some}
+use Rattle.std.specs.Prelude.{◌≡◌, ℕ, ◌+◌, ◌==◌, nat_lt, Bool, true, false, ◌&&◌, [], ◌∷◌, ◌++◌, filter, Option, Some, None, is_some}
 use Rattle.std.specs.Option.{option_map_or}
 use Rattle.obj_id.specs.declared.ids.JobNo.{JobNo}
 use Rattle.obj_id.specs.declared.ids.TaskNo.{TaskNo}
 use Rattle.obj_id.specs.declared.ids.ObjectId.{ObjectId}
 use Rattle.obj_id.specs.declared.works.Quota.{Quota}
 use Rattle.obj_id.specs.declared.commands.Kind.{Kind}
-use Rattle.obj_id.specs.declared.commands.CopyState.TheVariants.{Sealed, Restoring, Away}
 use Rattle.std.specs.List.{list_all}
 use Rattle.obj_id.specs.declared.commands.Command.{Command}
 use Rattle.obj_id.specs.declared.commands.Command.TheVariants as command
@@ -16,20 +15,20 @@ use Rattle.obj_id.specs.declared.commands.Reply.{Reply}
 use Rattle.obj_id.specs.declared.commands.Reply.TheVariants as reply
 use Rattle.obj_id.specs.declared.refusals.Refusal.{Refusal}
 use Rattle.obj_id.specs.declared.refusals.Refusal.TheVariants.{NoMemory}
-use Rattle.private_store.specs.declared.inputs.Source.{Source}
-use Rattle.private_store.specs.declared.inputs.WorkVerdict.{WorkVerdict}
 use Rattle.private_store.specs.declared.inputs.Judged.{Judged}
 use Rattle.private_store.specs.declared.inputs.Judged.TheVariants as judged
 use Rattle.private_store.specs.declared.faults.FetchFault.{FetchFault}
 use Rattle.private_store.specs.rules.Limits.{most_bytes, has_numbers, is_quota}
 use Rattle.private_store.specs.rules.Tables.{ById, at, with_entry, without_entry}
 use Rattle.private_store.specs.rules.Extents.{rounded}
-use Rattle.private_store.specs.rules.Shape.{Copy, Shape, Change, Sending, add_location, remove_location, remove_source, free, end_job, locate, pull, chunks, not_here, Fetch, pulling, failed, GrantGiven, Seen, not_begun, live}
+use Rattle.private_store.specs.rules.Shape.{Copy, Shape, Change, Sending, add_location, remove_location, remove_source, free, end_job, locate, pull, chunks, not_here, Fetch, failed, GrantGiven, Seen, not_begun, live}
+use Rattle.private_store.specs.rules.Marks.{Mark, marked}
+use Rattle.private_store.specs.rules.Marks as mark
 use Rattle.obj_id.specs.Kinds.{is_primary}
 use Rattle.private_store.specs.rules.Copies.{is_idle, fits_quota}
 use Rattle.private_store.specs.rules.Room.{set_copy, drop_copy, asked}
-use Rattle.private_store.specs.rules.Commands.{new_copy, holds_of, with_holds, without_borrower, is_unsealed, fetch_begun, task_ended, own_items, granted_items, usage_of}
-use Rattle.private_store.specs.rules.Events.{over, without_work, read_back, located_copy, received, without_grant}
+use Rattle.private_store.specs.rules.Commands.{new_copy, holds_of, is_unsealed, fetch_begun, task_ended, own_items, granted_items, usage_of}
+use Rattle.private_store.specs.rules.Events.{over, without_work, received, without_grant}
 use Rattle.private_store.specs.laws.Invariants.{is_end}
 
 -- whether the refusal is out of memory
@@ -39,33 +38,14 @@ is_want _ = false
 
 -- ---- edits
 
--- what becomes of a copy that stays, by one edit
-pub data Marked (copy : Copy) : Copy → Type 0 where
-  to_away : is_primary copy.kind ≡ true → Marked copy (record copy { state = Away; offset = None })
-  to_doomed : Marked copy (record copy { doomed = true })
-  to_sealed : Marked copy (record copy { state = Sealed })
-  to_held : (session n : ℕ) → Marked copy (with_holds copy session n)
-  to_restoring : (offset : ℕ) → Marked copy (record copy { state = Restoring; offset = Some offset })
-  -- its fault is answered
-  to_told : Marked copy (record copy { fault = None })
-  to_unpinned : Marked copy (record copy { pinned = false })
-  to_borrowed : (task : TaskNo) → Marked copy (record copy { borrowers = copy.borrowers ++ task ∷ [] })
-  to_given_up : (task : TaskNo) → Marked copy (without_borrower copy task)
-  -- a write of it was made
-  to_backed : (number : ℕ) → Marked copy (record copy { backed = Some number })
-  to_read_back : (verdict : WorkVerdict) → Marked copy (read_back copy verdict)
-  -- of a copy on its way: its source is known, or there is none
-  to_located : (fetch : Fetch) (source : Option Source) → copy.fetch ≡ Some fetch → Marked copy (located_copy copy fetch source)
-  -- its extent is taken
-  to_pulled : (fetch : Fetch) (offset source : ℕ) (missing : List ℕ) → copy.fetch ≡ Some fetch
-      → Marked copy (record copy { offset = Some offset; fetch = Some (record fetch { phase = pulling source missing }) })
-  -- a chunk came, and others are missing
-  to_part : (fetch : Fetch) (source : ℕ) (missing : List ℕ) → copy.fetch ≡ Some fetch
-      → Marked copy (record copy { fetch = Some (record fetch { phase = pulling source missing }) })
-  -- the last one came
-  to_whole : Marked copy (record copy { state = Sealed; fetch = None })
-  to_failed : (fetch : Fetch) (fault : FetchFault) → copy.fetch ≡ Some fetch
-      → Marked copy (record copy { offset = None; fetch = Some (record fetch { phase = failed fault }) })
+-- what a mark needs of the copy
+abbrev pub Can : Mark → Copy → Type 0
+Can mark.evicted copy = is_primary copy.kind ≡ true
+Can (mark.located fetch source) copy = copy.fetch ≡ Some fetch
+Can (mark.pulled fetch offset source) copy = copy.fetch ≡ Some fetch
+Can (mark.lacking fetch source missing) copy = copy.fetch ≡ Some fetch
+Can (mark.fetch_failed fetch fault) copy = copy.fetch ≡ Some fetch
+Can _ copy = Unit {0}
 
 -- why a copy goes
 pub data Goes (store : Shape) (id : ObjectId) (copy : Copy) : Type 0 where
@@ -75,7 +55,7 @@ pub data Goes (store : Shape) (id : ObjectId) (copy : Copy) : Type 0 where
 
 -- one edit of a store by an input that makes this copy most recently used
 pub data Edit (x : Judged) (used : Option ObjectId) (store : Shape) : Shape → Type 0 where
-  marks : (id : ObjectId) (copy d : Copy) → at store.copies id ≡ Some copy → Marked copy d → Edit x used store (set_copy store id d)
+  marks : (id : ObjectId) (copy : Copy) (m : Mark) → at store.copies id ≡ Some copy → Can m copy → Edit x used store (set_copy store id (marked m copy))
   drops : (id : ObjectId) (copy : Copy) → at store.copies id ≡ Some copy → Goes store id copy → Edit x used store (drop_copy store id)
   -- a new copy, at an offset that was found for it
   creates : (id : ObjectId) (kind : Kind) (n offset : ℕ) → used ≡ Some id → Edit x used store (set_copy store id (new_copy kind n offset))

@@ -1,5 +1,5 @@
 -- How an input's change is written down: checks in their order, refusals, and how a copy ends.
-use Rattle.std.specs.Prelude.{ℕ, Bool, true, not, ◌&&◌, if◌then◌else◌, List, [], ◌∷◌, ◌++◌, filter_map, Option, Some, None, is_none, option_to_list, Ok, Err}
+use Rattle.std.specs.Prelude.{ℕ, Bool, not, ◌&&◌, if◌then◌else◌, List, [], ◌∷◌, ◌++◌, filter_map, Option, Some, None, is_none, option_to_list, Ok, Err}
 use Rattle.std.specs.Option.{option_map_or}
 use Rattle.std.specs.List.{list_any}
 use Rattle.obj_id.specs.declared.ids.TaskNo.{TaskNo}
@@ -10,6 +10,8 @@ use Rattle.obj_id.specs.declared.commands.Reply.TheVariants as reply
 use Rattle.obj_id.specs.Ids.{same_task}
 use Rattle.private_store.specs.rules.Tables.{ById, at}
 use Rattle.private_store.specs.rules.Shape.{Copy, Shape, Change, Sending, remove_location, free}
+use Rattle.private_store.specs.rules.Marks.{marked}
+use Rattle.private_store.specs.rules.Marks as mark
 use Rattle.obj_id.specs.Kinds.{is_primary}
 use Rattle.private_store.specs.rules.Copies.{was_sealed, is_idle}
 use Rattle.private_store.specs.rules.Room.{Room, set_copy, drop_copy}
@@ -62,7 +64,7 @@ settled store id = option_map_or (λ copy. if copy.doomed && is_idle store id co
 
 -- the copy is marked to go, and goes if nothing keeps it
 abbrev pub doomed : Shape → ObjectId → Shape
-doomed store id = option_map_or (λ copy. settled (set_copy store id (record copy { doomed = true })) id) (at store.copies id) store
+doomed store id = option_map_or (λ copy. settled (set_copy store id (marked mark.doomed copy)) id) (at store.copies id) store
 
 -- what is sent of a copy that is doomed now: nothing, unless it was sealed
 abbrev pub doom_notice : Shape → ObjectId → Option Sending

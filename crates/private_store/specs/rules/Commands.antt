@@ -1,9 +1,9 @@
 -- The commands of a session, over its job's store: one definition each, its checks in their order.
-use Rattle.std.specs.Prelude.{ℕ, zero, suc, ◌+◌, ◌-◌, ◌/◌, ◌==◌, nat_le, nat_lt, Bool, true, false, not, ◌&&◌, ◌||◌, if◌then◌else◌, List, [], ◌∷◌, ◌++◌, length, map, filter, fold, Option, Some, None, is_some, unwrap_or, is_ok, option_and_then}
+use Rattle.std.specs.Prelude.{ℕ, ◌+◌, ◌-◌, ◌==◌, nat_le, nat_lt, Bool, true, false, not, ◌&&◌, ◌||◌, if◌then◌else◌, List, [], ◌∷◌, ◌++◌, length, map, filter, fold, Option, Some, None, is_some, unwrap_or, is_ok, option_and_then}
 use Rattle.std.specs.Option.{option_map_or}
 use Rattle.std.specs.Ordering.{nat_cmp}
 use Rattle.std.specs.List.{list_any}
-use Rattle.std.specs.FinMap.{find, put}
+use Rattle.std.specs.FinMap.{find}
 use Rattle.obj_id.specs.declared.ids.TaskNo.{TaskNo}
 use Rattle.obj_id.specs.declared.ids.ObjectId.{ObjectId}
 use Rattle.obj_id.specs.declared.commands.Kind.{Kind}
@@ -22,10 +22,12 @@ use Rattle.private_store.specs.declared.faults.FetchFault.{FetchFault}
 use Rattle.private_store.specs.declared.faults.Fault.TheVariants as restore_fault
 use Rattle.private_store.specs.declared.faults.FetchFault.TheVariants as fetch_fault
 use Rattle.private_store.specs.rules.Tables.{ById, at, with_entry, ids_of}
-use Rattle.private_store.specs.rules.Limits.{most_bytes, chunk_size, most_copies, most_holds, most_borrowers, most_grants, greatest_depth, most_ended_tasks, has_numbers}
+use Rattle.private_store.specs.rules.Limits.{most_bytes, most_copies, most_holds, most_borrowers, most_grants, greatest_depth, most_ended_tasks, has_numbers}
 use Rattle.private_store.specs.rules.Extents.{rounded, is_size}
 use Rattle.private_store.specs.rules.Shape.{Copy, Shape, Change, Fetch, Phase, locating, sized, pulling, failed, GrantTaken, add_location, locate, pull}
 use Rattle.obj_id.specs.Kinds.{is_primary}
+use Rattle.private_store.specs.rules.Marks.{marked}
+use Rattle.private_store.specs.rules.Marks as mark
 use Rattle.private_store.specs.rules.Copies.{is_created, is_sealed, is_granted, in_scope, visible, window_used, device_used}
 use Rattle.private_store.specs.rules.Room.{make_room, set_copy, drop_copy, asked, works_left}
 use Rattle.private_store.specs.rules.Change.{replied, refused, done, checked, needing, sending, in_room, has_ended, settled, doom}
@@ -165,27 +167,18 @@ abbrev pub seal : Shape → ObjectId → Change
 seal store id =
     needing store (visible store id) Absent (λ copy.
     checked store (seal_checks copy)
-    (sending (add_location id ∷ []) (done (set_copy store id (record copy { state = Sealed })))))
-
--- the holds of the other sessions
-abbrev pub without_session : List (ℕ × ℕ) → ℕ → List (ℕ × ℕ)
-without_session holds session = filter (λ e. not (e.0 == session)) holds
-
--- n holds of the session, where none means no entry
-abbrev pub with_holds : Copy → ℕ → ℕ → Copy
-with_holds copy session n =
-    record copy { holds = if n == 0 then without_session copy.holds session else put nat_cmp session n copy.holds }
+    (sending (add_location id ∷ []) (done (set_copy store id (marked mark.sealed copy)))))
 
 -- Get of a sealed copy: a hold, and it is most recently used
 abbrev pub get_sealed : Shape → ℕ → ObjectId → Copy → Change
 get_sealed store session id copy =
     checked store (hold_checks copy)
-    (record (replied (set_copy store id (with_holds copy session (holds_of copy session + 1))) (reply.Got copy.length)) { used = Some id })
+    (record (replied (set_copy store id (marked (mark.held session (holds_of copy session + 1)) copy)) (reply.Got copy.length)) { used = Some id })
 
 -- the extent is taken again, and its bytes are asked for
 abbrev pub restoring : ObjectId → Copy → Shape → ℕ → Change
 restoring id copy store offset =
-    refused (asked false (set_copy store id (record copy { state = Restoring; offset = Some offset })) id) Pending
+    refused (asked false (set_copy store id (marked (mark.restoring offset) copy)) id) Pending
 
 -- a copy that is away is read back, if there is room for it
 abbrev pub restore : List ObjectId → Shape → ObjectId → Copy → Change
@@ -207,28 +200,15 @@ fetch_refusal fetch_fault.Damaged = Damaged
 abbrev pub get_away : List ObjectId → Shape → ObjectId → Copy → Change
 get_away order store id copy =
     elim copy.fault [
-      | Some fault ↦ refused (set_copy store id (record copy { fault = None })) (refusal_of fault)
+      | Some fault ↦ refused (set_copy store id (marked mark.fault_told copy)) (refusal_of fault)
       | None ↦ restore order store id copy
     ]
-
--- the fetch is in this phase
-abbrev pub set_phase : Shape → ObjectId → Copy → Fetch → Phase → Shape
-set_phase store id copy fetch phase = set_copy store id (record copy { fetch = Some (record fetch { phase = phase }) })
-
--- the numbers from start on, n of them
-abbrev pub counted : ℕ → ℕ → List ℕ
-counted start zero = []
-counted start (suc n) = start ∷ counted (start + 1) n
-
--- how many chunks n bytes have
-abbrev pub chunk_count : ℕ → ℕ
-chunk_count n = (n + (chunk_size - 1)) / chunk_size
 
 -- the extent is taken, and all chunks are asked for
 abbrev pub begin_pull : ObjectId → Copy → Fetch → ℕ → Shape → ℕ → Change
 begin_pull id copy fetch source store offset =
     sending (pull id ∷ [])
-    (refused (set_phase store id (record copy { offset = Some offset }) fetch (pulling source (counted 0 (chunk_count copy.length)))) Pending)
+    (refused (set_copy store id (marked (mark.pulled fetch offset source) copy)) Pending)
 
 -- Get of a copy that is on its way: its fetch goes one step on, or what it came to is told
 abbrev pub get_fetching : List ObjectId → Shape → ObjectId → Copy → Fetch → Phase → Change
@@ -299,7 +279,7 @@ abbrev pub release : Shape → ℕ → ObjectId → Change
 release store session id =
     needing store (at store.copies id) Absent (λ copy.
     checked store (release_checks copy session)
-    (done (settled (set_copy store id (with_holds copy session (holds_of copy session - 1))) id)))
+    (done (settled (set_copy store id (marked (mark.held session (holds_of copy session - 1)) copy)) id)))
 
 -- the copy is set, and doomed if it is out of scope
 abbrev pub scoped : Shape → ObjectId → Copy → Change
@@ -310,7 +290,7 @@ abbrev pub unpin : Shape → ObjectId → TaskNo → Change
 unpin store id task =
     needing store (visible store id) Absent (λ copy.
     checked store (unpin_checks copy (same_task task id.task))
-    (scoped store id (record copy { pinned = false })))
+    (scoped store id (marked mark.unpinned copy)))
 
 -- Borrow: the task refers to the object
 abbrev pub borrow : Shape → ObjectId → TaskNo → Change
@@ -318,17 +298,14 @@ borrow store id task =
     checked store ((has_ended store id.task || has_ended store task, Gone) ∷ [])
     (needing store (visible store id) Absent (λ copy.
     checked store (borrow_checks copy task)
-    (done (set_copy store id (record copy { borrowers = copy.borrowers ++ task ∷ [] })))))
-
-abbrev pub without_borrower : Copy → TaskNo → Copy
-without_borrower copy task = record copy { borrowers = filter (λ t. not (same_task task t)) copy.borrowers }
+    (done (set_copy store id (marked (mark.borrowed task) copy)))))
 
 -- GiveUp: the task refers to it no longer
 abbrev pub give_up : Shape → ObjectId → TaskNo → Change
 give_up store id task =
     needing store (visible store id) Absent (λ copy.
     checked store (give_up_checks copy task)
-    (scoped store id (without_borrower copy task)))
+    (scoped store id (marked (mark.given_up task) copy)))
 
 -- Delete: the copy is doomed, whoever refers to it
 abbrev pub delete : Shape → ObjectId → Change
@@ -347,8 +324,8 @@ at_each f ids c = fold (λ before id. then_change before (λ store. f store id))
 abbrev pub give_up_one : TaskNo → Shape → ObjectId → Change
 give_up_one task store id =
     option_map_or (λ copy.
-    if copy.doomed then done (set_copy store id (without_borrower copy task)) else
-    (if has_borrower copy task then scoped store id (without_borrower copy task) else done store)) (at store.copies id) (done store)
+    if copy.doomed then done (set_copy store id (marked (mark.given_up task) copy)) else
+    (if has_borrower copy task then scoped store id (marked (mark.given_up task) copy) else done store)) (at store.copies id) (done store)
 
 -- the ids of the task's objects
 abbrev pub of_task : TaskNo → List ObjectId → List ObjectId
@@ -445,7 +422,7 @@ usage store = replied store (reply.Usage (usage_of store))
 -- the session's holds on one copy go
 abbrev pub leave_one : ℕ → Shape → ObjectId → Change
 leave_one session store id =
-    option_map_or (λ copy. done (settled (set_copy store id (with_holds copy session 0)) id)) (at store.copies id) (done store)
+    option_map_or (λ copy. done (settled (set_copy store id (marked (mark.held session 0) copy)) id)) (at store.copies id) (done store)
 
 -- Leave: all its holds go
 abbrev pub leave : Shape → ℕ → Change

@@ -16,14 +16,15 @@ use Rattle.private_store.specs.declared.inputs.ChunkVerdict.{ChunkVerdict}
 use Rattle.private_store.specs.declared.inputs.ChunkVerdict.TheVariants as chunk
 use Rattle.private_store.specs.rules.Limits.{is_quota}
 use Rattle.private_store.specs.declared.faults.FetchFault.{FetchFault}
-use Rattle.private_store.specs.declared.faults.Fault.TheVariants as restore_fault
 use Rattle.private_store.specs.declared.faults.FetchFault.TheVariants as fetch_fault
 use Rattle.private_store.specs.rules.Tables.{at, with_entry, without_entry}
-use Rattle.private_store.specs.rules.Shape.{Copy, Shape, Change, WorkInFlight, not_begun, live, ended, Fetch, locating, sized, pulling, failed, GrantTaken, GrantGiven, Seen, add_location, remove_source, end_job, chunks, not_here, unbegun}
+use Rattle.private_store.specs.rules.Shape.{Copy, Shape, Change, WorkInFlight, not_begun, live, ended, Fetch, locating, pulling, GrantTaken, GrantGiven, Seen, add_location, remove_source, end_job, chunks, not_here, unbegun}
+use Rattle.private_store.specs.rules.Marks.{marked, read_mark}
+use Rattle.private_store.specs.rules.Marks as mark
 use Rattle.private_store.specs.rules.Copies.{visible, fits_quota}
 use Rattle.private_store.specs.rules.Room.{set_copy}
 use Rattle.private_store.specs.rules.Change.{refused, done, checked, needing, sending, erasing, settled}
-use Rattle.private_store.specs.rules.Commands.{set_phase, restore}
+use Rattle.private_store.specs.rules.Commands.{restore}
 
 -- ---- the operator
 
@@ -63,14 +64,8 @@ without_work store number = record store { works = filter (λ work. not (work.nu
 abbrev pub written : Shape → WorkInFlight → Copy → WorkVerdict → Change
 written store w copy work.Failed = erasing store (done (settled (record store { spill_failed = true }) w.id))
 written store w copy _ =
-    let backed = set_copy store w.id (record copy { backed = Some w.number }) in
+    let backed = set_copy store w.id (marked (mark.backed w.number) copy) in
     erasing backed (done (settled backed w.id))
-
--- the copy when its read is answered
-abbrev pub read_back : Copy → WorkVerdict → Copy
-read_back copy work.Fine = record copy { state = Sealed }
-read_back copy work.Failed = record copy { state = Away; offset = None; fault = Some restore_fault.DeviceFailed }
-read_back copy work.Damaged = record copy { state = Away; offset = None; fault = Some restore_fault.Damaged }
 
 -- a work ends
 abbrev pub answer : Shape → ℕ → WorkVerdict → Change
@@ -79,7 +74,7 @@ answer store number verdict =
     needing store (at store.copies w.id) Stale (λ copy.
     let rest = without_work store number in
     if w.writes then written rest w copy verdict
-    else erasing rest (done (settled (set_copy rest w.id (read_back copy verdict)) w.id))))
+    else erasing rest (done (settled (set_copy rest w.id (marked (read_mark verdict) copy)) w.id))))
 
 -- ---- messages to the fetching side
 
@@ -92,30 +87,25 @@ fetch_of store id number =
 abbrev pub with_fetch : Shape → ObjectId → ℕ → (Copy → Fetch → Change) → Change
 with_fetch store id number f = option_map_or (λ p. f p.0 p.1) (fetch_of store id number) (done store)
 
--- the fetch has a source and a length, or there is no copy anywhere
-abbrev pub located_copy : Copy → Fetch → Option Source → Copy
-located_copy copy fetch (Some source) = record copy { length = source.length; fetch = Some (record fetch { phase = sized source.node }) }
-located_copy copy fetch None = record copy { fetch = Some (record fetch { phase = failed fetch_fault.Absent }) }
-
 -- the directory's answer, which counts while the source isn't known
 abbrev pub located : Shape → ObjectId → ℕ → Option Source → Change
 located store id number source =
     with_fetch store id number (λ copy fetch. elim fetch.phase [
-      | locating ↦ done (set_copy store id (located_copy copy fetch source))
+      | locating ↦ done (set_copy store id (marked (mark.located fetch source) copy))
       | _ ↦ done store
     ])
 
 -- the extent is given back, and the next Get answers the refusal
 abbrev pub fetch_failed : Shape → ObjectId → Copy → Fetch → FetchFault → Shape
-fetch_failed store id copy fetch response = set_phase store id (record copy { offset = None }) fetch (failed response)
+fetch_failed store id copy fetch response = set_copy store id (marked (mark.fetch_failed fetch response) copy)
 
 -- a chunk, and what is missing after it: the last one seals the copy, or shows that it is damaged
 abbrev pub chunk_taken : Shape → ObjectId → Copy → Fetch → ℕ → List ℕ → ChunkVerdict → Change
 chunk_taken store id copy fetch source missing chunk.Ignored = done store
-chunk_taken store id copy fetch source (i ∷ missing) _ = done (set_phase store id copy fetch (pulling source (i ∷ missing)))
+chunk_taken store id copy fetch source (i ∷ missing) _ = done (set_copy store id (marked (mark.lacking fetch source (i ∷ missing)) copy))
 chunk_taken store id copy fetch source [] chunk.Damaged = done (fetch_failed store id copy fetch fetch_fault.Damaged)
 chunk_taken store id copy fetch source [] _ =
-    sending (add_location id ∷ []) (done (set_copy store id (record copy { state = Sealed; fetch = None })))
+    sending (add_location id ∷ []) (done (set_copy store id (marked mark.brought copy)))
 
 abbrev pub is_missing : List ℕ → ℕ → Bool
 is_missing missing index = list_any (λ i. i == index) missing

@@ -3,13 +3,14 @@
 use Rattle.std.specs.Prelude.{ℕ, ◌+◌, ◌-◌, ◌==◌, nat_lt, Bool, true, false, not, if◌then◌else◌, List, [], ◌∷◌, ◌++◌, length, take, map, filter, filter_map, fold, sum, Option, Some, None, is_some, Result, Ok, Err}
 use Rattle.std.specs.Option.{option_map_or}
 use Rattle.obj_id.specs.declared.ids.ObjectId.{ObjectId}
-use Rattle.obj_id.specs.declared.commands.CopyState.TheVariants.{Away}
 use Rattle.obj_id.specs.declared.refusals.Refusal.{Refusal}
 use Rattle.obj_id.specs.declared.refusals.Refusal.TheVariants.{Pending, Full, Busy, DeviceFailed, TooMany}
 use Rattle.private_store.specs.rules.Limits.{most_works, has_numbers}
 use Rattle.private_store.specs.rules.Tables.{at, with_entry, without_entry, is_among}
 use Rattle.private_store.specs.rules.Extents.{rounded, first}
 use Rattle.private_store.specs.rules.Shape.{Copy, Shape, Sending, remove_location}
+use Rattle.private_store.specs.rules.Marks.{marked}
+use Rattle.private_store.specs.rules.Marks as mark
 use Rattle.obj_id.specs.Kinds.{is_primary}
 use Rattle.private_store.specs.rules.Copies.{extent_of, is_evictable, is_draining, is_spillable, device_used}
 
@@ -93,7 +94,7 @@ drop_copy store id = record store { copies = without_entry store.copies id }
 -- a secondary goes, and a backed primary is then away
 abbrev pub evicted : Shape → ObjectId → Shape
 evicted store id =
-    option_map_or (λ copy. if is_primary copy.kind then set_copy store id (record copy { state = Away; offset = None }) else drop_copy store id) (at store.copies id) store
+    option_map_or (λ copy. if is_primary copy.kind then set_copy store id (marked mark.evicted copy) else drop_copy store id) (at store.copies id) store
 
 -- a secondary that goes is told of; a primary that is away can be pulled still
 abbrev pub eviction_notice : Shape → ObjectId → Option Sending

@@ -6,8 +6,8 @@ use Rattle.obj_id.specs.declared.refusals.Refusal.TheVariants.{Pending}
 use Rattle.job_region.specs.Region.{extents_of}
 use Rattle.private_store.specs.declared.inputs.Input.TheVariants as input
 use Rattle.private_store.specs.rules.Extents.{first, is_size}
-use Rattle.private_store.specs.rules.Commands.{counted, chunk_count}
 use Rattle.private_store.specs.laws.Invariants.{is_fetching}
+use Rattle.private_store.specs.rules.Marks.{chunk_count, counted}
 use Rattle.private_store.specs.rules.Private.{Post}
 use Rattle.private_store.specs.rules.Room.{make_room}
 use Rattle.private_store.specs.rules.Shape.{sized}

@@ -1,7 +1,7 @@
 use Rattle.std.proofs.Common.{◌∙◌, ap, not, rules}
 use Rattle.std.proofs.lemmas.Fn.{filter_same}
 use Rattle.obj_id.specs.Ids.{same_task}
-use Rattle.private_store.specs.rules.Commands.{without_borrower}
+use Rattle.private_store.specs.rules.Marks.{without_borrower}
 use Rattle.plain_store.specs.contracts.copies.PlainCopy.{the_view}
 use Rattle.plain_store.proofs.Keyed.{with_borrowers}
 use Rattle.plain_store.proofs.copies.PlainCopy.remove_borrower.Goals as goal

@@ -1,6 +1,6 @@
 use Rattle.std.proofs.Common.{◌==◌, ◌∙◌, ap, not, rules}
 use Rattle.std.proofs.lemmas.Fn.{filter_same}
-use Rattle.private_store.specs.rules.Commands.{with_holds}
+use Rattle.private_store.specs.rules.Marks.{with_holds}
 use Rattle.plain_store.specs.contracts.copies.PlainCopy.{the_view}
 use Rattle.plain_store.proofs.Keyed.{with_all_holds}
 use Rattle.plain_store.proofs.copies.PlainCopy.remove_holds.Goals as goal
