@@ -4,13 +4,14 @@ use Rattle.std.specs.Option.{option_map_or}
 use Rattle.std.specs.List.{list_all}
 use Rattle.std.specs.Map.{set_value}
 use Rattle.obj_id.specs.declared.ids.ObjectId.{ObjectId}
-use Rattle.obj_id.specs.declared.commands.CopyState.TheVariants.{Sealed}
 use Rattle.obj_id.specs.declared.messages.Location.{Location}
 use Rattle.obj_id.specs.declared.works.Extent.{Extent}
 use Rattle.private_store.specs.declared.faults.FetchFault.{FetchFault}
 use Rattle.private_store.specs.declared.faults.FetchFault.TheVariants.{Absent}
 use Rattle.private_store.specs.rules.Shape.{Fetch, Phase, sized, failed}
 use Rattle.private_store.specs.laws.Invariants.{is_fetching}
+use Rattle.private_store.specs.rules.Marks.{marked}
+use Rattle.private_store.specs.rules.Marks as mark
 use Rattle.private_store.specs.rules.Contents.{is_locating, entry_elsewhere, overwritten}
 use Rattle.fetch_core.specs.Fetching.{Fetching, missing_of, is_pulled_from, fills_one, fetch_chunk_taken}
 use Rattle.job_region.specs.Region.{without, region_bytes_at}
@@ -68,7 +69,7 @@ after_chunk number from index n kept =
 
 -- all its bytes are there
 abbrev pub after_last_chunk : CopyView → CopyView
-after_last_chunk kept = record kept { copy = record kept.copy { state = Sealed; fetch = None } }
+after_last_chunk kept = record kept { copy = marked mark.brought kept.copy }
 
 -- the row with bytes written over an extent of its window, from an offset in it on
 abbrev pub row_written : Row → Extent → ℕ → List ℕ → Row

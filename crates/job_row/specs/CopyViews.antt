@@ -12,7 +12,8 @@ use Rattle.obj_id.specs.Kinds.{is_primary}
 use Rattle.obj_id.specs.declared.ids.ObjectId.{ObjectId}
 use Rattle.obj_id.specs.declared.ids.TaskNo.{TaskNo}
 use Rattle.private_store.specs.rules.Tables.{ById, at}
-use Rattle.private_store.specs.rules.Marks.{chunk_count, counted, with_holds, without_borrower}
+use Rattle.private_store.specs.rules.Marks.{chunk_count, counted, marked}
+use Rattle.private_store.specs.rules.Marks as mark
 use Rattle.private_store.specs.rules.Copies.{is_sealed, is_away, in_scope, was_sealed}
 use Rattle.private_store.specs.rules.Commands.{new_copy, fetched_copy, holds_of}
 use Rattle.private_store.specs.rules.Contents.{is_sized, same_digest, no_digest}
@@ -110,27 +111,27 @@ was_sealed_with n digest kept = was_sealed kept.copy.state && kept.copy.length =
 -- ---- the changes
 
 abbrev pub after_hold : ℕ → CopyView → CopyView
-after_hold session kept = record kept { copy = with_holds kept.copy session (holds_of kept.copy session + 1) }
+after_hold session kept = record kept { copy = marked (mark.held session (holds_of kept.copy session + 1)) kept.copy }
 
 abbrev pub after_release : ℕ → CopyView → CopyView
-after_release session kept = record kept { copy = with_holds kept.copy session (holds_of kept.copy session - 1) }
+after_release session kept = record kept { copy = marked (mark.held session (holds_of kept.copy session - 1)) kept.copy }
 
 abbrev pub after_leave : ℕ → CopyView → CopyView
-after_leave session kept = record kept { copy = with_holds kept.copy session 0 }
+after_leave session kept = record kept { copy = marked (mark.held session 0) kept.copy }
 
 abbrev pub after_seal : Digest → CopyView → CopyView
-after_seal digest kept = record kept { copy = record kept.copy { state = Sealed }; digest = Some digest }
+after_seal digest kept = record kept { copy = marked mark.sealed kept.copy; digest = Some digest }
 
 -- its fault was answered
 abbrev pub after_fault_reported : CopyView → CopyView
-after_fault_reported kept = record kept { copy = record kept.copy { fault = None } }
+after_fault_reported kept = record kept { copy = marked mark.fault_told kept.copy }
 
 abbrev pub after_spill_begun : CopyView → CopyView
 after_spill_begun kept = record kept { working = Some Write }
 
 -- it is removed as soon as nothing keeps it
 abbrev pub after_doom : CopyView → CopyView
-after_doom kept = record kept { copy = record kept.copy { doomed = true } }
+after_doom kept = record kept { copy = marked mark.doomed kept.copy }
 
 -- grants of it stand that the job gave, or none
 abbrev pub with_granted : Bool → CopyView → CopyView
@@ -145,13 +146,13 @@ abbrev pub view_in_scope : CopyView → CopyView
 view_in_scope kept = if in_scope kept.copy then kept else after_doom kept
 
 abbrev pub after_unpin : CopyView → CopyView
-after_unpin kept = view_in_scope (record kept { copy = record kept.copy { pinned = false } })
+after_unpin kept = view_in_scope (record kept { copy = marked mark.unpinned kept.copy })
 
 abbrev pub after_borrow : TaskNo → CopyView → CopyView
-after_borrow task kept = record kept { copy = record kept.copy { borrowers = kept.copy.borrowers ++ task ∷ [] } }
+after_borrow task kept = record kept { copy = marked (mark.borrowed task) kept.copy }
 
 abbrev pub after_give_up : TaskNo → CopyView → CopyView
-after_give_up task kept = view_in_scope (record kept { copy = without_borrower kept.copy task })
+after_give_up task kept = view_in_scope (record kept { copy = marked (mark.given_up task) kept.copy })
 
 -- its write under this number ended: it is on the device, unless that failed
 abbrev pub after_write : ℕ → Bool → CopyView → CopyView
@@ -160,11 +161,11 @@ after_write number failed kept =
 
 -- its read ended, and its bytes are in their place
 abbrev pub after_restore : CopyView → CopyView
-after_restore kept = record kept { copy = record kept.copy { state = Sealed }; working = None }
+after_restore kept = record kept { copy = marked mark.restored kept.copy; working = None }
 
 -- its read ended without its bytes: it is away again, with a fault to tell of
 abbrev pub after_failed_restore : Fault → CopyView → CopyView
-after_failed_restore fault kept = record kept { copy = record kept.copy { state = Away; offset = None; fault = Some fault }; working = None }
+after_failed_restore fault kept = record kept { copy = marked (mark.lost fault) kept.copy; working = None }
 
 -- where it can be
 abbrev pub spill_begun_if : CopyView → CopyView
@@ -191,7 +192,7 @@ after_pull offset kept =
 -- it has a place again, and its bytes are read back from the device
 abbrev pub after_restore_begun : ℕ → CopyView → CopyView
 after_restore_begun offset kept =
-    record kept { copy = record kept.copy { state = Restoring; offset = Some offset }; working = Some Read }
+    record kept { copy = marked (mark.restoring offset) kept.copy; working = Some Read }
 
 -- it has a place, and what it waits for is asked for
 abbrev pub after_placing : Awaited → ℕ → CopyView → CopyView

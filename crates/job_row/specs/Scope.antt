@@ -5,6 +5,8 @@ use Rattle.obj_id.specs.declared.ids.ObjectId.{ObjectId}
 use Rattle.obj_id.specs.declared.messages.DirectoryMessage.{DirectoryMessage}
 use Rattle.obj_id.specs.declared.messages.DirectoryMessage.TheVariants.{RemoveLocation, Free}
 use Rattle.obj_id.specs.Kinds.{is_primary}
+use Rattle.private_store.specs.rules.Marks.{marked}
+use Rattle.private_store.specs.rules.Marks as mark
 use Rattle.private_store.specs.rules.Copies.{in_scope, was_sealed}
 use Rattle.private_store.specs.rules.Private.{Post, to_directory}
 use Rattle.private_store.specs.rules.Tables.{ById, at}
@@ -23,7 +25,7 @@ removal_notice_at node copies id dooms = if dooms then option_and_then (removal_
 
 -- whether the copy of the id is in scope if its owner task keeps it no longer
 abbrev pub stays_unpinned : ById CopyView → ObjectId → Bool
-stays_unpinned copies id = option_map_or (λ kept. in_scope (record kept.copy { pinned = false })) (at copies id) false
+stays_unpinned copies id = option_map_or (λ kept. in_scope (marked mark.unpinned kept.copy)) (at copies id) false
 
 abbrev pub notice_posts : Option DirectoryMessage → List Post
 notice_posts o = option_map_or to_directory o []
