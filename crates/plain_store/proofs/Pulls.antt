@@ -7,7 +7,8 @@ use Rattle.private_store.specs.rules.Tables.{at}
 use Rattle.private_store.specs.rules.Shape.{Copy, Fetch, Shape, sized, pulling}
 use Rattle.private_store.specs.rules.Replay.{ReplayState}
 use Rattle.private_store.specs.laws.Listed.{IsReplayStateKept}
-use Rattle.private_store.specs.rules.Marks.{chunk_count, counted}
+use Rattle.private_store.specs.rules.Marks.{counted, marked}
+use Rattle.private_store.specs.rules.Marks as mark
 use Rattle.private_store.specs.rules.Copies.{is_sealed}
 use Rattle.private_store.specs.rules.Events.{is_live}
 use Rattle.private_store.specs.rules.Room.{make_room, set_copy}
@@ -42,7 +43,7 @@ module _ (replay_state : ReplayState) (kept : IsReplayStateKept replay_state) (l
   by_fetch fetch e =
       let left = (make_room replay_state.order replay_state.shape copy.length).shape in
       ap (λ o. option_map_or (λ c. set_copy left id (pulled_copy c source offset)) o left) (room_leaves replay_state kept live copy.length offset id copy room there unsealed)
-      ∙ ap (λ o. set_copy left id (option_map_or (λ f. record copy { offset = Some offset; fetch = Some (record f { phase = pulling source (counted 0 (chunk_count copy.length)) }) }) o copy)) e
+      ∙ ap (λ o. set_copy left id (option_map_or (λ f. marked (mark.pulled f offset source) copy) o copy)) e
       ∙ sym (begin_pull-shape id copy fetch source left offset)
       ∙ sym (in_room-ok (make_room replay_state.order replay_state.shape copy.length) (begin_pull id copy fetch source) offset room).shape
       ∙ sym (ap (λ c. c.shape) (checked-passed replay_state.shape ((not (is_length replay_state.shape copy.length), BadSize) ∷ []) (in_room (make_room replay_state.order replay_state.shape copy.length) (begin_pull id copy fetch source))
