@@ -15,7 +15,7 @@ use Rattle.private_store.specs.rules.Change.{refused, erasing, in_room}
 use Rattle.private_store.specs.rules.Commands.{is_length, get_fetching}
 use Rattle.private_store.specs.rules.Contents.{Contents, View, judge, is_sized, keeps_digest, no_digest}
 use Rattle.private_store.specs.rules.Private.{Post, to_peer, pull_of, pull_posts, view_after}
-use Rattle.private_store.specs.rules.Room.{make_room}
+use Rattle.private_store.specs.rules.Room.{make_room, set_copy}
 use Rattle.private_store.specs.rules.Shape.{Copy, Shape, Change, Fetch, Phase, locating, sized, pulling, failed, pull, remove_location}
 use Rattle.private_store.specs.rules.Step.{step}
 use Rattle.store_facts.proofs.Checks.{checked-false, checked-nil}
