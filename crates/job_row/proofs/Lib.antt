@@ -3,6 +3,7 @@ mod CopyTables
 mod Places
 mod Rising
 mod Holding
+mod Indexed
 mod MarkedPlaces
 mod Totals
 mod Sums
@@ -17,7 +18,7 @@ mod AwaitedSources
 mod FreedPlaces
 mod LendChecks
 mod Members
-mod Settled
+mod Settling
 mod Ungranting
 mod Waiting
 pub mod ForCallers

@@ -1,5 +1,5 @@
 -- A row without one of its copies, and a copy that nothing keeps any more.
-use Rattle.std.specs.Prelude.{ℕ, Bool, false, ◌&&◌, if◌then◌else◌, List, [], ◌∷◌, ◌++◌, option_to_list}
+use Rattle.std.specs.Prelude.{ℕ, Bool, false, ◌&&◌, if◌then◌else◌, List, [], ◌∷◌, ◌++◌, Option, None, option_to_list}
 use Rattle.std.specs.Option.{option_map, option_map_or}
 use Rattle.obj_id.specs.declared.ids.ObjectId.{ObjectId}
 use Rattle.obj_id.specs.declared.works.DeviceKey.{DeviceKey}
@@ -30,6 +30,14 @@ is_over kept = kept.copy.doomed && is_idle_view kept
 -- whether the copy of an id is; not if there is none
 abbrev pub is_over_at : ById CopyView → ObjectId → Bool
 is_over_at copies id = option_map_or is_over (at copies id) false
+
+-- the copy of an id, if it is to be removed so
+abbrev pub over_copy : ById CopyView → ObjectId → Option CopyView
+over_copy copies id = if is_over_at copies id then at copies id else None
+
+-- the copies without it
+abbrev pub settled_copies : ById CopyView → ObjectId → ById CopyView
+settled_copies copies id = if is_over_at copies id then without_entry copies id else copies
 
 -- what is told of a copy after a change of it
 abbrev pub after_change : CopyView → AfterChange

@@ -11,7 +11,7 @@ ghost use Rattle.job_row.specs.Evicting.{has_secondary, evicted_one, all_evicted
 ghost use Rattle.obj_id.specs.declared.refusals.Refusal.{Refusal};
 ghost use Rattle.obj_id.specs.declared.refusals.Refusal.TheVariants.{NoMemory};
 ghost use Rattle.job_row.specs.Checks.{release_check, borrow_check};
-ghost use Rattle.job_row.specs.Dropping.{is_over_at};
+ghost use Rattle.job_row.specs.Dropping.{is_over_at, settled_copies, over_copy};
 ghost use Rattle.job_row.specs.Scope.{removal_notice_at};
 ghost use Rattle.job_row.specs.EndingTasks.{copies_ungranted, is_doomed_at, borrows_at};
 ghost use Rattle.job_row.specs.Holding.{IsHeldAt, IsUnreadyAt, IsHoldRefusedAt};
@@ -24,7 +24,7 @@ ghost use Rattle.lru_evictor.specs.Facts.{info_at};
 ghost use Rattle.lru_evictor.specs.Orders.{order_ids};
 ghost use Rattle.job_row.specs.Arriving.{after_located, asks, fills, lacks_only};
 
-use crate::copy::{AfterChange, ChunkFit, Held, RowCopy};
+use crate::copy::{AfterChange, ChunkFit, Held, RowCopy, Settled};
 use crate::footprint::{Footprint, to_u64};
 use crate::marks::Mark;
 use indexmap::IndexMap;
@@ -228,6 +228,46 @@ impl Copies {
         ensures over { result.over ≡ is_over_at self.new id.now }
     {
         self.update(id, move |copy| copy.apply(mark))
+    }
+
+    /// This happens to the copy, if it is there, and it is removed if nothing keeps it then. Answers what the copy is then. Looks it up
+    /// once, and takes no memory.
+    pub fn settle(&mut self, id: &ObjectId, mark: Mark) -> Settled
+        requires { (k : CopyView) → at self.old id.now ≡ Some k → CanTake mark k }
+        ensures copies { self.new ≡ settled_copies (changed (marked_by mark) self.old id.now) id.now }
+        ensures eviction_info { result.eviction_info ≡ info_at (facts_in self.new) id.now }
+        ensures removed { result.removed ≡ over_copy (changed (marked_by mark) self.old id.now) id.now }
+    {
+        // as for `insert`
+        let _count = self.by_id.len();
+        let Some(index) = self.by_id.get_index_of(id) else {
+            return Settled {
+                eviction_info: EvictionInfo::nowhere(),
+                removed: None,
+            };
+        };
+        let Some(copy) = self.by_id.get_index_mut(index) else {
+            unreachable!()
+        };
+        let before = Footprint::by(copy);
+        copy.apply(mark);
+        let after = Footprint::by(copy);
+        let response = copy.after_change();
+        self.taken = self.taken.exchanged(before, after);
+        if !response.over {
+            return Settled {
+                eviction_info: response.eviction_info,
+                removed: None,
+            };
+        }
+        let Some((_id, copy)) = self.by_id.swap_remove_index(index) else {
+            unreachable!()
+        };
+        self.taken = self.taken.exchanged(after, Footprint::nothing());
+        Settled {
+            eviction_info: EvictionInfo::nowhere(),
+            removed: Some(copy),
+        }
     }
 
     /// Whether there is a copy of the id.

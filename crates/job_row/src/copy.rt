@@ -88,6 +88,15 @@ pub struct AfterChange {
     pub over: bool,
 }
 
+/// A copy after a change of it, where one that nothing keeps is removed.
+#[derive(Drop)]
+pub struct Settled {
+    /// Where it lies, and the classes of victims that it is in now; nowhere and in none if it was removed.
+    pub eviction_info: EvictionInfo,
+    /// The copy, if it was removed.
+    pub removed: Option<RowCopy>,
+}
+
 /// What a chunk that came is to a copy.
 #[derive(Clone, Copy, Drop)]
 pub struct ChunkFit {

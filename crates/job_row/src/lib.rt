@@ -14,7 +14,7 @@ mod row;
 mod syncing;
 
 pub use copies::Copies;
-pub use copy::{AfterChange, Awaited, ChunkFit, Held, RowCopy};
+pub use copy::{AfterChange, Awaited, ChunkFit, Held, RowCopy, Settled};
 pub use lent::Lent;
 pub use marks::Mark;
 pub use placement::Placement;

@@ -635,6 +635,28 @@ impl JobRow {
         Some(DeviceKey { job, number })
     }
 
+    /// This happens to the copy, if it is there, and it lies where it lay; it is removed if nothing keeps it then. Answers the device key
+    /// that is then to be erased, if it has one. Looks the copy up once, and takes no memory.
+    pub fn apply_and_settle(&mut self, id: &ObjectId, mark: Mark) -> Option<DeviceKey>
+        requires lies { lies_still mark ≡ true }
+        requires can { (k : CopyView) → at self.old.copies id.now ≡ Some k → CanTake mark k }
+        ensures row { self.new ≡ settled_row (with_copy (marked_by mark) self.old id.now) id.now }
+        ensures keys { option_to_list result ≡ keys_settled (with_copy (marked_by mark) self.old id.now) id.now }
+        ensures placed { ArePlaced self.old.window.placed (place_of (changed (marked_by mark) self.old.copies id.now)) }
+    {
+        let job = self.job;
+        let settled = self.copies.settle(id, mark);
+        let Some(copy) = settled.removed else {
+            self.order.set_info(id, settled.eviction_info);
+            return None;
+        };
+        let gone = copy.extent();
+        self.window.give_back_all(gone.as_slice());
+        self.order.forget(*id);
+        let number = copy.backed()?;
+        Some(DeviceKey { job, number })
+    }
+
     /// The task borrows the copy, as the last one. `Absent`, also if it is doomed, `NotOwner`, `Exists`, `TooMany`,
     /// `NoMemory` last; a refusal changes nothing.
     pub fn borrow_copy(&mut self, id: &ObjectId, task: TaskNo) -> Result<(), Refusal>

@@ -27,7 +27,6 @@ ghost use Rattle.node_table.specs.Beside.{SharedTables, beside_of};
 ghost use Rattle.node_table.specs.EndedWorks.{ended_row};
 
 use crate::outcome::{Erase, RowOutcome};
-use crate::scope_commands::settle_after;
 use bytes::Bytes;
 use job_row::{JobRow, RowCopy};
 use obj_id::{
@@ -75,7 +74,8 @@ pub fn finish(
         Ok(asked) => {
             let verdict = end_work(row, &asked, answer);
             let over = row.copies().is_over(&asked.id);
-            let outcome = settle_after(row, &asked.id, over, ItemList::new(alloc));
+            let erased = row.settle(&asked.id, over);
+            let outcome = RowOutcome::done(ItemList::new(alloc), erased);
             Answered { outcome, verdict }
         }
     }

@@ -18,7 +18,6 @@ ghost use Rattle.node_table.specs.Shown.{IsShown, RowStep};
 ghost use Rattle.node_table.specs.Beside.{beside_of};
 
 use crate::outcome::RowOutcome;
-use crate::scope_commands::settle_after;
 use job_row::{JobRow, Lent, Mark};
 use obj_id::{ItemList, JobNo, ObjectId, Refusal, Reply};
 use std::alloc::Global;
@@ -86,8 +85,8 @@ pub fn withdraw(
     ensures reply { result.reply ≡ reply.Ok }
     ensures silent { result.messages ≡ [] }
 {
-    let after = row.apply(id, Mark::Granted(granted));
-    settle_after(row, id, after.over, ItemList::new(alloc))
+    let erased = row.apply_and_settle(id, Mark::Granted(granted));
+    RowOutcome::done(ItemList::new(alloc), erased)
 }
 
 /// The bytes of an object that the job granted, all of them, lent without a copy: none if it has no place.

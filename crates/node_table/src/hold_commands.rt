@@ -10,7 +10,6 @@ ghost use Rattle.node_table.specs.Shown.{IsShown, RowStep};
 ghost use Rattle.node_table.specs.Beside.{SharedTables};
 
 use crate::outcome::{Erase, RowOutcome};
-use crate::scope_commands::settle_after;
 use job_row::{JobRow, Mark};
 use obj_id::{DeviceKey, ItemList, ObjectId, OwnItem, Reply};
 use std::alloc::{AllocError, Global};
@@ -23,7 +22,7 @@ pub fn release(row: &mut JobRow, alloc: Global, session: u32, id: &ObjectId) -> 
     ensures silent { result.messages ≡ [] }
 {
     match row.release_copy(id, session) {
-        Ok(over) => settle_after(row, id, over, ItemList::new(alloc)),
+        Ok(over) => RowOutcome::done(ItemList::new(alloc), row.settle(id, over)),
         Err(refusal) => RowOutcome::only(alloc, Reply::Refused(refusal)),
     }
 }
@@ -65,8 +64,8 @@ fn leave_each(
 {
     let mut keys = Vec::with_capacity(alloc, items.len())?;
     for item in items {
-        let after = row.apply(&item.id, Mark::Left(session));
-        push_key(&mut keys, row.settle(&item.id, after.over));
+        let key = row.apply_and_settle(&item.id, Mark::Left(session));
+        push_key(&mut keys, key);
     }
     Ok(ItemList::from_vec(keys))
 }

@@ -1,5 +1,6 @@
 //! What a step of a row gives.
 ghost use Rattle.std.specs.Prelude.{◌≡◌, ◌∷◌, [], IfOk, option_to_list};
+ghost use Rattle.obj_id.specs.declared.commands.Reply.TheVariants as reply;
 ghost use Rattle.node_table.specs.Shown.{only as only_lem};
 ghost use Rattle.node_table.specs.Erased.{keys_of};
 ghost use Rattle.node_table.specs.Outcomes.{row_given_of};
@@ -47,6 +48,17 @@ impl RowOutcome {
             reply,
             messages: ItemList::new(alloc),
             erase: Erase::NoKey,
+        }
+    }
+
+    /// The answer Ok with these messages, and a key that is to be erased, or none. Takes no memory.
+    pub fn done(messages: ItemList<(Endpoint, Message)>, erased: Option<DeviceKey>) -> RowOutcome
+        ensures { row_given_of result ≡ record { reply = reply.Ok; posts = messages; erased = option_to_list erased } }
+    {
+        RowOutcome {
+            reply: Reply::Ok,
+            messages,
+            erase: Erase::of(erased),
         }
     }
 

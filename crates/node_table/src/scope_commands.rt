@@ -1,20 +1,17 @@
 //! The commands that say what keeps an object in scope: Unpin, Borrow, GiveUp and Delete.
 ghost use Rattle.std.specs.Prelude.{◌≡◌, ◌==◌, ◌||◌, ℕ, ◌≤◌, [], length, true, None, IfOk, OnErr};
 ghost use Rattle.obj_id.specs.declared.commands.Command.TheVariants as command;
-ghost use Rattle.obj_id.specs.declared.commands.Reply.TheVariants as reply;
 ghost use Rattle.private_store.specs.declared.inputs.Input.TheVariants as input;
 ghost use Rattle.private_store.specs.rules.Contents.{Contents};
 ghost use Rattle.private_store.specs.laws.Invariants.{is_remembered};
 ghost use Rattle.job_row.specs.Checks.{unpin_check as unpin_check_lem, row_borrow_check, give_up_check as give_up_check_lem, delete_check as delete_check_lem};
-ghost use Rattle.job_row.specs.Dropping.{is_over_at, settled_row, keys_settled};
 ghost use Rattle.node_table.specs.Outcomes.{row_given_of};
-ghost use Rattle.job_row.specs.Row.{place_of, ArePlaced};
 ghost use Rattle.node_table.specs.Shown.{IsShown, RowStep};
 ghost use Rattle.node_table.specs.Beside.{SharedTables};
 
-use crate::outcome::{Erase, RowOutcome};
+use crate::outcome::RowOutcome;
 use job_row::{JobRow, Mark};
-use obj_id::{Endpoint, ItemList, Message, ObjectId, Refusal, Reply, TaskNo};
+use obj_id::{ObjectId, Refusal, Reply, TaskNo};
 use std::alloc::{AllocError, Global};
 
 /// Unpin: the owner task keeps its primary no longer, which is doomed unless a task borrows it. `Absent`, `NotOwner`
@@ -38,8 +35,8 @@ pub fn unpin(
         Ok(message) => message,
     };
     let messages = RowOutcome::to_directory(alloc, message)?;
-    let after = row.apply(id, Mark::Unpinned);
-    Ok(settle_after(row, id, after.over, messages))
+    let erased = row.apply_and_settle(id, Mark::Unpinned);
+    Ok(RowOutcome::done(messages, erased))
 }
 
 /// Borrow: the task refers to the object, and keeps its primary. `Gone` if the object's task or this one has ended,
@@ -88,8 +85,8 @@ pub fn give_up(
         Ok(message) => message,
     };
     let messages = RowOutcome::to_directory(alloc, message)?;
-    let after = row.apply(id, Mark::GivenUp(task));
-    Ok(settle_after(row, id, after.over, messages))
+    let erased = row.apply_and_settle(id, Mark::GivenUp(task));
+    Ok(RowOutcome::done(messages, erased))
 }
 
 /// Delete: the copy is doomed, whoever refers to it, and removed once nothing keeps it. `Absent`, `Granted` if a
@@ -111,8 +108,8 @@ pub fn delete(
         Ok(message) => message,
     };
     let messages = RowOutcome::to_directory(alloc, message)?;
-    let after = row.apply(id, Mark::Doomed);
-    Ok(settle_after(row, id, after.over, messages))
+    let erased = row.apply_and_settle(id, Mark::Doomed);
+    Ok(RowOutcome::done(messages, erased))
 }
 
 /// Whether one of these tasks has ended here.
@@ -120,23 +117,4 @@ fn has_either_ended(row: &JobRow, one: TaskNo, other: TaskNo) -> bool
     ensures { result ≡ is_remembered row.now.ended_tasks one || is_remembered row.now.ended_tasks other }
 {
     row.has_ended(one) || row.has_ended(other)
-}
-
-/// The answer Ok with these messages, and the copy is removed if it is over, which the caller knows.
-pub(crate) fn settle_after(
-    row: &mut JobRow,
-    id: &ObjectId,
-    over: bool,
-    messages: ItemList<(Endpoint, Message)>,
-) -> RowOutcome
-    requires { over ≡ is_over_at row.old.copies id.now }
-    ensures row { row.new ≡ settled_row row.old id.now }
-    ensures given { row_given_of result ≡ record { reply = reply.Ok; posts = messages; erased = keys_settled row.old id.now } }
-    ensures placed { ArePlaced row.old.window.placed (place_of row.old.copies) }
-{
-    RowOutcome {
-        reply: Reply::Ok,
-        messages,
-        erase: Erase::of(row.settle(id, over)),
-    }
 }

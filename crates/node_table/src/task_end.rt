@@ -163,8 +163,7 @@ fn doom_one(
         messages,
         copies.removal_notice(node, id, !copies.is_doomed(id)),
     );
-    let after = row.apply(id, Mark::Doomed);
-    row.settle(id, after.over);
+    row.apply_and_settle(id, Mark::Doomed);
 }
 
 /// The task's borrow of the copy is given up, if it has one: a copy that isn't in scope then is doomed, and removed
@@ -191,8 +190,7 @@ fn give_up_one(
     }
     let stays = row.copies().in_scope_without(id, task);
     push_message(messages, row.copies().removal_notice(node, id, !stays));
-    let after = row.apply(id, Mark::GivenUp(task));
-    row.settle(id, after.over);
+    row.apply_and_settle(id, Mark::GivenUp(task));
 }
 
 /// The message to the directory comes last, if there is one. There is room for it.

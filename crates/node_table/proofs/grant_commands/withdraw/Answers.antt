@@ -1,12 +1,11 @@
-use Rattle.std.proofs.Common.{[], ap, sym, subst, ◌∙◌}
+use Rattle.std.proofs.Common.{[], sym, subst, ◌∙◌}
 use Rattle.obj_id.specs.declared.commands.Command.TheVariants as command
 use Rattle.obj_id.specs.declared.commands.Reply.TheVariants as reply
 use Rattle.private_store.specs.declared.inputs.Input.TheVariants as input
 use Rattle.private_store.specs.rules.Grants.{is_withdrawn}
-use Rattle.job_row.specs.Dropping.{settled_row, keys_settled}
+use Rattle.job_row.specs.Dropping.{keys_settled}
 use Rattle.job_row.specs.CopyViews.{with_granted}
 use Rattle.node_table.specs.Notes.{beside_rest}
-use Rattle.job_row.specs.Row.{place_of, ArePlaced}
 use Rattle.job_row.specs.Scope.{with_copy}
 use Rattle.node_table.specs.Shown.{RowStep}
 use Rattle.node_table.proofs.Granting.{withdraw_done}
@@ -22,9 +21,9 @@ returns-clause-step c node session line grants bytes contents are mine stands sa
     let x = input.Call session (command.Withdraw id target) in
     let after = beside_rest line (is_withdrawn row.job id target.0) grants bytes row.job in
     let row_marked = with_copy (with_granted c.args.granted) row id in
-    subst (λ g. RowStep node row before contents x g c.settle_after.new.row after)
-    (sym (c.settle_after.ensures.given ∙ (λ i. record { reply = reply.Ok; posts = c.new.ensures i; erased = keys_settled (c.apply-after.ensures.row i) id })))
+    subst (λ g. RowStep node row before contents x g c.apply_and_settle-erased.new.self after)
+    (sym (c.done.ensures ∙ (λ i. record { reply = reply.Ok; posts = c.new.ensures i; erased = c.apply_and_settle-erased.ensures.keys i })))
     (subst (λ r. RowStep node row before contents x (record { reply = reply.Ok; posts = []; erased = keys_settled row_marked id }) r after)
-    (sym (c.settle_after.ensures.row ∙ ap (λ r. settled_row r id) c.apply-after.ensures.row))
+    (sym c.apply_and_settle-erased.ensures.row)
     (withdraw_done node line grants bytes row contents session id target h mine stands are c.args.granted says
-    (subst (λ r. ArePlaced r.window.placed (place_of r.copies)) c.apply-after.ensures.row c.settle_after.ensures.placed)))
+    c.apply_and_settle-erased.ensures.placed))

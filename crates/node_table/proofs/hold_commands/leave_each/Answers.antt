@@ -2,7 +2,7 @@ use Rattle.std.proofs.Common.{◌∷◌, ◌+◌, ◌++◌, List, drop, fold, ma
 use Rattle.std.proofs.lemmas.List.{append-nil, append_assoc, drop_all, drop_more}
 use Rattle.obj_id.specs.declared.commands.OwnItem.{OwnItem}
 use Rattle.obj_id.specs.declared.ids.ObjectId.{ObjectId}
-use Rattle.job_row.specs.Dropping.{settled_row, keys_settled, left_row, keys_left}
+use Rattle.job_row.specs.Dropping.{left_row, keys_left}
 use Rattle.node_table.proofs.hold_commands.leave_each.Goals as goal
 
 ids : List OwnItem → List ObjectId
@@ -22,8 +22,8 @@ push_key-requires c = omega (arith, c.loop-item-test.true, c.loop-item.invariant
 pub loop-item-preserved : goal.loop-item-preserved
 loop-item-preserved c =
     let next = drop_more c.args.items.now c.loop-item.item-index c.item-item.result c.loop-item-test.true ∙ ap (λ x. x ∷ drop (c.loop-item.item-index + 1) c.args.items.now) (sym c.item-item.is) in
-    let step = c.settle.ensures.row ∙ ap (λ r. settled_row r c.item-item.result.id) c.apply-after.ensures.row in
-    let key = c.settle.ensures.keys ∙ ap (λ r. keys_settled r c.item-item.result.id) c.apply-after.ensures.row in
+    let step = c.apply_and_settle-key.ensures.row in
+    let key = c.apply_and_settle-key.ensures.keys in
     let pushed = c.push_key.ensures.items ∙ ap (λ ks. c.loop-item.keys.items ++ ks) key in
     let rest = map (λ (item : OwnItem). item.id) (drop (c.loop-item.item-index + 1) c.args.items.now) in
     record {

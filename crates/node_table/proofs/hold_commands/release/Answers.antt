@@ -11,12 +11,12 @@ use Rattle.node_table.proofs.hold_commands.release.Goals as goal
 pub returns-in-Ok-clause-step : goal.returns-in-Ok-clause-step
 returns-in-Ok-clause-step c node beside contents mine h =
     let was = c.in-Ok.ensures.ok in
-    subst (λ g. RowStep node c.args.row.now beside contents (input.Call c.args.session (command.Release c.args.id.now)) g c.settle_after.new.row beside)
-    (sym (c.settle_after.ensures.given ∙ (λ i. record { reply = reply.Ok; posts = c.new.ensures i; erased = keys_settled (was i) c.args.id.now })))
+    subst (λ g. RowStep node c.args.row.now beside contents (input.Call c.args.session (command.Release c.args.id.now)) g c.settle.new.self beside)
+    (sym (c.done.ensures ∙ (λ i. record { reply = reply.Ok; posts = c.new.ensures i; erased = c.settle.ensures.keys i }) ∙ ap (λ r. record { reply = reply.Ok; posts = []; erased = keys_settled r c.args.id.now }) was))
     (subst (λ r. RowStep node c.args.row.now beside contents (input.Call c.args.session (command.Release c.args.id.now)) (record { reply = reply.Ok; posts = []; erased = keys_settled (row_released node c.args.row.now beside contents c.args.session c.args.id.now mine h) c.args.id.now }) r beside)
-    (sym (c.settle_after.ensures.row ∙ ap (λ r. settled_row r c.args.id.now) was))
+    (sym (c.settle.ensures.row ∙ ap (λ r. settled_row r c.args.id.now) was))
     (release_done_so node c.args.row.now beside contents c.args.session c.args.id.now mine h (c.in-Ok.ensures.passed refl)
-    (subst (λ r. ArePlaced r.window.placed (place_of r.copies)) was c.settle_after.ensures.placed)))
+    (subst (λ r. ArePlaced r.window.placed (place_of r.copies)) was c.settle.ensures.placed)))
 
 pub returns-in-Err-clause-step : goal.returns-in-Err-clause-step
 returns-in-Err-clause-step c node beside contents mine h =

@@ -3,10 +3,9 @@ use Rattle.obj_id.specs.declared.commands.Command.TheVariants as command
 use Rattle.obj_id.specs.declared.commands.Reply.TheVariants as reply
 use Rattle.private_store.specs.declared.inputs.Input.TheVariants as input
 use Rattle.job_row.specs.Checks.{delete_check}
-use Rattle.job_row.specs.Dropping.{settled_row, keys_settled}
+use Rattle.job_row.specs.Dropping.{keys_settled}
 use Rattle.job_row.specs.Scope.{removal_notice_at, notice_posts, with_copy}
 use Rattle.job_row.specs.CopyViews.{after_doom}
-use Rattle.job_row.specs.Row.{place_of, ArePlaced}
 use Rattle.node_table.specs.Shown.{RowStep}
 use Rattle.node_table.proofs.Scoping.{delete_refused, delete_done_so}
 use Rattle.node_table.proofs.scope_commands.delete.Goals as goal
@@ -19,10 +18,10 @@ returns-in-Err-clause-ok c session beside contents mine h =
 
 pub returns-clause-ok : goal.returns-clause-ok
 returns-clause-ok c session beside contents mine h =
-    subst (λ g. RowStep c.args.node c.args.row.now beside contents (input.Call session (command.Delete c.args.id.now)) g c.settle_after.new.row beside)
-    (sym (c.settle_after.ensures.given ∙ ap (λ r. record { reply = reply.Ok; posts = c.in_ok-messages.messages; erased = keys_settled r c.args.id.now }) c.apply-after.ensures.row))
+    subst (λ g. RowStep c.args.node c.args.row.now beside contents (input.Call session (command.Delete c.args.id.now)) g c.apply_and_settle-erased.new.self beside)
+    (sym (c.done.ensures ∙ ap (λ keys. record { reply = reply.Ok; posts = c.in_ok-messages.messages; erased = keys }) c.apply_and_settle-erased.ensures.keys))
     (subst (λ r. RowStep c.args.node c.args.row.now beside contents (input.Call session (command.Delete c.args.id.now)) (record { reply = reply.Ok; posts = c.in_ok-messages.messages; erased = keys_settled (with_copy after_doom c.args.row.now c.args.id.now) c.args.id.now }) r beside)
-    (sym (c.settle_after.ensures.row ∙ ap (λ r. settled_row r c.args.id.now) c.apply-after.ensures.row))
+    (sym c.apply_and_settle-erased.ensures.row)
     (delete_done_so c.args.node c.args.row.now beside contents session c.args.id.now mine h
     (ap (λ t. delete_check t c.args.id.now) (sym c.copies.ensures.copies) ∙ c.in-Ok.ensures.passed refl)
-    c.in_ok-messages.messages (c.in_ok-messages.ensures ∙ ap notice_posts (c.in-Ok.ensures.ok ∙ ap (λ t. removal_notice_at c.args.node t c.args.id.now true) c.copies.ensures.copies)) (subst (λ r. ArePlaced r.window.placed (place_of r.copies)) c.apply-after.ensures.row c.settle_after.ensures.placed)))
+    c.in_ok-messages.messages (c.in_ok-messages.ensures ∙ ap notice_posts (c.in-Ok.ensures.ok ∙ ap (λ t. removal_notice_at c.args.node t c.args.id.now true) c.copies.ensures.copies)) c.apply_and_settle-erased.ensures.placed))

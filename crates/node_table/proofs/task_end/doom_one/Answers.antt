@@ -28,7 +28,7 @@ pub returns-clause-row : goal.returns-clause-row
 returns-clause-row c =
     let r = c.args.row.now in
     let id = c.args.id.now in
-    c.settle.ensures.row ∙ ap (λ t. settled_row t id) c.apply-after.ensures.row
+    c.apply_and_settle.ensures.row
     ∙ sym (ap (λ b. cond b (settled_row (with_copy after_doom r id) id) r) (own c.args.task c.args.id.now.task c.eq-own.result (c.eq-own.ensures ∙ ap (λ t. task_eq c.args.task t) c.task.ensures) ∙ c.if-not-own.false))
 
 pub returns-clause-sent : goal.returns-clause-sent
