@@ -20,7 +20,7 @@ ghost use Rattle.private_store.specs.rules.Room.{plan as room_plan};
 ghost use Rattle.lru_evictor.specs.Plans.{IsDescribed, plan_kind_of};
 ghost use Rattle.lru_evictor.specs.declared.facts.Plan.TheVariants as plan_kind;
 ghost use Rattle.job_row.specs.Entries.{changed, all_changed, each_changed};
-ghost use Rattle.job_row.specs.CopyViews.{CopyView, after_release, after_leave, spill_begun_if, fetched_copy_view, after_borrow, new_copy_view, waits_for_place, after_placing, CanAwait};
+ghost use Rattle.job_row.specs.CopyViews.{CopyView, after_release, after_leave, spill_begun_if, fetched_copy_view, after_borrow, new_copy_view, waits_for_place, after_placing, after_restore, CanAwait};
 ghost use Rattle.job_row.specs.Marks.{marked_by, CanTake, lies_still};
 ghost use Rattle.job_row.specs.declared.marks.Mark.TheVariants.{FetchFailed, Written, Restored, Lost};
 ghost use Rattle.job_row.specs.Checks.{release_check, borrow_check};
@@ -224,7 +224,8 @@ impl JobRow {
 
     /// The bytes of a copy, lent without a copy; none if it isn't resident.
     pub fn bytes(&self, id: &ObjectId) -> &[u8]
-        ensures { (k : CopyView) (e : Extent) → at self.now.copies id.now ≡ Some k → extent_of k.copy ≡ Some e
+        ensures absent { place_of self.now.copies id.now ≡ None → result.now ≡ [] }
+        ensures bytes { (k : CopyView) (e : Extent) → at self.now.copies id.now ≡ Some k → extent_of k.copy ≡ Some e
             → result.now ≡ take k.copy.length (placed_bytes e self.now.window.placed) }
     {
         let Some(copy) = self.copies.get(id) else {
@@ -238,6 +239,8 @@ impl JobRow {
 
     /// The same, with what shares them, if they can be shared.
     pub fn lent(&self, id: &ObjectId) -> Lent<'_>
+        ensures absent { place_of self.now.copies id.now ≡ None → result.bytes.now ≡ [] }
+        ensures unshared { place_of self.now.copies id.now ≡ None → result.shared ≡ None }
         ensures bytes { (k : CopyView) (e : Extent) → at self.now.copies id.now ≡ Some k → extent_of k.copy ≡ Some e
             → result.bytes.now ≡ take k.copy.length (placed_bytes e self.now.window.placed) }
         ensures same { IfSome result.shared (λ shared. shared ≡ result.bytes.now) }
@@ -449,7 +452,8 @@ impl JobRow {
     }
 
     /// The victims of the placement, which are other copies, are evicted, and the job has a copy of the object to be written, in this
-    /// place for its `len` bytes, of zeros; it is the most recently used one. The error is out of memory, and then nothing has changed.
+    /// place for its `len` bytes, of zeros; it is the most recently used one, but stays where it is in the order of use if that has it
+    /// already. The error is out of memory, and then nothing has changed.
     pub fn replace_copies(
         &mut self,
         alloc: Global,
@@ -464,6 +468,7 @@ impl JobRow {
         requires place { IsPlacement self.old len placement.now }
         ensures placed { OnOk result (ArePlaced self.old.window.placed (place_of self.old.copies)) }
         ensures ok { IfOk result (λ e. is_among self.old.order id.now ≡ false → IsReplaced self.old (Some id.now) id.now (new_copy_view kind len) len placement.now.victims e self.new) }
+        ensures listed { IfOk result (λ e. is_among self.old.order id.now ≡ true → IsReplaced self.old None id.now (new_copy_view kind len) len placement.now.victims e self.new) }
         ensures small { IfOk result (λ e. e.offset + e.length < 2 ^ 32) }
         ensures err { OnErr result (self.new ≡ self.old) }
     {
@@ -569,11 +574,13 @@ impl JobRow {
         self.apply(id, Mark::Written { number, failed });
     }
 
-    /// The read of the copy ended, and brought these bytes: it is sealed again, with the bytes in its place. Takes no
-    /// memory.
+    /// The read of the copy ended, and brought these bytes: it is sealed again, with the bytes in its place. They are left out if it isn't
+    /// resident, or they pass the end of its extent. Takes no memory.
     pub fn end_restore(&mut self, id: &ObjectId, bytes: &Bytes)
         requires { (k : CopyView) → at self.old.copies id.now ≡ Some k → CanTake Restored k }
-        ensures { (e : Extent) → place_of self.old.copies id.now ≡ Some e → length bytes.now ≤ e.length → self.new ≡ refilled e bytes.now self.old id.now }
+        ensures absent { place_of self.old.copies id.now ≡ None → self.new ≡ with_copy after_restore self.old id.now }
+        ensures outside { (e : Extent) → place_of self.old.copies id.now ≡ Some e → e.length < length bytes.now → self.new ≡ with_copy after_restore self.old id.now }
+        ensures row { (e : Extent) → place_of self.old.copies id.now ≡ Some e → length bytes.now ≤ e.length → self.new ≡ refilled e bytes.now self.old id.now }
     {
         self.put_all_bytes(id, bytes);
         self.apply(id, Mark::Restored);
@@ -711,6 +718,8 @@ impl JobRow {
     /// The same from the first byte on. If the bytes fill the copy's extent, by themselves or as they were prepared, they are shared,
     /// and not copied.
     fn put_all_bytes(&mut self, id: &ObjectId, bytes: &Bytes)
+        ensures absent { place_of self.old.copies id.now ≡ None → self.new ≡ self.old }
+        ensures outside { (e : Extent) → place_of self.old.copies id.now ≡ Some e → e.length < length bytes.now → self.new ≡ self.old }
         ensures copies { self.new.copies ≡ self.old.copies }
         ensures row { (e : Extent) → place_of self.old.copies id.now ≡ Some e → length bytes.now ≤ e.length
             → self.new ≡ record self.old { window = record self.old.window { placed = set_value (nat_eq e.offset) self.old.window.placed (overwritten (placed_bytes e self.old.window.placed) 0 bytes.now) } } }

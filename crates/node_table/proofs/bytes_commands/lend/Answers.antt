@@ -8,4 +8,4 @@ pub returns-clause-ok : goal.returns-clause-ok
 returns-clause-ok c beside contents h =
     lent_so c.args.row.now beside contents h c.args.session c.args.id.now
     (ap (λ t. lend_check (copies_of t) c.args.session c.args.id.now) (sym c.copies.ensures.copies) ∙ sym c.lend_check.ensures ∙ c.in_default.is)
-    c.bytes.result.now c.bytes.ensures
+    c.bytes.result.now c.bytes.ensures.bytes

@@ -1,4 +1,4 @@
-use Rattle.std.proofs.Common.{◌≡◌, ℕ, nat_eq, true, false, not, replicate, List, [], ◌∷◌, Some, None, refl, sym, ap, subst, ◌∙◌, arith}
+use Rattle.std.proofs.Common.{◌≡◌, ℕ, nat_eq, true, false, not, replicate, List, [], ◌∷◌, Option, Some, None, refl, sym, ap, subst, ◌∙◌, arith}
 use Rattle.std.specs.Map.{lookup}
 use Rattle.std.specs.Option.{option_and_then}
 use Rattle.private_store.specs.rules.Copies.{extent_of}
@@ -8,13 +8,14 @@ use Rattle.private_store.specs.rules.Extents.{first}
 use Rattle.store_facts.proofs.Tests.{some_value, not_true}
 use Rattle.job_region.specs.Region.{Region, extents_of, put_in, without}
 use Rattle.lru_evictor.specs.Orders.{order_ids, without_id}
-use Rattle.job_row.specs.Evicting.{all_evicted, placed_without, replaced, without_missing}
+use Rattle.job_row.specs.Evicting.{IsReplaced, all_evicted, placed_without, replaced, used_last, without_missing}
 use Rattle.job_row.specs.CopyViews.{CopyView, new_copy_view}
 use Rattle.job_row.specs.Row.{Row, place_of, ArePlaced}
 use Rattle.job_row.proofs.Changes.{put_back}
 use Rattle.job_row.proofs.Replacing.{forgotten, new_lies, replaced_placed, alone}
 use Rattle.job_row.specs.InSync.{is_in_sync, InSync, InSyncExcept}
 use Rattle.job_row.proofs.FollowsCopies.{put_but, removed_but, others_still, one_spared, entered_unknown, placed_unknown}
+use Rattle.job_row.proofs.Waiting.{unused}
 use Rattle.job_row.proofs.row.JobRow.replace_copies.Goals as goal
 use Rattle.job_row.proofs.row.JobRow.replace_copies.Goals.{then-entered, else-entered}
 
@@ -102,8 +103,11 @@ invariant_of-self-in-Ok-replace c =
           unknown,
     )
 
-pub returns-in-Ok-replace-clause-ok : goal.returns-in-Ok-replace-clause-ok
-returns-in-Ok-replace-clause-ok c unlisted =
+-- the row then, by what is used in the order of use
+replaced_so : (c : goal.After-evict_for) (used : Option ObjectId) → order_ids c.enter_new.new.self ≡ used_last used (order_ids c.self.inside.order)
+    → IsReplaced c.args.self.now used c.args.id.now (new_copy_view c.args.kind c.args.len) c.args.len c.args.placement.now.victims c.in-Ok-replace.extent
+    (record { job = c.self.inside.job.0; window = c.replace.new.self; device = c.self.inside.device_quota; copies = c.evict_for.new.copies; order = order_ids c.evict_for.new.order; fetches_begun = c.self.inside.fetches_begun; spill_failed = c.self.inside.spill_failed; ended_tasks = c.self.inside.ended_tasks.keys })
+replaced_so c used entered =
     let left_then = ap (λ gs. without gs c.self.inside.window.placed) c.deref.ensures.value
     ∙ subst (λ (r : Row). without c.args.placement.now.gone.items r.window.placed ≡ placed_without r c.args.placement.now.victims) (sym c.self.view_is) c.requires.place.gone in
     let offset = some_value c.args.placement.now.offset c.in-Ok-replace.extent.offset
@@ -113,13 +117,12 @@ returns-in-Ok-replace-clause-ok c unlisted =
     let copies = c.evict_for.ensures.copies ∙ ap (λ vs. all_evicted vs c.insert.new.self) c.as_slice-victims.ensures ∙ ap (all_evicted c.args.placement.now.victims) (c.in_ok-insert.ensures.ok ∙ ap (with_entry c.self.inside.copies c.args.id.now) (c.created-copy.ensures ∙ ap (new_copy_view c.args.kind c.args.len) offset)) in
     let window = c.in-Ok-replace.ensures.placed
     ∙ (λ i. region (put_in (c.in-Ok-replace.extent.offset, replicate (c.in-Ok-replace.ensures.length i) 0) (left_then i))) in
-    let entered = c.in-Ok.ensures.ids (c.in-Ok.ensures.entered ∙ ap not (ap (λ (r : Row). is_among r.order c.args.id.now) c.self.view_is ∙ unlisted)) in
     let order = c.evict_for.ensures.ids ∙ (λ i. without_missing (copies i) (c.as_slice-victims.ensures i) (entered i)) in
     record {
       least = ap (λ (r : Row). first (extents_of (placed_without r c.args.placement.now.victims)) r.window.quota c.args.len) (sym c.self.view_is)
           ∙ ap (λ ps. first (extents_of ps) c.self.inside.window.quota c.args.len) (sym left_then) ∙ c.in-Ok-replace.ensures.least;
       length = c.in-Ok-replace.ensures.length;
-      row = (λ i. row_of (window i) (copies i) (order i)) ∙ ap (λ (r : Row). replaced r (Some c.args.id.now) c.args.id.now (new_copy_view c.args.kind c.args.len c.in-Ok-replace.extent.offset) c.args.len c.in-Ok-replace.extent.offset c.args.placement.now.victims) c.self.view_is;
+      row = (λ i. row_of (window i) (copies i) (order i)) ∙ ap (λ (r : Row). replaced r used c.args.id.now (new_copy_view c.args.kind c.args.len c.in-Ok-replace.extent.offset) c.args.len c.in-Ok-replace.extent.offset c.args.placement.now.victims) c.self.view_is;
       small = omega (arith, c.in-Ok-replace.ensures.small);
       fresh = ap (λ (r : Row). lookup (nat_eq c.in-Ok-replace.extent.offset) (placed_without r c.args.placement.now.victims)) (sym c.self.view_is) ∙ ap (lookup (nat_eq c.in-Ok-replace.extent.offset)) (sym left_then) ∙ c.in-Ok-replace.ensures.fresh;
     }
@@ -129,6 +132,15 @@ returns-in-Ok-replace-clause-ok c unlisted =
 
     row_of : Region → ById CopyView → List ObjectId → Row
     row_of window copies order = record { job = c.self.inside.job.0; window = window; device = c.self.inside.device_quota; copies = copies; order = order; fetches_begun = c.self.inside.fetches_begun; spill_failed = c.self.inside.spill_failed; ended_tasks = c.self.inside.ended_tasks.keys }
+
+pub returns-in-Ok-replace-clause-ok : goal.returns-in-Ok-replace-clause-ok
+returns-in-Ok-replace-clause-ok c unlisted =
+    replaced_so c (Some c.args.id.now) (c.in-Ok.ensures.ids (c.in-Ok.ensures.entered ∙ ap not (ap (λ (r : Row). is_among r.order c.args.id.now) c.self.view_is ∙ unlisted)))
+
+pub returns-in-Ok-replace-clause-listed : goal.returns-in-Ok-replace-clause-listed
+returns-in-Ok-replace-clause-listed c listed =
+    replaced_so c None
+    (ap order_ids (c.in-Ok.ensures.same (c.in-Ok.ensures.entered ∙ ap not (ap (λ (r : Row). is_among r.order c.args.id.now) c.self.view_is ∙ listed))) ∙ unused (order_ids c.self.inside.order))
 
 pub returns-in-Ok-replace-clause-small : goal.returns-in-Ok-replace-clause-small
 returns-in-Ok-replace-clause-small c = omega (arith, c.in-Ok-replace.ensures.small)
