@@ -220,7 +220,7 @@ module _ (node : ℕ) (row : Row) (beside : SharedTables) (contents : Contents) 
   -- ---- one that fills a gap
 
   module _ (a : IsFilled row id number from index (length bytes)) where
-    abbrev pub k : CopyView
+    abbrev k : CopyView
     k = a.of.k
 
     abbrev fetch : Fetch
@@ -245,7 +245,7 @@ module _ (node : ℕ) (row : Row) (beside : SharedTables) (contents : Contents) 
     abbrev pub e : Extent
     e = (placed_at k.copy resident).0
 
-    pub lies : extent_of k.copy ≡ Some e
+    lies : extent_of k.copy ≡ Some e
     lies = (placed_at k.copy resident).1
 
     gaps : are_gaps k.copy.length (pulling a.source a.missing) ≡ true
@@ -285,6 +285,27 @@ module _ (node : ℕ) (row : Row) (beside : SharedTables) (contents : Contents) 
 
     abbrev pub wrote : Row
     wrote = row_written row e (65536 * index) bytes
+
+    -- what a body knows that put the chunk where the copy of the id lay, and then compared the digest of its bytes
+    pub record IsPut (copy : CopyView) (digest : Digest) (now : Row) (right : Bool) : Type 0 where
+      pub same : k ≡ copy
+      pub written : now ≡ wrote
+      pub known : k.digest ≡ Some digest
+      pub test : has_digest (take k.copy.length (placed_bytes e wrote.window.placed)) digest ≡ right
+
+    pub put_so : (copy : CopyView) → at row.copies id ≡ Some copy → (digest : Digest) → copy.digest ≡ Some digest → (place : Option Extent) → place ≡ extent_of copy.copy
+        → (now : Row) → now.copies ≡ row.copies → ((f : Extent) → place ≡ Some f → 65536 * index < 2 ^ 32 → 65536 * index + length bytes ≤ f.length → now ≡ row_written row f (65536 * index) bytes)
+        → (right : Bool) → ((z : CopyView) (f : Extent) → at now.copies id ≡ Some z → extent_of z.copy ≡ Some f → right ≡ has_digest (take z.copy.length (placed_bytes f now.window.placed)) digest) → IsPut copy digest now right
+    put_so copy found digest known place lay now copies put right tested =
+        let same = some_value k copy (sym a.of.found ∙ found) in
+        let wrote_so = put e (lay ∙ ap (λ (z : CopyView). extent_of z.copy) (sym same) ∙ lies) small in_extent in
+        record {
+          same = same;
+          written = wrote_so;
+          known = ap (λ (z : CopyView). z.digest) same ∙ known;
+          test = ap (λ (r : Row). has_digest (take k.copy.length (placed_bytes e r.window.placed)) digest) (sym wrote_so)
+              ∙ sym (tested k e (ap (λ t. at t id) copies ∙ a.of.found) lies);
+        }
 
     abbrev whole : List ℕ
     whole = with_chunk v id index bytes
