@@ -21,11 +21,11 @@ module _ {A S : Type 0} (key : A → ℕ) (fits : A → Type 0) (tells : S → L
       × AllOf (λ y. key here < key y) (items left)
       × AllOf (λ y. key here < key y) (items right)
       × tells summary (here ∷ items left ++ items right)
-      × IsOrdered (low + 1) (middle low high) left × IsOrdered (middle low high) high right
+      × IsOrdered low (middle low high) left × IsOrdered (middle low high) high right
 
   pub summarized : (low high : ℕ) (t : Tree A S) → IsOrdered low high t → HasSummaries fits tells t
   summarized low high Leaf h = tt
-  summarized low high (Fork' p here s l r) h = (h.2, h.5, summarized (low + 1) (middle low high) l h.6, summarized (middle low high) high r h.7)
+  summarized low high (Fork' p here s l r) h = (h.2, h.5, summarized low (middle low high) l h.6, summarized (middle low high) high r h.7)
 
   -- what holds of each item
   pub all_fit : (t : Tree A S) → HasSummaries fits tells t → AllOf fits (items t)
@@ -38,11 +38,11 @@ module _ {A S : Type 0} (key : A → ℕ) (fits : A → Type 0) (tells : S → L
   pub in_range : (low high : ℕ) (t : Tree A S) → IsOrdered low high t → AllOf (Within low high) (items t)
   in_range low high Leaf h = tt
   in_range low high (Fork' p here s l r) h =
-      let a = in_range (low + 1) (middle low high) l h.6 in
+      let a = in_range low (middle low high) l h.6 in
       let b = in_range (middle low high) high r h.7 in (
         (h.0, h.1),
         all_both (Within low high) (items l) (items r)
-            (all_map (Within (low + 1) (middle low high)) (Within low high) (λ x w. (omega (arith, w.0), omega (arith, w.1, h.0, h.1))) (items l) a)
+            (all_map (Within low (middle low high)) (Within low high) (λ x w. (omega (arith, w.0), omega (arith, w.1, h.0, h.1))) (items l) a)
             (all_map (Within (middle low high) high) (Within low high) (λ x w. (omega (arith, w.0, h.0, h.1), w.1)) (items r) b),
       )
 
@@ -50,19 +50,21 @@ module _ {A S : Type 0} (key : A → ℕ) (fits : A → Type 0) (tells : S → L
   rises low high Leaf h = tt
   rises low high (Fork' p here s l r) h = (
     all_both (λ y. key here < key y) (items l) (items r) h.3 h.4,
-    rising_both key (middle low high) (items l) (items r) (rises (low + 1) (middle low high) l h.6) (rises (middle low high) high r h.7)
-        (all_map (Within (low + 1) (middle low high)) (λ z. key z < middle low high) (λ z w. w.1) (items l) (in_range (low + 1) (middle low high) l h.6))
+    rising_both key (middle low high) (items l) (items r) (rises low (middle low high) l h.6) (rises (middle low high) high r h.7)
+        (all_map (Within low (middle low high)) (λ z. key z < middle low high) (λ z w. w.1) (items l) (in_range low (middle low high) l h.6))
         (all_map (Within (middle low high) high) (λ z. middle low high ≤ key z) (λ z w. w.0) (items r) (in_range (middle low high) high r h.7)),
   )
 
-  -- a tree over fewer than 2 ^ k keys is at most k deep
-  pub deep : (k low high : ℕ) (t : Tree A S) → IsOrdered low high t → high < low + 2 ^ k → depth t ≤ k
-  deep k low high Leaf h lt = omega arith
-  deep zero low high (Fork' p here s l r) h lt = absurd (omega (arith, lt, h.0, h.1))
-  deep (suc k) low high (Fork' p here s l r) h lt =
+  -- a tree over at most 2 ^ k keys is at most k deep below its first node
+  pub deep : (k low high : ℕ) (t : Tree A S) → IsOrdered low high t → high ≤ low + 2 ^ k → depth t ≤ k + 1
+  deep k low high Leaf h le = omega arith
+  deep zero low high (Fork' p here s Leaf Leaf) h le = omega arith
+  deep zero low high (Fork' p here s (Fork' q x u l r) t) h le = absurd (omega (arith, le, h.6.0, h.6.1))
+  deep zero low high (Fork' p here s Leaf (Fork' q x u l r)) h le = absurd (omega (arith, le, h.0, h.4.0, h.7.1))
+  deep (suc k) low high (Fork' p here s l r) h le =
       let twice : 2 ^ suc k ≡ 2 * 2 ^ k = search arith in
-      let a = deep k (low + 1) (middle low high) l h.6 (omega (arith, lt, twice, h.0, h.1)) in
-      let b = deep k (middle low high) high r h.7 (omega (arith, lt, twice, h.0, h.1)) in
+      let a = deep k low (middle low high) l h.6 (omega (arith, le, twice, h.0, h.1)) in
+      let b = deep k (middle low high) high r h.7 (omega (arith, le, twice, h.0, h.1)) in
       omega (arith, a, b)
 
   pub kept_empty : (low high : ℕ) (t : Tree A S) → items t ≡ [] → IsOrdered low high t
@@ -79,6 +81,17 @@ module _ {A S : Type 0} (key : A → ℕ) (fits : A → Type 0) (tells : S → L
         let range = subst (AllOf (Within (middle low high) high)) is (in_range (middle low high) high t tree) in
         let rising = subst (IsRisingBy key) is (rises (middle low high) high t tree) in
         (omega (arith, range.0.0, lt), range.0.1, fits_first, tt, rising.0, of, tt, kept)
+
+  -- the same where all of them lie before the middle
+  module _ (low high : ℕ) (t rest : Tree A S) (here : A) (tree : IsOrdered low (middle low high) t) (is : items t ≡ here ∷ items rest) where
+    pub fits_least : fits here
+    fits_least = (subst (AllOf fits) is (all_fit t (summarized low (middle low high) t tree))).0
+
+    pub widened_up : (s : S) → low < high → IsOrdered low (middle low high) rest → tells s (here ∷ items rest ++ []) → NodeAt low high here s rest Leaf
+    widened_up s lt kept of =
+        let range = subst (AllOf (Within low (middle low high))) is (in_range low (middle low high) t tree) in
+        let rising = subst (IsRisingBy key) is (rises low (middle low high) t tree) in
+        (range.0.0, omega (arith, range.0.1, lt), fits_least, rising.0, tt, of, kept, tt)
 
   module _ (low high : ℕ) (n : Node A S) (old : NodeAt low high n.here n.summary n.left n.right) where
     abbrev y : A
@@ -98,7 +111,7 @@ module _ {A S : Type 0} (key : A → ℕ) (fits : A → Type 0) (tells : S → L
     above k lt = all_map (Within (middle low high) high) (λ z. k < key z) (λ z w. omega (arith, lt, w.0)) (items r) (in_range (middle low high) high r old.7)
 
     pub below : (k : ℕ) → middle low high ≤ k → AllOf (λ z. key z < k) (items l)
-    below k le = all_map (Within (low + 1) (middle low high)) (λ z. key z < k) (λ z w. omega (arith, le, w.1)) (items l) (in_range (low + 1) (middle low high) l old.6)
+    below k le = all_map (Within low (middle low high)) (λ z. key z < k) (λ z w. omega (arith, le, w.1)) (items l) (in_range low (middle low high) l old.6)
 
     all_above_here : AllOf (λ z. key y < key z) rest
     all_above_here = all_both (λ z. key y < key z) (items l) (items r) old.3 old.4
@@ -155,7 +168,7 @@ module _ {A S : Type 0} (key : A → ℕ) (fits : A → Type 0) (tells : S → L
       abbrev IsAbove : A → Type 0
       IsAbove z = key pair.0 < key z
 
-      pub put_left : (l2 : Tree A S) (s : S) → key pair.1 < middle low high → IsOrdered (low + 1) (middle low high) l2 → items l2 ≡ put_item key pair.1 (items l) → tells s (pair.0 ∷ items l2 ++ items r)
+      pub put_left : (l2 : Tree A S) (s : S) → key pair.1 < middle low high → IsOrdered low (middle low high) l2 → items l2 ≡ put_item key pair.1 (items l) → tells s (pair.0 ∷ items l2 ++ items r)
           → NodeAt low high pair.0 s l2 r × (pair.0 ∷ (items l2 ++ items r) ≡ put_item key x (y ∷ rest))
       put_left l2 s lt tree is of =
           let e : items l2 ++ items r ≡ put_item key pair.1 rest = ap (λ (zs : List A). zs ++ items r) is ∙ sym (put_front key pair.1 (items l) (items r) (above (key pair.1) lt)) in (
@@ -190,14 +203,14 @@ module _ {A S : Type 0} (key : A → ℕ) (fits : A → Type 0) (tells : S → L
           )
 
     -- the first item of the left side comes up
-    pub pop_left : (next : A) (l2 : Tree A S) (s : S) → items l ≡ next ∷ items l2 → IsOrdered (low + 1) (middle low high) l2 → fits next → tells s (next ∷ items l2 ++ items r) → NodeAt low high next s l2 r
+    pub pop_left : (next : A) (l2 : Tree A S) (s : S) → items l ≡ next ∷ items l2 → IsOrdered low (middle low high) l2 → fits next → tells s (next ∷ items l2 ++ items r) → NodeAt low high next s l2 r
     pop_left next l2 s is tree fit of =
-        let rising = subst (IsRisingBy key) is (rises (low + 1) (middle low high) l old.6) in
-        let range = subst (AllOf (Within (low + 1) (middle low high))) is (in_range (low + 1) (middle low high) l old.6) in
+        let rising = subst (IsRisingBy key) is (rises low (middle low high) l old.6) in
+        let range = subst (AllOf (Within low (middle low high))) is (in_range low (middle low high) l old.6) in
         (omega (arith, range.0.0), omega (arith, range.0.1, old.0, old.1), fit, rising.0, above (key next) range.0.1, of, tree, old.7)
 
     -- or that of the right side, if the left one is empty
-    pub pop_right : (next : A) (l2 r2 : Tree A S) (s : S) → items l ≡ [] → items l2 ≡ [] → IsOrdered (low + 1) (middle low high) l2 → items r ≡ next ∷ items r2 → IsOrdered (middle low high) high r2 → fits next → tells s (next ∷ items l2 ++ items r2) → NodeAt low high next s l2 r2
+    pub pop_right : (next : A) (l2 r2 : Tree A S) (s : S) → items l ≡ [] → items l2 ≡ [] → IsOrdered low (middle low high) l2 → items r ≡ next ∷ items r2 → IsOrdered (middle low high) high r2 → fits next → tells s (next ∷ items l2 ++ items r2) → NodeAt low high next s l2 r2
     pop_right next l2 r2 s none none2 tree2 is tree fit of =
         let rising = subst (IsRisingBy key) is (rises (middle low high) high r old.7) in
         let range = subst (AllOf (Within (middle low high) high)) is (in_range (middle low high) high r old.7) in
@@ -215,7 +228,7 @@ module _ {A S : Type 0} (key : A → ℕ) (fits : A → Type 0) (tells : S → L
       still_above z lt = rw (same z) lt
 
       module _ (k : ℕ) (differ : key y ≢ k) where
-        pub change_left : (l2 : Tree A S) (s : S) → k < middle low high → IsOrdered (low + 1) (middle low high) l2 → items l2 ≡ change_item key f k (items l) → tells s (y ∷ items l2 ++ items r)
+        pub change_left : (l2 : Tree A S) (s : S) → k < middle low high → IsOrdered low (middle low high) l2 → items l2 ≡ change_item key f k (items l) → tells s (y ∷ items l2 ++ items r)
             → NodeAt low high y s l2 r × (y ∷ (items l2 ++ items r) ≡ change_item key f k (y ∷ rest))
         change_left l2 s lt tree is of =
             let t : nat_eq k (key y) ≡ false = grind (arith, nat_tests, differ) in (
@@ -235,7 +248,7 @@ module _ {A S : Type 0} (key : A → ℕ) (fits : A → Type 0) (tells : S → L
       test : nat_eq k (key y) ≡ false
       test = grind (arith, nat_tests, differ)
 
-      pub take_left : (l2 : Tree A S) (s : S) → k < middle low high → IsOrdered (low + 1) (middle low high) l2 → items l2 ≡ take_item key k (items l) → tells s (y ∷ items l2 ++ items r)
+      pub take_left : (l2 : Tree A S) (s : S) → k < middle low high → IsOrdered low (middle low high) l2 → items l2 ≡ take_item key k (items l) → tells s (y ∷ items l2 ++ items r)
           → NodeAt low high y s l2 r × (y ∷ (items l2 ++ items r) ≡ take_item key k (y ∷ rest))
       take_left l2 s lt tree is of = (
         (old.0, old.1, old.2, subst (AllOf (λ z. key y < key z)) (sym is) (all_taken key (λ z. key y < key z) k (items l) old.3), old.4, of, tree, old.7),

@@ -15,7 +15,7 @@ depth (Fork' p here summary left right) = max (depth left) (depth right) + 1
 
 -- where the keys below a node part
 abbrev pub middle : ℕ → ℕ → ℕ
-middle low high = (low + high + 1) / 2
+middle low high = (low + high) / 2
 
 -- each node has the summary of its item and all below
 abbrev pub HasSummaries : {A S : Type 0} → (A → Type 0) → (S → List A → Type 0) → Tree A S → Type 0
@@ -30,4 +30,4 @@ IsTree key fits tells low high (Fork' p here summary left right) =
     × AllOf (λ y. key here < key y) (items left)
     × AllOf (λ y. key here < key y) (items right)
     × tells summary (here ∷ items left ++ items right)
-    × IsTree key fits tells (low + 1) (middle low high) left × IsTree key fits tells (middle low high) high right
+    × IsTree key fits tells low (middle low high) left × IsTree key fits tells (middle low high) high right

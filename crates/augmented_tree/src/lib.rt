@@ -105,7 +105,7 @@ pub fn middle(low: u64, high: u64) -> u64
     requires { (low < high) × (high < 2 ^ 63) }
     ensures { result ≡ middle_of low high }
 {
-    (low + high + 1) / 2
+    (low + high) / 2
 }
 
 /// The summary of all items.
@@ -152,7 +152,7 @@ pub fn find<T: Keyed<S>, S: Copy>(tree: &Tree<T, S>, key: u64, low: u64, high: u
             }
             let middle = middle(low, high);
             if key < middle {
-                find(&node.left, key, low + 1, middle)
+                find(&node.left, key, low, middle)
             } else {
                 find(&node.right, key, middle, high)
             }
@@ -211,7 +211,7 @@ pub fn put<T: Keyed<S>, S: Copy>(
             node.here = least;
             let middle = middle(low, high);
             if other.key() < middle {
-                put(&mut node.left, room, other, low + 1, middle);
+                put(&mut node.left, room, other, low, middle);
                 node.summary = summary_with(least, &node.left, &node.right);
             } else {
                 put(&mut node.right, room, other, middle, high);
@@ -276,6 +276,51 @@ pub fn widen<T: Keyed<S>, S: Copy>(tree: &mut Tree<T, S>, low: u64, high: u64)
     *tree = Tree::Fork(node);
 }
 
+/// The same items over a wider range of keys, before whose middle lies the one that the tree was over: the first item still
+/// stands before all others. Takes no memory.
+fn widen_up<T: Keyed<S>, S: Copy>(tree: &mut Tree<T, S>, low: u64, high: u64)
+    requires tree { IsTree T.key T.fits T.tells low (middle_of low high) tree.old }
+    requires range { low < high }
+    ensures { IsTree T.key T.fits T.tells low high tree.new × (items tree.new ≡ items tree.old) }
+{
+    let Some(mut node) = pop(tree) else {
+        return;
+    };
+    let here = node.here;
+    let rest = mem::replace(tree, Tree::Leaf);
+    *node = Node {
+        here,
+        summary: summary_with(here, &rest, &Tree::Leaf),
+        left: rest,
+        right: Tree::Leaf,
+    };
+    *tree = Tree::Fork(node);
+}
+
+/// Widens a tree over all keys of so many bits until it is over this key too, and answers over how many bits it is then: as few
+/// as there can be, since a tree is as deep as its range has bits. Takes no memory.
+pub fn widen_to<T: Keyed<S>, S: Copy>(tree: &mut Tree<T, S>, bits: u32, key: u64) -> u32
+    requires tree { (bits ≤ 62) × IsTree T.key T.fits T.tells 0 (2 ^ bits) tree.old }
+    requires small { key < 2 ^ 62 }
+    ensures range { (result ≤ 62) × (key < 2 ^ result) }
+    ensures few { (most : ℕ) → bits ≤ most → key < 2 ^ most → result ≤ most }
+    ensures tree { IsTree T.key T.fits T.tells 0 (2 ^ result) tree.new × (items tree.new ≡ items tree.old) }
+{
+    if key < end(bits) {
+        return bits;
+    }
+    widen_up(tree, 0, end(bits + 1));
+    widen_to(tree, bits + 1, key)
+}
+
+/// What all keys of so many bits are below.
+pub fn end(bits: u32) -> u64
+    requires { bits ≤ 62 }
+    ensures { result ≡ 2 ^ bits }
+{
+    1 << bits
+}
+
 /// Takes out the item of a key, if there is one, and gives the spare node that it leaves. Takes no memory.
 pub fn take<T: Keyed<S>, S: Copy>(
     tree: &mut Tree<T, S>,
@@ -300,7 +345,7 @@ pub fn take<T: Keyed<S>, S: Copy>(
             }
             let middle = middle(low, high);
             if key < middle {
-                let room = take(&mut node.left, key, low + 1, middle);
+                let room = take(&mut node.left, key, low, middle);
                 node.summary = summary_with(node.here, &node.left, &node.right);
                 room
             } else {
@@ -335,7 +380,7 @@ pub fn set_mark<T: Marked<S, M>, S: Copy, M: Copy>(
             }
             let middle = middle(low, high);
             if key < middle {
-                set_mark(&mut node.left, key, mark, low + 1, middle);
+                set_mark(&mut node.left, key, mark, low, middle);
                 node.summary = summary_with(node.here, &node.left, &node.right);
             } else {
                 set_mark(&mut node.right, key, mark, middle, high);

@@ -9,7 +9,7 @@ use Rattle.extent_tree.specs.contracts.residents.Residents as Residents
 use Rattle.extent_tree.specs.contracts.residents.Residents.TheInside as Inside
 
 inside_send : IsSend Inside.the_row
-inside_send = declared_send Inside.the_type (search (tree_send, resident_send, spans_send, sendable, crosses) depth 40, tt)
+inside_send = declared_send Inside.the_type (search (tree_send, resident_send, spans_send, sendable, crosses) depth 40, (search sendable, tt))
 
 pub residents_send : IsSend Residents.the_row
 residents_send = search (inside_send, sendable)

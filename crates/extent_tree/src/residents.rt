@@ -4,7 +4,7 @@ ghost use Rattle.augmented_tree.specs.Lists.{AllOf};
 ghost use Rattle.extent_tree.specs.Residents.{resident_offset, resident_in_classes, ResidentFits, AreSpansOf, AreResidentsRising, put_resident, take_resident, has_resident, resident_with_classes, classes_at, extents_staying, span_of};
 
 use crate::spans::{Span, Spans};
-use augmented_tree::{Keyed, Marked, Tree, summary};
+use augmented_tree::{Keyed, Marked, Tree, end, summary, widen_to};
 use obj_id::Extent;
 use std::alloc::{AllocError, Global};
 use std::marker::Model;
@@ -96,18 +96,24 @@ impl SpareNode {
 
 /// Resident extents by rising offset.
 pub struct Residents {
+    // Over all offsets of so many bits, as few as hold those that there were: a tree over the widest window would have a level for
+    // each extent, as long as few of its bytes are used.
     tree: Tree<Resident, Spans>,
+    bits: u32,
 }
 
 // By hand, so that it is proved here and not in each crate above.
 impl Drop for Residents {
     fn drop(self) {
-        let Residents { tree: _tree } = self;
+        let Residents {
+            tree: _tree,
+            bits: _bits,
+        } = self;
     }
 }
 
 impl Model for Residents {
-    ghost use Rattle.std.specs.Prelude.{List};
+    ghost use Rattle.std.specs.Prelude.{◌≤◌, ◌^◌, List};
     ghost use Rattle.augmented_tree.specs.Shape.{items, IsTree};
     ghost use Rattle.extent_tree.specs.Residents.{resident_offset, ResidentFits, AreSpansOf};
     ghost use Rattle.extent_tree.specs.declared.residents.Resident.{Resident};
@@ -116,7 +122,7 @@ impl Model for Residents {
 
     ghost view = { λ a. items a.tree };
 
-    ghost invariant = { λ a. IsTree resident_offset ResidentFits AreSpansOf 0 536870912 a.tree };
+    ghost invariant = { λ a. (a.bits ≤ 29) × IsTree resident_offset ResidentFits AreSpansOf 0 (2 ^ a.bits) a.tree };
 }
 
 /// Where the offsets end: past the widest window.
@@ -130,7 +136,10 @@ impl Residents {
     pub fn new() -> Residents
         ensures { result ≡ [] }
     {
-        Residents { tree: Tree::Leaf }
+        Residents {
+            tree: Tree::Leaf,
+            bits: 0,
+        }
     }
 
     /// Puts an extent in its place, into the spare node, and answers whether it did. Not if one begins at its offset already, or it
@@ -145,10 +154,17 @@ impl Residents {
         if offset >= END || resident.extent.length >= LENGTHS_END {
             return false;
         }
-        if augmented_tree::has(&self.tree, offset, 0, END) {
+        if augmented_tree::has(&self.tree, offset, 0, end(self.bits)) {
             return false;
         }
-        augmented_tree::put(&mut self.tree, room.into_node(), resident, 0, END);
+        self.bits = widen_to(&mut self.tree, self.bits, offset);
+        augmented_tree::put(
+            &mut self.tree,
+            room.into_node(),
+            resident,
+            0,
+            end(self.bits),
+        );
         true
     }
 
@@ -158,7 +174,7 @@ impl Residents {
         ensures residents { self.new ≡ take_resident offset self.old }
         ensures there { is_some result ≡ has_resident offset self.old }
     {
-        match augmented_tree::take(&mut self.tree, offset, 0, END) {
+        match augmented_tree::take(&mut self.tree, offset, 0, end(self.bits)) {
             None => None,
             Some(node) => Some(SpareNode { node }),
         }
@@ -169,7 +185,7 @@ impl Residents {
         ensures rising { AreResidentsRising self.old }
         ensures residents { self.new ≡ resident_with_classes offset classes self.old }
     {
-        augmented_tree::set_mark(&mut self.tree, offset, classes, 0, END);
+        augmented_tree::set_mark(&mut self.tree, offset, classes, 0, end(self.bits));
     }
 
     /// The span of the extents that stay if all copies go of this class and those before it. Looks at no node but the
@@ -187,7 +203,7 @@ impl Residents {
         ensures rising { AreResidentsRising self.now }
         ensures classes { result ≡ classes_at offset self.now }
     {
-        let resident = augmented_tree::find(&self.tree, offset, 0, END)?;
+        let resident = augmented_tree::find(&self.tree, offset, 0, end(self.bits))?;
         Some(resident.classes)
     }
 }

@@ -12,7 +12,7 @@ hole_send : IsSend Hole.the_row
 hole_send = search sendable
 
 inside_send : IsSend Inside.the_row
-inside_send = declared_send Inside.the_type (search (tree_send, hole_send, sendable, crosses) depth 40, tt)
+inside_send = declared_send Inside.the_type (search (tree_send, hole_send, sendable, crosses) depth 40, (search sendable, tt))
 
 pub holes_send : IsSend Holes.the_row
 holes_send = search (inside_send, sendable)

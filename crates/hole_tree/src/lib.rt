@@ -9,7 +9,7 @@ ghost use Rattle.std.specs.Prelude.{◌≡◌, ◌^◌, ◌<◌, ◌≤◌, [], 
 ghost use Rattle.augmented_tree.specs.Shape.{items, depth, HasSummaries};
 ghost use Rattle.hole_tree.specs.Holes.{hole_offset, IsAnyHole, IsGreatest, AreHolesRising, put_hole, take_hole, has_hole, hole_at, first_fitting};
 
-use augmented_tree::{Keyed, Tree, summary};
+use augmented_tree::{Keyed, Tree, end, summary, widen_to};
 use std::alloc::{AllocError, Global};
 use std::marker::Model;
 
@@ -79,18 +79,24 @@ impl SpareNode {
 
 /// Holes by rising offset.
 pub struct Holes {
+    // Over all offsets of so many bits, as few as hold those that there were: a tree over the widest window would have a level for
+    // each hole, as long as few of its bytes are used.
     tree: Tree<Hole, u64>,
+    bits: u32,
 }
 
 // By hand, so that it is proved here and not in each crate above.
 impl Drop for Holes {
     fn drop(self) {
-        let Holes { tree: _tree } = self;
+        let Holes {
+            tree: _tree,
+            bits: _bits,
+        } = self;
     }
 }
 
 impl Model for Holes {
-    ghost use Rattle.std.specs.Prelude.{List};
+    ghost use Rattle.std.specs.Prelude.{◌≤◌, ◌^◌, List};
     ghost use Rattle.augmented_tree.specs.Shape.{items, IsTree};
     ghost use Rattle.hole_tree.specs.Holes.{hole_offset, IsAnyHole, IsGreatest};
     ghost use Rattle.hole_tree.specs.declared.Hole.{Hole};
@@ -99,7 +105,7 @@ impl Model for Holes {
 
     ghost view = { λ a. items a.tree };
 
-    ghost invariant = { λ a. IsTree hole_offset IsAnyHole IsGreatest 0 536870912 a.tree };
+    ghost invariant = { λ a. (a.bits ≤ 29) × IsTree hole_offset IsAnyHole IsGreatest 0 (2 ^ a.bits) a.tree };
 }
 
 impl Holes {
@@ -107,7 +113,10 @@ impl Holes {
     pub fn new() -> Holes
         ensures { result ≡ [] }
     {
-        Holes { tree: Tree::Leaf }
+        Holes {
+            tree: Tree::Leaf,
+            bits: 0,
+        }
     }
 
     /// Puts a hole in its place, in place of the one at its offset, if there is one. It uses the spare node, and
@@ -116,7 +125,14 @@ impl Holes {
         requires { hole.offset < 2 ^ 29 }
         ensures { self.new ≡ put_hole hole self.old }
     {
-        augmented_tree::put(&mut self.tree, room.into_node(), hole, 0, END);
+        self.bits = widen_to(&mut self.tree, self.bits, hole.offset);
+        augmented_tree::put(
+            &mut self.tree,
+            room.into_node(),
+            hole,
+            0,
+            end(self.bits),
+        );
     }
 
     /// Takes out the hole at an offset, if there is one, and gives the spare node that it leaves. Takes no memory.
@@ -124,7 +140,7 @@ impl Holes {
         ensures holes { self.new ≡ take_hole offset self.old }
         ensures there { is_some result ≡ has_hole offset self.old }
     {
-        match augmented_tree::take(&mut self.tree, offset, 0, END) {
+        match augmented_tree::take(&mut self.tree, offset, 0, end(self.bits)) {
             None => None,
             Some(node) => Some(SpareNode { node }),
         }
@@ -144,7 +160,7 @@ impl Holes {
         ensures hole { result ≡ hole_at offset self.now }
         ensures rising { AreHolesRising self.now }
     {
-        augmented_tree::find(&self.tree, offset, 0, END)
+        augmented_tree::find(&self.tree, offset, 0, end(self.bits))
     }
 
     /// Takes out all holes. Takes no memory.
@@ -152,11 +168,9 @@ impl Holes {
         ensures { self.new ≡ [] }
     {
         self.tree = Tree::Leaf;
+        self.bits = 0;
     }
 }
-
-/// Where the offsets end: past the widest window.
-const END: u64 = 536_870_912;
 
 /// The first hole of at least `need` bytes, and how many nodes were visited.
 fn first_fit(tree: &Tree<Hole, u64>, need: u64) -> (Option<Hole>, u32)

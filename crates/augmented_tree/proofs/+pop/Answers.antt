@@ -26,7 +26,7 @@ returns-in-Some-clause-tree g t c low high h =
     let is : items n.left ≡ c.deref.result.now.here ∷ items c.pop.new.tree = rw c.deref.ensures c.in-Some.ensures.some in
     let fit = (subst (AllOf g.T.Keyed.fits) is (all_fit g.T.Keyed.key g.T.Keyed.fits g.T.Keyed.tells n.left m.2)).0 in
     pop_left g.T.Keyed.key g.T.Keyed.fits g.T.Keyed.tells low high n node c.deref.result.now.here c.pop.new.tree c.summary_with-node.result
-    is (c.pop.ensures.tree (low + 1) (middle low high) node.6) fit c.summary_with-node.ensures
+    is (c.pop.ensures.tree low (middle low high) node.6) fit c.summary_with-node.ensures
 
 pub summary_with-node-requires-in-Some-pop-clause-fits : goal.summary_with-node-requires-in-Some-pop-clause-fits
 summary_with-node-requires-in-Some-pop-clause-fits g t c =
@@ -50,5 +50,5 @@ returns-in-Some-pop-clause-tree g t c low high h =
     let is : items n.right ≡ c.deref-in-Some-pop.result.now.here ∷ items c.pop-in-Fork.new.tree = rw c.deref-in-Some-pop.ensures c.in-Some-pop.ensures.some in
     let fit = (subst (AllOf g.T.Keyed.fits) is (all_fit g.T.Keyed.key g.T.Keyed.fits g.T.Keyed.tells n.right m.3)).0 in
     pop_right g.T.Keyed.key g.T.Keyed.fits g.T.Keyed.tells low high n node c.deref-in-Some-pop.result.now.here c.pop.new.tree c.pop-in-Fork.new.tree c.summary_with-node-in-Some-pop.result
-    c.in_default.ensures.none.0 c.in_default.ensures.none.1 (c.pop.ensures.tree (low + 1) (middle low high) node.6)
+    c.in_default.ensures.none.0 c.in_default.ensures.none.1 (c.pop.ensures.tree low (middle low high) node.6)
     is (c.pop-in-Fork.ensures.tree (middle low high) high node.7) fit c.summary_with-node-in-Some-pop.ensures
