@@ -126,13 +126,7 @@ impl Holes {
         ensures { self.new ≡ put_hole hole self.old }
     {
         self.bits = widen_to(&mut self.tree, self.bits, hole.offset);
-        augmented_tree::put(
-            &mut self.tree,
-            room.into_node(),
-            hole,
-            0,
-            end(self.bits),
-        );
+        augmented_tree::put(&mut self.tree, room.into_node(), hole, 0, end(self.bits));
     }
 
     /// Takes out the hole at an offset, if there is one, and gives the spare node that it leaves. Takes no memory.

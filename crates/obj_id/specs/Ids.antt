@@ -1,6 +1,7 @@
 -- The order of ids, when two are the same, and their bytes.
-use Rattle.std.specs.Prelude.{◌≡◌, ℕ, ◌^◌, ◌<◌, ◌≤◌, Bool, ◌&&◌, nat_eq, List, ◌++◌, length, slice_index}
-use Rattle.std.specs.Int.{to_be_bytes, w32}
+use Rattle.std.specs.Prelude.{◌≡◌, ℕ, ◌^◌, ◌<◌, ◌≤◌, Bool, ◌&&◌, nat_eq, List, ◌++◌, length, take, drop, slice_index}
+use Rattle.std.specs.Int.{from_be_bytes, to_be_bytes, w32, w64}
+use Rattle.std.specs.Hash as fed
 use Rattle.std.specs.declared.cmp.Ordering.{Ordering}
 use Rattle.std.specs.Ordering.{is_eq, ordering_then, nat_cmp}
 use Rattle.std.specs.Cmp.Lexicographic.{slice_cmp, pointwise}
@@ -10,6 +11,10 @@ use Rattle.obj_id.specs.declared.ids.ObjectId.{ObjectId}
 -- the order of the 20 bytes
 abbrev pub task_cmp : TaskNo → TaskNo → Ordering
 task_cmp a b = slice_cmp nat_cmp a.0 b.0
+
+-- what a hasher is fed of a task: its bytes as three numbers
+abbrev pub hashed_task : List ℕ → List (List ℕ)
+hashed_task bytes = fed.u64 (from_be_bytes w64 (take 8 bytes)) ++ fed.u32 (from_be_bytes w32 (take 4 (drop 8 bytes))) ++ fed.u64 (from_be_bytes w64 (drop 12 bytes))
 
 abbrev pub same_task : TaskNo → TaskNo → Bool
 same_task a b = is_eq (task_cmp a b)

@@ -2,18 +2,32 @@
 ghost use Rattle.std.specs.Prelude.{◌≡◌, ◌++◌, ◌≤◌, take, drop, IfOk, IfErr};
 ghost use Rattle.std.specs.Int.{from_be_bytes, w32, w64};
 ghost use Rattle.std.specs.Cmp.Rules.{comparing};
-ghost use Rattle.std.proofs.Common.{rules, refl};
+ghost use Rattle.std.proofs.Common.{rules, refl, ap};
 ghost use Rattle.std.specs.Ordering.{nat_cmp};
-ghost use Rattle.std.specs.Cmp.Lexicographic.{slice_cmp, lists_agrees};
-ghost use Rattle.obj_id.specs.Ids.{task_cmp};
+ghost use Rattle.std.specs.Cmp.Lexicographic.{bytes_decides, slice_cmp, lists_agrees};
+ghost use Rattle.obj_id.specs.Ids.{hashed_task, task_cmp};
 
 use crate::Refusal;
 use std::cmp::Ordering;
+use std::hash::{Hash, Hasher};
 use std::marker::Model;
 
 /// The task that made an object: 20 bytes, all of them allowed. Tasks are ordered as their bytes.
-#[derive(Clone, Copy, Debug, PartialEq, Eq, PartialOrd, Hash)]
+#[derive(Clone, Copy, Debug, PartialEq, Eq, PartialOrd)]
 pub struct TaskNo(pub [u8; 20]);
+
+// By hand, so that several bytes are hashed at once.
+impl Hash for TaskNo {
+    ghost hash_input = { λ task. hashed_task task.0 };
+
+    ghost respects_eq = { λ x y h. ap hashed_task ((bytes_decides x.0 y.0).0 h) };
+
+    fn hash<H: Hasher>(&self, state: &mut H) {
+        front(&self.0).hash(state);
+        middle(&self.0).hash(state);
+        back(&self.0).hash(state);
+    }
+}
 
 impl Ord for TaskNo {
     ghost cmp = { task_cmp };

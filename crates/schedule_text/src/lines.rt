@@ -45,12 +45,17 @@ pub fn is_skipped(line: &[u8]) -> bool
     matches!(line, [] | [b'#', ..])
 }
 
+/// Few lines have more fields.
+const USUAL_FIELDS: usize = 8;
+
 /// What stands between the spaces of a line, in order: one field at least.
 pub fn fields_of(alloc: Global, text: &str) -> Result<Vec<&str>, AllocError>
     ensures { IfOk result (λ fields.
         map (λ field. field.now) fields.items ≡ fields_of_lem text.now) }
 {
-    text.split(' ').collect(alloc)
+    let mut fields = Vec::with_capacity(alloc, USUAL_FIELDS)?;
+    fields.extend(text.split(' '))?;
+    Ok(fields)
 }
 
 /// The step that fields spell.

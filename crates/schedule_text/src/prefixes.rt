@@ -1,8 +1,9 @@
 //! What the line of an answer begins with.
-ghost use Rattle.std.specs.Prelude.{◌≡◌, ◌++◌, codes, decimal, IfOk};
+ghost use Rattle.std.specs.Prelude.{◌≡◌, ◌++◌, codes, decimal, IfOk, OnOk};
 ghost use Rattle.std.specs.String.{string_bytes};
 ghost use Rattle.schedule_text.specs.Prefixes.{prefix_at as prefix_at_lem, prefix_of, prefix_text, speaker as speaker_lem};
 
+use itoa::Buffer;
 use obj_id::JobNo;
 use private_store::{Event, Step};
 use std::alloc::{AllocError, Global};
@@ -69,10 +70,28 @@ fn prefix_at(node: u32, event: &Event) -> Prefix
     }
 }
 
+/// Few lines that answer a session are longer, in bytes.
+const USUAL_LINE: usize = 64;
+
 /// `nNODE jJOB sSESSION`.
 fn session_text(alloc: Global, node: u32, job: u32, session: u32) -> Result<String, AllocError>
     ensures { IfOk result (λ text. string_bytes text
         ≡ codes "n" ++ decimal node ++ codes " j" ++ decimal job ++ codes " s" ++ decimal session) }
 {
-    format!(in alloc; "n{node} j{job} s{session}")
+    let mut text = String::with_capacity(alloc, USUAL_LINE)?;
+    text.push_str("n")?;
+    push_number(&mut text, node)?;
+    text.push_str(" j")?;
+    push_number(&mut text, job)?;
+    text.push_str(" s")?;
+    push_number(&mut text, session)?;
+    Ok(text)
+}
+
+/// Adds a number as it is printed.
+pub(crate) fn push_number(text: &mut String, number: u32) -> Result<(), AllocError>
+    ensures { OnOk result (string_bytes text.new ≡ string_bytes text.old ++ decimal number) }
+{
+    let mut buffer = Buffer::new();
+    text.push_str(buffer.format(number))
 }

@@ -1,10 +1,11 @@
 //! The texts of answers.
-ghost use Rattle.std.specs.Prelude.{◌≡◌, ◌++◌, codes, decimal, IfOk};
+ghost use Rattle.std.specs.Prelude.{◌≡◌, ◌++◌, codes, decimal, IfOk, OnOk};
 ghost use Rattle.std.specs.String.{string_bytes};
 ghost use Rattle.schedule_text.specs.Printing.{answer_text as answer_text_lem, bytes_text as bytes_text_lem, line_text, refusal_text as refusal_text_lem, reply_text as reply_text_lem, usage_text as usage_text_lem, work_text as work_text_lem, work_word as work_word_lem};
 
 use crate::Prefix;
 use crate::items::list_text;
+use crate::prefixes::push_number;
 use bytes::Bytes;
 use obj_id::{JobNo, Refusal, Reply, Usage, Work, WorkKind};
 use private_store::StepAnswer;
@@ -15,36 +16,59 @@ use std::alloc::{AllocError, Global};
 pub fn answer_line(alloc: Global, prefix: Prefix, answer: &StepAnswer) -> Result<String, AllocError>
     ensures { IfOk result (λ line. string_bytes line ≡ line_text prefix answer.now) }
 {
-    let answer = answer_text(alloc, prefix.speaker(), answer)?;
-    let prefix = prefix.text(alloc)?;
-    format!(in alloc; "{prefix} {answer}\n")
+    let mut line = prefix.text(alloc)?;
+    line.push_str(" ")?;
+    push_answer(alloc, &mut line, prefix.speaker(), answer)?;
+    line.push_str("\n")?;
+    Ok(line)
 }
 
 /// The text of an answer, with ids as the job names them.
 pub fn answer_text(alloc: Global, job: JobNo, answer: &StepAnswer) -> Result<String, AllocError>
     ensures { IfOk result (λ text. string_bytes text ≡ answer_text_lem job.0 answer.now) }
 {
+    let mut text = String::new(alloc);
+    push_answer(alloc, &mut text, job, answer)?;
+    Ok(text)
+}
+
+/// Adds the text of an answer.
+fn push_answer(
+    alloc: Global,
+    text: &mut String,
+    job: JobNo,
+    answer: &StepAnswer,
+) -> Result<(), AllocError>
+    ensures { OnOk result (string_bytes text.new ≡ string_bytes text.old ++ answer_text_lem job.0 answer.now) }
+{
     match answer {
-        StepAnswer::Response(reply) => reply_text(alloc, job, reply),
-        StepAnswer::HandedOver(_) => String::from_str(alloc, "ok"),
-        StepAnswer::NoMessage => String::from_str(alloc, "none"),
+        StepAnswer::Response(reply) => push_reply(alloc, text, job, reply),
+        StepAnswer::HandedOver(_) => text.push_str("ok"),
+        StepAnswer::NoMessage => text.push_str("none"),
     }
 }
 
-/// The text of a reply, with ids as the job names them.
-fn reply_text(alloc: Global, job: JobNo, reply: &Reply<Bytes>) -> Result<String, AllocError>
-    ensures { IfOk result (λ text. string_bytes text ≡ reply_text_lem job.0 reply.now) }
+/// Adds the text of a reply. The commonest ones take no memory of their own.
+fn push_reply(
+    alloc: Global,
+    text: &mut String,
+    job: JobNo,
+    reply: &Reply<Bytes>,
+) -> Result<(), AllocError>
+    ensures { OnOk result (string_bytes text.new ≡ string_bytes text.old ++ reply_text_lem job.0 reply.now) }
 {
     match reply {
-        Reply::Ok => String::from_str(alloc, "ok"),
-        Reply::Placed(offset, extent) => placed_text(alloc, *offset, *extent),
-        Reply::Got(length) => format!(in alloc; "got {length}"),
-        Reply::Bytes(bytes) => bytes_reply(alloc, bytes),
-        Reply::List(own, granted) => list_text(alloc, job, own.as_slice(), granted.as_slice()),
-        Reply::Usage(usage) => usage_text(alloc, *usage),
-        Reply::Work(work) => work_text(alloc, work),
-        Reply::NoWork => String::from_str(alloc, "none"),
-        Reply::Refused(refusal) => refusal_text(alloc, *refusal),
+        Reply::Ok => text.push_str("ok"),
+        Reply::Placed(offset, extent) => push_placed(text, *offset, *extent),
+        Reply::Got(length) => push_got(text, *length),
+        Reply::Bytes(bytes) => text.push_str(&bytes_reply(alloc, bytes)?),
+        Reply::List(own, granted) => {
+            text.push_str(&list_text(alloc, job, own.as_slice(), granted.as_slice())?)
+        }
+        Reply::Usage(usage) => text.push_str(&usage_text(alloc, *usage)?),
+        Reply::Work(work) => text.push_str(&work_text(alloc, work)?),
+        Reply::NoWork => text.push_str("none"),
+        Reply::Refused(refusal) => text.push_str(&refusal_text(alloc, *refusal)?),
     }
 }
 
@@ -53,7 +77,29 @@ pub fn placed_text(alloc: Global, offset: u32, extent: u32) -> Result<String, Al
     ensures { IfOk result (λ text. string_bytes text
         ≡ codes "placed " ++ decimal offset ++ codes " " ++ decimal extent) }
 {
-    format!(in alloc; "placed {offset} {extent}")
+    let mut text = String::new(alloc);
+    push_placed(&mut text, offset, extent)?;
+    Ok(text)
+}
+
+/// Adds `placed OFF EXT`.
+fn push_placed(text: &mut String, offset: u32, extent: u32) -> Result<(), AllocError>
+    ensures { OnOk result (string_bytes text.new
+        ≡ string_bytes text.old ++ (codes "placed " ++ decimal offset ++ codes " " ++ decimal extent)) }
+{
+    text.push_str("placed ")?;
+    push_number(text, offset)?;
+    text.push_str(" ")?;
+    push_number(text, extent)
+}
+
+/// Adds `got LEN`.
+fn push_got(text: &mut String, length: u32) -> Result<(), AllocError>
+    ensures { OnOk result (string_bytes text.new
+        ≡ string_bytes text.old ++ (codes "got " ++ decimal length)) }
+{
+    text.push_str("got ")?;
+    push_number(text, length)
 }
 
 /// `refused N Name`.
