@@ -1,5 +1,5 @@
 -- How ids and tasks are written.
-use Rattle.std.specs.Prelude.{◌≡◌, ℕ, ◌==◌, Bool, true, false, IsTrue, List, [], ◌++◌, take, drop, replicate, codes, decimal, if◌then◌else◌, ◌⊎◌}
+use Rattle.std.specs.Prelude.{◌≡◌, ℕ, ◌==◌, Bool, true, false, not, IsTrue, nat_eq, List, [], ◌∷◌, ◌++◌, length, take, drop, replicate, codes, decimal, if◌then◌else◌, ◌⊎◌}
 use Rattle.std.specs.List.{list_all}
 use Rattle.std.specs.Int.{from_be_bytes, to_be_bytes, w64}
 use Rattle.hex.specs.Hex.{encode_lower}
@@ -7,6 +7,11 @@ use Rattle.obj_id.specs.Ids.{id_bytes}
 use Rattle.obj_id.specs.declared.ids.ObjectId.{ObjectId}
 use Rattle.obj_id.specs.declared.ids.JobNo.{JobNo}
 use Rattle.obj_id.specs.declared.ids.TaskNo.{TaskNo}
+
+-- whether a text begins as a number that is printed: with no sign, and with no zero but in `0` itself
+abbrev pub starts_as_printed : List ℕ → Bool
+starts_as_printed [] = false
+starts_as_printed (first ∷ rest) = if nat_eq first 48 then nat_eq (length rest) 0 else not (nat_eq first 43)
 
 -- the text of each id: its bytes, in lower case
 abbrev pub full_text : ObjectId → List ℕ
