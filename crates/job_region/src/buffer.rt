@@ -34,6 +34,13 @@ pub(crate) fn reserved(len: usize) -> usize
 /// The bytes of an extent. A contract sees these alone.
 #[derive(Drop)]
 pub(crate) struct Buffer {
+    // apart, since an extent that comes or goes moves the buffers of all after it
+    parts: Box<Parts>,
+}
+
+/// What a buffer consists of.
+#[derive(Drop)]
+struct Parts {
     // its own bytes; or none, and room for a copy of those that are shared, which nobody has touched
     own: Vec<u8>,
     // bytes that others may have too; or none
@@ -49,9 +56,9 @@ impl Model for Buffer {
 
     ghost Value = { List ℕ };
 
-    ghost view = { λ b. b.own.items ++ b.shared };
+    ghost view = { λ b. b.parts.value.own.items ++ b.parts.value.shared };
 
-    ghost invariant = { λ b. IsWindowKept (vec_len b.own) (vec_capacity b.own) b.shared × Agrees b.agreed (b.own.items ++ b.shared) };
+    ghost invariant = { λ b. IsWindowKept (vec_len b.parts.value.own) (vec_capacity b.parts.value.own) b.parts.value.shared × Agrees b.parts.value.agreed (b.parts.value.own.items ++ b.parts.value.shared) };
 }
 
 impl Buffer {
@@ -63,10 +70,13 @@ impl Buffer {
     ) -> Result<Buffer, AllocError>
         ensures { IfOk result (λ b. b ≡ replicate len 0) }
     {
-        Ok(Buffer {
+        let parts = Parts {
             own: Zeros::or_made(made, alloc, len)?,
             shared: Bytes::new(),
             agreed: Agreed::nothing(),
+        };
+        Ok(Buffer {
+            parts: Box::new(alloc, parts)?,
         })
     }
 
@@ -74,30 +84,32 @@ impl Buffer {
     pub(crate) fn as_slice(&self) -> &[u8]
         ensures { result.now ≡ self.now }
     {
-        if self.shared.is_empty() {
-            return self.own.as_slice();
+        let parts = &*self.parts;
+        if parts.shared.is_empty() {
+            return parts.own.as_slice();
         }
-        self.shared.as_slice()
+        parts.shared.as_slice()
     }
 
     /// Makes the bytes such as can be shared, and room for an own copy of them, if there is memory for it and they are not few.
     pub(crate) fn freeze(&mut self, alloc: Global)
         ensures { self.new ≡ self.old }
     {
-        if !self.shared.is_empty() {
+        let parts = &mut *self.parts;
+        if !parts.shared.is_empty() {
             return;
         }
-        if self.own.len() < SHARED_FROM {
+        if parts.own.len() < SHARED_FROM {
             // few bytes are hashed from a copy, which isn't to stay beside them
-            self.agreed = Agreed::nothing();
+            parts.agreed = Agreed::nothing();
             return;
         }
-        let Ok(room) = Vec::with_capacity(alloc, reserved(self.own.len())) else {
+        let Ok(room) = Vec::with_capacity(alloc, reserved(parts.own.len())) else {
             return;
         };
-        match Bytes::from_vec(mem::replace(&mut self.own, room)) {
-            Ok(shared) => self.shared = shared,
-            Err(AllocFailed { value: own }) => self.own = own,
+        match Bytes::from_vec(mem::replace(&mut parts.own, room)) {
+            Ok(shared) => parts.shared = shared,
+            Err(AllocFailed { value: own }) => parts.own = own,
         }
     }
 
@@ -105,10 +117,11 @@ impl Buffer {
     pub(crate) fn shared(&self) -> Option<Bytes>
         ensures { IfSome result (λ bytes. bytes ≡ self.now) }
     {
-        if self.shared.is_empty() {
+        let parts = &*self.parts;
+        if parts.shared.is_empty() {
             return None;
         }
-        self.shared.clone().ok()
+        parts.shared.clone().ok()
     }
 
     /// The bytes become these, which others may have too. Copies none, and gives what was written before.
@@ -116,13 +129,14 @@ impl Buffer {
         requires { length bytes ≡ length self.old }
         ensures { self.new ≡ bytes }
     {
-        self.agreed = Agreed::nothing();
-        self.shared = bytes;
+        let parts = &mut *self.parts;
+        parts.agreed = Agreed::nothing();
+        parts.shared = bytes;
         // room that nobody has touched in place of what was written, if there is memory for it
-        match Vec::with_capacity(alloc, reserved(self.shared.len())) {
-            Ok(room) => Some(mem::replace(&mut self.own, room)),
+        match Vec::with_capacity(alloc, reserved(parts.shared.len())) {
+            Ok(room) => Some(mem::replace(&mut parts.own, room)),
             Err(_) => {
-                self.own.clear();
+                parts.own.clear();
                 None
             }
         }
@@ -132,17 +146,18 @@ impl Buffer {
     pub(crate) fn expect(&mut self, hashed: Hashed)
         ensures { self.new ≡ self.old }
     {
-        self.agreed = Agreed::new(hashed);
+        self.parts.agreed = Agreed::new(hashed);
     }
 
     /// Compares the next part of them with these bytes, and tells whether there is more to compare.
     pub(crate) fn compare(&mut self) -> bool
         ensures { self.new ≡ self.old }
     {
-        if self.shared.is_empty() {
-            return self.agreed.compare(self.own.as_slice());
+        let parts = &mut *self.parts;
+        if parts.shared.is_empty() {
+            return parts.agreed.compare(parts.own.as_slice());
         }
-        self.agreed.compare(self.shared.as_slice())
+        parts.agreed.compare(parts.shared.as_slice())
     }
 
     /// The digest of the first `len` bytes: what is known of them, if all were compared.
@@ -150,7 +165,7 @@ impl Buffer {
         requires { len ≤ length self.now }
         ensures { result ≡ digest_of (take len self.now) }
     {
-        self.agreed.digest_of(self.as_slice(), len)
+        self.parts.agreed.digest_of(self.as_slice(), len)
     }
 
     /// Whether giving its memory back takes long.
@@ -163,9 +178,10 @@ impl Buffer {
         requires { offset + length bytes.now ≤ length self.old }
         ensures { self.new ≡ overwritten self.old offset bytes.now }
     {
-        self.agreed = Agreed::nothing();
-        unshare(&mut self.own, &mut self.shared);
-        self.own[offset..offset + bytes.len()].copy_from_slice(bytes);
+        let parts = &mut *self.parts;
+        parts.agreed = Agreed::nothing();
+        unshare(&mut parts.own, &mut parts.shared);
+        parts.own[offset..offset + bytes.len()].copy_from_slice(bytes);
     }
 }
 
