@@ -1,4 +1,4 @@
-use Rattle.std.proofs.Common.{◌≡◌, ◌+◌, ◌∷◌, subst}
+use Rattle.std.proofs.Common.{◌≡◌, ◌∷◌, subst}
 use Rattle.augmented_tree.proofs.WellOrdered.{told_at, node_at, all_fit, pop_left, pop_right}
 use Rattle.augmented_tree.specs.Lists.{AllOf}
 use Rattle.augmented_tree.specs.Shape.{middle, items}

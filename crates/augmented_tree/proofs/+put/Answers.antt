@@ -1,4 +1,4 @@
-use Rattle.std.proofs.Common.{◌≡◌, ◌≢◌, ◌+◌, sym, ◌∙◌, ap, subst, arith}
+use Rattle.std.proofs.Common.{◌≡◌, ◌≢◌, sym, ◌∙◌, ap, subst, arith}
 use Rattle.augmented_tree.proofs.WellOrdered.{summarized, node_at, items_at, put_here, put_left, put_right}
 use Rattle.augmented_tree.specs.Lists.{put_item}
 use Rattle.augmented_tree.specs.Shape.{IsTree, middle}

@@ -1,4 +1,4 @@
-use Rattle.std.proofs.Common.{◌≢◌, ◌+◌, sym, ◌∙◌, ap, subst, arith}
+use Rattle.std.proofs.Common.{◌≢◌, sym, ◌∙◌, ap, subst, arith}
 use Rattle.std.specs.Prelude.{is_some}
 use Rattle.augmented_tree.proofs.WellOrdered.{summarized, told_at, node_at, items_at, take_left, take_right, has_left, has_right}
 use Rattle.augmented_tree.specs.Lists.{take_item, has_item}

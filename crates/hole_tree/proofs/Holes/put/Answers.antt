@@ -1,4 +1,4 @@
-use Rattle.std.proofs.Common.{◌^◌, ◌≤◌, sym, subst, arith}
+use Rattle.std.proofs.Common.{◌^◌, ◌≤◌, subst, arith}
 use Rattle.std.proofs.Math.Pow.{pow_mono}
 use Rattle.augmented_tree.specs.Shape.{IsTree}
 use Rattle.hole_tree.specs.Holes.{hole_offset, IsAnyHole, IsGreatest}
