@@ -16,10 +16,10 @@ use Rattle.private_store.specs.declared.inputs.Input.{Input}
 use Rattle.private_store.specs.declared.inputs.Input.TheVariants.{Arrive}
 use Rattle.private_store.specs.rules.Private.{Store, private_step, private_outcome, store_from, view_of, no_store}
 use Rattle.private_store.specs.rules.Cluster.{Cluster, ClusterInput, at_node, deliver, cluster_step, cluster_from, input_at, moved_at, unmoved, handed_over, handed_to_directory, message_at, damaged, arrival_of, no_cluster}
-use Rattle.private_store.specs.rules.Contents.{chunk_verdict, source_in, pull_matches}
+use Rattle.private_store.specs.rules.Contents.{View, judge}
+use Rattle.private_store.specs.laws.Made.{changes_grants}
 use Rattle.store_facts.proofs.Tests.{none_some, some_value}
-use Rattle.grant_laws.proofs.GrantsStay.{SameGrants, same_grants}
-use Rattle.grant_laws.proofs.EachInput.{located_same, chunk_same, pull_same, not_here_same}
+use Rattle.grant_laws.proofs.GrantsStay.{SameGrants, same_grants, grants_stay}
 
 zero_suc : (n : ℕ) → (zero == suc n) ≡ false
 zero_suc n = grind (arith, nat_tests)
@@ -101,11 +101,15 @@ still_at C m x still n after e =
           ] refl),
     )
 
+-- no message changes grants
+arrival_stays : (m : ℕ) (view : View) (a : Arrival) → changes_grants (judge m view (Arrive a)) ≡ false
+arrival_stays m view (arrival.Located id number entries) = refl
+arrival_stays m view (arrival.FromPeer from (peer.Pull id number n digest indexes)) = refl
+arrival_stays m view (arrival.FromPeer from (peer.Chunk id number index bytes)) = refl
+arrival_stays m view (arrival.FromPeer from (peer.NotHere id number)) = refl
+
 arrive_still : (m : ℕ) (s : Store) (a : Arrival) → SameGrants s.shape (private_step m s (Arrive a)).shape
-arrive_still m s (arrival.Located id number entries) = located_same (view_of s).order s.shape id number (source_in m entries)
-arrive_still m s (arrival.FromPeer from (peer.Pull id number n digest indexes)) = pull_same (view_of s).order s.shape id number (pull_matches (view_of s) id n digest)
-arrive_still m s (arrival.FromPeer from (peer.Chunk id number index bytes)) = chunk_same (view_of s).order s.shape id number index from (chunk_verdict (view_of s) id number index bytes from)
-arrive_still m s (arrival.FromPeer from (peer.NotHere id number)) = not_here_same (view_of s).order s.shape id number from
+arrive_still m s a = grants_stay (view_of s).order s.shape (judge m (view_of s) (Arrive a)) (arrival_stays m (view_of s) a)
 
 directory_still : (C : Cluster) (m : Message) (n : ℕ) (after : Store) → slice_get (handed_to_directory C m).cluster.stores n ≡ Some after → (s : Store) × (slice_get C.stores n ≡ Some s) × SameGrants s.shape after.shape
 directory_still C (message.ToDirectory m) n after e = still_unmoved C n after e

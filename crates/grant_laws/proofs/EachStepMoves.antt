@@ -30,7 +30,7 @@ use Rattle.store_facts.proofs.Tests.{true_false, none_some, some_value, or_false
 use Rattle.grants.specs.Table.{given_by, grant_check}
 use Rattle.grants.specs.Private.{as_given}
 use Rattle.grant_laws.proofs.WhatEnds.{filter_same, stands_filtered}
-use Rattle.grant_laws.proofs.GrantsStay.{SameGrants}
+use Rattle.grant_laws.proofs.GrantsStay.{SameGrants, grants_stay}
 use Rattle.grant_laws.proofs.Halves.{given_half, HasHalves, lengths_in, its_lengths, halves_have}
 use Rattle.grants.proofs.ForCallers.{filter_map, pushed_are_grants, left_are_grants, made_for}
 use Rattle.grant_laws.proofs.AfterEnds.{end_told, told_to}
@@ -45,10 +45,11 @@ use Rattle.private_store.specs.rules.Step.{step}
 use Rattle.private_store.specs.rules.Shape.{Change}
 use Rattle.private_store.specs.rules.Events.{is_live}
 use Rattle.private_store.specs.declared.inputs.Judged.TheVariants as judged
+use Rattle.private_store.specs.laws.Made.{is_grant_command}
 use Rattle.private_store.specs.rules.Trace.{is_out, granted_bytes}
 use Rattle.store_facts.proofs.Tests.{both_left}
 use Rattle.grants.specs.Table.{is_no_grantee, limits_check, hung_check}
-use Rattle.grant_laws.proofs.EachInput.{is_of_grant_command, call_still, begin_same, requota_same, answer_same, grant_step, withdraw_step, end_task_step, GrantDone, left, gave, EndDone, ended, JobEndDone, was_dead, is_over, job_end_step, keeps_others, keeps_other_tasks}
+use Rattle.grant_laws.proofs.GrantInputs.{grant_step, withdraw_step, end_task_step, GrantDone, left, gave, EndDone, ended, JobEndDone, was_dead, is_over, job_end_step, keeps_others, keeps_other_tasks}
 use Rattle.grant_laws.proofs.AfterGrants.{granted_step, grantor_fits, grantee_fits, other_fits}
 use Rattle.grant_laws.proofs.StoresKept.{store_kept}
 use Rattle.grant_laws.proofs.Moving.{Stand, Moved, Answers, still_moves, node_moves, told_notes, Ends, ends_fit, own_answer}
@@ -72,13 +73,13 @@ whole_ok view x reply.NoWork e = cc
 whole_ok view x (reply.Refused refusal) e = cc
 
 -- only an accepted Grant, Withdraw or EndTask changes the grants of the job whose command it is
-still_call : (m : ℕ) (s : Store) (session : ℕ) (c : Command (List ℕ)) (r : Reply (List ℕ)) → (is_of_grant_command (without_payload c) ≡ true → r ≡ reply.Ok → ⊥) → r ≡ (private_outcome m s (input.Call session c)).reply
+still_call : (m : ℕ) (s : Store) (session : ℕ) (c : Command (List ℕ)) (r : Reply (List ℕ)) → (is_grant_command (without_payload c) ≡ true → r ≡ reply.Ok → ⊥) → r ≡ (private_outcome m s (input.Call session c)).reply
     → SameGrants s.shape (private_step m s (input.Call session c)).shape
 still_call m s session (command.Grant id target) r not_ok is = by_done (step (view_of s).order s.shape (judged.Call session (command.Grant id target))) (grant_step (view_of s).order s.shape session id target.0) is
   where
     by_done : (c : Change) → GrantDone s.shape c → r ≡ whole_reply (view_of s) (input.Call session (command.Grant id target)) c.reply → SameGrants s.shape c.shape
     by_done c (left same n) e = same
-    by_done c (gave g t) e = absurd (not_ok refl (e ∙ ap (whole_reply (view_of s) (input.Call session (command.Grant id target))) t))
+    by_done c (gave t) e = absurd (not_ok refl (e ∙ ap (whole_reply (view_of s) (input.Call session (command.Grant id target))) t))
 still_call m s session (command.Withdraw id target) r not_ok is = by_done (step (view_of s).order s.shape (judged.Call session (command.Withdraw id target))) (withdraw_step (view_of s).order s.shape session id target.0) is
   where
     by_done : (c : Change) → EndDone (keeps_others id target.0) s.shape c → r ≡ whole_reply (view_of s) (input.Call session (command.Withdraw id target)) c.reply → SameGrants s.shape c.shape
@@ -89,7 +90,7 @@ still_call m s session (command.EndTask task) r not_ok is = by_done (step (view_
     by_done : (c : Change) → EndDone (keeps_other_tasks s.shape.job task) s.shape c → r ≡ whole_reply (view_of s) (input.Call session (command.EndTask task)) c.reply → SameGrants s.shape c.shape
     by_done c (left same n) e = same
     by_done c (ended j g f t) e = absurd (not_ok refl (e ∙ ap (whole_reply (view_of s) (input.Call session (command.EndTask task))) t))
-still_call m s session c r not_ok is = call_still (view_of s).order s.shape session (without_payload c) refl
+still_call m s session c r not_ok is = grants_stay (view_of s).order s.shape (judged.Call session (without_payload c)) refl
 
 module _ (nodes : ℕ) (before : List Traced) (stand : Stand nodes before) where
   abbrev C : ℕ → Cluster
@@ -115,7 +116,7 @@ module _ (nodes : ℕ) (before : List Traced) (stand : Stand nodes before) where
     abbrev given : Given
     given = record { job = k.0; input = at_node m (input.Call session c) }
 
-    call_quiet : (r : Reply (List ℕ)) → (is_of_grant_command (without_payload c) ≡ true → r ≡ reply.Ok → ⊥) → noted called (answer.Response r) ≡ [] → ((n : ℕ) → grants_step n (grants_at n before) called (answer.Response r) ≡ grants_at n before)
+    call_quiet : (r : Reply (List ℕ)) → (is_grant_command (without_payload c) ≡ true → r ≡ reply.Ok → ⊥) → noted called (answer.Response r) ≡ [] → ((n : ℕ) → grants_step n (grants_at n before) called (answer.Response r) ≡ grants_at n before)
         → Answers nodes before called (answer.Response r) → Moved nodes before called (answer.Response r)
     call_quiet r not_ok silent same answers = by_memory (is_no_memory (answer.Response r)) refl
       where
@@ -336,7 +337,7 @@ module _ (nodes : ℕ) (before : List Traced) (stand : Stand nodes before) where
       elim (is_no_memory a) as (λ b. own_input before s a ≡ form b (is_out m k.0 number before) → Moved nodes before s a) [
         | true ↦ λ e. nothing s a e silent same
         | false ↦ elim (is_out m k.0 number before) as (λ t. own_input before s a ≡ form false t → Moved nodes before s a) [
-          | true ↦ λ e. one_input s a g e silent same (still_at (C k.0) m (input.Answer number d) (λ s _. answer_same (view_of s).order s.shape number (work_verdict (view_of s) number d)))
+          | true ↦ λ e. one_input s a g e silent same (still_at (C k.0) m (input.Answer number d) (λ s _. grants_stay (view_of s).order s.shape (judged.Answer number (work_verdict (view_of s) number d)) refl))
           | false ↦ λ e. nothing s a e silent same
         ]
       ] refl
@@ -354,11 +355,11 @@ module _ (nodes : ℕ) (before : List Traced) (stand : Stand nodes before) where
   moves (steps.At m (event.JobEnd k)) a answers = nothing (steps.At m (event.JobEnd k)) _ refl refl (λ n. refl)
   moves (steps.At m (event.Admit k quota key)) (answer.Response reply.Ok) answers =
       one_input (steps.At m (event.Admit k quota key)) (answer.Response reply.Ok) (record { job = k.0; input = at_node m (input.Begin quota) }) refl refl (λ n. if_same (m == n) (grants_at n before))
-      (still_at (C k.0) m (input.Begin quota) (λ s _. begin_same (view_of s).order s.shape quota))
+      (still_at (C k.0) m (input.Begin quota) (λ s _. grants_stay (view_of s).order s.shape (judged.Begin quota) refl))
   moves (steps.At m (event.Admit k quota key)) a answers = nothing (steps.At m (event.Admit k quota key)) _ refl refl (λ n. refl)
   moves (steps.At m (event.Requota k quota)) (answer.Response reply.Ok) answers =
       one_input (steps.At m (event.Requota k quota)) (answer.Response reply.Ok) (record { job = k.0; input = at_node m (input.Requota quota) }) refl refl (λ n. if_same (m == n) (grants_at n before))
-      (still_at (C k.0) m (input.Requota quota) (λ s _. requota_same (view_of s).order s.shape quota))
+      (still_at (C k.0) m (input.Requota quota) (λ s _. grants_stay (view_of s).order s.shape (judged.Requota quota) refl))
   moves (steps.At m (event.Requota k quota)) a answers = nothing (steps.At m (event.Requota k quota)) _ refl refl (λ n. refl)
   moves (steps.At m event.Take) (answer.Response reply.Ok) answers = nothing (steps.At m event.Take) (answer.Response reply.Ok) refl refl (λ n. if_same (m == n) (grants_at n before))
   moves (steps.At m event.Take) a answers = nothing (steps.At m event.Take) _ refl refl (λ n. refl)

@@ -1,7 +1,7 @@
 mod InOrder
 mod WhatEnds
 mod GrantsStay
-mod EachInput
+mod GrantInputs
 mod Halves
 mod AfterEnds
 mod AfterGrants

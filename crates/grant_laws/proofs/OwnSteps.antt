@@ -220,12 +220,12 @@ module _ (store : Shape) (has : HasOwn store) where
       let doomed_ids = of_task task ids in
       checked_own store _ _ _
       (ap (λ s. at_each (give_up_one task) ids (at_each doom doomed_ids (done s))) (task_ended_own store task)
-      ∙ ap (at_each (give_up_one task) ids) (at_each_own doom (λ s id. (doom_still s id).is.job) doom_own store.job doomed_ids (fewer_own store.job (λ id. same_task task id.task) ids all_ids) (done start) refl)
-      ∙ at_each_own (give_up_one task) (λ s id. (give_up_one_still s task id).is.job) (give_up_one_own task) store.job ids all_ids (at_each doom doomed_ids (done start))
-      (at_each_still doom doom_still start doomed_ids (done start) (record { is = same_grants start })).is.job)
+      ∙ ap (at_each (give_up_one task) ids) (at_each_own doom (λ s id. (doom_still s id).job) doom_own store.job doomed_ids (fewer_own store.job (λ id. same_task task id.task) ids all_ids) (done start) refl)
+      ∙ at_each_own (give_up_one task) (λ s id. (give_up_one_still task s id).job) (give_up_one_own task) store.job ids all_ids (at_each doom doomed_ids (done start))
+      (at_each_still doom doom_still start doomed_ids (done start) (same_grants start)).job)
 
   leave_own : (session : ℕ) → leave (own_part store) session ≡ own_change (leave store session)
-  leave_own session = at_each_own (leave_one session) (λ s id. (leave_one_still s session id).is.job) (leave_one_own session) store.job (ids_of store.copies) all_ids (done store) refl
+  leave_own session = at_each_own (leave_one session) (λ s id. (leave_one_still session s id).job) (leave_one_own session) store.job (ids_of store.copies) all_ids (done store) refl
 
   withdraw_own : (id : ObjectId) (target : ℕ) → IsOwn store id → withdraw (own_part store) id target ≡ own_change (withdraw store id target)
   withdraw_own id target own =

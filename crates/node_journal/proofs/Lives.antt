@@ -21,7 +21,7 @@ use Rattle.private_store.specs.rules.Copies.{is_idle}
 use Rattle.private_store.specs.rules.Limits.{is_quota}
 use Rattle.private_store.specs.rules.Room.{set_copy, drop_copy}
 use Rattle.private_store.specs.rules.Events.{is_live, begin, answer, written, work_of, without_work, is_the_grant, grant_ended, withdrawn}
-use Rattle.private_store.specs.laws.Made.{Edit, marks, drops, creates, fetches, asks, finishes, flags, ends_task, gives, leaves, receives, loses, begins, requotas, ends, Edits, none, then_edit}
+use Rattle.private_store.specs.laws.Made.{Edit, begins, ends, Edits, none, then_edit}
 use Rattle.private_store.specs.rules.Step.{step}
 use Rattle.private_store.specs.rules.Replay.{ReplayState, Line as Replayed, replayed, replay_after}
 use Rattle.store_facts.proofs.Checks.{checked-nil, checked-true, checked-false}
@@ -34,21 +34,9 @@ use Rattle.node_journal.specs.declared.entries.Line.{Line}
 -- ---- one that was admitted
 
 edit_begun : {x : Judged} {used : Option ObjectId} (store after : Shape) → Edit x used store after → has_begun store.life ≡ true → has_begun after.life ≡ true
-edit_begun store after (marks id copy m found can) h = h
-edit_begun store after (drops id copy found goes) h = h
-edit_begun store after (creates id kind n offset is) h = h
-edit_begun store after (fetches id is absent fine) h = h
-edit_begun store after (asks writes id) h = h
-edit_begun store after (finishes number) h = h
-edit_begun store after (flags failed) h = h
-edit_begun store after (ends_task task) h = h
-edit_begun store after (gives grant) h = h
-edit_begun store after (leaves stands) h = h
-edit_begun store after (receives id n grantor depth is) h = h
-edit_begun store after (loses id grantor depth seen found) h = h
 edit_begun store after (begins quota fresh fine) h = refl
-edit_begun store after (requotas quota fine fits) h = h
 edit_begun store after (ends is) h = refl
+edit_begun store after _ h = h
 
 edits_begun : {x : Judged} {used : Option ObjectId} (store after : Shape) → Edits x used store after → has_begun store.life ≡ true → has_begun after.life ≡ true
 edits_begun store after none h = h

@@ -41,7 +41,7 @@ use Rattle.private_store.specs.rules.Events.{received, grants_of, is_the_grant}
 use Rattle.store_facts.proofs.Tests.{both, both_left, both_right, none_some, some_value, true_false, T_true}
 
 -- whether the input is that another job granted an object
-abbrev is_received : Judged → Bool
+abbrev pub is_received : Judged → Bool
 is_received (judged.Received id n grantor depth) = true
 is_received _ = false
 
@@ -209,7 +209,7 @@ received_within store id n grantor depth may k h =
 
 edit_within : {x : Judged} → is_received x ≡ false → (used : Option ObjectId) (store after : Shape) → Edit x used store after → AreSeenKept store.received × AreGrantedWithin store.received → AreSeenKept after.received × AreGrantedWithin after.received
 edit_within other used store after (receives id n grantor depth is) h = true_false (sym other ∙ ap is_received is)
-edit_within other used store after (loses id grantor depth seen e) h =
+edit_within other used store after (loses id grantor depth seen e is) h =
     let left = filter (λ grant. not (is_the_grant grantor depth grant)) seen.grants in (
       lost_seen store.received id seen left h.0,
       lost_within store.received id seen left e (all-filter (λ grant. nat_le grant.depth greatest_depth) (λ grant. not (is_the_grant grantor depth grant)) seen.grants (h.1.shallow id seen e)) h.0 h.1,

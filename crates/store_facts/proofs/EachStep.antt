@@ -39,7 +39,7 @@ use Rattle.private_store.specs.rules.Events.{begin, requota, end_job_here, answe
 use Rattle.private_store.specs.rules.Step.{step, owned, commanded, if_live}
 use Rattle.private_store.specs.laws.Invariants.{is_end}
 use Rattle.private_store.specs.laws.Made
-use Rattle.private_store.specs.laws.Made.{is_want, Can, Goes, Edit, Edits, none, then_edit, marks, drops, creates, fetches, asks, finishes, flags, ends_task, gives, leaves, receives, loses, begins, requotas, ends, BytesAnswered, Response, response_ok, response_placed, response_got, response_bytes, response_list, response_usage, response_refused, IsUsedThere, IsMadeOf, IsMade, command_sends, may_send}
+use Rattle.private_store.specs.laws.Made.{is_want, Can, Goes, Edit, Edits, none, then_edit, marks, drops, creates, fetches, asks, finishes, flags, ends_task, gives, leaves, receives, loses, begins, requotas, ends, BytesAnswered, Response, response_ok, response_placed, response_got, response_bytes, response_list, response_usage, response_refused, IsUsedThere, IsMadeOf, IsMade, is_grant_command, changes_grants, command_sends, may_send}
 use Rattle.store_facts.proofs.Checks.{Fails, visible_at, fetch_found}
 use Rattle.store_facts.proofs.Rows.{at-put, at-drop, at-put_here}
 use Rattle.store_facts.proofs.Tests.{both, both_left, false_true, both_right, passed, refuted, some_value, none_some}
@@ -129,7 +129,7 @@ module _ (x : Judged) where
     set_edits : {store : Shape} (mid : Shape) (id : ObjectId) (copy : Copy) (m : Mark) → at mid.copies id ≡ Some copy → Can m copy → Edits x used store mid → Edits x used store (set_copy mid id (marked m copy))
     set_edits mid id copy m e can h = then_edit h (marks id copy m e can)
 
-    settled_edits : {store : Shape} (mid : Shape) (id : ObjectId) → Edits x used store mid → Edits x used store (settled mid id)
+    pub settled_edits : {store : Shape} (mid : Shape) (id : ObjectId) → Edits x used store mid → Edits x used store (settled mid id)
     settled_edits {store} mid id h =
         elim (at mid.copies id) as (λ o. at mid.copies id ≡ o → Edits x used store (option_map_or (λ copy. cond (copy.doomed && is_idle mid id copy) (drop_copy mid id) mid) o mid)) [
           | None ↦ λ _. h
@@ -203,7 +203,7 @@ module _ (x : Judged) where
   abbrev Evicts : Type 0
   Evicts = (id : ObjectId) → may_send x (remove_location id) ≡ true
 
-  abbrev Dooms : Type 0
+  abbrev pub Dooms : Type 0
   Dooms = (id : ObjectId) → (may_send x (remove_location id) ≡ true) × (may_send x (free id) ≡ true)
 
   notices_sent : Evicts → (store : Shape) (ids : List ObjectId) → AreSent (filter_map (eviction_notice store) ids)
@@ -306,8 +306,8 @@ module _ (x : Judged) where
 
   -- ---- changes that use no copy
 
-  record MakesUnused (found store : Shape) (c : Change) : Type 0 where
-    edits : Edits x None store c.shape
+  pub record MakesUnused (found store : Shape) (c : Change) : Type 0 where
+    pub edits : Edits x None store c.shape
     response : Response x found c.reply
     unused : c.used ≡ None
     sent : AreSent c.sent
@@ -323,7 +323,7 @@ module _ (x : Judged) where
   done_unused : (found : Shape) {store after : Shape} → Edits x None store after → MakesUnused found store (done after)
   done_unused found h = record { edits = h; response = response_ok; unused = refl; sent = refl }
 
-  doom_unused : Dooms → (found : Shape) {store : Shape} (mid : Shape) (id : ObjectId) → Edits x None store mid → MakesUnused found store (doom mid id)
+  pub doom_unused : Dooms → (found : Shape) {store : Shape} (mid : Shape) (id : ObjectId) → Edits x None store mid → MakesUnused found store (doom mid id)
   unfolding sending
   doom_unused dm found mid id h = record { edits = doomed_edits None mid id h; response = response_ok; unused = refl; sent = all_of_both (may_send x) (option_to_list (doom_notice mid id)) [] (notice_sent dm mid id) refl }
 
@@ -336,7 +336,7 @@ module _ (x : Judged) where
         | false ↦ doom_unused dm found (set_copy store id d) id set
       ]
 
-  give_up_one_unused : Dooms → (found : Shape) (task : TaskNo) (store : Shape) (id : ObjectId) → MakesUnused found store (give_up_one task store id)
+  pub give_up_one_unused : Dooms → (found : Shape) (task : TaskNo) (store : Shape) (id : ObjectId) → MakesUnused found store (give_up_one task store id)
   give_up_one_unused dm found task store id =
       elim (at store.copies id) as (λ o. at store.copies id ≡ o → MakesUnused found store (option_map_or (λ copy. cond copy.doomed (done (set_copy store id (without_borrower copy task))) (cond (has_borrower copy task) (scoped store id (without_borrower copy task)) (done store))) o (done store))) [
         | None ↦ λ _. done_unused found none
@@ -352,7 +352,7 @@ module _ (x : Judged) where
   set_settled : (found store : Shape) (id : ObjectId) (copy : Copy) (m : Mark) → at store.copies id ≡ Some copy → Can m copy → MakesUnused found store (done (settled (set_copy store id (marked m copy)) id))
   set_settled found store id copy m e can = done_unused found (settled_edits None (set_copy store id (marked m copy)) id (set_edits None store id copy m e can none))
 
-  leave_one_unused : (found : Shape) (session : ℕ) (store : Shape) (id : ObjectId) → MakesUnused found store (leave_one session store id)
+  pub leave_one_unused : (found : Shape) (session : ℕ) (store : Shape) (id : ObjectId) → MakesUnused found store (leave_one session store id)
   leave_one_unused found session store id =
       elim (at store.copies id) as (λ o. at store.copies id ≡ o → MakesUnused found store (option_map_or (λ copy. done (settled (set_copy store id (with_holds copy session 0)) id)) o (done store))) [
         | None ↦ λ _. done_unused found none
@@ -449,48 +449,48 @@ module _ (x : Judged) where
     owned_made : (id : ObjectId) (c : Change) → IsMade x store c → IsMade x store (owned store id c)
     owned_made id c k = made_checked store store _ _ refl (λ _. k)
 
-    grant_made : (id : ObjectId) (target : ℕ) → IsMade x store (grant store id target)
-    grant_made id target =
+    grant_made : changes_grants x ≡ true → (id : ObjectId) (target : ℕ) → IsMade x store (grant store id target)
+    grant_made g id target =
         elim (id.job.0 == store.job) as (λ b. IsMade x store (cond b (grant_own store id target) (grant_foreign store id target))) [
-          | true ↦ made_checked store store _ _ refl (λ _. made_needing store store _ _ _ refl (λ copy e. made_checked store store _ _ refl (λ _. made_done store (one None (gives _)))))
-          | false ↦ made_checked store store _ _ refl (λ _. made_needing store store _ _ _ refl (λ a_grant e. made_checked store store _ _ refl (λ _. made_done store (one None (gives _)))))
+          | true ↦ made_checked store store _ _ refl (λ _. made_needing store store _ _ _ refl (λ copy e. made_checked store store _ _ refl (λ _. made_done store (one None (gives _ g)))))
+          | false ↦ made_checked store store _ _ refl (λ _. made_needing store store _ _ _ refl (λ a_grant e. made_checked store store _ _ refl (λ _. made_done store (one None (gives _ g)))))
         ]
 
-    end_task_made : Dooms → (task : TaskNo) → IsMade x store (end_task store task)
-    end_task_made dm task =
+    end_task_made : Dooms → changes_grants x ≡ true → (task : TaskNo) → IsMade x store (end_task store task)
+    end_task_made dm g task =
         let ids = ids_of store.copies in
         made_checked store store _ _ refl (λ _. unused_made store store _
         (at_each_unused store (give_up_one task) (give_up_one_unused dm store task) ids _
-        (at_each_unused store doom (λ mid id. doom_unused dm store mid id none) (of_task task ids) _ (done_unused store (one None (ends_task task))))))
+        (at_each_unused store doom (λ mid id. doom_unused dm store mid id none) (of_task task ids) _ (done_unused store (one None (ends_task task g))))))
 
-    silent_made : (session : ℕ) (c : Command ℕ) → ((m : Sending) → command_sends c m ≡ true → may_send x m ≡ true) → tells_bytes c ≡ false → IsMade x store (commanded order store session c)
-    silent_made session (command.Create id kind n) h t = owned_made id _ (create_made (λ q. h (remove_location q) refl) id kind n)
-    silent_made session (command.Write id offset n) h t =
+    silent_made : (session : ℕ) (c : Command ℕ) → ((m : Sending) → command_sends c m ≡ true → may_send x m ≡ true) → (is_grant_command c ≡ true → changes_grants x ≡ true) → tells_bytes c ≡ false → IsMade x store (commanded order store session c)
+    silent_made session (command.Create id kind n) h g t = owned_made id _ (create_made (λ q. h (remove_location q) refl) id kind n)
+    silent_made session (command.Write id offset n) h g t =
         owned_made id _ (made_checked store store _ _ refl (λ _. made_needing store store _ _ _ refl (λ copy e. made_checked store store _ _ refl (λ _. made_done store none))))
-    silent_made session (command.Seal id) h t =
+    silent_made session (command.Seal id) h g t =
         owned_made id _ (made_needing store store _ _ _ refl (λ copy e. made_checked store store _ _ refl (λ _. made_sending store store _ _ (one_sent _ (h (add_location id) refl))
         (made_done store (set_edits None store id copy mark.sealed (visible_at store id copy e) tt none)))))
-    silent_made session (command.Get id) h t = owned_made id _ (get_made session id h)
-    silent_made session (command.Read id offset n) h t = false_true t
-    silent_made session (command.Release id) h t =
+    silent_made session (command.Get id) h g t = owned_made id _ (get_made session id h)
+    silent_made session (command.Read id offset n) h g t = false_true t
+    silent_made session (command.Release id) h g t =
         owned_made id _ (made_needing store store _ _ _ refl (λ copy e. made_checked store store _ _ refl (λ _. unused_made store store _ (set_settled store store id copy (mark.held session _) e tt))))
-    silent_made session (command.Unpin id task) h t =
+    silent_made session (command.Unpin id task) h g t =
         owned_made id _ (made_needing store store _ _ _ refl (λ copy e. made_checked store store _ _ refl (λ _. unused_made store store _ (scoped_unused (λ q. (h (remove_location q) refl, h (free q) refl)) store store id copy mark.unpinned (visible_at store id copy e) tt))))
-    silent_made session (command.Borrow id task) h t =
+    silent_made session (command.Borrow id task) h g t =
         owned_made id _ (made_checked store store _ _ refl (λ _. made_needing store store _ _ _ refl (λ copy e. made_checked store store _ _ refl (λ _.
         made_done store (set_edits None store id copy (mark.borrowed task) (visible_at store id copy e) tt none)))))
-    silent_made session (command.GiveUp id task) h t =
+    silent_made session (command.GiveUp id task) h g t =
         owned_made id _ (made_needing store store _ _ _ refl (λ copy e. made_checked store store _ _ refl (λ _. unused_made store store _ (scoped_unused (λ q. (h (remove_location q) refl, h (free q) refl)) store store id copy (mark.given_up task) (visible_at store id copy e) tt))))
-    silent_made session (command.Delete id) h t =
+    silent_made session (command.Delete id) h g t =
         owned_made id _ (made_needing store store _ _ _ refl (λ copy e. made_checked store store _ _ refl (λ _. unused_made store store _ (doom_unused (λ q. (h (remove_location q) refl, h (free q) refl)) store store id none))))
-    silent_made session (command.EndTask task) h t = end_task_made (λ q. (h (remove_location q) refl, h (free q) refl)) task
-    silent_made session (command.Grant id target) h t = grant_made id target.0
-    silent_made session (command.Withdraw id target) h t =
-        made_checked store store _ _ refl (λ _. made_done store (settled_edits None _ id (one None (leaves _))))
-    silent_made session (command.Peek id offset n) h t = false_true t
-    silent_made session command.List h t = made_replied store store _ response_list
-    silent_made session command.Usage h t = made_replied store store _ response_usage
-    silent_made session command.Leave h t =
+    silent_made session (command.EndTask task) h g t = end_task_made (λ q. (h (remove_location q) refl, h (free q) refl)) (g refl) task
+    silent_made session (command.Grant id target) h g t = grant_made (g refl) id target.0
+    silent_made session (command.Withdraw id target) h g t =
+        made_checked store store _ _ refl (λ _. made_done store (settled_edits None _ id (one None (leaves _ (g refl)))))
+    silent_made session (command.Peek id offset n) h g t = false_true t
+    silent_made session command.List h g t = made_replied store store _ response_list
+    silent_made session command.Usage h g t = made_replied store store _ response_usage
+    silent_made session command.Leave h g t =
         unused_made store store _ (at_each_unused store (leave_one session) (leave_one_unused store session) (ids_of store.copies) _ (done_unused store none))
 
     -- ---- the operator, and the grants that others give
@@ -513,12 +513,12 @@ module _ (x : Judged) where
     end_made : is_end x ≡ true → may_send x end_job ≡ true → IsMade x store (end_job_here store)
     end_made e h = made_sending store store _ _ (one_sent end_job h) (made_done store (one None (ends e)))
 
-    withdrawn_made : (id : ObjectId) (grantor depth : ℕ) → IsMade x store (withdrawn store id grantor depth)
-    withdrawn_made id grantor depth = made_done store (
+    withdrawn_made : changes_grants x ≡ true → (id : ObjectId) (grantor depth : ℕ) → IsMade x store (withdrawn store id grantor depth)
+    withdrawn_made g id grantor depth = made_done store (
         elim (at store.received id) as (λ o. at store.received id ≡ o → Edits x None store (option_map_or (λ seen. cond (list_any (is_the_grant grantor depth) seen.grants) (grant_ended store id grantor depth seen) store) o store)) [
           | None ↦ λ _. none
           | Some seen ↦ λ e. elim (list_any (is_the_grant grantor depth) seen.grants) as (λ b. Edits x None store (cond b (grant_ended store id grantor depth seen) store)) [
-            | true ↦ then_edit (one None (loses id grantor depth seen e)) (leaves (λ a_grant. not (is_child_of id grantor a_grant)))
+            | true ↦ then_edit (one None (loses id grantor depth seen e g)) (leaves (λ a_grant. not (is_child_of id grantor a_grant)) g)
             | false ↦ none
           ]
         ] refl)
@@ -670,7 +670,7 @@ module _ (order : List ObjectId) (store : Shape) where
       let x = judged.Call session (command.Peek id offset n) in
       made_checked x store store _ _ refl (λ _. made_needing x store store _ _ _ refl (λ seen e. made_checked x store store _ _ refl (λ fails.
       made_replied x store store _ (response_bytes n (refl, record { seen = seen; there = e; few = fails.0; within = fails.1.0 })))))
-  commanded_made session c = silent_made (judged.Call session c) order store session c (λ m e. e) refl
+  commanded_made session c = silent_made (judged.Call session c) order store session c (λ m e. e) (λ e. e) refl
 
   -- each input's change is made of edits and an answer
   pub step_made : (x : Judged) → IsMade x store (step order store x)
@@ -685,7 +685,7 @@ module _ (order : List ObjectId) (store : Shape) where
   step_made (judged.Pull id number matches) = let x = judged.Pull id number matches in if_live_made x order store _ (pull_made x order store (λ q. (refl, refl, refl)) id matches)
   step_made (judged.NotHere id number from) = let x = judged.NotHere id number from in if_live_made x order store _ (not_here_made x order store (λ q n. refl) id number from)
   step_made (judged.Received id n grantor depth) = made_done (judged.Received id n grantor depth) store (one (judged.Received id n grantor depth) None (receives id n grantor depth refl))
-  step_made (judged.Withdrawn id grantor depth) = withdrawn_made (judged.Withdrawn id grantor depth) order store id grantor.0 depth
+  step_made (judged.Withdrawn id grantor depth) = withdrawn_made (judged.Withdrawn id grantor depth) order store refl id grantor.0 depth
   step_made judged.End = if_live_made judged.End order store _ (made_erasing judged.End store store store _ (end_made judged.End order store refl refl))
 
 -- ---- how it is used

@@ -185,7 +185,7 @@ lost_seen received id seen (grant ∷ grants) h = put_seen received id (record s
 
 edit_seen : {x : Judged} (used : Option ObjectId) (store after : Shape) → Edit x used store after → AreSeenKept store.received → AreSeenKept after.received
 edit_seen used store after (receives id n grantor depth is) h = put_seen store.received id _ (some_grants (grants_of store id) (record { grantor = grantor.0; depth = depth })) h
-edit_seen used store after (loses id grantor depth seen e) h = lost_seen store.received id seen (filter (λ grant. not (is_the_grant grantor depth grant)) seen.grants) h
+edit_seen used store after (loses id grantor depth seen e is) h = lost_seen store.received id seen (filter (λ grant. not (is_the_grant grantor depth grant)) seen.grants) h
 edit_seen used store after _ h = h
 
 -- ---- all of them

@@ -3,26 +3,13 @@ use Rattle.std.proofs.Common.{◌≡◌, List, Option, refl, ◌∙◌}
 use Rattle.obj_id.specs.declared.ids.ObjectId.{ObjectId}
 use Rattle.private_store.specs.declared.inputs.Judged.{Judged}
 use Rattle.private_store.specs.rules.Shape.{Shape}
-use Rattle.private_store.specs.laws.Made.{Edit, marks, drops, creates, fetches, asks, finishes, flags, ends_task, gives, leaves, receives, loses, begins, requotas, ends, Edits, none, then_edit}
+use Rattle.private_store.specs.laws.Made.{Edit, ends, Edits, none, then_edit}
 use Rattle.private_store.specs.rules.Step.{step}
 use Rattle.store_facts.proofs.EachStep.{step_made}
 
 edit_job : {x : Judged} {used : Option ObjectId} (store after : Shape) → Edit x used store after → after.job ≡ store.job
-edit_job store after (marks id copy m found can) = refl
-edit_job store after (drops id copy found goes) = refl
-edit_job store after (creates id kind n offset is) = refl
-edit_job store after (fetches id is absent fine) = refl
-edit_job store after (asks writes id) = refl
-edit_job store after (finishes number) = refl
-edit_job store after (flags failed) = refl
-edit_job store after (ends_task task) = refl
-edit_job store after (gives grant) = refl
-edit_job store after (leaves stands) = refl
-edit_job store after (receives id n grantor depth is) = refl
-edit_job store after (loses id grantor depth seen found) = refl
-edit_job store after (begins quota fresh fine) = refl
-edit_job store after (requotas quota fine fits) = refl
 edit_job store after (ends is) = refl
+edit_job store after _ = refl
 
 edits_job : {x : Judged} {used : Option ObjectId} (store after : Shape) → Edits x used store after → after.job ≡ store.job
 edits_job store after none = refl

@@ -36,6 +36,23 @@ abbrev pub is_want : Refusal → Bool
 is_want NoMemory = true
 is_want _ = false
 
+-- ---- who may change grants
+
+-- the commands that may change grants
+abbrev pub is_grant_command : Command ℕ → Bool
+is_grant_command (command.Grant id target) = true
+is_grant_command (command.Withdraw id target) = true
+is_grant_command (command.EndTask task) = true
+is_grant_command _ = false
+
+-- the inputs that may change what the job gave or was given
+abbrev pub changes_grants : Judged → Bool
+changes_grants (judged.Call session c) = is_grant_command c
+changes_grants (judged.Received id n grantor depth) = true
+changes_grants (judged.Withdrawn id grantor depth) = true
+changes_grants judged.End = true
+changes_grants _ = false
+
 -- ---- edits
 
 -- what a mark needs of the copy
@@ -66,12 +83,12 @@ pub data Edit (x : Judged) (used : Option ObjectId) (store : Shape) : Shape → 
   finishes : (number : ℕ) → Edit x used store (without_work store number)
   -- whether a spill failed that isn't answered yet
   flags : (failed : Bool) → Edit x used store (record store { spill_failed = failed })
-  ends_task : (task : TaskNo) → Edit x used store (task_ended store task)
-  gives : (grant : GrantGiven) → Edit x used store (record store { given = store.given ++ grant ∷ [] })
+  ends_task : (task : TaskNo) → changes_grants x ≡ true → Edit x used store (task_ended store task)
+  gives : (grant : GrantGiven) → changes_grants x ≡ true → Edit x used store (record store { given = store.given ++ grant ∷ [] })
   -- of the grants given, those that pass the test are left
-  leaves : (stands : GrantGiven → Bool) → Edit x used store (record store { given = filter stands store.given })
+  leaves : (stands : GrantGiven → Bool) → changes_grants x ≡ true → Edit x used store (record store { given = filter stands store.given })
   receives : (id : ObjectId) (n : ℕ) (grantor : JobNo) (depth : ℕ) → x ≡ judged.Received id n grantor depth → Edit x used store (received store id n grantor.0 depth).shape
-  loses : (id : ObjectId) (grantor depth : ℕ) (seen : Seen) → at store.received id ≡ Some seen
+  loses : (id : ObjectId) (grantor depth : ℕ) (seen : Seen) → at store.received id ≡ Some seen → changes_grants x ≡ true
       → Edit x used store (record store { received = option_map_or (λ left. with_entry store.received id left) (without_grant seen grantor depth) (without_entry store.received id) })
   begins : (quota : Quota) → store.life ≡ not_begun → is_quota quota ≡ true → Edit x used store (record store { life = live; quota = quota })
   requotas : (quota : Quota) → is_quota quota ≡ true → fits_quota store quota ≡ true → Edit x used store (record store { quota = quota })
