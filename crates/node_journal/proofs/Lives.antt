@@ -34,7 +34,7 @@ use Rattle.node_journal.specs.declared.entries.Line.{Line}
 -- ---- one that was admitted
 
 edit_begun : {x : Judged} {used : Option ObjectId} (store after : Shape) → Edit x used store after → has_begun store.life ≡ true → has_begun after.life ≡ true
-edit_begun store after (begins quota fresh fine) h = refl
+edit_begun store after (begins quota fresh fine stirs) h = refl
 edit_begun store after (ends is) h = refl
 edit_begun store after _ h = h
 

@@ -48,11 +48,9 @@ use Rattle.private_store.specs.laws.Invariants.{IsShapeKept, AreContentsKept, ha
 use Rattle.private_store.specs.rules.Room.{set_copy}
 use Rattle.store_facts.proofs.Tests.{true_false, some_value, none_some, both_left, both_right, passed}
 use Rattle.store_facts.proofs.Ids.{id_cmp-IsTotalOrder, same_id-equal, same_id-itself}
-use Rattle.store_facts.proofs.Checks.{checked_past}
-use Rattle.store_facts.proofs.Checks.{needing_has}
+use Rattle.store_facts.proofs.Checks.{visible_at, checked_past, needing_has}
 use Rattle.store_facts.proofs.Sound.{step_sound}
 use Rattle.store_facts.proofs.Rows.{at-put, quiet_stays}
-use Rattle.store_facts.proofs.CalmSteps.{visible_at}
 use Rattle.store_facts.proofs.Turns.{found_any, resident, calm, IsTurn}
 use Rattle.store_facts.proofs.StepTurns.{is_taken, ReadsBack, sealing_turn, step_turn, MaySeal, fetch_found, fetch_fetching, fetching_unsealed}
 use Rattle.store_facts.proofs.Filling.{IsFilled, refilled, refilled_kept}

@@ -39,7 +39,7 @@ use Rattle.private_store.specs.rules.Events.{begin, requota, end_job_here, answe
 use Rattle.private_store.specs.rules.Step.{step, owned, commanded, if_live}
 use Rattle.private_store.specs.laws.Invariants.{is_end}
 use Rattle.private_store.specs.laws.Made
-use Rattle.private_store.specs.laws.Made.{is_want, Can, Goes, Edit, Edits, none, then_edit, marks, drops, creates, fetches, asks, finishes, flags, ends_task, gives, leaves, receives, loses, begins, requotas, ends, BytesAnswered, Response, response_ok, response_placed, response_got, response_bytes, response_list, response_usage, response_refused, IsUsedThere, IsMadeOf, IsMade, is_grant_command, changes_grants, command_sends, may_send}
+use Rattle.private_store.specs.laws.Made.{is_want, Can, Goes, Edit, Edits, none, then_edit, marks, drops, creates, fetches, asks, finishes, flags, ends_task, gives, leaves, receives, loses, begins, requotas, ends, BytesAnswered, Response, response_ok, response_placed, response_got, response_bytes, response_list, response_usage, response_refused, IsUsedThere, IsMadeOf, IsMade, is_grant_command, changes_grants, is_calm_command, is_calm, command_sends, may_send}
 use Rattle.store_facts.proofs.Checks.{Fails, visible_at, fetch_found}
 use Rattle.store_facts.proofs.Rows.{at-put, at-drop, at-put_here}
 use Rattle.store_facts.proofs.Tests.{both, both_left, false_true, both_right, passed, refuted, some_value, none_some}
@@ -126,7 +126,7 @@ module _ (x : Judged) where
     edits_both h (then_edit k e) = then_edit (edits_both h k) e
 
     -- a copy is marked, over what went before
-    set_edits : {store : Shape} (mid : Shape) (id : ObjectId) (copy : Copy) (m : Mark) → at mid.copies id ≡ Some copy → Can m copy → Edits x used store mid → Edits x used store (set_copy mid id (marked m copy))
+    set_edits : {store : Shape} (mid : Shape) (id : ObjectId) (copy : Copy) (m : Mark) → at mid.copies id ≡ Some copy → Can x m copy → Edits x used store mid → Edits x used store (set_copy mid id (marked m copy))
     set_edits mid id copy m e can h = then_edit h (marks id copy m e can)
 
     pub settled_edits : {store : Shape} (mid : Shape) (id : ObjectId) → Edits x used store mid → Edits x used store (settled mid id)
@@ -247,12 +247,12 @@ module _ (x : Judged) where
   no_room_made : (store after : Shape) (refusal : Refusal) → ((used : Option ObjectId) → Edits x used store after) → is_want refusal ≡ false → MakesRoom store (no_room after refusal)
   no_room_made store after refusal h t = record { edits = h; refuses = λ r e. let is : refusal ≡ r = cc in sym (ap is_want is) ∙ t; sent = λ _. refl; stays = λ offset e. cc }
 
-  spill_room_made : (store : Shape) (ids : List ObjectId) → MakesRoom store (spill_room store ids)
-  spill_room_made store ids =
+  spill_room_made : is_calm x ≡ false → (store : Shape) (ids : List ObjectId) → MakesRoom store (spill_room store ids)
+  spill_room_made stirs store ids =
       elim store.spill_failed as (λ b. MakesRoom store (cond b (no_room (record store { spill_failed = false }) DeviceFailed) (cond (has_numbers store.works_asked (length ids)) (no_room (fold (asked true) store ids) Pending) (no_room store TooMany)))) [
         | true ↦ no_room_made store (record store { spill_failed = false }) DeviceFailed (λ used. one used (flags false)) refl
         | false ↦ elim (has_numbers store.works_asked (length ids)) as (λ b. MakesRoom store (cond b (no_room (fold (asked true) store ids) Pending) (no_room store TooMany))) [
-          | true ↦ no_room_made store (fold (asked true) store ids) Pending (λ used. fold_edits used (asked true) (λ s id. one used (asks true id)) store ids) refl
+          | true ↦ no_room_made store (fold (asked true) store ids) Pending (λ used. fold_edits used (asked true) (λ s id. one used (asks true id stirs)) store ids) refl
           | false ↦ no_room_made store store TooMany (λ used. none) refl
         ]
       ]
@@ -269,23 +269,23 @@ module _ (x : Judged) where
       response None r e = let is : Full ≡ r = cc in sym (ap is_want is)
       response (Some offset) r e = cc
 
-  spill_plan_made : (store : Shape) (n : ℕ) (ids : List ObjectId) → MakesRoom store (room_by store n (spill_plan store ids))
-  spill_plan_made store n ids =
+  spill_plan_made : is_calm x ≡ false → (store : Shape) (n : ℕ) (ids : List ObjectId) → MakesRoom store (room_by store n (spill_plan store ids))
+  spill_plan_made stirs store n ids =
       elim (nat_lt store.quota.device (device_used store + bytes_of_copies store ids)) as (λ b. MakesRoom store (room_by store n (cond b full (cond (works_left store == 0) busy (spill (take (works_left store) ids)))))) [
         | true ↦ no_room_made store store Full (λ used. none) refl
         | false ↦ elim (works_left store == 0) as (λ b. MakesRoom store (room_by store n (cond b busy (spill (take (works_left store) ids))))) [
           | true ↦ no_room_made store store Busy (λ used. none) refl
-          | false ↦ spill_room_made store (take (works_left store) ids)
+          | false ↦ spill_room_made stirs store (take (works_left store) ids)
         ]
       ]
 
-  make_room_made : (order : List ObjectId) (store : Shape) (n : ℕ) → MakesRoom store (make_room order store n)
-  make_room_made order store n = by_victims (victims order store n) refl
+  make_room_made : is_calm x ≡ false → (order : List ObjectId) (store : Shape) (n : ℕ) → MakesRoom store (make_room order store n)
+  make_room_made stirs order store n = by_victims (victims order store n) refl
     where
       by_spilled : (o : Option (List ObjectId)) → MakesRoom store (room_by store n (elim o [ Some [] ↦ wait | Some (id ∷ ids) ↦ spill_plan store (id ∷ ids) | None ↦ full ]))
       by_spilled None = no_room_made store store Full (λ used. none) refl
       by_spilled (Some []) = no_room_made store store Pending (λ used. none) refl
-      by_spilled (Some (id ∷ ids)) = spill_plan_made store n (id ∷ ids)
+      by_spilled (Some (id ∷ ids)) = spill_plan_made stirs store n (id ∷ ids)
 
       by_victims : (o : Option (List ObjectId)) → victims order store n ≡ o → MakesRoom store (room_by store n (elim o [
         | Some [] ↦ fits
@@ -327,7 +327,7 @@ module _ (x : Judged) where
   unfolding sending
   doom_unused dm found mid id h = record { edits = doomed_edits None mid id h; response = response_ok; unused = refl; sent = all_of_both (may_send x) (option_to_list (doom_notice mid id)) [] (notice_sent dm mid id) refl }
 
-  scoped_unused : Dooms → (found store : Shape) (id : ObjectId) (copy : Copy) (m : Mark) → at store.copies id ≡ Some copy → Can m copy → MakesUnused found store (scoped store id (marked m copy))
+  scoped_unused : Dooms → (found store : Shape) (id : ObjectId) (copy : Copy) (m : Mark) → at store.copies id ≡ Some copy → Can x m copy → MakesUnused found store (scoped store id (marked m copy))
   scoped_unused dm found store id copy m e can =
       let d = marked m copy in
       let set = set_edits None store id copy m e can none in
@@ -349,7 +349,7 @@ module _ (x : Judged) where
         ]
       ] refl
 
-  set_settled : (found store : Shape) (id : ObjectId) (copy : Copy) (m : Mark) → at store.copies id ≡ Some copy → Can m copy → MakesUnused found store (done (settled (set_copy store id (marked m copy)) id))
+  set_settled : (found store : Shape) (id : ObjectId) (copy : Copy) (m : Mark) → at store.copies id ≡ Some copy → Can x m copy → MakesUnused found store (done (settled (set_copy store id (marked m copy)) id))
   set_settled found store id copy m e can = done_unused found (settled_edits None (set_copy store id (marked m copy)) id (set_edits None store id copy m e can none))
 
   pub leave_one_unused : (found : Shape) (session : ℕ) (store : Shape) (id : ObjectId) → MakesUnused found store (leave_one session store id)
@@ -373,42 +373,42 @@ module _ (x : Judged) where
   Gets id = (m : Sending) → command_sends (command.Get id) m ≡ true → may_send x m ≡ true
 
   module _ (order : List ObjectId) (store : Shape) where
-    create_made : Evicts → (id : ObjectId) (kind : Kind) (n : ℕ) → IsMade x store (create order store id kind n)
-    create_made ev id kind n =
+    create_made : is_calm x ≡ false → Evicts → (id : ObjectId) (kind : Kind) (n : ℕ) → IsMade x store (create order store id kind n)
+    create_made stirs ev id kind n =
         let room = make_room order store n in
-        made_checked store store _ _ refl (λ _. made_in_room store store room (created id kind n) ev (make_room_made order store n) (λ offset _. record {
-          edits = one (Some id) (creates id kind n offset refl);
+        made_checked store store _ _ refl (λ _. made_in_room store store room (created id kind n) ev (make_room_made stirs order store n) (λ offset _. record {
+          edits = one (Some id) (creates id kind n offset refl stirs);
           response = response_placed offset n;
           used = ap is_some (at-put_here room.shape.copies id (new_copy kind n offset));
           sent = refl;
         }))
 
-    restore_made : Evicts → (id : ObjectId) (copy : Copy) → at store.copies id ≡ Some copy → is_sealed copy.state ≡ false → IsMade x store (restore order store id copy)
-    restore_made ev id copy e s =
+    restore_made : is_calm x ≡ false → Evicts → (id : ObjectId) (copy : Copy) → at store.copies id ≡ Some copy → is_sealed copy.state ≡ false → IsMade x store (restore order store id copy)
+    restore_made stirs ev id copy e s =
         let room = make_room order store copy.length in
-        let r = make_room_made order store copy.length in
+        let r = make_room_made stirs order store copy.length in
         made_checked store store _ _ refl (λ _. made_checked store store _ _ refl (λ _. made_in_room store store room (restoring id copy) ev r (λ offset f.
-        made_refused store Pending refl (then_edit (set_edits None room.shape id copy (mark.restoring offset) (r.stays offset f id copy e s) tt none) (asks false id)))))
+        made_refused store Pending refl (then_edit (set_edits None room.shape id copy (mark.restoring offset) (r.stays offset f id copy e s) stirs none) (asks false id stirs)))))
 
-    get_away_made : Evicts → (id : ObjectId) (copy : Copy) → at store.copies id ≡ Some copy → is_sealed copy.state ≡ false → IsMade x store (get_away order store id copy)
-    get_away_made ev id copy e s =
+    get_away_made : is_calm x ≡ false → Evicts → (id : ObjectId) (copy : Copy) → at store.copies id ≡ Some copy → is_sealed copy.state ≡ false → IsMade x store (get_away order store id copy)
+    get_away_made stirs ev id copy e s =
         elim copy.fault as (λ o. copy.fault ≡ o → IsMade x store (elim o [ Some response ↦ refused (set_copy store id (record copy { fault = None })) (refusal_of response) | None ↦ restore order store id copy ])) [
           | Some response ↦ λ f. made_refused store (refusal_of response) (never_want response) (set_edits None store id copy mark.fault_told e tt none)
-          | None ↦ λ f. restore_made ev id copy e s
+          | None ↦ λ f. restore_made stirs ev id copy e s
         ] refl
 
-    get_fetching_made : (id : ObjectId) → Gets id → (copy : Copy) (fetch : Fetch) (phase : Phase) → at store.copies id ≡ Some copy → is_sealed copy.state ≡ false → copy.fetch ≡ Some fetch → fetch.phase ≡ phase → IsMade x store (get_fetching order store id copy fetch phase)
-    get_fetching_made id g copy fetch locating e s f p = made_sending store store _ _ (one_sent _ (g _ refl)) (made_refused store Pending refl none)
-    get_fetching_made id g copy fetch (sized source) e s f p =
+    get_fetching_made : is_calm x ≡ false → (id : ObjectId) → Gets id → (copy : Copy) (fetch : Fetch) (phase : Phase) → at store.copies id ≡ Some copy → is_sealed copy.state ≡ false → copy.fetch ≡ Some fetch → fetch.phase ≡ phase → IsMade x store (get_fetching order store id copy fetch phase)
+    get_fetching_made stirs id g copy fetch locating e s f p = made_sending store store _ _ (one_sent _ (g _ refl)) (made_refused store Pending refl none)
+    get_fetching_made stirs id g copy fetch (sized source) e s f p =
         let room = make_room order store copy.length in
-        let r = make_room_made order store copy.length in
+        let r = make_room_made stirs order store copy.length in
         let missing = counted 0 (chunk_count copy.length) in
         made_checked store store _ _ refl (λ _. made_in_room store store room (begin_pull id copy fetch source) (λ q. g (remove_location q) refl) r (λ offset found.
-        made_sending store room.shape _ _ (one_sent _ (g (pull id) refl)) (made_refused store Pending refl (set_edits None room.shape id copy (mark.pulled fetch offset source) (r.stays offset found id copy e s) f none))))
-    get_fetching_made id g copy fetch (pulling source missing) e s f p = made_sending store store _ _ (one_sent _ (g _ refl)) (made_refused store Pending refl none)
-    get_fetching_made id g copy fetch (failed response) e s f p = made_refused store (fetch_refusal response) (fetch_never_wants response) (one None (drops id copy e (Made.as_failed fetch response f p)))
+        made_sending store room.shape _ _ (one_sent _ (g (pull id) refl)) (made_refused store Pending refl (set_edits None room.shape id copy (mark.pulled fetch offset source) (r.stays offset found id copy e s) (f, stirs) none))))
+    get_fetching_made stirs id g copy fetch (pulling source missing) e s f p = made_sending store store _ _ (one_sent _ (g _ refl)) (made_refused store Pending refl none)
+    get_fetching_made stirs id g copy fetch (failed response) e s f p = made_refused store (fetch_refusal response) (fetch_never_wants response) (one None (drops id copy e (Made.as_failed fetch response f p)))
 
-    get_copy_made : (session : ℕ) (id : ObjectId) → Gets id → (copy : Copy) (state : CopyState) → at store.copies id ≡ Some copy → copy.state ≡ state
+    get_copy_made : is_calm x ≡ false → (session : ℕ) (id : ObjectId) → Gets id → (copy : Copy) (state : CopyState) → at store.copies id ≡ Some copy → copy.state ≡ state
         → IsMade x store (elim state [
           | Created ↦ refused store NotSealed
           | Sealed ↦ get_sealed store session id copy
@@ -416,32 +416,32 @@ module _ (x : Judged) where
           | Fetching ↦ needing store copy.fetch Absent (λ fetch. get_fetching order store id copy fetch fetch.phase)
           | Away ↦ get_away order store id copy
         ])
-    get_copy_made session id g copy Created e s = made_refused store NotSealed refl none
-    get_copy_made session id g copy Sealed e s = made_checked store store _ _ refl (λ _. record {
+    get_copy_made stirs session id g copy Created e s = made_refused store NotSealed refl none
+    get_copy_made stirs session id g copy Sealed e s = made_checked store store _ _ refl (λ _. record {
       edits = set_edits (Some id) store id copy (mark.held session _) e tt none;
       response = response_got id copy e;
       used = ap is_some (at-put_here store.copies id (with_holds copy session _));
       sent = refl;
     })
-    get_copy_made session id g copy Restoring e s = made_refused store Pending refl none
-    get_copy_made session id g copy Fetching e s =
-        made_needing store store copy.fetch Absent _ refl (λ fetch f. get_fetching_made id g copy fetch fetch.phase e (ap is_sealed s) f refl)
-    get_copy_made session id g copy Away e s = get_away_made (λ q. g (remove_location q) refl) id copy e (ap is_sealed s)
+    get_copy_made stirs session id g copy Restoring e s = made_refused store Pending refl none
+    get_copy_made stirs session id g copy Fetching e s =
+        made_needing store store copy.fetch Absent _ refl (λ fetch f. get_fetching_made stirs id g copy fetch fetch.phase e (ap is_sealed s) f refl)
+    get_copy_made stirs session id g copy Away e s = get_away_made stirs (λ q. g (remove_location q) refl) id copy e (ap is_sealed s)
 
-    begin_fetch_made : (id : ObjectId) → Gets id → at store.copies id ≡ None → IsMade x store (begin_fetch store id)
+    begin_fetch_made : is_calm x ≡ false → (id : ObjectId) → Gets id → at store.copies id ≡ None → IsMade x store (begin_fetch store id)
     unfolding sending
-    begin_fetch_made id g e = made_checked store store _ _ refl (λ fails. record {
-      edits = one (Some id) (fetches id refl e (passed (has_numbers store.fetches_begun 1) fails.1.0));
+    begin_fetch_made stirs id g e = made_checked store store _ _ refl (λ fails. record {
+      edits = one (Some id) (fetches id refl e (passed (has_numbers store.fetches_begun 1) fails.1.0) stirs);
       response = response_refused Pending refl;
       used = ap is_some (at-put_here store.copies id (fetched_copy (store.fetches_begun + 1)));
       sent = one_sent (locate id (store.fetches_begun + 1)) (g _ refl);
     })
 
-    get_made : (session : ℕ) (id : ObjectId) → Gets id → IsMade x store (get order store session id)
-    get_made session id g =
+    get_made : is_calm x ≡ false → (session : ℕ) (id : ObjectId) → Gets id → IsMade x store (get order store session id)
+    get_made stirs session id g =
         made_checked store store _ _ refl (λ _. elim (at store.copies id) as (λ o. at store.copies id ≡ o → IsMade x store (elim o [ None ↦ begin_fetch store id | Some copy ↦ checked store ((copy.doomed, Absent) ∷ []) (get_copy order store session id copy) ])) [
-          | None ↦ λ e. begin_fetch_made id g e
-          | Some copy ↦ λ e. made_checked store store _ _ refl (λ _. get_copy_made session id g copy copy.state e refl)
+          | None ↦ λ e. begin_fetch_made stirs id g e
+          | Some copy ↦ λ e. made_checked store store _ _ refl (λ _. get_copy_made stirs session id g copy copy.state e refl)
         ] refl)
 
     -- ---- the commands that tell no bytes
@@ -463,34 +463,40 @@ module _ (x : Judged) where
         (at_each_unused store (give_up_one task) (give_up_one_unused dm store task) ids _
         (at_each_unused store doom (λ mid id. doom_unused dm store mid id none) (of_task task ids) _ (done_unused store (one None (ends_task task g))))))
 
-    silent_made : (session : ℕ) (c : Command ℕ) → ((m : Sending) → command_sends c m ≡ true → may_send x m ≡ true) → (is_grant_command c ≡ true → changes_grants x ≡ true) → tells_bytes c ≡ false → IsMade x store (commanded order store session c)
-    silent_made session (command.Create id kind n) h g t = owned_made id _ (create_made (λ q. h (remove_location q) refl) id kind n)
-    silent_made session (command.Write id offset n) h g t =
+    -- the input may do what the command may
+    record May (c : Command ℕ) : Type 0 where
+      sends : (m : Sending) → command_sends c m ≡ true → may_send x m ≡ true
+      grants : is_grant_command c ≡ true → changes_grants x ≡ true
+      stirs : is_calm_command c ≡ false → is_calm x ≡ false
+
+    silent_made : (session : ℕ) (c : Command ℕ) → May c → tells_bytes c ≡ false → IsMade x store (commanded order store session c)
+    silent_made session (command.Create id kind n) may t = owned_made id _ (create_made (may.stirs refl) (λ q. may.sends (remove_location q) refl) id kind n)
+    silent_made session (command.Write id offset n) may t =
         owned_made id _ (made_checked store store _ _ refl (λ _. made_needing store store _ _ _ refl (λ copy e. made_checked store store _ _ refl (λ _. made_done store none))))
-    silent_made session (command.Seal id) h g t =
-        owned_made id _ (made_needing store store _ _ _ refl (λ copy e. made_checked store store _ _ refl (λ _. made_sending store store _ _ (one_sent _ (h (add_location id) refl))
-        (made_done store (set_edits None store id copy mark.sealed (visible_at store id copy e) tt none)))))
-    silent_made session (command.Get id) h g t = owned_made id _ (get_made session id h)
-    silent_made session (command.Read id offset n) h g t = false_true t
-    silent_made session (command.Release id) h g t =
+    silent_made session (command.Seal id) may t =
+        owned_made id _ (made_needing store store _ _ _ refl (λ copy e. made_checked store store _ _ refl (λ _. made_sending store store _ _ (one_sent _ (may.sends (add_location id) refl))
+        (made_done store (set_edits None store id copy mark.sealed (visible_at store id copy e) (may.stirs refl) none)))))
+    silent_made session (command.Get id) may t = owned_made id _ (get_made (may.stirs refl) session id may.sends)
+    silent_made session (command.Read id offset n) may t = false_true t
+    silent_made session (command.Release id) may t =
         owned_made id _ (made_needing store store _ _ _ refl (λ copy e. made_checked store store _ _ refl (λ _. unused_made store store _ (set_settled store store id copy (mark.held session _) e tt))))
-    silent_made session (command.Unpin id task) h g t =
-        owned_made id _ (made_needing store store _ _ _ refl (λ copy e. made_checked store store _ _ refl (λ _. unused_made store store _ (scoped_unused (λ q. (h (remove_location q) refl, h (free q) refl)) store store id copy mark.unpinned (visible_at store id copy e) tt))))
-    silent_made session (command.Borrow id task) h g t =
+    silent_made session (command.Unpin id task) may t =
+        owned_made id _ (made_needing store store _ _ _ refl (λ copy e. made_checked store store _ _ refl (λ _. unused_made store store _ (scoped_unused (λ q. (may.sends (remove_location q) refl, may.sends (free q) refl)) store store id copy mark.unpinned (visible_at store id copy e) tt))))
+    silent_made session (command.Borrow id task) may t =
         owned_made id _ (made_checked store store _ _ refl (λ _. made_needing store store _ _ _ refl (λ copy e. made_checked store store _ _ refl (λ _.
         made_done store (set_edits None store id copy (mark.borrowed task) (visible_at store id copy e) tt none)))))
-    silent_made session (command.GiveUp id task) h g t =
-        owned_made id _ (made_needing store store _ _ _ refl (λ copy e. made_checked store store _ _ refl (λ _. unused_made store store _ (scoped_unused (λ q. (h (remove_location q) refl, h (free q) refl)) store store id copy (mark.given_up task) (visible_at store id copy e) tt))))
-    silent_made session (command.Delete id) h g t =
-        owned_made id _ (made_needing store store _ _ _ refl (λ copy e. made_checked store store _ _ refl (λ _. unused_made store store _ (doom_unused (λ q. (h (remove_location q) refl, h (free q) refl)) store store id none))))
-    silent_made session (command.EndTask task) h g t = end_task_made (λ q. (h (remove_location q) refl, h (free q) refl)) (g refl) task
-    silent_made session (command.Grant id target) h g t = grant_made (g refl) id target.0
-    silent_made session (command.Withdraw id target) h g t =
-        made_checked store store _ _ refl (λ _. made_done store (settled_edits None _ id (one None (leaves _ (g refl)))))
-    silent_made session (command.Peek id offset n) h g t = false_true t
-    silent_made session command.List h g t = made_replied store store _ response_list
-    silent_made session command.Usage h g t = made_replied store store _ response_usage
-    silent_made session command.Leave h g t =
+    silent_made session (command.GiveUp id task) may t =
+        owned_made id _ (made_needing store store _ _ _ refl (λ copy e. made_checked store store _ _ refl (λ _. unused_made store store _ (scoped_unused (λ q. (may.sends (remove_location q) refl, may.sends (free q) refl)) store store id copy (mark.given_up task) (visible_at store id copy e) tt))))
+    silent_made session (command.Delete id) may t =
+        owned_made id _ (made_needing store store _ _ _ refl (λ copy e. made_checked store store _ _ refl (λ _. unused_made store store _ (doom_unused (λ q. (may.sends (remove_location q) refl, may.sends (free q) refl)) store store id none))))
+    silent_made session (command.EndTask task) may t = end_task_made (λ q. (may.sends (remove_location q) refl, may.sends (free q) refl)) (may.grants refl) task
+    silent_made session (command.Grant id target) may t = grant_made (may.grants refl) id target.0
+    silent_made session (command.Withdraw id target) may t =
+        made_checked store store _ _ refl (λ _. made_done store (settled_edits None _ id (one None (leaves _ (may.grants refl)))))
+    silent_made session (command.Peek id offset n) may t = false_true t
+    silent_made session command.List may t = made_replied store store _ response_list
+    silent_made session command.Usage may t = made_replied store store _ response_usage
+    silent_made session command.Leave may t =
         unused_made store store _ (at_each_unused store (leave_one session) (leave_one_unused store session) (ids_of store.copies) _ (done_unused store none))
 
     -- ---- the operator, and the grants that others give
@@ -498,17 +504,17 @@ module _ (x : Judged) where
     if_live_made : (c : Change) → IsMade x store c → IsMade x store (if_live store c)
     if_live_made c k = made_checked store store _ _ refl (λ _. k)
 
-    begin_made : (quota : Quota) → IsMade x store (begin store quota)
-    begin_made quota =
+    begin_made : is_calm x ≡ false → (quota : Quota) → IsMade x store (begin store quota)
+    begin_made stirs quota =
         elim store.life as (λ l. store.life ≡ l → IsMade x store (elim l [ not_begun ↦ checked store ((not (is_quota quota), BadSize) ∷ []) (done (record store { life = live; quota = quota })) | _ ↦ refused store Stale ])) [
-          | not_begun ↦ λ l. made_checked store store _ _ refl (λ fails. made_done store (one None (begins quota l (passed (is_quota quota) fails.0))))
+          | not_begun ↦ λ l. made_checked store store _ _ refl (λ fails. made_done store (one None (begins quota l (passed (is_quota quota) fails.0) stirs)))
           | live ↦ λ _. made_refused store Stale refl none
           | ended ↦ λ _. made_refused store Stale refl none
         ] refl
 
-    requota_made : (quota : Quota) → IsMade x store (requota store quota)
-    requota_made quota =
-        made_checked store store _ _ refl (λ fails. made_done store (one None (requotas quota (passed (is_quota quota) fails.0) (passed (fits_quota store quota) fails.1.0))))
+    requota_made : is_calm x ≡ false → (quota : Quota) → IsMade x store (requota store quota)
+    requota_made stirs quota =
+        made_checked store store _ _ refl (λ fails. made_done store (one None (requotas quota (passed (is_quota quota) fails.0) (passed (fits_quota store quota) fails.1.0) stirs)))
 
     end_made : is_end x ≡ true → may_send x end_job ≡ true → IsMade x store (end_job_here store)
     end_made e h = made_sending store store _ _ (one_sent end_job h) (made_done store (one None (ends e)))
@@ -525,32 +531,32 @@ module _ (x : Judged) where
 
     -- ---- device answers
 
-    was_written : (number : ℕ) (w : WorkInFlight) (copy : Copy) → at store.copies w.id ≡ Some copy
+    was_written : is_calm x ≡ false → (number : ℕ) (w : WorkInFlight) (copy : Copy) → at store.copies w.id ≡ Some copy
         → IsMade x store (erasing (set_copy (without_work store number) w.id (record copy { backed = Some w.number })) (done (settled (set_copy (without_work store number) w.id (record copy { backed = Some w.number })) w.id)))
-    was_written number w copy e =
+    was_written stirs number w copy e =
         let rest = without_work store number in
         let d : Copy = record copy { backed = Some w.number } in
-        made_erasing store store (set_copy rest w.id d) _ (made_done store (settled_edits None (set_copy rest w.id d) w.id (set_edits None rest w.id copy (mark.backed w.number) e tt (one None (finishes number)))))
+        made_erasing store store (set_copy rest w.id d) _ (made_done store (settled_edits None (set_copy rest w.id d) w.id (set_edits None rest w.id copy (mark.backed w.number) e stirs (one None (finishes number)))))
 
-    written_made : (number : ℕ) (w : WorkInFlight) (copy : Copy) (verdict : WorkVerdict) → at store.copies w.id ≡ Some copy → IsMade x store (written (without_work store number) w copy verdict)
-    written_made number w copy work.Failed e =
+    written_made : is_calm x ≡ false → (number : ℕ) (w : WorkInFlight) (copy : Copy) (verdict : WorkVerdict) → at store.copies w.id ≡ Some copy → IsMade x store (written (without_work store number) w copy verdict)
+    written_made stirs number w copy work.Failed e =
         made_erasing store store (without_work store number) _ (made_done store (settled_edits None (record (without_work store number) { spill_failed = true }) w.id (then_edit (one None (finishes number)) (flags true))))
-    written_made number w copy work.Fine e = was_written number w copy e
-    written_made number w copy work.Damaged e = was_written number w copy e
+    written_made stirs number w copy work.Fine e = was_written stirs number w copy e
+    written_made stirs number w copy work.Damaged e = was_written stirs number w copy e
 
-    read_can : (verdict : WorkVerdict) (copy : Copy) → Can (read_mark verdict) copy
-    read_can work.Fine copy = tt
-    read_can work.Failed copy = tt
-    read_can work.Damaged copy = tt
+    read_can : is_calm x ≡ false → (verdict : WorkVerdict) (copy : Copy) → Can x (read_mark verdict) copy
+    read_can stirs work.Fine copy = stirs
+    read_can stirs work.Failed copy = tt
+    read_can stirs work.Damaged copy = tt
 
-    answer_made : (number : ℕ) (verdict : WorkVerdict) → IsMade x store (answer store number verdict)
-    answer_made number verdict =
+    answer_made : is_calm x ≡ false → (number : ℕ) (verdict : WorkVerdict) → IsMade x store (answer store number verdict)
+    answer_made stirs number verdict =
         made_needing store store _ _ _ refl (λ w _. made_needing store store _ _ _ refl (λ copy e.
         let rest = without_work store number in
         elim w.writes as (λ b. IsMade x store (cond b (written rest w copy verdict) (erasing rest (done (settled (set_copy rest w.id (marked (read_mark verdict) copy)) w.id))))) [
-          | true ↦ written_made number w copy verdict e
+          | true ↦ written_made stirs number w copy verdict e
           | false ↦ made_erasing store store rest _ (made_done store (settled_edits None (set_copy rest w.id (marked (read_mark verdict) copy)) w.id
-              (set_edits None rest w.id copy (read_mark verdict) e (read_can verdict copy) (one None (finishes number)))))
+              (set_edits None rest w.id copy (read_mark verdict) e (read_can stirs verdict copy) (one None (finishes number)))))
         ]))
 
     -- ---- messages
@@ -563,35 +569,35 @@ module _ (x : Judged) where
           | Some p ↦ λ e. let found = fetch_found store id number p e in each p.0 p.1 found.0 found.1
         ] refl
 
-    located_made : (id : ObjectId) (number : ℕ) (source : Option Source) → IsMade x store (located store id number source)
-    located_made id number source = with_fetch_made id number _ (λ copy fetch e f.
+    located_made : is_calm x ≡ false → (id : ObjectId) (number : ℕ) (source : Option Source) → IsMade x store (located store id number source)
+    located_made stirs id number source = with_fetch_made id number _ (λ copy fetch e f.
         elim fetch.phase as (λ p. IsMade x store (elim p [ locating ↦ done (set_copy store id (marked (mark.located fetch source) copy)) | _ ↦ done store ])) [
-          | locating ↦ made_done store (set_edits None store id copy (mark.located fetch source) e f none)
+          | locating ↦ made_done store (set_edits None store id copy (mark.located fetch source) e (f, stirs) none)
           | sized _ ↦ made_done store none
           | pulling _ _ ↦ made_done store none
           | failed _ ↦ made_done store none
         ])
 
-    failed_made : (id : ObjectId) (copy : Copy) (fetch : Fetch) (response : FetchFault) → at store.copies id ≡ Some copy → copy.fetch ≡ Some fetch → IsMade x store (done (fetch_failed store id copy fetch response))
-    failed_made id copy fetch response e f = made_done store (set_edits None store id copy (mark.fetch_failed fetch response) e f none)
+    failed_made : is_calm x ≡ false → (id : ObjectId) (copy : Copy) (fetch : Fetch) (response : FetchFault) → at store.copies id ≡ Some copy → copy.fetch ≡ Some fetch → IsMade x store (done (fetch_failed store id copy fetch response))
+    failed_made stirs id copy fetch response e f = made_done store (set_edits None store id copy (mark.fetch_failed fetch response) e (f, stirs) none)
 
     part_made : (id : ObjectId) (copy : Copy) (fetch : Fetch) (source : ℕ) (missing : List ℕ) → at store.copies id ≡ Some copy → copy.fetch ≡ Some fetch → IsMade x store (done (set_copy store id (marked (mark.lacking fetch source missing) copy)))
     part_made id copy fetch source missing e f = made_done store (set_edits None store id copy (mark.lacking fetch source missing) e f none)
 
-    whole_made : (id : ObjectId) (copy : Copy) (sent : List Sending) → AreSent sent → at store.copies id ≡ Some copy → IsMade x store (sending sent (done (set_copy store id (marked mark.brought copy))))
-    whole_made id copy sent t e = made_sending store store sent _ t (made_done store (set_edits None store id copy mark.brought e tt none))
+    whole_made : is_calm x ≡ false → (id : ObjectId) (copy : Copy) (sent : List Sending) → AreSent sent → at store.copies id ≡ Some copy → IsMade x store (sending sent (done (set_copy store id (marked mark.brought copy))))
+    whole_made stirs id copy sent t e = made_sending store store sent _ t (made_done store (set_edits None store id copy mark.brought e stirs none))
 
-    chunk_taken_made : ((id : ObjectId) → may_send x (add_location id) ≡ true) → (id : ObjectId) (copy : Copy) (fetch : Fetch) (source : ℕ) (missing : List ℕ) (verdict : ChunkVerdict) → at store.copies id ≡ Some copy → copy.fetch ≡ Some fetch → IsMade x store (chunk_taken store id copy fetch source missing verdict)
-    chunk_taken_made adds id copy fetch source missing chunk.Ignored e f = made_done store none
-    chunk_taken_made adds id copy fetch source (i ∷ missing) chunk.Part e f = part_made id copy fetch source (i ∷ missing) e f
-    chunk_taken_made adds id copy fetch source (i ∷ missing) chunk.Whole e f = part_made id copy fetch source (i ∷ missing) e f
-    chunk_taken_made adds id copy fetch source (i ∷ missing) chunk.Damaged e f = part_made id copy fetch source (i ∷ missing) e f
-    chunk_taken_made adds id copy fetch source [] chunk.Damaged e f = failed_made id copy fetch fetch_fault.Damaged e f
-    chunk_taken_made adds id copy fetch source [] chunk.Part e f = whole_made id copy _ (one_sent (add_location id) (adds id)) e
-    chunk_taken_made adds id copy fetch source [] chunk.Whole e f = whole_made id copy _ (one_sent (add_location id) (adds id)) e
+    chunk_taken_made : is_calm x ≡ false → ((id : ObjectId) → may_send x (add_location id) ≡ true) → (id : ObjectId) (copy : Copy) (fetch : Fetch) (source : ℕ) (missing : List ℕ) (verdict : ChunkVerdict) → at store.copies id ≡ Some copy → copy.fetch ≡ Some fetch → IsMade x store (chunk_taken store id copy fetch source missing verdict)
+    chunk_taken_made stirs adds id copy fetch source missing chunk.Ignored e f = made_done store none
+    chunk_taken_made stirs adds id copy fetch source (i ∷ missing) chunk.Part e f = part_made id copy fetch source (i ∷ missing) e f
+    chunk_taken_made stirs adds id copy fetch source (i ∷ missing) chunk.Whole e f = part_made id copy fetch source (i ∷ missing) e f
+    chunk_taken_made stirs adds id copy fetch source (i ∷ missing) chunk.Damaged e f = part_made id copy fetch source (i ∷ missing) e f
+    chunk_taken_made stirs adds id copy fetch source [] chunk.Damaged e f = failed_made stirs id copy fetch fetch_fault.Damaged e f
+    chunk_taken_made stirs adds id copy fetch source [] chunk.Part e f = whole_made stirs id copy _ (one_sent (add_location id) (adds id)) e
+    chunk_taken_made stirs adds id copy fetch source [] chunk.Whole e f = whole_made stirs id copy _ (one_sent (add_location id) (adds id)) e
 
-    chunk_made : ((id : ObjectId) → may_send x (add_location id) ≡ true) → (id : ObjectId) (number index from : ℕ) (verdict : ChunkVerdict) → IsMade x store (chunk_arrived store id number index from verdict)
-    chunk_made adds id number index from verdict = with_fetch_made id number _ (λ copy fetch e f.
+    chunk_made : is_calm x ≡ false → ((id : ObjectId) → may_send x (add_location id) ≡ true) → (id : ObjectId) (number index from : ℕ) (verdict : ChunkVerdict) → IsMade x store (chunk_arrived store id number index from verdict)
+    chunk_made stirs adds id number index from verdict = with_fetch_made id number _ (λ copy fetch e f.
         elim fetch.phase as (λ p. IsMade x store (elim p [
           | pulling source missing ↦ cond (from == source && is_missing missing index) (chunk_taken store id copy fetch source (filter (λ i. not (i == index)) missing) verdict) (done store)
           | _ ↦ done store
@@ -600,14 +606,14 @@ module _ (x : Judged) where
           | sized _ ↦ made_done store none
           | pulling source missing ↦
               elim (from == source && is_missing missing index) as (λ b. IsMade x store (cond b (chunk_taken store id copy fetch source (filter (λ i. not (i == index)) missing) verdict) (done store))) [
-                | true ↦ chunk_taken_made adds id copy fetch source (filter (λ i. not (i == index)) missing) verdict e f
+                | true ↦ chunk_taken_made stirs adds id copy fetch source (filter (λ i. not (i == index)) missing) verdict e f
                 | false ↦ made_done store none
               ]
           | failed _ ↦ made_done store none
         ])
 
-    not_here_made : ((id : ObjectId) (source : ℕ) → may_send x (remove_source id source) ≡ true) → (id : ObjectId) (number from : ℕ) → IsMade x store (not_here_arrived store id number from)
-    not_here_made forgets id number from = with_fetch_made id number _ (λ copy fetch e f.
+    not_here_made : is_calm x ≡ false → ((id : ObjectId) (source : ℕ) → may_send x (remove_source id source) ≡ true) → (id : ObjectId) (number from : ℕ) → IsMade x store (not_here_arrived store id number from)
+    not_here_made stirs forgets id number from = with_fetch_made id number _ (λ copy fetch e f.
         elim fetch.phase as (λ p. IsMade x store (elim p [
           | pulling source missing ↦ cond (from == source) (sending (remove_source id source ∷ []) (done (fetch_failed store id copy fetch fetch_fault.Absent))) (done store)
           | _ ↦ done store
@@ -616,7 +622,7 @@ module _ (x : Judged) where
           | sized _ ↦ made_done store none
           | pulling source missing ↦
               elim (from == source) as (λ b. IsMade x store (cond b (sending (remove_source id source ∷ []) (done (fetch_failed store id copy fetch fetch_fault.Absent))) (done store))) [
-                | true ↦ made_sending store store _ _ (one_sent _ (forgets id source)) (failed_made id copy fetch fetch_fault.Absent e f)
+                | true ↦ made_sending store store _ _ (one_sent _ (forgets id source)) (failed_made stirs id copy fetch fetch_fault.Absent e f)
                 | false ↦ made_done store none
               ]
           | failed _ ↦ made_done store none
@@ -632,28 +638,28 @@ module _ (x : Judged) where
     abbrev Pulls : Type 0
     Pulls = (id : ObjectId) → (may_send x (chunks id) ≡ true) × (may_send x (not_here id) ≡ true) × (may_send x (remove_location id) ≡ true)
 
-    pull_answer_made : Pulls → (id : ObjectId) (copy : Copy) (state : CopyState) → at store.copies id ≡ Some copy → copy.state ≡ state → IsMade x store (elim state [
+    pull_answer_made : is_calm x ≡ false → Pulls → (id : ObjectId) (copy : Copy) (state : CopyState) → at store.copies id ≡ Some copy → copy.state ≡ state → IsMade x store (elim state [
       | Sealed ↦ sending (chunks id ∷ []) (done store)
       | Restoring ↦ done store
       | Away ↦ cond (is_none copy.fault) (quiet store (restore order store id copy)) (sending (not_here id ∷ []) (done store))
       | _ ↦ sending (not_here id ∷ []) (done store)
     ])
-    pull_answer_made p id copy Created e s = sent_made _ (p id).1
-    pull_answer_made p id copy Fetching e s = sent_made _ (p id).1
-    pull_answer_made p id copy Sealed e s = sent_made _ (p id).0
-    pull_answer_made p id copy Restoring e s = made_done store none
-    pull_answer_made p id copy Away e s =
+    pull_answer_made stirs p id copy Created e s = sent_made _ (p id).1
+    pull_answer_made stirs p id copy Fetching e s = sent_made _ (p id).1
+    pull_answer_made stirs p id copy Sealed e s = sent_made _ (p id).0
+    pull_answer_made stirs p id copy Restoring e s = made_done store none
+    pull_answer_made stirs p id copy Away e s =
         elim (is_none copy.fault) as (λ b. IsMade x store (cond b (quiet store (restore order store id copy)) (sending (not_here id ∷ []) (done store)))) [
-          | true ↦ quiet_made (restore order store id copy) (restore_made (λ q. (p q).2) id copy e (ap is_sealed s))
+          | true ↦ quiet_made (restore order store id copy) (restore_made stirs (λ q. (p q).2) id copy e (ap is_sealed s))
           | false ↦ sent_made _ (p id).1
         ]
 
-    pull_made : Pulls → (id : ObjectId) (matches : Bool) → IsMade x store (pull_arrived order store id matches)
-    pull_made p id matches =
+    pull_made : is_calm x ≡ false → Pulls → (id : ObjectId) (matches : Bool) → IsMade x store (pull_arrived order store id matches)
+    pull_made stirs p id matches =
         elim (visible store id) as (λ o. visible store id ≡ o → IsMade x store (option_map_or (λ copy. cond matches (pull_answer order store id copy) (sending (not_here id ∷ []) (done store))) o (sending (not_here id ∷ []) (done store)))) [
           | None ↦ λ _. sent_made _ (p id).1
           | Some copy ↦ λ v. elim matches as (λ b. IsMade x store (cond b (pull_answer order store id copy) (sending (not_here id ∷ []) (done store)))) [
-            | true ↦ pull_answer_made p id copy copy.state (visible_at store id copy v) refl
+            | true ↦ pull_answer_made stirs p id copy copy.state (visible_at store id copy v) refl
             | false ↦ sent_made _ (p id).1
           ]
         ] refl
@@ -670,20 +676,20 @@ module _ (order : List ObjectId) (store : Shape) where
       let x = judged.Call session (command.Peek id offset n) in
       made_checked x store store _ _ refl (λ _. made_needing x store store _ _ _ refl (λ seen e. made_checked x store store _ _ refl (λ fails.
       made_replied x store store _ (response_bytes n (refl, record { seen = seen; there = e; few = fails.0; within = fails.1.0 })))))
-  commanded_made session c = silent_made (judged.Call session c) order store session c (λ m e. e) (λ e. e) refl
+  commanded_made session c = silent_made (judged.Call session c) order store session c (record { sends = λ m e. e; grants = λ e. e; stirs = λ e. e }) refl
 
   -- each input's change is made of edits and an answer
   pub step_made : (x : Judged) → IsMade x store (step order store x)
-  step_made (judged.Begin quota) = begin_made (judged.Begin quota) order store quota
-  step_made (judged.Requota quota) = if_live_made (judged.Requota quota) order store _ (requota_made (judged.Requota quota) order store quota)
+  step_made (judged.Begin quota) = begin_made (judged.Begin quota) order store refl quota
+  step_made (judged.Requota quota) = if_live_made (judged.Requota quota) order store _ (requota_made (judged.Requota quota) order store refl quota)
   step_made (judged.Call session c) =
       let x = judged.Call session c in
       made_checked x store store _ _ refl (λ _. made_erasing x store store store _ (commanded_made session c))
-  step_made (judged.Answer number verdict) = answer_made (judged.Answer number verdict) order store number verdict
-  step_made (judged.Located id number source) = let x = judged.Located id number source in if_live_made x order store _ (located_made x order store id number source)
-  step_made (judged.Chunk id number index from verdict) = let x = judged.Chunk id number index from verdict in if_live_made x order store _ (chunk_made x order store (λ q. refl) id number index from verdict)
-  step_made (judged.Pull id number matches) = let x = judged.Pull id number matches in if_live_made x order store _ (pull_made x order store (λ q. (refl, refl, refl)) id matches)
-  step_made (judged.NotHere id number from) = let x = judged.NotHere id number from in if_live_made x order store _ (not_here_made x order store (λ q n. refl) id number from)
+  step_made (judged.Answer number verdict) = answer_made (judged.Answer number verdict) order store refl number verdict
+  step_made (judged.Located id number source) = let x = judged.Located id number source in if_live_made x order store _ (located_made x order store refl id number source)
+  step_made (judged.Chunk id number index from verdict) = let x = judged.Chunk id number index from verdict in if_live_made x order store _ (chunk_made x order store refl (λ q. refl) id number index from verdict)
+  step_made (judged.Pull id number matches) = let x = judged.Pull id number matches in if_live_made x order store _ (pull_made x order store refl (λ q. (refl, refl, refl)) id matches)
+  step_made (judged.NotHere id number from) = let x = judged.NotHere id number from in if_live_made x order store _ (not_here_made x order store refl (λ q n. refl) id number from)
   step_made (judged.Received id n grantor depth) = made_done (judged.Received id n grantor depth) store (one (judged.Received id n grantor depth) None (receives id n grantor depth refl))
   step_made (judged.Withdrawn id grantor depth) = withdrawn_made (judged.Withdrawn id grantor depth) order store refl id grantor.0 depth
   step_made judged.End = if_live_made judged.End order store _ (made_erasing judged.End store store store _ (end_made judged.End order store refl refl))

@@ -73,14 +73,14 @@ order_is_kept order copies new (Some id) h adds there q =
 
 -- ---- the numbers of fetches
 
-mark_number : (m : Mark) (copy : Copy) (n : ℕ) → Can m copy → fetch_number (Some (marked m copy)) ≡ Some n → fetch_number (Some copy) ≡ Some n
-mark_number (mark.located fetch None) copy n f t = ap (λ o. fetch_number (Some (record copy { fetch = o }))) f ∙ t
-mark_number (mark.located fetch (Some source)) copy n f t = ap (λ o. fetch_number (Some (record copy { fetch = o }))) f ∙ t
-mark_number (mark.pulled fetch offset source) copy n f t = ap (λ o. fetch_number (Some (record copy { fetch = o }))) f ∙ t
-mark_number (mark.lacking fetch source missing) copy n f t = ap (λ o. fetch_number (Some (record copy { fetch = o }))) f ∙ t
-mark_number (mark.fetch_failed fetch fault) copy n f t = ap (λ o. fetch_number (Some (record copy { fetch = o }))) f ∙ t
-mark_number mark.brought copy n can t = none_some n t
-mark_number _ copy n can t = t
+mark_number : (x : Judged) (m : Mark) (copy : Copy) (n : ℕ) → Can x m copy → fetch_number (Some (marked m copy)) ≡ Some n → fetch_number (Some copy) ≡ Some n
+mark_number x (mark.located fetch None) copy n f t = ap (λ o. fetch_number (Some (record copy { fetch = o }))) f.0 ∙ t
+mark_number x (mark.located fetch (Some source)) copy n f t = ap (λ o. fetch_number (Some (record copy { fetch = o }))) f.0 ∙ t
+mark_number x (mark.pulled fetch offset source) copy n f t = ap (λ o. fetch_number (Some (record copy { fetch = o }))) f.0 ∙ t
+mark_number x (mark.lacking fetch source missing) copy n f t = ap (λ o. fetch_number (Some (record copy { fetch = o }))) f ∙ t
+mark_number x (mark.fetch_failed fetch fault) copy n f t = ap (λ o. fetch_number (Some (record copy { fetch = o }))) f.0 ∙ t
+mark_number x mark.brought copy n can t = none_some n t
+mark_number x _ copy n can t = t
 
 -- no number is new
 fewer_fetches : {old new : ById Copy} {begun : ℕ} → ((q : ObjectId) (n : ℕ) → fetch_number (at new q) ≡ Some n → fetch_number (at old q) ≡ Some n) → AreFetchesKept old begun → AreFetchesKept new begun
@@ -113,12 +113,12 @@ next_fetch copies begun id h = record {
 
 edit_fetches : {x : Judged} (used : Option ObjectId) (store after : Shape) → Edit x used store after → AreFetchesKept store.copies store.fetches_begun → AreFetchesKept after.copies after.fetches_begun
 edit_fetches used store after (marks id copy m e can) h =
-    fewer_fetches (λ q n. put_rows (λ q o. fetch_number o ≡ Some n → fetch_number (at store.copies q) ≡ Some n) store.copies id (marked m copy) (λ t. ap fetch_number e ∙ mark_number m copy n can t) (λ q _ t. t) q) h
+    fewer_fetches (λ q n. put_rows (λ q o. fetch_number o ≡ Some n → fetch_number (at store.copies q) ≡ Some n) store.copies id (marked m copy) (λ t. ap fetch_number e ∙ mark_number _ m copy n can t) (λ q _ t. t) q) h
 edit_fetches used store after (drops id copy e g) h =
     fewer_fetches (λ q n. drop_rows (λ q o. fetch_number o ≡ Some n → fetch_number (at store.copies q) ≡ Some n) store.copies id (λ q t. none_some n t) (λ q t. t) q) h
-edit_fetches used store after (creates id kind n offset u) h =
+edit_fetches used store after (creates id kind n offset u stirs) h =
     fewer_fetches (λ q m. put_rows (λ q o. fetch_number o ≡ Some m → fetch_number (at store.copies q) ≡ Some m) store.copies id (new_copy kind n offset) (λ t. none_some m t) (λ q _ t. t) q) h
-edit_fetches used store after (fetches id u e n) h = next_fetch store.copies store.fetches_begun id h
+edit_fetches used store after (fetches id u e n stirs) h = next_fetch store.copies store.fetches_begun id h
 edit_fetches used store after (ends e) h = record { numbered = λ q n t. none_some n t; apart = λ a b n s t. none_some n s }
 edit_fetches used store after _ h = h
 
@@ -147,7 +147,7 @@ rising_filter p (v ∷ works) h =
     ]
 
 edit_works : {x : Judged} (used : Option ObjectId) (store after : Shape) → Edit x used store after → AreWorksRising store.works store.works_asked → AreWorksRising after.works after.works_asked
-edit_works used store after (asks writes id) h =
+edit_works used store after (asks writes id stirs) h =
     let n = store.works_asked in
     let w : WorkInFlight = record { number = n + 1; id = id; writes = writes } in
     record {

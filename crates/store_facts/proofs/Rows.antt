@@ -12,7 +12,7 @@ use Rattle.private_store.specs.rules.Shape.{Copy, Shape, WorkInFlight, Seen}
 use Rattle.obj_id.specs.Kinds.{is_primary}
 use Rattle.private_store.specs.rules.Copies.{is_sealed, is_idle}
 use Rattle.private_store.specs.rules.Room.{set_copy, drop_copy, evicted}
-use Rattle.private_store.specs.rules.Change.{settled, doomed}
+use Rattle.private_store.specs.rules.Change.{settled}
 use Rattle.private_store.specs.laws.Invariants.{has_write}
 use Rattle.store_facts.proofs.Ids.{id_cmp-IsAntisymmetric, id_cmp-IsTotalOrder, same_id-equal, same_id-itself}
 
@@ -139,14 +139,6 @@ quiet_settled store mid id h =
       | None ↦ h
       | Some copy ↦ elim (copy.doomed && is_idle mid id copy) as (λ b. Quiet store (cond b (drop_copy mid id) mid)) [ true ↦ quiet_drop store mid id h | false ↦ h ]
     ]
-
-pub quiet_doomed : (store : Shape) (id : ObjectId) → Quiet store (doomed store id)
-quiet_doomed store id =
-    elim (at store.copies id) as (λ o. at store.copies id ≡ o → Quiet store (option_map_or (λ copy. settled (set_copy store id (record copy { doomed = true })) id) o store)) [
-      | None ↦ λ _. quiet_stays store
-      | Some copy ↦ λ e. let d : Copy = record copy { doomed = true } in
-          quiet_settled store (set_copy store id d) id (quiet_set store id copy d e (record { length = refl; backed = refl; stands = inl (refl, refl) }))
-    ] refl
 
 pub quiet_evicted : (store : Shape) (id : ObjectId) → Quiet store (evicted store id)
 quiet_evicted store id =

@@ -28,18 +28,18 @@ use Rattle.private_store.specs.rules.Marks as mark
 use Rattle.private_store.specs.rules.Copies.{visible, is_sealed, fits_quota, is_idle}
 use Rattle.private_store.specs.rules.Room.{Room, make_room, set_copy, drop_copy, asked}
 use Rattle.private_store.specs.rules.Change.{refused, done, checked, needing, sending, in_room, settled, erasing}
-use Rattle.private_store.specs.rules.Commands.{refusal_of, create, new_copy, seal, get, get_sealed, get_away, get_fetching, get_copy, begin_fetch, restore, fetched_copy, list, usage}
+use Rattle.private_store.specs.rules.Commands.{refusal_of, create, new_copy, seal, get, get_sealed, get_away, get_fetching, get_copy, begin_fetch, restore, fetched_copy}
 use Rattle.private_store.specs.rules.Events.{begin, requota, end_job_here, written, without_work, work_of, answer, with_fetch, fetch_of, located, fetch_failed, chunk_taken, chunk_arrived, is_missing, not_here_arrived, quiet, pull_answer, pull_arrived}
 use Rattle.private_store.specs.rules.Step.{step, owned, commanded, if_live}
 use Rattle.private_store.specs.laws.Invariants.{IsShapeKept, has_write, has_extent, is_fetching, is_pulling}
 use Rattle.store_facts.proofs.WorksHaveCopies.{works_have_copies}
 use Rattle.store_facts.proofs.Tests.{none_here, passed, true_false}
-use Rattle.store_facts.proofs.Checks.{Fails, checked_past, needing_has}
+use Rattle.store_facts.proofs.Checks.{visible_at, Fails, checked_past, needing_has}
 pub use Rattle.store_facts.proofs.Checks.{fetch_found}
 use Rattle.store_facts.proofs.Rows.{Quiet, quiet_stays, quiet_put, quiet_set, quiet_drop, quiet_settled}
 use Rattle.store_facts.proofs.Clearing.{Cleared, SpillsIn, RoomDone, room_done}
-use Rattle.store_facts.proofs.CalmSteps.{IsCalm, visible_at, quiet_marked, write_calm, read_calm, release_calm, delete_calm, borrow_calm, unpin_calm, give_up_calm, grant_calm, withdraw_calm, peek_calm, withdrawn_calm, end_task_calm, leave_calm}
-use Rattle.store_facts.proofs.Turns.{weight, weight_of, weight_less, weight_same, weightless, reads_write, filtered_any, found_any, unwritten, not_written, resident, nowhere, same, Puts, calm, spills, puts, requotas, empties, receives, IsTurn, put_turn, placed_stands, quiet_put_dropped}
+use Rattle.store_facts.proofs.CalmSteps.{quiet_marked, quiet_rest, step_calm}
+use Rattle.store_facts.proofs.Turns.{weight, weight_of, weight_less, weight_same, weightless, reads_write, found_any, unwritten, not_written, resident, nowhere, same, Puts, calm, spills, puts, requotas, empties, receives, IsTurn, put_turn, placed_stands, quiet_put_dropped}
 use Rattle.store_facts.proofs.Ids.{same_id-itself}
 
 -- ---- what a kept shape says of one copy
@@ -115,9 +115,6 @@ MaySeal s store _ = Unit {0}
 -- ---- the frames of a change
 
 module _ (s : ObjectId → Bool) (store : Shape) where
-  calm_turn : (c : Change) → IsCalm store c → IsTurn s store c
-  calm_turn c k = record { is = calm k.is }
-
   at_rest : (c : Change) → Quiet store c.shape → IsTurn s store c
   at_rest c q = record { is = calm q }
 
@@ -259,31 +256,16 @@ module _ (s : ObjectId → Bool) (store : Shape) (sh : IsShapeKept store) where
   owned_turn : (id : ObjectId) (c : Change) → IsTurn s store c → IsTurn s store (owned store id c)
   owned_turn id c k = checked_turn s store _ _ (λ _. k)
 
-  commanded_turn : (order : List ObjectId) (session : ℕ) (c : Command ℕ) → Seals s c → IsTurn s store (commanded order store session c)
-  commanded_turn order session (command.Create id kind n) t = owned_turn id _ (create_turn order id kind n)
-  commanded_turn order session (command.Write id offset n) t = owned_turn id _ (calm_turn s store _ (write_calm store id offset n))
-  commanded_turn order session (command.Seal id) t = owned_turn id _ (seal_turn id t)
-  commanded_turn order session (command.Get id) t = owned_turn id _ (get_turn order session id)
-  commanded_turn order session (command.Read id offset n) t = owned_turn id _ (calm_turn s store _ (read_calm store session id offset n))
-  commanded_turn order session (command.Release id) t = owned_turn id _ (calm_turn s store _ (release_calm store session id))
-  commanded_turn order session (command.Unpin id task) t = owned_turn id _ (calm_turn s store _ (unpin_calm store id task))
-  commanded_turn order session (command.Borrow id task) t = owned_turn id _ (calm_turn s store _ (borrow_calm store id task))
-  commanded_turn order session (command.GiveUp id task) t = owned_turn id _ (calm_turn s store _ (give_up_calm store id task))
-  commanded_turn order session (command.Delete id) t = owned_turn id _ (calm_turn s store _ (delete_calm store id))
-  commanded_turn order session (command.EndTask task) t = calm_turn s store _ (end_task_calm store task)
-  commanded_turn order session (command.Grant id target) t = calm_turn s store _ (grant_calm store id target.0)
-  commanded_turn order session (command.Withdraw id target) t = calm_turn s store _ (withdraw_calm store id target.0)
-  commanded_turn order session (command.Peek id offset n) t = calm_turn s store _ (peek_calm store id offset n)
-  commanded_turn order session command.List t = at_rest s store (list store) (quiet_stays store)
-  commanded_turn order session command.Usage t = at_rest s store (usage store) (quiet_stays store)
-  commanded_turn order session command.Leave t = calm_turn s store _ (leave_calm store session)
+  called_turn : (order : List ObjectId) (session : ℕ) (c : Command ℕ) → IsTurn s store (commanded order store session c) → IsTurn s store (step order store (judged.Call session c))
+  called_turn order session c k = checked_turn s store _ _ (λ _. erasing_turn s store store (commanded order store session c) k)
+
+  call_turn : (order : List ObjectId) (session : ℕ) (c : Command ℕ) → Seals s c → IsTurn s store (step order store (judged.Call session c))
+  call_turn order session (command.Create id kind n) t = called_turn order session (command.Create id kind n) (owned_turn id _ (create_turn order id kind n))
+  call_turn order session (command.Seal id) t = called_turn order session (command.Seal id) (owned_turn id _ (seal_turn id t))
+  call_turn order session (command.Get id) t = called_turn order session (command.Get id) (owned_turn id _ (get_turn order session id))
+  call_turn order session c t = at_rest s store _ (step_calm order store (judged.Call session c) refl)
 
   -- ---- device answers
-
-  quiet_rest : (number : ℕ) → Quiet store (without_work store number)
-  quiet_rest number =
-      let q = quiet_stays store in
-      record { row = q.row; writes = λ id. filtered_any (λ work. same_id id work.id && work.writes) (λ work. not (work.number == number)) store.works; quota = refl; seen = q.seen }
 
   -- the copy is put, and goes at once if it is doomed and idle
   settled_turn : (mid : Shape) (id : ObjectId) (d : Copy) → Quiet store mid → Puts s store (with_entry mid.copies id d) mid.works mid.quota mid.received id d → IsTurn s store (done (settled (set_copy mid id d) id))
@@ -301,9 +283,9 @@ module _ (s : ObjectId → Bool) (store : Shape) (sh : IsShapeKept store) where
   backed_turn number w copy e written =
       let rest = without_work store number in
       let d : Copy = record copy { backed = Some w.number } in
-      settled_turn rest w.id d (quiet_rest number) (put_turn s store rest rest.works w.id d (quiet_rest number) (λ q h. h)
+      settled_turn rest w.id d (quiet_rest store number) (put_turn s store rest rest.works w.id d (quiet_rest store number) (λ q h. h)
       (subst (λ o. weight rest.works w.id d ≤ weight_of store.works w.id o) (sym e)
-      (weight_less store.works rest.works w.id copy d refl (λ _. counted (is_some copy.backed)) ((quiet_rest number).writes w.id)))
+      (weight_less store.works rest.works w.id copy d refl (λ _. counted (is_some copy.backed)) ((quiet_rest store number).writes w.id)))
       (same copy e refl refl (λ _. refl)))
     where
       counted : (b : Bool) → (b || has_write store.works w.id) ≡ true
@@ -311,7 +293,7 @@ module _ (s : ObjectId → Bool) (store : Shape) (sh : IsShapeKept store) where
       counted false = written
 
   written_turn : (number : ℕ) (w : WorkInFlight) (copy : Copy) (verdict : WorkVerdict) → at store.copies w.id ≡ Some copy → has_write store.works w.id ≡ true → IsTurn s store (written (without_work store number) w copy verdict)
-  written_turn number w copy work.Failed e h = record { is = calm (quiet_settled store (record (without_work store number) { spill_failed = true }) w.id (quiet_rest number)) }
+  written_turn number w copy work.Failed e h = record { is = calm (quiet_settled store (record (without_work store number) { spill_failed = true }) w.id (quiet_rest store number)) }
   written_turn number w copy work.Fine e h = record { is = (backed_turn number w copy e h).is }
   written_turn number w copy work.Damaged e h = record { is = (backed_turn number w copy e h).is }
 
@@ -320,13 +302,13 @@ module _ (s : ObjectId → Bool) (store : Shape) (sh : IsShapeKept store) where
   read_turn number w copy work.Fine t is reads e =
       let rest = without_work store number in
       let d : Copy = record copy { state = Sealed } in
-      settled_turn rest w.id d (quiet_rest number) (put_turn s store rest rest.works w.id d (quiet_rest number) (λ q h. h)
-      (known_weight rest.works w.id copy d ((quiet_rest number).writes w.id) e refl refl)
+      settled_turn rest w.id d (quiet_rest store number) (put_turn s store rest rest.works w.id d (quiet_rest store number) (λ q h. h)
+      (known_weight rest.works w.id copy d ((quiet_rest store number).writes w.id) e refl refl)
       (same copy e refl refl (λ f. true_false (sym f ∙ t w is reads))))
   read_turn number w copy work.Failed t is reads e =
-      record { is = calm (quiet_settled store (set_copy (without_work store number) w.id (marked (read_mark work.Failed) copy)) w.id (quiet_put store (without_work store number) w.id copy (marked (read_mark work.Failed) copy) (quiet_rest number) e (record { length = refl; backed = refl; stands = inr (refl, refl) }))) }
+      record { is = calm (quiet_settled store (set_copy (without_work store number) w.id (marked (read_mark work.Failed) copy)) w.id (quiet_put store (without_work store number) w.id copy (marked (read_mark work.Failed) copy) (quiet_rest store number) e (record { length = refl; backed = refl; stands = inr (refl, refl) }))) }
   read_turn number w copy work.Damaged t is reads e =
-      record { is = calm (quiet_settled store (set_copy (without_work store number) w.id (marked (read_mark work.Damaged) copy)) w.id (quiet_put store (without_work store number) w.id copy (marked (read_mark work.Damaged) copy) (quiet_rest number) e (record { length = refl; backed = refl; stands = inr (refl, refl) }))) }
+      record { is = calm (quiet_settled store (set_copy (without_work store number) w.id (marked (read_mark work.Damaged) copy)) w.id (quiet_put store (without_work store number) w.id copy (marked (read_mark work.Damaged) copy) (quiet_rest store number) e (record { length = refl; backed = refl; stands = inr (refl, refl) }))) }
 
   answer_turn : (number : ℕ) (verdict : WorkVerdict) → ReadsBack s store number verdict → IsTurn s store (answer store number verdict)
   answer_turn number verdict t =
@@ -486,14 +468,14 @@ module _ (s : ObjectId → Bool) (store : Shape) (sh : IsShapeKept store) where
   pub step_turn : (order : List ObjectId) (x : Judged) → MaySeal s store x → IsTurn s store (step order store x)
   step_turn order (judged.Begin quota) t = begin_turn quota
   step_turn order (judged.Requota quota) t = if_live_turn _ (requota_turn quota)
-  step_turn order (judged.Call session c) t = checked_turn s store _ _ (λ _. erasing_turn s store store (commanded order store session c) (commanded_turn s store sh order session c t))
+  step_turn order (judged.Call session c) t = call_turn s store sh order session c t
   step_turn order (judged.Answer number verdict) t = answer_turn s store sh number verdict t
   step_turn order (judged.Located id number source) t = if_live_turn _ (located_turn id number source)
   step_turn order (judged.Chunk id number index from verdict) t = if_live_turn _ (chunk_turn id number index from verdict t)
   step_turn order (judged.Pull id number matches) t = if_live_turn _ (pull_turn order id matches)
   step_turn order (judged.NotHere id number from) t = if_live_turn _ (not_here_turn id number from)
   step_turn order (judged.Received id n grantor depth) t = record { is = receives t refl refl refl }
-  step_turn order (judged.Withdrawn id grantor depth) t = calm_turn s store _ (withdrawn_calm store id grantor.0 depth)
+  step_turn order (judged.Withdrawn id grantor depth) t = at_rest s store _ (step_calm order store (judged.Withdrawn id grantor depth) refl)
   step_turn order judged.End t = if_live_turn _ (erasing_turn s store store (end_job_here store) end_turn)
 
 -- where all copies may be sealed

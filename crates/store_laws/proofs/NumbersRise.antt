@@ -16,8 +16,8 @@ then_rise : {a b c : Shape} → NumbersRise a b → NumbersRise b c → NumbersR
 then_rise h k = record { works = omega (arith, h.works, k.works); fetches = omega (arith, h.fetches, k.fetches) }
 
 edit_rises : {x : Judged} → is_end x ≡ false → (used : Option ObjectId) (store after : Shape) → Edit x used store after → NumbersRise store after
-edit_rises lives used store after (asks writes id) = record { works = omega arith; fetches = omega arith }
-edit_rises lives used store after (fetches id u n h) = record { works = omega arith; fetches = omega arith }
+edit_rises lives used store after (asks writes id stirs) = record { works = omega arith; fetches = omega arith }
+edit_rises lives used store after (fetches id u n h stirs) = record { works = omega arith; fetches = omega arith }
 edit_rises lives used store after (ends e) = true_false (sym lives ∙ e)
 edit_rises lives used store after _ = same store after refl refl
 

@@ -1,6 +1,8 @@
 -- What every input's change is made of: edits of the store, one after another, and an answer. An
 -- invariant that each edit keeps is kept by every input, and a fact of each answer is a fact of every
--- input's; so a law is proved by its cases over these few, and never over commands.
+-- input's; so a law is proved by its cases over these few, and not over commands. Four things still are, since no edit
+-- tells them: that a store stays kept needs the checks that were passed; where a copy stands, the room that was made;
+-- what a refusal leaves, which edits go with which answer; what a job's own part shows, two stores beside each other.
 use Rattle.std.specs.Prelude.{◌≡◌, ℕ, ◌+◌, ◌==◌, nat_lt, Bool, true, false, ◌&&◌, [], ◌∷◌, ◌++◌, filter, Option, Some, None, is_some}
 use Rattle.std.specs.Option.{option_map_or}
 use Rattle.obj_id.specs.declared.ids.JobNo.{JobNo}
@@ -36,7 +38,7 @@ abbrev pub is_want : Refusal → Bool
 is_want NoMemory = true
 is_want _ = false
 
--- ---- who may change grants
+-- ---- what an input may do
 
 -- the commands that may change grants
 abbrev pub is_grant_command : Command ℕ → Bool
@@ -53,16 +55,34 @@ changes_grants (judged.Withdrawn id grantor depth) = true
 changes_grants judged.End = true
 changes_grants _ = false
 
+-- the commands that place, fill and seal no copy
+abbrev pub is_calm_command : Command ℕ → Bool
+is_calm_command (command.Create id kind n) = false
+is_calm_command (command.Seal id) = false
+is_calm_command (command.Get id) = false
+is_calm_command _ = true
+
+-- the inputs that leave each copy its bytes or take it away, and ask for no work
+abbrev pub is_calm : Judged → Bool
+is_calm (judged.Call session c) = is_calm_command c
+is_calm (judged.Withdrawn id grantor depth) = true
+is_calm _ = false
+
 -- ---- edits
 
--- what a mark needs of the copy
-abbrev pub Can : Mark → Copy → Type 0
-Can mark.evicted copy = is_primary copy.kind ≡ true
-Can (mark.located fetch source) copy = copy.fetch ≡ Some fetch
-Can (mark.pulled fetch offset source) copy = copy.fetch ≡ Some fetch
-Can (mark.lacking fetch source missing) copy = copy.fetch ≡ Some fetch
-Can (mark.fetch_failed fetch fault) copy = copy.fetch ≡ Some fetch
-Can _ copy = Unit {0}
+-- what a mark needs of the input and of the copy
+abbrev pub Can : Judged → Mark → Copy → Type 0
+Can x mark.sealed copy = is_calm x ≡ false
+Can x mark.evicted copy = is_primary copy.kind ≡ true
+Can x (mark.backed number) copy = is_calm x ≡ false
+Can x (mark.restoring offset) copy = is_calm x ≡ false
+Can x mark.restored copy = is_calm x ≡ false
+Can x (mark.located fetch source) copy = (copy.fetch ≡ Some fetch) × (is_calm x ≡ false)
+Can x (mark.pulled fetch offset source) copy = (copy.fetch ≡ Some fetch) × (is_calm x ≡ false)
+Can x (mark.lacking fetch source missing) copy = copy.fetch ≡ Some fetch
+Can x mark.brought copy = is_calm x ≡ false
+Can x (mark.fetch_failed fetch fault) copy = (copy.fetch ≡ Some fetch) × (is_calm x ≡ false)
+Can x _ copy = Unit {0}
 
 -- why a copy goes
 pub data Goes (store : Shape) (id : ObjectId) (copy : Copy) : Type 0 where
@@ -72,14 +92,14 @@ pub data Goes (store : Shape) (id : ObjectId) (copy : Copy) : Type 0 where
 
 -- one edit of a store by an input that makes this copy most recently used
 pub data Edit (x : Judged) (used : Option ObjectId) (store : Shape) : Shape → Type 0 where
-  marks : (id : ObjectId) (copy : Copy) (m : Mark) → at store.copies id ≡ Some copy → Can m copy → Edit x used store (set_copy store id (marked m copy))
+  marks : (id : ObjectId) (copy : Copy) (m : Mark) → at store.copies id ≡ Some copy → Can x m copy → Edit x used store (set_copy store id (marked m copy))
   drops : (id : ObjectId) (copy : Copy) → at store.copies id ≡ Some copy → Goes store id copy → Edit x used store (drop_copy store id)
   -- a new copy, at an offset that was found for it
-  creates : (id : ObjectId) (kind : Kind) (n offset : ℕ) → used ≡ Some id → Edit x used store (set_copy store id (new_copy kind n offset))
-  fetches : (id : ObjectId) → used ≡ Some id → at store.copies id ≡ None → has_numbers store.fetches_begun 1 ≡ true
+  creates : (id : ObjectId) (kind : Kind) (n offset : ℕ) → used ≡ Some id → is_calm x ≡ false → Edit x used store (set_copy store id (new_copy kind n offset))
+  fetches : (id : ObjectId) → used ≡ Some id → at store.copies id ≡ None → has_numbers store.fetches_begun 1 ≡ true → is_calm x ≡ false
       → Edit x used store (fetch_begun store id (store.fetches_begun + 1))
   -- a work is asked for; a work is answered
-  asks : (writes : Bool) (id : ObjectId) → Edit x used store (asked writes store id)
+  asks : (writes : Bool) (id : ObjectId) → is_calm x ≡ false → Edit x used store (asked writes store id)
   finishes : (number : ℕ) → Edit x used store (without_work store number)
   -- whether a spill failed that isn't answered yet
   flags : (failed : Bool) → Edit x used store (record store { spill_failed = failed })
@@ -90,8 +110,8 @@ pub data Edit (x : Judged) (used : Option ObjectId) (store : Shape) : Shape → 
   receives : (id : ObjectId) (n : ℕ) (grantor : JobNo) (depth : ℕ) → x ≡ judged.Received id n grantor depth → Edit x used store (received store id n grantor.0 depth).shape
   loses : (id : ObjectId) (grantor depth : ℕ) (seen : Seen) → at store.received id ≡ Some seen → changes_grants x ≡ true
       → Edit x used store (record store { received = option_map_or (λ left. with_entry store.received id left) (without_grant seen grantor depth) (without_entry store.received id) })
-  begins : (quota : Quota) → store.life ≡ not_begun → is_quota quota ≡ true → Edit x used store (record store { life = live; quota = quota })
-  requotas : (quota : Quota) → is_quota quota ≡ true → fits_quota store quota ≡ true → Edit x used store (record store { quota = quota })
+  begins : (quota : Quota) → store.life ≡ not_begun → is_quota quota ≡ true → is_calm x ≡ false → Edit x used store (record store { life = live; quota = quota })
+  requotas : (quota : Quota) → is_quota quota ≡ true → fits_quota store quota ≡ true → is_calm x ≡ false → Edit x used store (record store { quota = quota })
   ends : is_end x ≡ true → Edit x used store (over store)
 
 -- edits, one after another
