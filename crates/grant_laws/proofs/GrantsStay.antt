@@ -36,7 +36,7 @@ edit_same stays used store after (gives grant is) = true_false (sym stays ∙ is
 edit_same stays used store after (leaves stands is) = true_false (sym stays ∙ is)
 edit_same stays used store after (receives id n grantor depth is) = true_false (sym stays ∙ ap changes_grants is)
 edit_same stays used store after (loses id grantor depth seen found is) = true_false (sym stays ∙ is)
-edit_same {x} stays used store after (ends is) = true_false (sym stays ∙ end_changes x is)
+edit_same {x} stays used store after (ends is lives) = true_false (sym stays ∙ end_changes x is)
 edit_same stays used store after _ = record { job = refl; given = refl; received = refl }
 
 edits_same : {x : Judged} {used : Option ObjectId} {store after : Shape} → changes_grants x ≡ false → Edits x used store after → SameGrants store after

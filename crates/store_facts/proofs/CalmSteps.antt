@@ -64,9 +64,9 @@ edit_calm calm used store after (asks writes id stirs) = true_false (sym stirs �
 edit_calm calm used store after (finishes number) = quiet_rest store number
 edit_calm calm used store after (receives id n grantor depth is) = true_false (sym (ap is_calm is) ∙ calm)
 edit_calm calm used store after (loses id grantor depth seen e is) = let q = quiet_stays store in record { row = q.row; writes = q.writes; quota = refl; seen = left_row store.received id grantor depth seen e }
-edit_calm calm used store after (begins quota fresh fine stirs) = true_false (sym stirs ∙ calm)
-edit_calm calm used store after (requotas quota fine fits stirs) = true_false (sym stirs ∙ calm)
-edit_calm {x} calm used store after (ends is) = true_false (sym (end_stirs x is) ∙ calm)
+edit_calm calm used store after (begins quota is fresh fine) = true_false (sym (ap is_calm is) ∙ calm)
+edit_calm calm used store after (requotas quota is fine fits) = true_false (sym (ap is_calm is) ∙ calm)
+edit_calm {x} calm used store after (ends is lives) = true_false (sym (end_stirs x is) ∙ calm)
 edit_calm calm used store after _ = quiet_stays store
 
 pub step_calm : (order : List ObjectId) (store : Shape) (x : Judged) → is_calm x ≡ true → Quiet store (step order store x).shape

@@ -35,7 +35,7 @@ use Rattle.private_store.specs.rules.Copies.{is_sealed, is_evictable, is_idle, i
 use Rattle.private_store.specs.rules.Room.{Room, shortest_from, in_order, fits, wait, full, busy, evict, spill, victims, spilled, spill_plan, bytes_of_copies, works_left, offset_without, set_copy, drop_copy, evicted, asked, no_room, spill_room, evict_room, room_by, make_room, eviction_notice}
 use Rattle.private_store.specs.rules.Change.{replied, refused, done, checked, needing, sending, in_room, erasing, settled, doomed, doom, doom_notice}
 use Rattle.private_store.specs.rules.Commands.{refusal_of, fetch_refusal, create, end_task, created, new_copy, get, grant, grant_own, grant_foreign, restore, restoring, get_away, get_fetching, get_copy, get_sealed, begin_pull, begin_fetch, fetched_copy, at_each, then_change, scoped, give_up_one, leave_one, has_borrower, of_task}
-use Rattle.private_store.specs.rules.Events.{begin, requota, end_job_here, answer, written, without_work, located, with_fetch, fetch_of, fetch_failed, chunk_taken, chunk_arrived, is_missing, not_here_arrived, quiet, pull_answer, pull_arrived, withdrawn, grant_ended, is_child_of, is_the_grant}
+use Rattle.private_store.specs.rules.Events.{is_live, begin, requota, end_job_here, answer, written, without_work, located, with_fetch, fetch_of, fetch_failed, chunk_taken, chunk_arrived, is_missing, not_here_arrived, quiet, pull_answer, pull_arrived, withdrawn, grant_ended, is_child_of, is_the_grant}
 use Rattle.private_store.specs.rules.Step.{step, owned, commanded, if_live}
 use Rattle.private_store.specs.laws.Invariants.{is_end}
 use Rattle.private_store.specs.laws.Made
@@ -504,20 +504,20 @@ module _ (x : Judged) where
     if_live_made : (c : Change) → IsMade x store c → IsMade x store (if_live store c)
     if_live_made c k = made_checked store store _ _ refl (λ _. k)
 
-    begin_made : is_calm x ≡ false → (quota : Quota) → IsMade x store (begin store quota)
-    begin_made stirs quota =
+    begin_made : (quota : Quota) → x ≡ judged.Begin quota → IsMade x store (begin store quota)
+    begin_made quota is =
         elim store.life as (λ l. store.life ≡ l → IsMade x store (elim l [ not_begun ↦ checked store ((not (is_quota quota), BadSize) ∷ []) (done (record store { life = live; quota = quota })) | _ ↦ refused store Stale ])) [
-          | not_begun ↦ λ l. made_checked store store _ _ refl (λ fails. made_done store (one None (begins quota l (passed (is_quota quota) fails.0) stirs)))
+          | not_begun ↦ λ l. made_checked store store _ _ refl (λ fails. made_done store (one None (begins quota is l (passed (is_quota quota) fails.0))))
           | live ↦ λ _. made_refused store Stale refl none
           | ended ↦ λ _. made_refused store Stale refl none
         ] refl
 
-    requota_made : is_calm x ≡ false → (quota : Quota) → IsMade x store (requota store quota)
-    requota_made stirs quota =
-        made_checked store store _ _ refl (λ fails. made_done store (one None (requotas quota (passed (is_quota quota) fails.0) (passed (fits_quota store quota) fails.1.0) stirs)))
+    requota_made : (quota : Quota) → x ≡ judged.Requota quota → IsMade x store (requota store quota)
+    requota_made quota is =
+        made_checked store store _ _ refl (λ fails. made_done store (one None (requotas quota is (passed (is_quota quota) fails.0) (passed (fits_quota store quota) fails.1.0))))
 
-    end_made : is_end x ≡ true → may_send x end_job ≡ true → IsMade x store (end_job_here store)
-    end_made e h = made_sending store store _ _ (one_sent end_job h) (made_done store (one None (ends e)))
+    end_made : is_end x ≡ true → may_send x end_job ≡ true → is_live store ≡ true → IsMade x store (end_job_here store)
+    end_made e h lives = made_sending store store _ _ (one_sent end_job h) (made_done store (one None (ends e lives)))
 
     withdrawn_made : changes_grants x ≡ true → (id : ObjectId) (grantor depth : ℕ) → IsMade x store (withdrawn store id grantor depth)
     withdrawn_made g id grantor depth = made_done store (
@@ -680,8 +680,8 @@ module _ (order : List ObjectId) (store : Shape) where
 
   -- each input's change is made of edits and an answer
   pub step_made : (x : Judged) → IsMade x store (step order store x)
-  step_made (judged.Begin quota) = begin_made (judged.Begin quota) order store refl quota
-  step_made (judged.Requota quota) = if_live_made (judged.Requota quota) order store _ (requota_made (judged.Requota quota) order store refl quota)
+  step_made (judged.Begin quota) = begin_made (judged.Begin quota) order store quota refl
+  step_made (judged.Requota quota) = if_live_made (judged.Requota quota) order store _ (requota_made (judged.Requota quota) order store quota refl)
   step_made (judged.Call session c) =
       let x = judged.Call session c in
       made_checked x store store _ _ refl (λ _. made_erasing x store store store _ (commanded_made session c))
@@ -692,7 +692,7 @@ module _ (order : List ObjectId) (store : Shape) where
   step_made (judged.NotHere id number from) = let x = judged.NotHere id number from in if_live_made x order store _ (not_here_made x order store refl (λ q n. refl) id number from)
   step_made (judged.Received id n grantor depth) = made_done (judged.Received id n grantor depth) store (one (judged.Received id n grantor depth) None (receives id n grantor depth refl))
   step_made (judged.Withdrawn id grantor depth) = withdrawn_made (judged.Withdrawn id grantor depth) order store refl id grantor.0 depth
-  step_made judged.End = if_live_made judged.End order store _ (made_erasing judged.End store store store _ (end_made judged.End order store refl refl))
+  step_made judged.End = made_checked judged.End store store _ _ refl (λ fails. made_erasing judged.End store store store _ (end_made judged.End order store refl refl (passed (is_live store) fails.0)))
 
 -- ---- how it is used
 

@@ -119,7 +119,7 @@ edit_fetches used store after (drops id copy e g) h =
 edit_fetches used store after (creates id kind n offset u stirs) h =
     fewer_fetches (λ q m. put_rows (λ q o. fetch_number o ≡ Some m → fetch_number (at store.copies q) ≡ Some m) store.copies id (new_copy kind n offset) (λ t. none_some m t) (λ q _ t. t) q) h
 edit_fetches used store after (fetches id u e n stirs) h = next_fetch store.copies store.fetches_begun id h
-edit_fetches used store after (ends e) h = record { numbered = λ q n t. none_some n t; apart = λ a b n s t. none_some n s }
+edit_fetches used store after (ends e lives) h = record { numbered = λ q n t. none_some n t; apart = λ a b n s t. none_some n s }
 edit_fetches used store after _ h = h
 
 -- ---- the works
@@ -157,7 +157,7 @@ edit_works used store after (asks writes id stirs) h =
           (le-leb (n + 1) (n + 1) (omega arith));
     }
 edit_works used store after (finishes number) h = record { rising = rising_filter _ store.works h.rising; numbered = all-filter _ _ store.works h.numbered }
-edit_works used store after (ends e) h = record { rising = refl; numbered = refl }
+edit_works used store after (ends e lives) h = record { rising = refl; numbered = refl }
 edit_works used store after _ h = h
 
 -- ---- what others granted

@@ -8,7 +8,7 @@ use Rattle.private_store.specs.rules.Step.{step}
 use Rattle.store_facts.proofs.EachStep.{step_made}
 
 edit_job : {x : Judged} {used : Option ObjectId} (store after : Shape) → Edit x used store after → after.job ≡ store.job
-edit_job store after (ends is) = refl
+edit_job store after (ends is lives) = refl
 edit_job store after _ = refl
 
 edits_job : {x : Judged} {used : Option ObjectId} (store after : Shape) → Edits x used store after → after.job ≡ store.job

@@ -32,7 +32,7 @@ edit_sorted used store after (marks id copy m e can) h = is_sorted-put id_cmp id
 edit_sorted used store after (drops id copy e g) h = is_sorted-where_key id_cmp (λ x. not (same_id id x)) store.copies h
 edit_sorted used store after (creates id kind n offset u stirs) h = is_sorted-put id_cmp id_cmp-IsTotalOrder id (new_copy kind n offset) store.copies h
 edit_sorted used store after (fetches id u e n stirs) h = is_sorted-put id_cmp id_cmp-IsTotalOrder id (fetched_copy (store.fetches_begun + 1)) store.copies h
-edit_sorted used store after (ends e) h = tt
+edit_sorted used store after (ends e lives) h = tt
 edit_sorted used store after _ h = h
 
 -- no copy is new but the one that is used
@@ -45,7 +45,7 @@ edit_adds used store after (creates id kind n offset u stirs) =
     put_rows (λ q o. is_some o ≡ true → (is_some (at store.copies q) ≡ true) ⊎ (is_used used q ≡ true)) store.copies id (new_copy kind n offset) (λ _. inr (ap (λ o. is_used o id) u ∙ same_id-itself id)) (λ q _ t. inl t)
 edit_adds used store after (fetches id u e h stirs) =
     put_rows (λ q o. is_some o ≡ true → (is_some (at store.copies q) ≡ true) ⊎ (is_used used q ≡ true)) store.copies id (fetched_copy (store.fetches_begun + 1)) (λ _. inr (ap (λ o. is_used o id) u ∙ same_id-itself id)) (λ q _ t. inl t)
-edit_adds used store after (ends e) = λ q t. true_false t
+edit_adds used store after (ends e lives) = λ q t. true_false t
 edit_adds used store after _ = λ q t. inl t
 
 pub step_adds : (order : List ObjectId) (store : Shape) (x : Judged) (q : ObjectId) → is_some (at (step order store x).shape.copies q) ≡ true → (is_some (at store.copies q) ≡ true) ⊎ (is_used (step order store x).used q ≡ true)

@@ -16,12 +16,12 @@ then_rise : {a b c : Shape} → NumbersRise a b → NumbersRise b c → NumbersR
 then_rise h k = record { works = omega (arith, h.works, k.works); fetches = omega (arith, h.fetches, k.fetches) }
 
 edit_rises : {x : Judged} → is_end x ≡ false → (used : Option ObjectId) (store after : Shape) → Edit x used store after → NumbersRise store after
-edit_rises lives used store after (asks writes id stirs) = record { works = omega arith; fetches = omega arith }
-edit_rises lives used store after (fetches id u n h stirs) = record { works = omega arith; fetches = omega arith }
-edit_rises lives used store after (ends e) = true_false (sym lives ∙ e)
-edit_rises lives used store after _ = same store after refl refl
+edit_rises goes_on used store after (asks writes id stirs) = record { works = omega arith; fetches = omega arith }
+edit_rises goes_on used store after (fetches id u n h stirs) = record { works = omega arith; fetches = omega arith }
+edit_rises goes_on used store after (ends e lives) = true_false (sym goes_on ∙ e)
+edit_rises goes_on used store after _ = same store after refl refl
 
 -- no number is lower after an input other than the job's end
 pub numbers_rise : (order : List ObjectId) (store : Shape) (x : Judged) → is_end x ≡ false → NumbersRise store (step order store x).shape
-numbers_rise order store x lives =
-    input_keeps (NumbersRise store) order store x (λ used mid after e h. then_rise h (edit_rises lives used mid after e)) (same store store refl refl)
+numbers_rise order store x goes_on =
+    input_keeps (NumbersRise store) order store x (λ used mid after e h. then_rise h (edit_rises goes_on used mid after e)) (same store store refl refl)

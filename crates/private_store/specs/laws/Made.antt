@@ -30,7 +30,7 @@ use Rattle.obj_id.specs.Kinds.{is_primary}
 use Rattle.private_store.specs.rules.Copies.{is_idle, fits_quota}
 use Rattle.private_store.specs.rules.Room.{set_copy, drop_copy, asked}
 use Rattle.private_store.specs.rules.Commands.{new_copy, holds_of, is_unsealed, fetch_begun, task_ended, own_items, granted_items, usage_of}
-use Rattle.private_store.specs.rules.Events.{over, without_work, received, without_grant}
+use Rattle.private_store.specs.rules.Events.{is_live, over, without_work, received, without_grant}
 use Rattle.private_store.specs.laws.Invariants.{is_end}
 
 -- whether the refusal is out of memory
@@ -110,9 +110,9 @@ pub data Edit (x : Judged) (used : Option ObjectId) (store : Shape) : Shape → 
   receives : (id : ObjectId) (n : ℕ) (grantor : JobNo) (depth : ℕ) → x ≡ judged.Received id n grantor depth → Edit x used store (received store id n grantor.0 depth).shape
   loses : (id : ObjectId) (grantor depth : ℕ) (seen : Seen) → at store.received id ≡ Some seen → changes_grants x ≡ true
       → Edit x used store (record store { received = option_map_or (λ left. with_entry store.received id left) (without_grant seen grantor depth) (without_entry store.received id) })
-  begins : (quota : Quota) → store.life ≡ not_begun → is_quota quota ≡ true → is_calm x ≡ false → Edit x used store (record store { life = live; quota = quota })
-  requotas : (quota : Quota) → is_quota quota ≡ true → fits_quota store quota ≡ true → is_calm x ≡ false → Edit x used store (record store { quota = quota })
-  ends : is_end x ≡ true → Edit x used store (over store)
+  begins : (quota : Quota) → x ≡ judged.Begin quota → store.life ≡ not_begun → is_quota quota ≡ true → Edit x used store (record store { life = live; quota = quota })
+  requotas : (quota : Quota) → x ≡ judged.Requota quota → is_quota quota ≡ true → fits_quota store quota ≡ true → Edit x used store (record store { quota = quota })
+  ends : is_end x ≡ true → is_live store ≡ true → Edit x used store (over store)
 
 -- edits, one after another
 pub data Edits (x : Judged) (used : Option ObjectId) (store : Shape) : Shape → Type 0 where
