@@ -8,25 +8,25 @@ use Rattle.std.proofs.lemmas.List.Elements.{filter-append}
 use Rattle.obj_id.specs.declared.ids.ObjectId.{ObjectId}
 use Rattle.obj_id.specs.declared.commands.Command.{Command}
 use Rattle.obj_id.specs.declared.commands.Command.TheVariants as command
-use Rattle.obj_id.specs.declared.commands.Reply.TheVariants as reply
 use Rattle.obj_id.specs.declared.refusals.Refusal.{Refusal}
-use Rattle.obj_id.specs.declared.refusals.Refusal.TheVariants.{Absent, NotGranted}
+use Rattle.obj_id.specs.declared.refusals.Refusal.TheVariants.{NotGranted}
 use Rattle.obj_id.specs.Ids.{same_id}
 use Rattle.store_facts.proofs.Ids.{same_id-equal}
 use Rattle.private_store.specs.declared.inputs.Judged.{Judged}
 use Rattle.private_store.specs.declared.inputs.Judged.TheVariants as judged
 use Rattle.private_store.specs.rules.Tables.{at}
 use Rattle.private_store.specs.rules.Shape.{Shape, Change, GrantGiven}
-use Rattle.private_store.specs.rules.Copies.{visible, is_idle}
+use Rattle.private_store.specs.rules.Copies.{is_idle}
 use Rattle.private_store.specs.rules.Room.{drop_copy}
 use Rattle.private_store.specs.rules.Change.{refused, erasing, settled}
-use Rattle.private_store.specs.rules.Commands.{grant, grant_own, grant_foreign, withdraw, peek, oldest}
+use Rattle.private_store.specs.rules.Commands.{withdraw, peek}
 use Rattle.private_store.specs.rules.Events.{withdrawn, is_the_grant, grant_ended, is_child_of}
 use Rattle.private_store.specs.rules.Step.{commanded, step}
 use Rattle.private_store.specs.laws.Invariants.{IsShapeKept}
 use Rattle.store_facts.proofs.Checks.{checked_has, needing_has}
 use Rattle.store_facts.proofs.Tests.{true_false, true_T, not_true, both, both_left, both_right}
 use Rattle.grant_laws.proofs.WhatEnds.{and_no}
+use Rattle.grant_laws.proofs.GrantInputs.{IsGrant, left, gave, grant_is}
 use Rattle.grant_laws.proofs.OwnParts.{own_grants, own_part, HasOwn}
 
 -- the own part stays, nothing is sent, and no copy is used
@@ -70,32 +70,6 @@ given_aside : (store : Shape) (keep : GrantGiven → Bool) → list_all (λ a_gr
 given_aside store keep all = λ i. record (own_part store) { given = own_kept store.job keep store.given all i }
 
 -- ---- grants
-
--- what a Grant of any object does: it is refused, or the grant is given
-pub data IsGrant (store : Shape) (id : ObjectId) (target : ℕ) (c : Change) : Type 0 where
-  left : (r : Refusal) → c.shape ≡ store → c.reply ≡ reply.Refused r → c.sent ≡ [] → c.used ≡ None → IsGrant store id target c
-  gave : (below : Option ℕ) → (id.job.0 == store.job ≡ true → below ≡ None) → c.shape ≡ record store { given = store.given ++ record { id = id; target = target; parent = below } ∷ [] } → c.reply ≡ reply.Ok → c.sent ≡ [] → c.used ≡ None → IsGrant store id target c
-
-is_grant : (store : Shape) (id : ObjectId) (target : ℕ) → IsGrant store id target (grant store id target)
-is_grant store id target =
-    elim (id.job.0 == store.job) as (λ b. (id.job.0 == store.job) ≡ b → P (cond b (grant_own store id target) (grant_foreign store id target))) [
-      | true ↦ λ _. checked_has P store _ _ no (needing_has P store (visible store id) Absent _ (no Absent) (λ copy v. checked_has P store _ _ no (gave None (λ _. refl) refl refl refl refl)))
-      | false ↦ λ foreign. checked_has P store _ _ no (needing_has P store (oldest store id) NotGranted _ (no NotGranted) (λ a_grant o. checked_has P store _ _ no
-          (gave (Some a_grant.grantor) (λ own. true_false (sym foreign ∙ own)) refl refl refl refl)))
-    ] refl
-  where
-    P : Change → Type 0
-    P = IsGrant store id target
-
-    no : (r : Refusal) → P (refused store r)
-    no r = left r refl refl refl refl
-
-erased_grant : (store : Shape) (id : ObjectId) (target : ℕ) (c : Change) → IsGrant store id target c → IsGrant store id target (erasing store c)
-erased_grant store id target c (left r s t m u) = left r s t m u
-erased_grant store id target c (gave below n s t m u) = gave below n s t m u
-
-pub grant_is : (order : List ObjectId) (store : Shape) (session : ℕ) (id : ObjectId) (target : ℕ) → IsGrant store id target (step order store (judged.Call session (command.Grant id (record { 0 = target }))))
-grant_is order store session id target = checked_has (IsGrant store id target) store _ _ (λ r. left r refl refl refl refl) (erased_grant store id target _ (is_grant store id target))
 
 foreign_grant : (store : Shape) (id : ObjectId) (target : ℕ) (c : Change) → (id.job.0 == store.job) ≡ false → IsGrant store id target c → IsAside store c
 foreign_grant store id target c foreign (left r s t m u) = record { own = ap own_part s; silent = m; unused = u }

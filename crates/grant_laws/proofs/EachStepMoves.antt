@@ -30,7 +30,7 @@ use Rattle.store_facts.proofs.Tests.{true_false, none_some, some_value, or_false
 use Rattle.grants.specs.Table.{given_by, grant_check}
 use Rattle.grants.specs.Private.{as_given}
 use Rattle.grant_laws.proofs.WhatEnds.{filter_same, stands_filtered}
-use Rattle.grant_laws.proofs.GrantsStay.{SameGrants, grants_stay}
+use Rattle.grant_laws.proofs.GrantsStay.{SameGrants, same_grants, grants_stay}
 use Rattle.grant_laws.proofs.Halves.{given_half, HasHalves, lengths_in, its_lengths, halves_have}
 use Rattle.grants.proofs.ForCallers.{filter_map, pushed_are_grants, left_are_grants, made_for}
 use Rattle.grant_laws.proofs.AfterEnds.{end_told, told_to}
@@ -49,7 +49,7 @@ use Rattle.private_store.specs.laws.Made.{is_grant_command}
 use Rattle.private_store.specs.rules.Trace.{is_out, granted_bytes}
 use Rattle.store_facts.proofs.Tests.{both_left}
 use Rattle.grants.specs.Table.{is_no_grantee, limits_check, hung_check}
-use Rattle.grant_laws.proofs.GrantInputs.{grant_step, withdraw_step, end_task_step, GrantDone, left, gave, EndDone, ended, JobEndDone, was_dead, is_over, job_end_step, keeps_others, keeps_other_tasks}
+use Rattle.grant_laws.proofs.GrantInputs.{grant_is, withdraw_step, end_task_step, IsGrant, left, gave, EndDone, ended, JobEndDone, was_dead, is_over, job_end_step, keeps_others, keeps_other_tasks}
 use Rattle.grant_laws.proofs.AfterGrants.{granted_step, grantor_fits, grantee_fits, other_fits}
 use Rattle.grant_laws.proofs.StoresKept.{store_kept}
 use Rattle.grant_laws.proofs.Moving.{Stand, Moved, Answers, still_moves, node_moves, told_notes, Ends, ends_fit, own_answer}
@@ -75,11 +75,11 @@ whole_ok view x (reply.Refused refusal) e = cc
 -- only an accepted Grant, Withdraw or EndTask changes the grants of the job whose command it is
 still_call : (m : ℕ) (s : Store) (session : ℕ) (c : Command (List ℕ)) (r : Reply (List ℕ)) → (is_grant_command (without_payload c) ≡ true → r ≡ reply.Ok → ⊥) → r ≡ (private_outcome m s (input.Call session c)).reply
     → SameGrants s.shape (private_step m s (input.Call session c)).shape
-still_call m s session (command.Grant id target) r not_ok is = by_done (step (view_of s).order s.shape (judged.Call session (command.Grant id target))) (grant_step (view_of s).order s.shape session id target.0) is
+still_call m s session (command.Grant id target) r not_ok is = by_done (step (view_of s).order s.shape (judged.Call session (command.Grant id target))) (grant_is (view_of s).order s.shape session id target.0) is
   where
-    by_done : (c : Change) → GrantDone s.shape c → r ≡ whole_reply (view_of s) (input.Call session (command.Grant id target)) c.reply → SameGrants s.shape c.shape
-    by_done c (left same n) e = same
-    by_done c (gave t) e = absurd (not_ok refl (e ∙ ap (whole_reply (view_of s) (input.Call session (command.Grant id target))) t))
+    by_done : (c : Change) → IsGrant s.shape id target.0 c → r ≡ whole_reply (view_of s) (input.Call session (command.Grant id target)) c.reply → SameGrants s.shape c.shape
+    by_done c (left refusal stays told silent unused) e = subst (SameGrants s.shape) (sym stays) (same_grants s.shape)
+    by_done c (gave below n given t silent unused) e = absurd (not_ok refl (e ∙ ap (whole_reply (view_of s) (input.Call session (command.Grant id target))) t))
 still_call m s session (command.Withdraw id target) r not_ok is = by_done (step (view_of s).order s.shape (judged.Call session (command.Withdraw id target))) (withdraw_step (view_of s).order s.shape session id target.0) is
   where
     by_done : (c : Change) → EndDone (keeps_others id target.0) s.shape c → r ≡ whole_reply (view_of s) (input.Call session (command.Withdraw id target)) c.reply → SameGrants s.shape c.shape

@@ -1,5 +1,5 @@
 -- What the inputs that may change grants do to the grants in a store: a Grant, a Withdraw, an EndTask and the job's end.
-use Rattle.std.proofs.Common.{◌≡◌, ℕ, Bool, true, false, not, cond, ◌==◌, ◌&&◌, List, [], ◌∷◌, filter, Some, None, refl, sym, ap, subst, ◌∙◌}
+use Rattle.std.proofs.Common.{◌≡◌, ℕ, Bool, true, false, not, cond, ◌==◌, ◌&&◌, List, [], ◌∷◌, ◌++◌, filter, Option, Some, None, refl, sym, ap, subst, ◌∙◌}
 use Rattle.std.specs.Option.{option_map_or}
 use Rattle.obj_id.specs.declared.ids.ObjectId.{ObjectId}
 use Rattle.obj_id.specs.declared.ids.TaskNo.{TaskNo}
@@ -18,39 +18,40 @@ use Rattle.private_store.specs.rules.Change.{refused, done, sending, erasing, do
 use Rattle.private_store.specs.rules.Commands.{scoped, at_each, then_change, give_up_one, has_borrower, of_task, task_ended, grant, grant_own, grant_foreign, oldest}
 use Rattle.private_store.specs.rules.Events.{end_job_here, is_live}
 use Rattle.private_store.specs.rules.Step.{step}
+use Rattle.store_facts.proofs.Tests.{true_false}
 use Rattle.store_facts.proofs.Checks.{checked-nil, checked-true, checked-false, checked_has, needing_has}
 use Rattle.grant_laws.proofs.GrantsStay.{SameGrants, same_grants, settled_still, doom_still, give_up_one_still, at_each_still}
 
-abbrev NotOk : Change → Type 0
-NotOk c = c.reply ≡ reply.Ok → ⊥
+-- what a Grant of any object does: it is refused, or the grant is given
+pub data IsGrant (store : Shape) (id : ObjectId) (target : ℕ) (c : Change) : Type 0 where
+  left : (r : Refusal) → c.shape ≡ store → c.reply ≡ reply.Refused r → c.sent ≡ [] → c.used ≡ None → IsGrant store id target c
+  gave : (below : Option ℕ) → (id.job.0 == store.job ≡ true → below ≡ None) → c.shape ≡ record store { given = store.given ++ record { id = id; target = target; parent = below } ∷ [] } → c.reply ≡ reply.Ok → c.sent ≡ [] → c.used ≡ None → IsGrant store id target c
 
--- a grant is refused and changes nothing here, or is accepted
-pub data GrantDone (store : Shape) (c : Change) : Type 0 where
-  left : SameGrants store c.shape → NotOk c → GrantDone store c
-  gave : c.reply ≡ reply.Ok → GrantDone store c
-
-grant_done : (store : Shape) (id : ObjectId) (target : ℕ) → GrantDone store (grant store id target)
-grant_done store id target =
-    elim (id.job.0 == store.job) as (λ b. P (cond b (grant_own store id target) (grant_foreign store id target))) [
-      | true ↦ checked_has P store _ _ no (needing_has P store (visible store id) Absent _ (no Absent) (λ copy v. checked_has P store _ _ no (gave refl)))
-      | false ↦ checked_has P store _ _ no (needing_has P store (oldest store id) NotGranted _ (no NotGranted) (λ a_grant o. checked_has P store _ _ no (gave refl)))
-    ]
+is_grant : (store : Shape) (id : ObjectId) (target : ℕ) → IsGrant store id target (grant store id target)
+is_grant store id target =
+    elim (id.job.0 == store.job) as (λ b. (id.job.0 == store.job) ≡ b → P (cond b (grant_own store id target) (grant_foreign store id target))) [
+      | true ↦ λ _. checked_has P store _ _ no (needing_has P store (visible store id) Absent _ (no Absent) (λ copy v. checked_has P store _ _ no (gave None (λ _. refl) refl refl refl refl)))
+      | false ↦ λ foreign. checked_has P store _ _ no (needing_has P store (oldest store id) NotGranted _ (no NotGranted) (λ a_grant o. checked_has P store _ _ no
+          (gave (Some a_grant.grantor) (λ own. true_false (sym foreign ∙ own)) refl refl refl refl)))
+    ] refl
   where
     P : Change → Type 0
-    P = GrantDone store
+    P = IsGrant store id target
 
     no : (r : Refusal) → P (refused store r)
-    no r = left (same_grants store) (λ e. cc)
+    no r = left r refl refl refl refl
 
-erased_grant : (store : Shape) (c : Change) → GrantDone store c → GrantDone store (erasing store c)
-erased_grant store c (left s n) = left s n
-erased_grant store c (gave t) = gave t
+erased_grant : (store : Shape) (id : ObjectId) (target : ℕ) (c : Change) → IsGrant store id target c → IsGrant store id target (erasing store c)
+erased_grant store id target c (left r s t m u) = left r s t m u
+erased_grant store id target c (gave below n s t m u) = gave below n s t m u
 
-pub grant_step : (order : List ObjectId) (store : Shape) (session : ℕ) (id : ObjectId) (target : ℕ) → GrantDone store (step order store (judged.Call session (command.Grant id (record { 0 = target }))))
-grant_step order store session id target =
-    checked_has (GrantDone store) store _ _ (λ r. left (same_grants store) (λ e. cc)) (erased_grant store _ (grant_done store id target))
+pub grant_is : (order : List ObjectId) (store : Shape) (session : ℕ) (id : ObjectId) (target : ℕ) → IsGrant store id target (step order store (judged.Call session (command.Grant id (record { 0 = target }))))
+grant_is order store session id target = checked_has (IsGrant store id target) store _ _ (λ r. left r refl refl refl refl) (erased_grant store id target _ (is_grant store id target))
 
 -- ---- ends
+
+abbrev NotOk : Change → Type 0
+NotOk c = c.reply ≡ reply.Ok → ⊥
 
 -- an end is refused and changes nothing here, or is accepted and leaves the grants that the test keeps
 pub data EndDone (keep : GrantGiven → Bool) (store : Shape) (c : Change) : Type 0 where

@@ -31,7 +31,8 @@ use Rattle.store_facts.proofs.Filling.{resides, zeros}
 use Rattle.store_facts.proofs.Tests.{and_left, and_right, true_T, true_false}
 use Rattle.grant_laws.proofs.OwnParts.{own_grants, own_part, own_change, HasOwn}
 use Rattle.grant_laws.proofs.OwnSteps.{is_plain, step_own}
-use Rattle.grant_laws.proofs.AsideSteps.{IsGrant, left, gave, grant_is, is_aside_input, step_aside}
+use Rattle.grant_laws.proofs.GrantInputs.{IsGrant, left, gave, grant_is}
+use Rattle.grant_laws.proofs.AsideSteps.{is_aside_input, step_aside}
 use Rattle.grant_laws.proofs.SettledViews.{IsSettled}
 
 -- the own part as the node shows it
