@@ -1,6 +1,5 @@
 -- What the inputs that may change grants do to the grants in a store: a Grant, a Withdraw, an EndTask and the job's end.
 use Rattle.std.proofs.Common.{◌≡◌, ℕ, Bool, true, false, not, cond, ◌==◌, ◌&&◌, List, [], ◌∷◌, ◌++◌, filter, Option, Some, None, refl, sym, ap, subst, ◌∙◌}
-use Rattle.std.specs.Option.{option_map_or}
 use Rattle.obj_id.specs.declared.ids.ObjectId.{ObjectId}
 use Rattle.obj_id.specs.declared.ids.TaskNo.{TaskNo}
 use Rattle.obj_id.specs.declared.commands.Command.TheVariants as command
@@ -9,15 +8,14 @@ use Rattle.obj_id.specs.declared.refusals.Refusal.{Refusal}
 use Rattle.obj_id.specs.declared.refusals.Refusal.TheVariants.{Absent, Stale, NotGranted}
 use Rattle.obj_id.specs.Ids.{same_id, same_task}
 use Rattle.private_store.specs.declared.inputs.Judged.TheVariants as judged
-use Rattle.private_store.specs.rules.Tables.{at, ids_of}
-use Rattle.private_store.specs.rules.Shape.{Copy, Shape, Change, GrantGiven}
-use Rattle.private_store.specs.rules.Marks.{without_borrower}
-use Rattle.private_store.specs.rules.Copies.{visible, in_scope}
-use Rattle.private_store.specs.rules.Room.{set_copy}
+use Rattle.private_store.specs.rules.Tables.{ids_of}
+use Rattle.private_store.specs.rules.Shape.{Shape, Change, GrantGiven}
+use Rattle.private_store.specs.rules.Copies.{visible}
 use Rattle.private_store.specs.rules.Change.{refused, done, sending, erasing, doom}
-use Rattle.private_store.specs.rules.Commands.{scoped, at_each, then_change, give_up_one, has_borrower, of_task, task_ended, grant, grant_own, grant_foreign, oldest}
+use Rattle.private_store.specs.rules.Commands.{at_each, give_up_one, of_task, task_ended, grant, grant_own, grant_foreign, oldest}
 use Rattle.private_store.specs.rules.Events.{end_job_here, is_live}
 use Rattle.private_store.specs.rules.Step.{step}
+use Rattle.store_facts.proofs.EachStep.{task_left_unused}
 use Rattle.store_facts.proofs.Tests.{true_false}
 use Rattle.store_facts.proofs.Checks.{checked-nil, checked-true, checked-false, checked_has, needing_has}
 use Rattle.grant_laws.proofs.GrantsStay.{SameGrants, same_grants, settled_still, doom_still, give_up_one_still, at_each_still}
@@ -71,40 +69,6 @@ keeps_others id target a_grant = not (same_id id a_grant.id && a_grant.target ==
 abbrev pub keeps_other_tasks : ℕ → TaskNo → GrantGiven → Bool
 keeps_other_tasks job task a_grant = not (a_grant.id.job.0 == job && same_task task a_grant.id.task)
 
--- ---- an EndTask that isn't refused is answered Ok
-
-doom_told : (store : Shape) (id : ObjectId) → (doom store id).reply ≡ reply.Ok
-unfolding sending
-doom_told store id = refl
-
-scoped_told : (store : Shape) (id : ObjectId) (copy : Copy) → (scoped store id copy).reply ≡ reply.Ok
-scoped_told store id copy =
-    elim (in_scope copy) as (λ b. (cond b (done (set_copy store id copy)) (doom (set_copy store id copy) id)).reply ≡ reply.Ok) [
-      | true ↦ refl
-      | false ↦ doom_told (set_copy store id copy) id
-    ]
-
-give_up_one_told : (task : TaskNo) (store : Shape) (id : ObjectId) → (give_up_one task store id).reply ≡ reply.Ok
-give_up_one_told task store id =
-    elim (at store.copies id) as (λ o. (option_map_or (λ copy. cond copy.doomed (done (set_copy store id (without_borrower copy task))) (cond (has_borrower copy task) (scoped store id (without_borrower copy task)) (done store))) o (done store)).reply ≡ reply.Ok) [
-      | None ↦ refl
-      | Some copy ↦ elim copy.doomed as (λ b. (cond b (done (set_copy store id (without_borrower copy task))) (cond (has_borrower copy task) (scoped store id (without_borrower copy task)) (done store))).reply ≡ reply.Ok) [
-        | true ↦ refl
-        | false ↦ elim (has_borrower copy task) as (λ b. (cond b (scoped store id (without_borrower copy task)) (done store)).reply ≡ reply.Ok) [
-          | true ↦ scoped_told store id (without_borrower copy task)
-          | false ↦ refl
-        ]
-      ]
-    ]
-
-then_told : (c : Change) (f : Shape → Change) → (f c.shape).reply ≡ reply.Ok → (then_change c f).reply ≡ reply.Ok
-unfolding sending
-then_told c f e = e
-
-each_told : (f : Shape → ObjectId → Change) → ((store : Shape) (id : ObjectId) → (f store id).reply ≡ reply.Ok) → (ids : List ObjectId) (c : Change) → c.reply ≡ reply.Ok → (at_each f ids c).reply ≡ reply.Ok
-each_told f each [] c is = is
-each_told f each (id ∷ ids) c is = each_told f each ids (then_change c (λ store. f store id)) (then_told c (λ store. f store id) (each c.shape id))
-
 pub withdraw_step : (order : List ObjectId) (store : Shape) (session : ℕ) (id : ObjectId) (target : ℕ) → EndDone (keeps_others id target) store (step order store (judged.Call session (command.Withdraw id (record { 0 = target }))))
 withdraw_step order store session id target =
     let keep = keeps_others id target in
@@ -121,7 +85,7 @@ end_task_step order store session task =
     (checked_has (EndDone keep store) store _ _ (refused_end keep store)
     (let s = at_each_still (give_up_one task) (give_up_one_still task) start ids (at_each doom (of_task task ids) (done start))
     (at_each_still doom doom_still start (of_task task ids) (done start) (same_grants start)) in
-    ended s.job s.given s.received (each_told (give_up_one task) (give_up_one_told task) ids (at_each doom (of_task task ids) (done start)) (each_told doom doom_told (of_task task ids) (done start) refl)))))
+    ended s.job s.given s.received (task_left_unused (judged.Call session (command.EndTask task)) (λ q. (refl, refl)) refl store task).told)))
 
 -- after the end of a job nothing is given by it
 pub data JobEndDone (store : Shape) (c : Change) : Type 0 where

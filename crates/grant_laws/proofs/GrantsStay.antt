@@ -55,13 +55,13 @@ pub settled_still : (store : Shape) (id : ObjectId) → SameGrants store (settle
 settled_still store id = edits_same {x = deleted id} refl (settled_edits (deleted id) None store id none)
 
 pub doom_still : (store : Shape) (id : ObjectId) → SameGrants store (doom store id).shape
-doom_still store id = edits_same {x = deleted id} refl (doom_unused (deleted id) (λ q. (refl, refl)) store store id none).edits
+doom_still store id = edits_same {x = deleted id} refl (doom_unused (deleted id) (λ q. (refl, refl)) store id none).edits
 
 pub give_up_one_still : (task : TaskNo) (store : Shape) (id : ObjectId) → SameGrants store (give_up_one task store id).shape
-give_up_one_still task store id = edits_same {x = deleted id} refl (give_up_one_unused (deleted id) (λ q. (refl, refl)) store task store id).edits
+give_up_one_still task store id = edits_same {x = deleted id} refl (give_up_one_unused (deleted id) (λ q. (refl, refl)) task store id).edits
 
 pub leave_one_still : (session : ℕ) (store : Shape) (id : ObjectId) → SameGrants store (leave_one session store id).shape
-leave_one_still session store id = edits_same {x = deleted id} refl (leave_one_unused (deleted id) store session store id).edits
+leave_one_still session store id = edits_same {x = deleted id} refl (leave_one_unused (deleted id) session store id).edits
 
 then_still : (store : Shape) (c : Change) (f : Shape → Change) → SameGrants store c.shape → SameGrants c.shape (f c.shape).shape → SameGrants store (then_change c f).shape
 unfolding sending

@@ -9,6 +9,7 @@ use Rattle.obj_id.specs.declared.commands.CopyState.{CopyState}
 use Rattle.obj_id.specs.declared.commands.CopyState.TheVariants.{Created, Sealed, Restoring, Fetching, Away}
 use Rattle.obj_id.specs.declared.commands.Kind.{Kind}
 use Rattle.obj_id.specs.declared.commands.Reply.{Reply}
+use Rattle.obj_id.specs.declared.commands.Reply.TheVariants as reply
 use Rattle.obj_id.specs.declared.commands.Command.{Command}
 use Rattle.obj_id.specs.declared.commands.Command.TheVariants as command
 use Rattle.obj_id.specs.declared.refusals.Refusal.{Refusal}
@@ -34,7 +35,7 @@ use Rattle.private_store.specs.rules.Marks as mark
 use Rattle.private_store.specs.rules.Copies.{is_sealed, is_evictable, is_idle, in_scope, visible, device_used, fits_quota, was_sealed}
 use Rattle.private_store.specs.rules.Room.{Room, shortest_from, in_order, fits, wait, full, busy, evict, spill, victims, spilled, spill_plan, bytes_of_copies, works_left, offset_without, set_copy, drop_copy, evicted, asked, no_room, spill_room, evict_room, room_by, make_room, eviction_notice}
 use Rattle.private_store.specs.rules.Change.{replied, refused, done, checked, needing, sending, in_room, erasing, settled, doomed, doom, doom_notice}
-use Rattle.private_store.specs.rules.Commands.{refusal_of, fetch_refusal, create, end_task, created, new_copy, get, grant, grant_own, grant_foreign, restore, restoring, get_away, get_fetching, get_copy, get_sealed, begin_pull, begin_fetch, fetched_copy, at_each, then_change, scoped, give_up_one, leave_one, has_borrower, of_task}
+use Rattle.private_store.specs.rules.Commands.{task_ended, leave, refusal_of, fetch_refusal, create, end_task, created, new_copy, get, grant, grant_own, grant_foreign, restore, restoring, get_away, get_fetching, get_copy, get_sealed, begin_pull, begin_fetch, fetched_copy, at_each, then_change, scoped, give_up_one, leave_one, has_borrower, of_task}
 use Rattle.private_store.specs.rules.Events.{is_live, begin, requota, end_job_here, answer, written, without_work, located, with_fetch, fetch_of, fetch_failed, chunk_taken, chunk_arrived, is_missing, not_here_arrived, quiet, pull_answer, pull_arrived, withdrawn, grant_ended, is_child_of, is_the_grant}
 use Rattle.private_store.specs.rules.Step.{step, owned, commanded, if_live}
 use Rattle.private_store.specs.laws.Invariants.{is_end}
@@ -304,67 +305,80 @@ module _ (x : Judged) where
         | Err refusal ↦ λ e. record { edits = h.edits None; response = response_refused refusal (h.refuses refusal e); used = tt; sent = all_of_both (may_send x) room.sent [] (h.sent ev) refl }
       ] refl
 
-  -- ---- changes that use no copy
+  -- ---- changes that are answered Ok and use no copy
 
-  pub record MakesUnused (found store : Shape) (c : Change) : Type 0 where
+  pub record MakesUnused (store : Shape) (c : Change) : Type 0 where
     pub edits : Edits x None store c.shape
-    response : Response x found c.reply
+    pub told : c.reply ≡ reply.Ok
     unused : c.used ≡ None
     sent : AreSent c.sent
 
-  unused_made : (found store : Shape) (c : Change) → MakesUnused found store c → IsMadeOf x found store c
+  unused_made : (found store : Shape) (c : Change) → MakesUnused store c → IsMadeOf x found store c
   unused_made found store c k = record {
     edits = subst (λ o. Edits x o store c.shape) (sym k.unused) k.edits;
-    response = k.response;
+    response = subst (Response x found) (sym k.told) response_ok;
     used = subst (λ o. IsUsedThere o c.shape.copies) (sym k.unused) tt;
     sent = k.sent;
   }
 
-  done_unused : (found : Shape) {store after : Shape} → Edits x None store after → MakesUnused found store (done after)
-  done_unused found h = record { edits = h; response = response_ok; unused = refl; sent = refl }
+  done_unused : {store after : Shape} → Edits x None store after → MakesUnused store (done after)
+  done_unused h = record { edits = h; told = refl; unused = refl; sent = refl }
 
-  pub doom_unused : Dooms → (found : Shape) {store : Shape} (mid : Shape) (id : ObjectId) → Edits x None store mid → MakesUnused found store (doom mid id)
+  pub doom_unused : Dooms → {store : Shape} (mid : Shape) (id : ObjectId) → Edits x None store mid → MakesUnused store (doom mid id)
   unfolding sending
-  doom_unused dm found mid id h = record { edits = doomed_edits None mid id h; response = response_ok; unused = refl; sent = all_of_both (may_send x) (option_to_list (doom_notice mid id)) [] (notice_sent dm mid id) refl }
+  doom_unused dm mid id h = record { edits = doomed_edits None mid id h; told = refl; unused = refl; sent = all_of_both (may_send x) (option_to_list (doom_notice mid id)) [] (notice_sent dm mid id) refl }
 
-  scoped_unused : Dooms → (found store : Shape) (id : ObjectId) (copy : Copy) (m : Mark) → at store.copies id ≡ Some copy → Can x m copy → MakesUnused found store (scoped store id (marked m copy))
-  scoped_unused dm found store id copy m e can =
+  scoped_unused : Dooms → (store : Shape) (id : ObjectId) (copy : Copy) (m : Mark) → at store.copies id ≡ Some copy → Can x m copy → MakesUnused store (scoped store id (marked m copy))
+  scoped_unused dm store id copy m e can =
       let d = marked m copy in
       let set = set_edits None store id copy m e can none in
-      elim (in_scope d) as (λ b. MakesUnused found store (cond b (done (set_copy store id d)) (doom (set_copy store id d) id))) [
-        | true ↦ done_unused found set
-        | false ↦ doom_unused dm found (set_copy store id d) id set
+      elim (in_scope d) as (λ b. MakesUnused store (cond b (done (set_copy store id d)) (doom (set_copy store id d) id))) [
+        | true ↦ done_unused set
+        | false ↦ doom_unused dm (set_copy store id d) id set
       ]
 
-  pub give_up_one_unused : Dooms → (found : Shape) (task : TaskNo) (store : Shape) (id : ObjectId) → MakesUnused found store (give_up_one task store id)
-  give_up_one_unused dm found task store id =
-      elim (at store.copies id) as (λ o. at store.copies id ≡ o → MakesUnused found store (option_map_or (λ copy. cond copy.doomed (done (set_copy store id (without_borrower copy task))) (cond (has_borrower copy task) (scoped store id (without_borrower copy task)) (done store))) o (done store))) [
-        | None ↦ λ _. done_unused found none
-        | Some copy ↦ λ e. elim copy.doomed as (λ b. MakesUnused found store (cond b (done (set_copy store id (without_borrower copy task))) (cond (has_borrower copy task) (scoped store id (without_borrower copy task)) (done store)))) [
-          | true ↦ done_unused found (set_edits None store id copy (mark.given_up task) e tt none)
-          | false ↦ elim (has_borrower copy task) as (λ b. MakesUnused found store (cond b (scoped store id (without_borrower copy task)) (done store))) [
-            | true ↦ scoped_unused dm found store id copy (mark.given_up task) e tt
-            | false ↦ done_unused found none
+  pub give_up_one_unused : Dooms → (task : TaskNo) (store : Shape) (id : ObjectId) → MakesUnused store (give_up_one task store id)
+  give_up_one_unused dm task store id =
+      elim (at store.copies id) as (λ o. at store.copies id ≡ o → MakesUnused store (option_map_or (λ copy. cond copy.doomed (done (set_copy store id (without_borrower copy task))) (cond (has_borrower copy task) (scoped store id (without_borrower copy task)) (done store))) o (done store))) [
+        | None ↦ λ _. done_unused none
+        | Some copy ↦ λ e. elim copy.doomed as (λ b. MakesUnused store (cond b (done (set_copy store id (without_borrower copy task))) (cond (has_borrower copy task) (scoped store id (without_borrower copy task)) (done store)))) [
+          | true ↦ done_unused (set_edits None store id copy (mark.given_up task) e tt none)
+          | false ↦ elim (has_borrower copy task) as (λ b. MakesUnused store (cond b (scoped store id (without_borrower copy task)) (done store))) [
+            | true ↦ scoped_unused dm store id copy (mark.given_up task) e tt
+            | false ↦ done_unused none
           ]
         ]
       ] refl
 
-  set_settled : (found store : Shape) (id : ObjectId) (copy : Copy) (m : Mark) → at store.copies id ≡ Some copy → Can x m copy → MakesUnused found store (done (settled (set_copy store id (marked m copy)) id))
-  set_settled found store id copy m e can = done_unused found (settled_edits None (set_copy store id (marked m copy)) id (set_edits None store id copy m e can none))
+  set_settled : (store : Shape) (id : ObjectId) (copy : Copy) (m : Mark) → at store.copies id ≡ Some copy → Can x m copy → MakesUnused store (done (settled (set_copy store id (marked m copy)) id))
+  set_settled store id copy m e can = done_unused (settled_edits None (set_copy store id (marked m copy)) id (set_edits None store id copy m e can none))
 
-  pub leave_one_unused : (found : Shape) (session : ℕ) (store : Shape) (id : ObjectId) → MakesUnused found store (leave_one session store id)
-  leave_one_unused found session store id =
-      elim (at store.copies id) as (λ o. at store.copies id ≡ o → MakesUnused found store (option_map_or (λ copy. done (settled (set_copy store id (with_holds copy session 0)) id)) o (done store))) [
-        | None ↦ λ _. done_unused found none
-        | Some copy ↦ λ e. set_settled found store id copy (mark.held session 0) e tt
+  pub leave_one_unused : (session : ℕ) (store : Shape) (id : ObjectId) → MakesUnused store (leave_one session store id)
+  leave_one_unused session store id =
+      elim (at store.copies id) as (λ o. at store.copies id ≡ o → MakesUnused store (option_map_or (λ copy. done (settled (set_copy store id (with_holds copy session 0)) id)) o (done store))) [
+        | None ↦ λ _. done_unused none
+        | Some copy ↦ λ e. set_settled store id copy (mark.held session 0) e tt
       ] refl
 
-  at_each_unused : (found : Shape) {store : Shape} (f : Shape → ObjectId → Change) → ((mid : Shape) (id : ObjectId) → MakesUnused found mid (f mid id)) → (ids : List ObjectId) (c : Change) → MakesUnused found store c → MakesUnused found store (at_each f ids c)
+  at_each_unused : {store : Shape} (f : Shape → ObjectId → Change) → ((mid : Shape) (id : ObjectId) → MakesUnused mid (f mid id)) → (ids : List ObjectId) (c : Change) → MakesUnused store c → MakesUnused store (at_each f ids c)
   unfolding sending
-  at_each_unused found f each [] c k = k
-  at_each_unused found f each (id ∷ ids) c k =
+  at_each_unused f each [] c k = k
+  at_each_unused f each (id ∷ ids) c k =
       let next = each c.shape id in
-      at_each_unused found f each ids (then_change c (λ s. f s id)) (record { edits = edits_both None k.edits next.edits; response = next.response; unused = next.unused; sent = all_of_both (may_send x) c.sent (f c.shape id).sent k.sent next.sent })
+      at_each_unused f each ids (then_change c (λ s. f s id)) (record { edits = edits_both None k.edits next.edits; told = next.told; unused = next.unused; sent = all_of_both (may_send x) c.sent (f c.shape id).sent k.sent next.sent })
+
+  pub leave_unused : (store : Shape) (session : ℕ) → MakesUnused store (leave store session)
+  leave_unused store session = at_each_unused (leave_one session) (leave_one_unused session) (ids_of store.copies) _ (done_unused none)
+
+  -- what an EndTask that isn't refused does
+  abbrev pub task_left : Shape → TaskNo → Change
+  task_left store task = let ids = ids_of store.copies in at_each (give_up_one task) ids (at_each doom (of_task task ids) (done (task_ended store task)))
+
+  pub task_left_unused : Dooms → changes_grants x ≡ true → (store : Shape) (task : TaskNo) → MakesUnused store (task_left store task)
+  task_left_unused dm g store task =
+      let ids = ids_of store.copies in
+      at_each_unused (give_up_one task) (give_up_one_unused dm task) ids _
+      (at_each_unused doom (λ mid id. doom_unused dm mid id none) (of_task task ids) _ (done_unused (one None (ends_task task g))))
 
   -- ---- Create and Get
 
@@ -457,11 +471,7 @@ module _ (x : Judged) where
         ]
 
     end_task_made : Dooms → changes_grants x ≡ true → (task : TaskNo) → IsMade x store (end_task store task)
-    end_task_made dm g task =
-        let ids = ids_of store.copies in
-        made_checked store store _ _ refl (λ _. unused_made store store _
-        (at_each_unused store (give_up_one task) (give_up_one_unused dm store task) ids _
-        (at_each_unused store doom (λ mid id. doom_unused dm store mid id none) (of_task task ids) _ (done_unused store (one None (ends_task task g))))))
+    end_task_made dm g task = made_checked store store _ _ refl (λ _. unused_made store store _ (task_left_unused dm g store task))
 
     -- the input may do what the command may
     record May (c : Command ℕ) : Type 0 where
@@ -479,16 +489,16 @@ module _ (x : Judged) where
     silent_made session (command.Get id) may t = owned_made id _ (get_made (may.stirs refl) session id may.sends)
     silent_made session (command.Read id offset n) may t = false_true t
     silent_made session (command.Release id) may t =
-        owned_made id _ (made_needing store store _ _ _ refl (λ copy e. made_checked store store _ _ refl (λ _. unused_made store store _ (set_settled store store id copy (mark.held session _) e tt))))
+        owned_made id _ (made_needing store store _ _ _ refl (λ copy e. made_checked store store _ _ refl (λ _. unused_made store store _ (set_settled store id copy (mark.held session _) e tt))))
     silent_made session (command.Unpin id task) may t =
-        owned_made id _ (made_needing store store _ _ _ refl (λ copy e. made_checked store store _ _ refl (λ _. unused_made store store _ (scoped_unused (λ q. (may.sends (remove_location q) refl, may.sends (free q) refl)) store store id copy mark.unpinned (visible_at store id copy e) tt))))
+        owned_made id _ (made_needing store store _ _ _ refl (λ copy e. made_checked store store _ _ refl (λ _. unused_made store store _ (scoped_unused (λ q. (may.sends (remove_location q) refl, may.sends (free q) refl)) store id copy mark.unpinned (visible_at store id copy e) tt))))
     silent_made session (command.Borrow id task) may t =
         owned_made id _ (made_checked store store _ _ refl (λ _. made_needing store store _ _ _ refl (λ copy e. made_checked store store _ _ refl (λ _.
         made_done store (set_edits None store id copy (mark.borrowed task) (visible_at store id copy e) tt none)))))
     silent_made session (command.GiveUp id task) may t =
-        owned_made id _ (made_needing store store _ _ _ refl (λ copy e. made_checked store store _ _ refl (λ _. unused_made store store _ (scoped_unused (λ q. (may.sends (remove_location q) refl, may.sends (free q) refl)) store store id copy (mark.given_up task) (visible_at store id copy e) tt))))
+        owned_made id _ (made_needing store store _ _ _ refl (λ copy e. made_checked store store _ _ refl (λ _. unused_made store store _ (scoped_unused (λ q. (may.sends (remove_location q) refl, may.sends (free q) refl)) store id copy (mark.given_up task) (visible_at store id copy e) tt))))
     silent_made session (command.Delete id) may t =
-        owned_made id _ (made_needing store store _ _ _ refl (λ copy e. made_checked store store _ _ refl (λ _. unused_made store store _ (doom_unused (λ q. (may.sends (remove_location q) refl, may.sends (free q) refl)) store store id none))))
+        owned_made id _ (made_needing store store _ _ _ refl (λ copy e. made_checked store store _ _ refl (λ _. unused_made store store _ (doom_unused (λ q. (may.sends (remove_location q) refl, may.sends (free q) refl)) store id none))))
     silent_made session (command.EndTask task) may t = end_task_made (λ q. (may.sends (remove_location q) refl, may.sends (free q) refl)) (may.grants refl) task
     silent_made session (command.Grant id target) may t = grant_made (may.grants refl) id target.0
     silent_made session (command.Withdraw id target) may t =
@@ -496,8 +506,7 @@ module _ (x : Judged) where
     silent_made session (command.Peek id offset n) may t = false_true t
     silent_made session command.List may t = made_replied store store _ response_list
     silent_made session command.Usage may t = made_replied store store _ response_usage
-    silent_made session command.Leave may t =
-        unused_made store store _ (at_each_unused store (leave_one session) (leave_one_unused store session) (ids_of store.copies) _ (done_unused store none))
+    silent_made session command.Leave may t = unused_made store store _ (leave_unused store session)
 
     -- ---- the operator, and the grants that others give
 

@@ -22,10 +22,9 @@ use Rattle.obj_id.specs.declared.ids.TaskNo.{TaskNo}
 use Rattle.obj_id.specs.declared.commands.Command.{Command}
 use Rattle.obj_id.specs.declared.commands.Command.TheVariants as command
 use Rattle.private_store.specs.rules.Copies.{in_scope}
-use Rattle.private_store.specs.rules.Tables.{ids_of}
 use Rattle.private_store.specs.rules.Shape.{locate}
 use Rattle.private_store.specs.rules.Change.{settled, doom}
-use Rattle.private_store.specs.rules.Commands.{refusal_of, fetch_refusal, create, created, write, seal, get, read, release, unpin, borrow, give_up, delete, end_task, grant, grant_own, grant_foreign, withdraw, peek, leave, restore, restoring, get_away, get_fetching, get_copy, get_sealed, begin_pull, begin_fetch, fetch_begun, at_each, then_change, scoped, give_up_one, leave_one, has_borrower, of_task, task_ended}
+use Rattle.private_store.specs.rules.Commands.{refusal_of, fetch_refusal, create, created, write, seal, get, read, release, unpin, borrow, give_up, delete, end_task, grant, grant_own, grant_foreign, withdraw, peek, leave, restore, restoring, get_away, get_fetching, get_copy, get_sealed, begin_pull, begin_fetch, fetch_begun, scoped}
 use Rattle.obj_id.specs.declared.works.Quota.{Quota}
 use Rattle.private_store.specs.declared.inputs.Source.{Source}
 use Rattle.private_store.specs.declared.inputs.WorkVerdict.{WorkVerdict}
@@ -42,7 +41,7 @@ use Rattle.private_store.specs.rules.Step.{owned, commanded, if_live, step}
 use Rattle.private_store.specs.rules.Change.{refused, done, checked, needing, sending, in_room, keys_gone, erasing}
 use Rattle.store_laws.specs.Refusing.{Waits, none, then_wait, evicts, asks, restores, pulls, fetches, IsWaiting, IsExcused, unchanged, spill_told, fault_told, fetch_told, waits, RefusesCleanly}
 use Rattle.store_facts.proofs.Tests.{both_left, both_right}
-use Rattle.store_facts.proofs.EachStep.{may_go, victims_may}
+use Rattle.store_facts.proofs.EachStep.{may_go, victims_may, leave_unused, task_left_unused}
 use Rattle.store_facts.proofs.ErasedKeys.{all_found, keys_none}
 use Rattle.store_facts.proofs.VictimsMakeRoom.{victims_make_room}
 
@@ -305,12 +304,6 @@ get_clean order store session id =
 abbrev ToldOk : Change → Type 0
 ToldOk c = c.reply ≡ reply.Ok
 
--- what is answered at the end of a list of changes is Ok
-at_each_told : (f : Shape → ObjectId → Change) → ((store : Shape) (id : ObjectId) → (f store id).reply ≡ reply.Ok) → (ids : List ObjectId) (c : Change) → c.reply ≡ reply.Ok → (at_each f ids c).reply ≡ reply.Ok
-unfolding sending
-at_each_told f each [] c is = is
-at_each_told f each (id ∷ ids) c is = at_each_told f each ids (then_change c (λ store. f store id)) (each c.shape id)
-
 ok_clean : (store : Shape) (c : Change) → c.reply ≡ reply.Ok → RefusesCleanly store c
 ok_clean store c is r e = cc
 
@@ -325,31 +318,8 @@ scoped_told store id copy =
       | false ↦ doom_told (set_copy store id copy) id
     ]
 
-give_up_one_told : (task : TaskNo) (store : Shape) (id : ObjectId) → (give_up_one task store id).reply ≡ reply.Ok
-give_up_one_told task store id =
-    elim (at store.copies id) as (λ o. (option_map_or (λ copy.
-    cond copy.doomed (done (set_copy store id (without_borrower copy task)))
-    (cond (has_borrower copy task) (scoped store id (without_borrower copy task)) (done store))) o (done store)).reply ≡ reply.Ok) [
-      | None ↦ refl
-      | Some copy ↦ elim copy.doomed as (λ b. (cond b (done (set_copy store id (without_borrower copy task)))
-          (cond (has_borrower copy task) (scoped store id (without_borrower copy task)) (done store))).reply ≡ reply.Ok) [
-            | true ↦ refl
-            | false ↦ elim (has_borrower copy task) as (λ b. (cond b (scoped store id (without_borrower copy task)) (done store)).reply ≡ reply.Ok) [
-              | true ↦ scoped_told store id (without_borrower copy task)
-              | false ↦ refl
-            ]
-          ]
-    ]
-
-leave_one_told : (session : ℕ) (store : Shape) (id : ObjectId) → (leave_one session store id).reply ≡ reply.Ok
-leave_one_told session store id =
-    elim (at store.copies id) as (λ o. (option_map_or (λ copy. done (settled (set_copy store id (with_holds copy session 0)) id)) o (done store)).reply ≡ reply.Ok) [ None ↦ refl | Some copy ↦ refl ]
-
 end_task_clean : (store : Shape) (task : TaskNo) → RefusesCleanly store (end_task store task)
-end_task_clean store task =
-    let start = done (task_ended store task) in
-    checked_clean store _ _ (ok_clean store _ (at_each_told (give_up_one task) (give_up_one_told task) (ids_of store.copies) _
-    (at_each_told doom doom_told (of_task task (ids_of store.copies)) start refl)))
+end_task_clean store task = checked_clean store _ _ (ok_clean store _ (task_left_unused (judged.Call 0 (command.EndTask task)) (λ q. (refl, refl)) refl store task).told)
 
 module _ (store : Shape) where
   write_clean : (id : ObjectId) (offset n : ℕ) → RefusesCleanly store (write store id offset n)
@@ -392,7 +362,7 @@ module _ (store : Shape) where
   peek_clean id offset n = checked_clean store _ _ (needing_clean store _ _ _ (λ seen is. checked_clean store _ _ (λ r e. cc)))
 
   leave_clean : (session : ℕ) → RefusesCleanly store (leave store session)
-  leave_clean session = ok_clean store _ (at_each_told (leave_one session) (leave_one_told session) (ids_of store.copies) (done store) refl)
+  leave_clean session = ok_clean store _ (leave_unused (judged.Call session command.Leave) store session).told
 
   owned_clean : (id : ObjectId) (c : Change) → RefusesCleanly store c → RefusesCleanly store (owned store id c)
   owned_clean id c h = checked_clean store _ _ h
