@@ -39,7 +39,7 @@ use Rattle.private_store.specs.rules.Copies.{visible}
 use Rattle.private_store.specs.rules.Events.{begin, end_job_here, answer, written, without_work, located, with_fetch, fetch_of, chunk_taken, chunk_arrived, is_missing, not_here_arrived, fetch_failed, pull_answer, pull_arrived, quiet}
 use Rattle.private_store.specs.rules.Step.{owned, commanded, if_live, step}
 use Rattle.private_store.specs.rules.Change.{refused, done, checked, needing, sending, in_room, keys_gone, erasing}
-use Rattle.store_laws.specs.Refusing.{Waits, none, then_wait, evicts, asks, restores, pulls, fetches, IsWaiting, IsExcused, unchanged, spill_told, fault_told, fetch_told, waits, RefusesCleanly}
+use Rattle.store_laws.specs.Refusing.{Wait, Waits, none, then_wait, evicts, asks, restores, pulls, fetches, IsWaiting, IsExcused, unchanged, spill_told, fault_told, fetch_told, waits, RefusesCleanly}
 use Rattle.store_facts.proofs.Tests.{both_left, both_right}
 use Rattle.store_facts.proofs.EachStep.{may_go, victims_may, leave_unused, task_left_unused}
 use Rattle.store_facts.proofs.ErasedKeys.{all_found, keys_none}
@@ -74,71 +74,56 @@ sending_told store sent c h r e = absurd (h r e)
 
 -- ---- what making room does: to all but the copies and the works nothing
 
--- by the changes of a wait that found this store
-pub record SameRest (found store after : Shape) : Type 0 where
-  pub changes : Waits found store after
-  pub job : after.job ≡ store.job
-  pub life : after.life ≡ store.life
-  pub quota : after.quota ≡ store.quota
-  pub flag : after.spill_failed ≡ store.spill_failed
-  pub ended : after.ended_tasks ≡ store.ended_tasks
-  pub given : after.given ≡ store.given
-  pub received : after.received ≡ store.received
+-- all of a store but the copies, the works and their numbers
+abbrev beside_copies : Shape → Shape
+beside_copies store = record store { copies = []; works = []; works_asked = 0; fetches_begun = 0 }
 
-same_rest : (found store : Shape) → SameRest found store store
-same_rest found store = record { changes = none; job = refl; life = refl; quota = refl; flag = refl; ended = refl; given = refl; received = refl }
+wait_rest : (found store after : Shape) → Wait found store after → beside_copies after ≡ beside_copies store
+wait_rest found store after (evicts id may) =
+    elim (at store.copies id) as (λ o. beside_copies (option_map_or (λ copy. cond (is_primary copy.kind) (set_copy store id (record copy { state = Away; offset = None })) (drop_copy store id)) o store) ≡ beside_copies store) [
+      | None ↦ refl
+      | Some copy ↦ elim (is_primary copy.kind) as (λ b. beside_copies (cond b (set_copy store id (record copy { state = Away; offset = None })) (drop_copy store id)) ≡ beside_copies store) [ true ↦ refl | false ↦ refl ]
+    ]
+wait_rest found store after _ = refl
+
+waits_rest : (found store after : Shape) → Waits found store after → beside_copies after ≡ beside_copies store
+waits_rest found store after none = refl
+waits_rest found store after (then_wait {mid} k w) = wait_rest found mid after w ∙ waits_rest found store mid k
+
+waiting : (store : Shape) (c : Change) → Waits store store c.shape → IsWaiting store c
+waiting store c w =
+    let same : beside_copies c.shape ≡ beside_copies store = waits_rest store store c.shape w in
+    record {
+      changes = w;
+      job = ap (λ s. s.job) same;
+      life = ap (λ s. s.life) same;
+      quota = ap (λ s. s.quota) same;
+      flag = ap (λ s. s.spill_failed) same;
+      ended = ap (λ s. s.ended_tasks) same;
+      given = ap (λ s. s.given) same;
+      received = ap (λ s. s.received) same;
+    }
 
 waits_both : {found a b c : Shape} → Waits found a b → Waits found b c → Waits found a c
 waits_both h none = h
 waits_both h (then_wait k w) = then_wait (waits_both h k) w
 
-then_same : {found a b c : Shape} → SameRest found a b → SameRest found b c → SameRest found a c
-then_same h k = record {
-  changes = waits_both h.changes k.changes;
-  job = k.job ∙ h.job;
-  life = k.life ∙ h.life;
-  quota = k.quota ∙ h.quota;
-  flag = k.flag ∙ h.flag;
-  ended = k.ended ∙ h.ended;
-  given = k.given ∙ h.given;
-  received = k.received ∙ h.received;
-}
-
-evicted_rest : (found store : Shape) (id : ObjectId) → may_go found id ≡ true → SameRest found store (evicted store id)
-evicted_rest found store id may = by (at store.copies id) (then_wait none (evicts id may))
-  where
-    by : (o : Option Copy) → Waits found store (option_map_or (λ copy. cond (is_primary copy.kind) (set_copy store id (record copy { state = Away; offset = None })) (drop_copy store id)) o store)
-        → SameRest found store (option_map_or (λ copy. cond (is_primary copy.kind) (set_copy store id (record copy { state = Away; offset = None })) (drop_copy store id)) o store)
-    by None w = record { changes = w; job = refl; life = refl; quota = refl; flag = refl; ended = refl; given = refl; received = refl }
-    by (Some copy) w = by_kind (is_primary copy.kind) w
-      where
-        by_kind : (b : Bool) → Waits found store (cond b (set_copy store id (record copy { state = Away; offset = None })) (drop_copy store id))
-            → SameRest found store (cond b (set_copy store id (record copy { state = Away; offset = None })) (drop_copy store id))
-        by_kind true w = record { changes = w; job = refl; life = refl; quota = refl; flag = refl; ended = refl; given = refl; received = refl }
-        by_kind false w = record { changes = w; job = refl; life = refl; quota = refl; flag = refl; ended = refl; given = refl; received = refl }
-
-evicted_all : (found store : Shape) (ids : List ObjectId) → list_all (may_go found) ids ≡ true → SameRest found store (fold evicted store ids)
-evicted_all found store [] may = same_rest found store
+evicted_all : (found store : Shape) (ids : List ObjectId) → list_all (may_go found) ids ≡ true → Waits found store (fold evicted store ids)
+evicted_all found store [] may = none
 evicted_all found store (id ∷ ids) may =
-    then_same (evicted_rest found store id (both_left (may_go found id) (list_all (may_go found) ids) may))
+    waits_both (then_wait none (evicts id (both_left (may_go found id) (list_all (may_go found) ids) may)))
     (evicted_all found (evicted store id) ids (both_right (may_go found id) (list_all (may_go found) ids) may))
-
-waiting : (store : Shape) (c : Change) → SameRest store store c.shape → IsWaiting store c
-waiting store c h = record { changes = h.changes; job = h.job; life = h.life; quota = h.quota; flag = h.flag; ended = h.ended; given = h.given; received = h.received }
 
 -- ---- room
 
-asked_rest : (writes : Bool) (found store : Shape) (id : ObjectId) → SameRest found store (asked writes store id)
-asked_rest writes found store id = record { changes = then_wait none (asks writes id); job = refl; life = refl; quota = refl; flag = refl; ended = refl; given = refl; received = refl }
-
-asked_all : (found store : Shape) (ids : List ObjectId) → SameRest found store (fold (asked true) store ids)
-asked_all found store [] = same_rest found store
-asked_all found store (id ∷ ids) = then_same (asked_rest true found store id) (asked_all found (asked true store id) ids)
+asked_all : (found store : Shape) (ids : List ObjectId) → Waits found store (fold (asked true) store ids)
+asked_all found store [] = none
+asked_all found store (id ∷ ids) = waits_both (then_wait none (asks true id)) (asked_all found (asked true store id) ids)
 
 -- what a room's refusal may have changed, and that a room which has an offset changed nothing but copies
 record RoomClean (store : Shape) (room : Room) : Type 0 where
   refuses : (r : Refusal) → room.offset ≡ Err r → IsExcused store (sending room.sent (refused room.shape r)) r
-  grants : (offset : ℕ) → room.offset ≡ Ok offset → SameRest store store room.shape
+  grants : (offset : ℕ) → room.offset ≡ Ok offset → Waits store store room.shape
 
 -- a room that refuses and is the store as it was
 no_room_clean : (store : Shape) (refusal : Refusal) → RoomClean store (no_room store refusal)
@@ -210,7 +195,7 @@ make_room_clean order store n = by_victims (victims order store n) refl
 
 -- what is done with an offset is answered, or waits
 in_room_clean : (store : Shape) (room : Room) (f : Shape → ℕ → Change) → RoomClean store room
-    → ((offset : ℕ) → SameRest store store room.shape → RefusesCleanly store (sending room.sent (f room.shape offset)))
+    → ((offset : ℕ) → Waits store store room.shape → RefusesCleanly store (sending room.sent (f room.shape offset)))
     → RefusesCleanly store (in_room room f)
 unfolding in_room sending
 in_room_clean store room f h k r e = by_offset room.offset refl e
@@ -224,7 +209,7 @@ in_room_clean store room f h k r e = by_offset room.offset refl e
         subst (λ q. IsExcused store (sending room.sent (refused room.shape refusal)) q) same (h.refuses refusal is)
 
 -- a change that waits, after messages
-waits_after : (store : Shape) (sent : List Sending) (c : Change) → c.reply ≡ reply.Refused Pending → SameRest store store c.shape → RefusesCleanly store (sending sent c)
+waits_after : (store : Shape) (sent : List Sending) (c : Change) → c.reply ≡ reply.Refused Pending → Waits store store c.shape → RefusesCleanly store (sending sent c)
 unfolding sending
 waits_after store sent c is h r e =
     let same : Pending ≡ r = cc in
@@ -233,12 +218,12 @@ waits_after store sent c is h r e =
 create_clean : (order : List ObjectId) (store : Shape) (id : ObjectId) (kind : Kind) (n : ℕ) → RefusesCleanly store (create order store id kind n)
 create_clean order store id kind n =
     checked_clean store _ _ (in_room_clean store (make_room order store n) (created id kind n) (make_room_clean order store n)
-    (λ offset rest. sending_told store _ _ (λ r e. cc)))
+    (λ offset made. sending_told store _ _ (λ r e. cc)))
 
 restore_clean : (order : List ObjectId) (store : Shape) (id : ObjectId) (copy : Copy) → at store.copies id ≡ Some copy → copy.state ≡ Away → RefusesCleanly store (restore order store id copy)
 restore_clean order store id copy is away =
     checked_clean store _ _ (checked_clean store _ _ (in_room_clean store (make_room order store copy.length) (restoring id copy) (make_room_clean order store copy.length)
-    (λ offset rest. waits_after store _ _ refl (then_same rest (record { changes = then_wait (then_wait none (restores id copy offset is away)) (asks false id); job = refl; life = refl; quota = refl; flag = refl; ended = refl; given = refl; received = refl })))))
+    (λ offset made. waits_after store _ _ refl (then_wait (then_wait made (restores id copy offset is away)) (asks false id)))))
 
 get_away_clean : (order : List ObjectId) (store : Shape) (id : ObjectId) (copy : Copy) → at store.copies id ≡ Some copy → copy.state ≡ Away → RefusesCleanly store (get_away order store id copy)
 get_away_clean order store id copy is away =
@@ -250,21 +235,21 @@ get_away_clean order store id copy is away =
       | None ↦ λ f. restore_clean order store id copy is away
     ] refl
 
-pull_waits : (store : Shape) (room : Room) (id : ObjectId) (copy : Copy) (fetch : Fetch) (source offset : ℕ) → at store.copies id ≡ Some copy → copy.fetch ≡ Some fetch → fetch.phase ≡ sized source → SameRest store store room.shape
+pull_waits : (store : Shape) (room : Room) (id : ObjectId) (copy : Copy) (fetch : Fetch) (source offset : ℕ) → at store.copies id ≡ Some copy → copy.fetch ≡ Some fetch → fetch.phase ≡ sized source → Waits store store room.shape
     → RefusesCleanly store (sending room.sent (begin_pull id copy fetch source room.shape offset))
 unfolding sending
-pull_waits store room id copy fetch source offset is f p rest r e =
+pull_waits store room id copy fetch source offset is f p made r e =
     let same : Pending ≡ r = cc in
     subst (λ q. IsExcused store (sending room.sent (begin_pull id copy fetch source room.shape offset)) q) same
-    (waits (waiting store _ (then_same rest (record { changes = then_wait none (pulls id copy fetch source offset is f p); job = refl; life = refl; quota = refl; flag = refl; ended = refl; given = refl; received = refl }))))
+    (waits (waiting store _ (then_wait made (pulls id copy fetch source offset is f p))))
 
 get_fetching_clean : (order : List ObjectId) (store : Shape) (id : ObjectId) (copy : Copy) (fetch : Fetch) (phase : Phase) → at store.copies id ≡ Some copy → copy.fetch ≡ Some fetch → fetch.phase ≡ phase
     → RefusesCleanly store (get_fetching order store id copy fetch phase)
-get_fetching_clean order store id copy fetch locating is f p = waits_after store _ _ refl (same_rest store store)
+get_fetching_clean order store id copy fetch locating is f p = waits_after store _ _ refl none
 get_fetching_clean order store id copy fetch (sized source) is f p =
     checked_clean store _ _ (in_room_clean store (make_room order store copy.length) (begin_pull id copy fetch source) (make_room_clean order store copy.length)
-    (λ offset rest. pull_waits store (make_room order store copy.length) id copy fetch source offset is f p rest))
-get_fetching_clean order store id copy fetch (pulling source missing) is f p = waits_after store _ _ refl (same_rest store store)
+    (λ offset made. pull_waits store (make_room order store copy.length) id copy fetch source offset is f p made))
+get_fetching_clean order store id copy fetch (pulling source missing) is f p = waits_after store _ _ refl none
 get_fetching_clean order store id copy fetch (failed fault) is f p = λ r e.
     let same : fetch_refusal fault ≡ r = cc in
     subst (λ q. IsExcused store (refused (drop_copy store id) (fetch_refusal fault)) q) same
@@ -290,7 +275,7 @@ unfolding sending
 fetch_waits store id is r e =
     let same : Pending ≡ r = cc in
     subst (λ q. IsExcused store (record (sending (locate id (store.fetches_begun + 1) ∷ []) (refused (fetch_begun store id (store.fetches_begun + 1)) Pending)) { used = Some id }) q) same
-    (waits (record { changes = then_wait none (fetches id is); job = refl; life = refl; quota = refl; flag = refl; ended = refl; given = refl; received = refl }))
+    (waits (waiting store _ (then_wait none (fetches id is))))
 
 get_clean : (order : List ObjectId) (store : Shape) (session : ℕ) (id : ObjectId) → RefusesCleanly store (get order store session id)
 get_clean order store session id =
