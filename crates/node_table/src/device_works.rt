@@ -26,7 +26,7 @@ ghost use Rattle.job_row.specs.Usages.{is_spilling};
 ghost use Rattle.node_table.specs.Beside.{SharedTables, beside_of};
 ghost use Rattle.node_table.specs.EndedWorks.{ended_row};
 
-use crate::outcome::{Erase, RowOutcome};
+use crate::outcome::RowOutcome;
 use bytes::Bytes;
 use job_row::{JobRow, RowCopy};
 use obj_id::{
