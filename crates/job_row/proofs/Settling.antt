@@ -66,19 +66,6 @@ module _ (copies : ById CopyView) (id : ObjectId) where
   pub copies_over : is_over_at copies id ≡ true → settled_copies copies id ≡ without_entry copies id
   copies_over over = ap (λ b. cond b (without_entry copies id) copies) over
 
--- a row whose copy is removed
-module _ (row : Row) (id : ObjectId) (k : CopyView) (found : at row.copies id ≡ Some k) (over : is_over_at row.copies id ≡ true) where
-  over-is : is_over k ≡ true
-  over-is = sym (ap (λ o. option_map_or is_over o false) found) ∙ over
-
-  pub row_over : settled_row row id ≡ dropped row id
-  row_over = ap (λ o. option_map_or (λ k. cond (is_over k) (dropped row id) row) o row) found ∙ ap (λ b. cond b (dropped row id) row) over-is
-
-  pub keys_over : keys_settled row id ≡ option_to_list (option_map (key_of row.job) k.copy.backed)
-  keys_over =
-      ap (λ o. option_map_or (λ k. cond (is_over k) (option_to_list (option_map (key_of row.job) k.copy.backed)) []) o []) found
-      ∙ ap (λ b. cond b (option_to_list (option_map (key_of row.job) k.copy.backed)) []) over-is
-
 -- ---- a copy that a change may leave to nothing
 
 -- there is none
