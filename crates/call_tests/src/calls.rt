@@ -114,11 +114,19 @@ fn is_used(reply: &Reply<Bytes>, bytes: u64) -> bool {
     matches!(reply, Reply::Usage(usage) if usage.window_used == bytes)
 }
 
+/// The reply, unless it is that memory ran out: that ends the test.
+pub(crate) fn answered(rt: &impl Abort, reply: Reply<Bytes>) -> Reply<Bytes> {
+    if matches!(&reply, Reply::Refused(Refusal::NoMemory)) {
+        panic!(rt; "NoMemory");
+    }
+    reply
+}
+
 /// A command that is called after the receipt of an earlier one.
 fn call_later<L: Ledger, R: Wait + Abort>(rt: &R, cluster: &Cluster<L>, earlier: &Receipt<L>) {
     if let Some(node) = cluster.node(0) {
         let (reply, receipt) = node.call_after(rt, earlier, JOB, 1, Command::Usage);
-        holds!(rt; is_used(&reply, 32));
+        holds!(rt; is_used(&answered(rt, reply), 32));
         same!(rt; receipt.map(|receipt| receipt.number()), Some(8));
     }
     // another node's journal says No of it
@@ -142,15 +150,6 @@ pub(crate) fn admit_with<L: Ledger, R: Wait>(rt: &R, node: &SharedNode<L>, quota
     }
 }
 
-/// Narrows the job's window, and once more if memory ran out.
-fn narrow<L: Ledger, R: Wait>(rt: &R, node: &SharedNode<L>) -> Reply<Bytes> {
-    let (reply, _) = node.requota(rt, JOB, NARROW);
-    if matches!(&reply, Reply::Refused(Refusal::NoMemory)) {
-        return node.requota(rt, JOB, NARROW).0;
-    }
-    reply
-}
-
 /// Ends the job, and once more if memory ran out.
 fn end<L: Ledger, R: Wait>(rt: &R, node: &SharedNode<L>) -> Reply<Bytes> {
     let (reply, _) = node.end_job(rt, JOB);
@@ -162,7 +161,7 @@ fn end<L: Ledger, R: Wait>(rt: &R, node: &SharedNode<L>) -> Reply<Bytes> {
 
 /// Narrows the job's window to what lies in it, and ends the job: neither is refused.
 fn narrow_and_end<L: Ledger, R: Wait + Abort>(rt: &R, node: &SharedNode<L>) {
-    holds!(rt; matches!(narrow(rt, node), Reply::Ok));
+    holds!(rt; matches!(answered(rt, node.requota(rt, JOB, NARROW).0), Reply::Ok));
     holds!(rt; matches!(end(rt, node), Reply::Ok));
 }
 

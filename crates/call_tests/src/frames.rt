@@ -2,7 +2,7 @@
 ghost use Rattle.std.specs.Prelude.{◌≡◌};
 
 use crate::calls::admit;
-use assertions::holds;
+use assertions::same;
 use hex::FromHexError;
 use session_engine::{Ended, SessionFault, serve};
 use session_threads::{Cluster, NoPause, Session, SharedNode};
@@ -11,6 +11,7 @@ use std::marker::Brand;
 use std::process::Abort;
 use std::sync::Wait;
 use std::sync::ledger::{Blank, Ledger};
+use std::test::Fail;
 use std::time::Clock;
 
 /// A Hello of job 1 with its key.
@@ -92,59 +93,38 @@ fn response<R: Wait + Clock + Abort>(
     response_by::<Brand, R>(rt, alloc, blank, input)
 }
 
-/// Whether the stream of these digits is answered so, and ends so.
-fn is_told(
-    rt: &(impl Wait + Clock + Abort),
-    alloc: Global,
-    input: &str,
-    answers: &str,
-    ended: Ended,
-) -> Result<bool, FromHexError> {
-    let input = hex::decode(alloc, input)?;
-    let answers = hex::decode(alloc, answers)?;
-    let response = response(rt, alloc, &input)?;
-    Ok(response.outcome == Ok(ended) && response.written == answers)
-}
-
-/// The same, tried once more if memory ran out.
+/// Checks that the stream of these digits is answered so, and ends so.
 fn check(
     rt: &(impl Wait + Clock + Abort),
     alloc: Global,
     input: &str,
     answers: &str,
     ended: Ended,
-) {
-    if !matches!(is_told(rt, alloc, input, answers, ended), Ok(true)) {
-        holds!(rt; matches!(is_told(rt, alloc, input, answers, ended), Ok(true)));
-    }
+) -> Result<(), FromHexError> {
+    let input = hex::decode(alloc, input)?;
+    let answers = hex::decode(alloc, answers)?;
+    let response = response(rt, alloc, &input)?;
+    same!(rt; (response.outcome, response.written), (Ok(ended), answers));
+    Ok(())
 }
 
 #[test]
-fn streams_are_answered_at_a_node(rt: HostRuntime) {
+fn streams_are_answered_at_a_node(rt: HostRuntime) -> Result<(), Fail> {
     let alloc = rt.alloc();
-    check(&rt, alloc, WORKED, TOLD, Ended::Clean);
-    check(&rt, alloc, HELLO, "0000000180", Ended::Clean);
-    check(&rt, alloc, NO_ID, "0000000180000000028f02", Ended::Clean);
+    check(&rt, alloc, WORKED, TOLD, Ended::Clean)?;
+    check(&rt, alloc, HELLO, "0000000180", Ended::Clean)?;
+    check(&rt, alloc, NO_ID, "0000000180000000028f02", Ended::Clean)?;
+    Ok(())
 }
 
 #[test]
-fn streams_that_are_no_frames_end_at_a_node(rt: HostRuntime) {
+fn streams_that_are_no_frames_end_at_a_node(rt: HostRuntime) -> Result<(), Fail> {
     let alloc = rt.alloc();
-    check(&rt, alloc, "00000000", "000000028f14", Ended::Malformed);
-    check(&rt, alloc, "ffffffff", "000000028f14", Ended::Malformed);
-    check(&rt, alloc, "000000", "", Ended::MidFrame);
-    check(
-        &rt,
-        alloc,
-        NO_KIND,
-        "0000000180000000028f14",
-        Ended::Malformed,
-    );
-    check(
-        &rt,
-        alloc,
-        NO_KIND_OF_COPY,
-        "0000000180000000028f14",
-        Ended::Malformed,
-    );
+    check(&rt, alloc, "00000000", "000000028f14", Ended::Malformed)?;
+    check(&rt, alloc, "ffffffff", "000000028f14", Ended::Malformed)?;
+    check(&rt, alloc, "000000", "", Ended::MidFrame)?;
+    let told = "0000000180000000028f14";
+    check(&rt, alloc, NO_KIND, told, Ended::Malformed)?;
+    check(&rt, alloc, NO_KIND_OF_COPY, told, Ended::Malformed)?;
+    Ok(())
 }

@@ -105,39 +105,31 @@ fn try_once<R: Threads + Wait + Clock + Abort>(
     try_at::<Brand, R>(rt, alloc, trial, nodes, blank)
 }
 
-/// The same, once more if memory ran out before the nodes were there, or for a command.
-fn try_out<R: Threads + Wait + Clock + Abort>(
-    rt: &R,
-    alloc: Global,
-    trial: &Trial,
-) -> Result<(), AllocError> {
-    match try_once(rt, alloc, trial) {
-        Ok(()) => Ok(()),
-        Err(_) => try_once(rt, alloc, trial),
-    }
-}
-
 #[test]
 fn receipts_of_direct_callers_are_not_gathered(rt: HostRuntime) -> Result<(), Fail> {
-    Ok(try_out(&rt, rt.alloc(), &Trial::DirectCalls)?)
+    Ok(try_once(&rt, rt.alloc(), &Trial::DirectCalls)?)
 }
 
 #[test]
 fn a_call_comes_after_the_receipt_that_it_shows(rt: HostRuntime) -> Result<(), Fail> {
-    Ok(try_out(&rt, rt.alloc(), &Trial::LaterCall)?)
+    Ok(try_once(&rt, rt.alloc(), &Trial::LaterCall)?)
 }
 
+/// Tried once more if memory ran out before the node was there, or for a command.
 #[test]
 fn a_session_is_left_though_memory_runs_out(rt: HostRuntime) -> Result<(), Fail> {
-    Ok(try_out(&rt, rt.alloc(), &Trial::Leaves)?)
+    if try_once(&rt, rt.alloc(), &Trial::Leaves).is_err() {
+        try_once(&rt, rt.alloc(), &Trial::Leaves)?;
+    }
+    Ok(())
 }
 
 #[test]
 fn a_write_that_fails_is_told_once(rt: HostRuntime) -> Result<(), Fail> {
-    Ok(try_out(&rt, rt.alloc(), &Trial::FailingDevice)?)
+    Ok(try_once(&rt, rt.alloc(), &Trial::FailingDevice)?)
 }
 
 #[test]
 fn the_directory_is_told_what_is_deleted(rt: HostRuntime) -> Result<(), Fail> {
-    Ok(try_out(&rt, rt.alloc(), &Trial::Deletion)?)
+    Ok(try_once(&rt, rt.alloc(), &Trial::Deletion)?)
 }

@@ -1,5 +1,5 @@
 //! What a worker does with a device that fails, and what the directory is sent.
-use crate::calls::{JOB, admit_with, object};
+use crate::calls::{JOB, admit_with, answered, object};
 use assertions::{holds, same};
 use bytes::Bytes;
 use obj_id::{Command, Kind, ObjectId, Quota, Refusal, Reply};
@@ -38,25 +38,13 @@ fn command(asked: &Asked) -> Command<Bytes> {
     }
 }
 
-/// The answer, asked for once more if memory ran out.
-fn response<L: Ledger, R: Wait>(rt: &R, node: &SharedNode<L>, asked: &Asked) -> Reply<Bytes> {
-    let (reply, _) = node.call(rt, JOB, 1, command(asked));
-    if matches!(&reply, Reply::Refused(Refusal::NoMemory)) {
-        return node.call(rt, JOB, 1, command(asked)).0;
-    }
-    reply
-}
-
-/// A round of a worker, and one more if memory ran out.
-fn worked<L: Ledger, R: Wait, D: SpillDevice>(
+/// The answer, unless it is that memory ran out: that ends the test.
+fn response<L: Ledger, R: Wait + Abort>(
     rt: &R,
     node: &SharedNode<L>,
-    device: &mut D,
-) -> WorkDone {
-    match node.work_once(rt, device) {
-        WorkDone::NoMemory => node.work_once(rt, device),
-        done => done,
-    }
+    asked: &Asked,
+) -> Reply<Bytes> {
+    answered(rt, node.call(rt, JOB, 1, command(asked)).0)
 }
 
 /// The first object is in the way of the second: a write of it that failed is answered once, and then it is written.
@@ -69,10 +57,10 @@ fn spill_the_first<L: Ledger, R: Wait + Abort, D: SpillDevice>(
     holds!(rt; matches!(response(rt, node, &Asked::Create(first, 32)), Reply::Placed(0, 32)));
     holds!(rt; matches!(response(rt, node, &Asked::Seal(first)), Reply::Ok));
     holds!(rt; matches!(response(rt, node, &Asked::Create(second, 16)), Reply::Refused(Refusal::Pending)));
-    same!(rt; worked(rt, node, device), WorkDone::Done);
+    same!(rt; node.work_once(rt, device), WorkDone::Done);
     holds!(rt; matches!(response(rt, node, &Asked::Create(second, 16)), Reply::Refused(Refusal::DeviceFailed)));
     holds!(rt; matches!(response(rt, node, &Asked::Create(second, 16)), Reply::Refused(Refusal::Pending)));
-    same!(rt; worked(rt, node, device), WorkDone::Done);
+    same!(rt; node.work_once(rt, device), WorkDone::Done);
     holds!(rt; matches!(response(rt, node, &Asked::Create(second, 16)), Reply::Placed(0, 16)));
 }
 
@@ -85,9 +73,9 @@ fn restore_the_first<L: Ledger, R: Wait + Abort, D: SpillDevice>(
     let (first, second) = (object(rt, 1), object(rt, 2));
     holds!(rt; matches!(response(rt, node, &Asked::Delete(second)), Reply::Ok));
     holds!(rt; matches!(response(rt, node, &Asked::Get(first)), Reply::Refused(Refusal::Pending)));
-    same!(rt; worked(rt, node, device), WorkDone::Done);
+    same!(rt; node.work_once(rt, device), WorkDone::Done);
     holds!(rt; matches!(response(rt, node, &Asked::Get(first)), Reply::Got(32)));
-    same!(rt; worked(rt, node, device), WorkDone::Nothing);
+    same!(rt; node.work_once(rt, device), WorkDone::Nothing);
 }
 
 /// Nine commands, an admission, and three works, each taken and finished, at a device that fails once.

@@ -285,63 +285,49 @@ fn schedule_of(rt: &impl Abort, alloc: Global, lines: &str) -> Result<Vec<Step>,
     let mut steps = Vec::new(alloc);
     for line in lines.lines() {
         let step = step_of(rt, alloc, line)?;
-        match steps.try_reserve(1) {
-            Ok(()) => {}
-            Err(_) => steps.try_reserve(1)?,
-        }
         steps.push(step)?;
     }
     Ok(steps)
 }
 
-/// What the job was answered, line by line; nothing if memory ran out in the run.
-fn told_to(alloc: Global, job: JobNo, trace: &Trace) -> Result<Option<String>, AllocError> {
+/// What the job was answered, line by line. It is an error if memory ran out in the run.
+fn told_to(alloc: Global, job: JobNo, trace: &Trace) -> Result<String, AllocError> {
     let mut all = String::new(alloc);
     for entry in trace.entries() {
         if wants_memory(&entry.answer) {
-            return Ok(None);
+            return Err(AllocError);
         }
         if let Step::At(_, Event::Call { job: of, .. }) = &entry.step {
             if *of == job {
-                let line = printed(alloc, &entry.step, &entry.answer)?;
-                if all.push_str(line.as_str()).is_err() {
-                    all.push_str(line.as_str())?;
-                }
+                let line = answer_line(alloc, Prefix::of(&entry.step), &entry.answer)?;
+                all.push_str(line.as_str())?;
             }
         }
     }
-    Ok(Some(all))
+    Ok(all)
 }
 
-/// What job 1 is answered in a run of these lines, and in one of the others; nothing if memory ran out.
+/// What job 1 is answered in a run of these lines, and in one of the others.
 fn told_in_both(
     rt: &impl Abort,
     alloc: Global,
     memory: u64,
     lines: &str,
     others: &str,
-) -> Result<Option<(String, String)>, Fail>
+) -> Result<(String, String), AllocError>
     requires { memory ≤ largest_memory }
 {
     let first = schedule_of(rt, alloc, lines)?;
     let second = schedule_of(rt, alloc, others)?;
     let shape = ClusterSize { nodes: 2, memory };
-    let Ok((first, second)) = run_two(alloc, shape, first, second) else {
-        return Ok(None);
-    };
+    let (first, second) = run_two(alloc, shape, first, second)?;
     both_told(alloc, &first, &second)
 }
 
-/// What job 1 was answered in both, unless memory ran out in one of them.
-fn both_told(
-    alloc: Global,
-    first: &Trace,
-    second: &Trace,
-) -> Result<Option<(String, String)>, Fail> {
-    let Some(response) = told_to(alloc, JobNo(1), first)? else {
-        return Ok(None);
-    };
-    Ok(told_to(alloc, JobNo(1), second)?.map(|other| (response, other)))
+/// What job 1 was answered in both.
+fn both_told(alloc: Global, first: &Trace, second: &Trace) -> Result<(String, String), AllocError> {
+    let response = told_to(alloc, JobNo(1), first)?;
+    Ok((response, told_to(alloc, JobNo(1), second)?))
 }
 
 const BESIDE: &str = "\
@@ -369,8 +355,7 @@ n0 j1 s1 placed 0 32
 n0 j1 s1 list t1.2:created:primary:32
 ";
 
-/// Checks that job 1 is answered this in both runs, on nodes with so many bytes of memory. A run in which memory ran out is made
-/// once more.
+/// Checks that job 1 is answered this in both runs, on nodes with so many bytes of memory.
 fn check_told_alike(
     rt: &impl Abort,
     alloc: Global,
@@ -381,11 +366,7 @@ fn check_told_alike(
 ) -> Result<(), Fail>
     requires { memory ≤ largest_memory }
 {
-    let both = match told_in_both(rt, alloc, memory, beside, alone)? {
-        None => told_in_both(rt, alloc, memory, beside, alone)?,
-        both => both,
-    };
-    let (beside, alone) = both.ok_or("out of memory twice")?;
+    let (beside, alone) = told_in_both(rt, alloc, memory, beside, alone)?;
     same!(rt; beside.as_str(), response);
     same!(rt; alone.as_str(), response);
     Ok(())

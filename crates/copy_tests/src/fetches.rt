@@ -1,4 +1,4 @@
-//! A fetch of two chunks: if memory is wanting, and if a chunk is lost, repeated or damaged.
+//! A fetch of two chunks, also if one is lost, repeated or damaged.
 use assertions::holds;
 use bytes::Bytes;
 use fetch_core::{FetchIn, Stage, chunks_asked};
@@ -7,7 +7,7 @@ use obj_id::{
 };
 use private_store::FetchFault;
 use sha2::{Digest as _, Sha256};
-use std::alloc::{AllocError, Global};
+use std::alloc::Global;
 use std::test::Fail;
 
 const HERE: NodeNo = NodeNo(1);
@@ -43,7 +43,7 @@ fn located_at(node: NodeNo, bytes: &[u8]) -> Location {
     }
 }
 
-/// A fetch that asks the source for both chunks, begun once more if memory ran out.
+/// A fetch that asks the source for both chunks.
 fn pulling(alloc: Global, bytes: &[u8]) -> Result<FetchIn, Refusal> {
     let mut fetch = FetchIn::new(alloc, NUMBER);
     fetch.located(
@@ -51,31 +51,14 @@ fn pulling(alloc: Global, bytes: &[u8]) -> Result<FetchIn, Refusal> {
         NUMBER,
         &[located_at(HERE, b"stale"), located_at(SOURCE, bytes)],
     );
-    let sized = fetch.stage();
-    if fetch.begin(alloc).is_err() {
-        if fetch.stage() != sized {
-            return Err(Refusal::Stale);
-        }
-        fetch.begin(alloc)?;
-    }
+    fetch.begin(alloc)?;
     Ok(fetch)
 }
 
-/// The bytes as they are shared, once more if memory ran out.
-fn shared(alloc: Global, bytes: &[u8]) -> Result<Bytes, AllocError> {
-    match Bytes::copy_from_slice(alloc, bytes) {
-        Ok(shared) => Ok(shared),
-        Err(_) => Bytes::copy_from_slice(alloc, bytes),
-    }
-}
-
-/// The chunks that are asked for, once more if memory ran out.
+/// The chunks that are asked for.
 fn served(alloc: Global, bytes: &[u8], indexes: &[u32]) -> Result<Vec<PeerMessage>, Refusal> {
-    let bytes = shared(alloc, bytes)?;
-    match chunks_asked(alloc, &bytes, an_id()?, NUMBER.0, indexes) {
-        Ok(chunks) => Ok(chunks),
-        Err(_) => Ok(chunks_asked(alloc, &bytes, an_id()?, NUMBER.0, indexes)?),
-    }
+    let bytes = Bytes::copy_from_slice(alloc, bytes)?;
+    Ok(chunks_asked(alloc, &bytes, an_id()?, NUMBER.0, indexes)?)
 }
 
 fn is_chunk(message: &PeerMessage, index: u32, bytes: &[u8]) -> Result<bool, Refusal> {

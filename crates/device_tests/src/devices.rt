@@ -32,10 +32,7 @@ const NEIGHBOUR: DeviceKey = DeviceKey {
 const LONG: usize = 16_777_216;
 
 pub(crate) fn joined(alloc: Global, folder: &str, name: &str) -> Result<String, AllocError> {
-    match format!(in alloc; "{folder}/{name}") {
-        Ok(path) => Ok(path),
-        Err(_) => format!(in alloc; "{folder}/{name}"),
-    }
+    format!(in alloc; "{folder}/{name}")
 }
 
 /// A folder of this test's own that isn't there.
@@ -45,130 +42,72 @@ pub(crate) fn own_folder<R: Files + Env + AllocGlobal>(
     name: &str,
 ) -> Result<String, Fail> {
     let alloc = rt.alloc();
-    let temporary = match env::temp_dir(rt) {
-        Ok(temporary) => temporary,
-        Err(_) => env::temp_dir(rt)?,
-    };
-    let below = match format!(in alloc; "devices-{process}-{name}") {
-        Ok(below) => below,
-        Err(_) => format!(in alloc; "devices-{process}-{name}")?,
-    };
+    let temporary = env::temp_dir(rt)?;
+    let below = format!(in alloc; "devices-{process}-{name}")?;
     let folder = joined(alloc, temporary.as_str(), below.as_str())?;
     let _ = fs::remove_dir_all(rt, folder.as_str());
     Ok(folder)
 }
 
-/// A device in the folder; once more if memory ran out.
+/// A device in the folder.
 pub(crate) fn over_files<R: Files + AllocGlobal + Clone + Drop>(
     rt: &R,
     folder: &str,
 ) -> Result<FileDevice<R>, FolderFault> {
-    match FileDevice::new(rt.clone()?, folder) {
-        Err(FolderFault::NoMemory(_)) => FileDevice::new(rt.clone()?, folder),
-        made => made,
-    }
-}
-
-/// Each call is made once more if memory ran out: then no failure has been counted.
-fn write<D: SpillDevice>(
-    rt: &impl Abort,
-    device: &mut D,
-    key: DeviceKey,
-    bytes: &[u8],
-) -> Result<(), DeviceFault> {
-    let failures = device.failures();
-    match device.write(key, bytes) {
-        Err(DeviceFault::NoMemory) => {
-            same!(rt; device.failures(), failures);
-            device.write(key, bytes)
-        }
-        response => response,
-    }
-}
-
-fn read<D: SpillDevice>(
-    rt: &impl Abort,
-    device: &mut D,
-    key: DeviceKey,
-    len: u32,
-) -> Result<Bytes, DeviceFault> {
-    let failures = device.failures();
-    match device.read(key, len) {
-        Err(DeviceFault::NoMemory) => {
-            same!(rt; device.failures(), failures);
-            device.read(key, len)
-        }
-        response => response,
-    }
-}
-
-fn erase<D: SpillDevice>(
-    rt: &impl Abort,
-    device: &mut D,
-    key: DeviceKey,
-) -> Result<(), DeviceFault> {
-    let failures = device.failures();
-    match device.erase(key) {
-        Err(DeviceFault::NoMemory) => {
-            same!(rt; device.failures(), failures);
-            device.erase(key)
-        }
-        response => response,
-    }
+    FileDevice::new(rt.clone()?, folder)
 }
 
 /// Whether the device has these bytes under the key.
-fn has<D: SpillDevice>(rt: &impl Abort, device: &mut D, key: DeviceKey, bytes: &[u8]) -> bool {
-    let Ok(len) = u32::try_from(bytes.len()) else {
-        return false;
-    };
-    match read(rt, device, key, len) {
-        Ok(read) => read.as_slice() == bytes,
-        Err(_) => false,
-    }
+fn has<D: SpillDevice>(device: &mut D, key: DeviceKey, bytes: &[u8]) -> Result<bool, DeviceFault> {
+    let len = u32::try_from(bytes.len()).unwrap_or(u32::MAX);
+    Ok(device.read(key, len)?.as_slice() == bytes)
 }
 
-/// Whether a read under the key fails.
-fn is_unread<D: SpillDevice>(rt: &impl Abort, device: &mut D, key: DeviceKey, len: u32) -> bool {
-    matches!(read(rt, device, key, len), Err(DeviceFault::Failed))
+/// Why a read under the key fails; nothing if it doesn't.
+pub(crate) fn unread<D: SpillDevice>(
+    device: &mut D,
+    key: DeviceKey,
+    len: u32,
+) -> Option<DeviceFault> {
+    device.read(key, len).err()
 }
+
+/// Why, if it is the device that failed.
+pub(crate) const FAILED: Option<DeviceFault> = Some(DeviceFault::Failed);
 
 /// What is asked of any device that keeps its bytes.
 fn keeps_its_bytes<D: SpillDevice>(rt: &impl Abort, device: &mut D) {
     let done = [
-        erase(rt, device, KEY),
-        write(rt, device, KEY, &[1, 2, 3]),
-        write(rt, device, OTHER, &[9]),
+        device.erase(KEY),
+        device.write(KEY, &[1, 2, 3]),
+        device.write(OTHER, &[9]),
     ];
     same!(rt; done, [Ok(()); 3]);
-    holds!(rt; has(rt, device, KEY, &[1, 2, 3]));
-    same!(rt; write(rt, device, KEY, &[4, 5]), Ok(()));
-    same!(rt; [has(rt, device, KEY, &[4, 5]), has(rt, device, OTHER, &[9])], [true; 2]);
+    same!(rt; has(device, KEY, &[1, 2, 3]), Ok(true));
+    same!(rt; device.write(KEY, &[4, 5]), Ok(()));
+    same!(rt; [has(device, KEY, &[4, 5]), has(device, OTHER, &[9])], [Ok(true); 2]);
     same!(rt; device.failures(), 0);
-    same!(rt; (is_unread(rt, device, KEY, 3), device.failures()), (true, 1));
-    same!(rt; [erase(rt, device, KEY), erase(rt, device, KEY)], [Ok(()); 2]);
-    same!(rt; (is_unread(rt, device, KEY, 2), device.failures()), (true, 2));
-    holds!(rt; has(rt, device, OTHER, &[9]));
+    same!(rt; (unread(device, KEY, 3), device.failures()), (FAILED, 1));
+    same!(rt; [device.erase(KEY), device.erase(KEY)], [Ok(()); 2]);
+    same!(rt; (unread(device, KEY, 2), device.failures()), (FAILED, 2));
+    same!(rt; has(device, OTHER, &[9]), Ok(true));
 }
 
 /// What is asked of it if two jobs have works of one number.
 fn keeps_jobs_apart<D: SpillDevice>(rt: &impl Abort, device: &mut D) {
-    same!(rt; write(rt, device, OTHER, &[9]), Ok(()));
-    holds!(rt; is_unread(rt, device, NEIGHBOUR, 1));
-    same!(rt; write(rt, device, NEIGHBOUR, &[7, 8]), Ok(()));
-    same!(rt; [has(rt, device, OTHER, &[9]), has(rt, device, NEIGHBOUR, &[7, 8])], [true; 2]);
-    same!(rt; erase(rt, device, OTHER), Ok(()));
-    holds!(rt; has(rt, device, NEIGHBOUR, &[7, 8]));
-    same!(rt; erase(rt, device, NEIGHBOUR), Ok(()));
-    holds!(rt; is_unread(rt, device, NEIGHBOUR, 2));
+    same!(rt; device.write(OTHER, &[9]), Ok(()));
+    same!(rt; unread(device, NEIGHBOUR, 1), FAILED);
+    same!(rt; device.write(NEIGHBOUR, &[7, 8]), Ok(()));
+    same!(rt; [has(device, OTHER, &[9]), has(device, NEIGHBOUR, &[7, 8])], [Ok(true); 2]);
+    same!(rt; device.erase(OTHER), Ok(()));
+    same!(rt; has(device, NEIGHBOUR, &[7, 8]), Ok(true));
+    same!(rt; device.erase(NEIGHBOUR), Ok(()));
+    same!(rt; unread(device, NEIGHBOUR, 2), FAILED);
 }
 
 /// As many bytes, each another than the one before it.
 fn long_bytes(alloc: Global) -> Result<Vec<u8>, AllocError> {
-    let mut bytes = match vec![in alloc; 0u8; LONG] {
-        Ok(bytes) => bytes,
-        Err(_) => vec![in alloc; 0u8; LONG]?,
-    };
+    let mut bytes = vec![in alloc; 0u8; LONG]?;
     for (place, byte) in bytes.iter_mut().enumerate() {
         *byte = (place % 251) as u8;
     }
@@ -177,9 +116,9 @@ fn long_bytes(alloc: Global) -> Result<Vec<u8>, AllocError> {
 
 /// What is asked of it of an object that is longer than one chunk.
 fn keeps_long_bytes<D: SpillDevice>(rt: &impl Abort, device: &mut D, bytes: &[u8]) {
-    same!(rt; write(rt, device, OTHER, bytes), Ok(()));
-    holds!(rt; has(rt, device, OTHER, bytes));
-    same!(rt; erase(rt, device, OTHER), Ok(()));
+    same!(rt; device.write(OTHER, bytes), Ok(()));
+    same!(rt; has(device, OTHER, bytes), Ok(true));
+    same!(rt; device.erase(OTHER), Ok(()));
 }
 
 #[test]
@@ -213,8 +152,8 @@ fn files_keep_what_was_last_written(rt: HostRuntime) -> Result<(), Fail> {
     keeps_its_bytes(&rt, &mut device);
     // another device in the same folder finds what the first one left
     let mut next = over_files(&rt, folder.as_str())?;
-    holds!(rt; has(&rt, &mut next, OTHER, &[9]));
-    same!(rt; erase(&rt, &mut next, OTHER), Ok(()));
+    same!(rt; has(&mut next, OTHER, &[9]), Ok(true));
+    same!(rt; next.erase(OTHER), Ok(()));
     // nothing is left, under a temporary name either
     fs::remove_dir(&rt, folder.as_str())?;
     Ok(())
@@ -228,9 +167,9 @@ fn name_a_file<R: Files + Abort, D: SpillDevice>(
     device: &mut D,
     file: &str,
 ) -> Result<(), Fail> {
-    same!(rt; write(rt, device, KEY, &[1, 2, 3]), Ok(()));
+    same!(rt; device.write(KEY, &[1, 2, 3]), Ok(()));
     same!(rt; fs::metadata(rt, file)?.len(), 3);
-    same!(rt; erase(rt, device, KEY), Ok(()));
+    same!(rt; device.erase(KEY), Ok(()));
     holds!(rt; !fs::exists(rt, file)?);
     Ok(())
 }
@@ -251,13 +190,13 @@ fn change_a_file<R: Files + Abort, D: SpillDevice>(
     device: &mut D,
     file: &str,
 ) -> Result<(), Fail> {
-    same!(rt; write(rt, device, KEY, &[1, 2, 3]), Ok(()));
+    same!(rt; device.write(KEY, &[1, 2, 3]), Ok(()));
     for text in ["12", "1234"] {
         fs::write(rt, file, text)?;
-        holds!(rt; is_unread(rt, device, KEY, 3));
+        same!(rt; unread(device, KEY, 3), FAILED);
     }
     fs::remove_file(rt, file)?;
-    holds!(rt; is_unread(rt, device, KEY, 3));
+    same!(rt; unread(device, KEY, 3), FAILED);
     same!(rt; device.failures(), 3);
     Ok(())
 }
@@ -280,16 +219,16 @@ fn fail_to_write<R: Files + Abort, D: SpillDevice>(
     part: &str,
 ) -> Result<(), Fail> {
     let failed = Err(DeviceFault::Failed);
-    same!(rt; write(rt, device, OTHER, &[1, 2, 3]), Ok(()));
+    same!(rt; device.write(OTHER, &[1, 2, 3]), Ok(()));
     // a folder stands where the temporary file would go
     fs::create_dir(rt, part)?;
-    same!(rt; write(rt, device, OTHER, &[4]), failed);
-    holds!(rt; has(rt, device, OTHER, &[1, 2, 3]));
+    same!(rt; device.write(OTHER, &[4]), failed);
+    same!(rt; has(device, OTHER, &[1, 2, 3]), Ok(true));
     fs::remove_dir(rt, part)?;
-    same!(rt; erase(rt, device, OTHER), Ok(()));
+    same!(rt; device.erase(OTHER), Ok(()));
     fs::remove_dir(rt, folder)?;
-    same!(rt; write(rt, device, OTHER, &[4]), failed);
-    same!(rt; erase(rt, device, OTHER), Ok(()));
+    same!(rt; device.write(OTHER, &[4]), failed);
+    same!(rt; device.erase(OTHER), Ok(()));
     same!(rt; device.failures(), 2);
     Ok(())
 }
@@ -302,19 +241,11 @@ fn a_write_that_fails_leaves_what_was_there(rt: HostRuntime) -> Result<(), Fail>
     fail_to_write(&rt, &mut device, folder.as_str(), part.as_str())
 }
 
-/// What is printed of the fault, asked for once more if memory ran out.
-pub(crate) fn printed(alloc: Global, fault: &FolderFault) -> Result<String, AllocError> {
-    match format!(in alloc; "{fault}") {
-        Ok(text) => Ok(text),
-        Err(_) => format!(in alloc; "{fault}"),
-    }
-}
-
 /// What is printed of a folder that is refused; nothing if it isn't.
 fn refusal_of<R: Files + AllocGlobal + Clone + Drop>(rt: &R, folder: &str) -> Result<String, Fail> {
     match over_files(rt, folder) {
         Ok(_) => Ok(String::new(rt.alloc())),
-        Err(fault) => Ok(printed(rt.alloc(), &fault)?),
+        Err(fault) => Ok(format!(in rt.alloc(); "{fault}")?),
     }
 }
 
@@ -324,7 +255,7 @@ fn a_folder_that_cant_be_made_is_told(rt: HostRuntime) -> Result<(), Fail> {
     fs::write(&rt, file.as_str(), "a file")?;
     let below = joined(rt.alloc(), file.as_str(), "below")?;
     let response = refusal_of(&rt, below.as_str())?;
-    holds!(rt; response.as_str().starts_with("the folder `"));
+    assert!(rt; response.as_str().starts_with("the folder `"), "{response}");
     holds!(rt; response.as_str().contains(below.as_str()));
     fs::remove_file(&rt, file.as_str())?;
     Ok(())
@@ -334,16 +265,16 @@ fn a_folder_that_cant_be_made_is_told(rt: HostRuntime) -> Result<(), Fail> {
 fn fail_the_second(rt: &impl Abort, device: &mut FaultyDevice<MemoryDevice>) {
     same!(rt; [device.erase(OTHER), device.write(KEY, &[1])], [Ok(()), Err(DeviceFault::Failed)]);
     same!(rt; (device.failures(), device.inner.failures()), (1, 0));
-    holds!(rt; has(rt, device, KEY, &[]));
-    same!(rt; erase(rt, device, KEY), Ok(()));
-    holds!(rt; matches!(device.read(KEY, 0), Err(DeviceFault::Failed)));
+    same!(rt; has(device, KEY, &[]), Ok(true));
+    same!(rt; device.erase(KEY), Ok(()));
+    same!(rt; unread(device, KEY, 0), FAILED);
     same!(rt; (device.failures(), device.inner.failures()), (2, 1));
 }
 
 #[test]
 fn the_kth_call_fails_and_no_other(rt: HostRuntime) {
     let mut memory = MemoryDevice::new(rt.alloc());
-    same!(rt; write(&rt, &mut memory, KEY, &[]), Ok(()));
+    same!(rt; memory.write(KEY, &[]), Ok(()));
     let mut device = FaultyDevice::new(memory, 2);
     fail_the_second(&rt, &mut device);
 }
@@ -357,7 +288,7 @@ fn erased_twice(alloc: Global, failing: u64) -> [Result<(), DeviceFault>; 2] {
 #[test]
 fn reads_and_erases_are_counted_as_calls(rt: HostRuntime) {
     let mut reads = FaultyDevice::new(MemoryDevice::new(rt.alloc()), 1);
-    holds!(rt; matches!(reads.read(KEY, 1), Err(DeviceFault::Failed)));
+    same!(rt; unread(&mut reads, KEY, 1), FAILED);
     same!(rt; reads.inner.failures(), 0);
     let failed = Err(DeviceFault::Failed);
     same!(rt; erased_twice(rt.alloc(), 1), [failed, Ok(())]);

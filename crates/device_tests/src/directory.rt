@@ -1,9 +1,8 @@
-//! The directory of owners, if memory is wanting.
-use assertions::{holds, same};
+//! The directory of owners.
+use assertions::same;
 use obj_id::{Digest, DirectoryMessage, JobNo, Location, ObjectId, Refusal, TaskNo};
 use owner_directory::{Directory, DirectoryReply};
 use std::alloc::AllocError;
-use std::process::Abort;
 use std::test::Fail;
 
 const JOB: JobNo = JobNo(1);
@@ -20,61 +19,20 @@ fn copy_at(node: u32, length: u32) -> Location {
     }
 }
 
-/// Adds an entry, once more if memory ran out: then it isn't there.
-fn add(
-    rt: &impl Abort,
-    directory: &mut Directory,
-    job: JobNo,
-    id: ObjectId,
-    copy: Location,
-) -> Result<(), Refusal> {
-    if directory
-        .apply(job, DirectoryMessage::AddLocation(id, copy))
-        .is_err()
-    {
-        holds!(rt; !is_told(directory, job, id, copy)?);
-        directory.apply(job, DirectoryMessage::AddLocation(id, copy))?;
-    }
-    Ok(())
-}
-
-/// Whether this copy is among those that are told of the object.
-fn is_told(
-    directory: &mut Directory,
-    job: JobNo,
-    id: ObjectId,
-    copy: Location,
-) -> Result<bool, Refusal> {
-    match located(directory, job, id)? {
-        DirectoryReply::Located { entries, .. } => Ok(entries.as_slice().contains(&copy)),
-        _ => Ok(false),
-    }
-}
-
-/// Asks, once more if memory ran out.
+/// What node 3 is told of the object, for its fetch 77.
 fn located(
     directory: &mut Directory,
     job: JobNo,
     id: ObjectId,
 ) -> Result<DirectoryReply, AllocError> {
-    match directory.apply(
+    directory.apply(
         job,
         DirectoryMessage::Locate {
             id,
             node: 3,
             number: 77,
         },
-    ) {
-        Ok(reply) => Ok(reply),
-        Err(_) => directory.apply(
-            job,
-            DirectoryMessage::Locate {
-                id,
-                node: 3,
-                number: 77,
-            },
-        ),
-    }
+    )
 }
 
 /// Whether node 3, for its fetch 77, is told just these nodes and lengths.
@@ -102,11 +60,11 @@ fn tells(
 }
 
 /// Whether two entries of each of 12 objects are told by rising node.
-fn all_told(rt: &impl Abort, directory: &mut Directory) -> Result<bool, Refusal> {
+fn all_told(directory: &mut Directory) -> Result<bool, Refusal> {
     for index in 1..=12 {
         let id = object(index)?;
         for node in [4, 3] {
-            add(rt, directory, JOB, id, copy_at(node, index))?;
+            directory.apply(JOB, DirectoryMessage::AddLocation(id, copy_at(node, index)))?;
         }
         if !tells(directory, JOB, id, &[(3, index), (4, index)])? {
             return Ok(false);
@@ -118,5 +76,5 @@ fn all_told(rt: &impl Abort, directory: &mut Directory) -> Result<bool, Refusal>
 #[test]
 fn entries_are_told_by_rising_node(rt: HostRuntime) {
     let mut directory = Directory::new(rt.alloc());
-    same!(rt; all_told(&rt, &mut directory), Ok(true));
+    same!(rt; all_told(&mut directory), Ok(true));
 }

@@ -1,7 +1,7 @@
 //! The folders of spilled objects: whose they are, and what is in the way in them.
-use crate::devices::{FILE, KEY, joined, over_files, own_folder, printed};
+use crate::devices::{FAILED, FILE, KEY, joined, over_files, own_folder, unread};
 use assertions::{holds, same};
-use spill_device::{DeviceFault, FolderFault, SpillDevice, SpillFolder};
+use spill_device::{DeviceFault, SpillDevice, SpillFolder};
 use std::os::unix::fs::{MetadataExt, PermissionsExt, symlink};
 use std::test::Fail;
 use std::{fs, process};
@@ -14,19 +14,11 @@ fn mode_of(rt: &HostRuntime, path: &str) -> Result<u32, Fail> {
     Ok(fs::symlink_metadata(rt, path)?.mode() & PERMISSIONS)
 }
 
-/// The folder; once more if memory ran out.
-fn taken(rt: HostRuntime, path: &str) -> Result<SpillFolder, FolderFault> {
-    match SpillFolder::take(rt, path) {
-        Err(FolderFault::NoMemory(_)) => SpillFolder::take(rt, path),
-        taken => taken,
-    }
-}
-
 /// What is printed of a folder that isn't given; nothing if it is.
 fn refusal_of(rt: HostRuntime, path: &str) -> Result<String, Fail> {
-    match taken(rt, path) {
+    match SpillFolder::take(rt, path) {
         Ok(_) => Ok(String::new(rt.alloc())),
-        Err(fault) => Ok(printed(rt.alloc(), &fault)?),
+        Err(fault) => Ok(format!(in rt.alloc(); "{fault}")?),
     }
 }
 
@@ -51,7 +43,7 @@ fn a_link_is_never_followed(rt: HostRuntime) -> Result<(), Fail> {
     fs::write(&rt, foreign.as_str(), "of others")?;
     symlink(&rt, foreign.as_str(), file.as_str())?;
     same!(rt; device.write(KEY, b"some"), Err(DeviceFault::Failed));
-    holds!(rt; matches!(device.read(KEY, 9), Err(DeviceFault::Failed)));
+    same!(rt; unread(&mut device, KEY, 9), FAILED);
     holds!(rt; fs::symlink_metadata(&rt, file.as_str())?.is_symlink());
     same!(rt; device.erase(KEY), Ok(()));
     same!(rt; fs::read_to_string(&rt, foreign.as_str())?.as_str(), "of others");
@@ -81,9 +73,12 @@ fn what_a_write_left_is_replaced_and_a_link_in_its_place_is_not_followed(
 #[test]
 fn a_folder_is_one_servers_at_a_time(rt: HostRuntime) -> Result<(), Fail> {
     let folder = own_folder(&rt, process::id(rt.process()), "one")?;
-    let first = taken(rt, folder.as_str())?;
+    let first = SpillFolder::take(rt, folder.as_str())?;
     let response = refusal_of(rt, folder.as_str())?;
-    holds!(rt; response.as_str().ends_with("is used by another server"));
+    assert!(rt;
+        response.as_str().ends_with("is used by another server"),
+        "{response}"
+    );
     holds!(rt; response.as_str().contains(folder.as_str()));
     drop(first);
     same!(rt; refusal_of(rt, folder.as_str())?.as_str(), "");
@@ -94,10 +89,15 @@ fn a_folder_is_one_servers_at_a_time(rt: HostRuntime) -> Result<(), Fail> {
 #[test]
 fn a_folder_that_others_may_use_is_refused(rt: HostRuntime) -> Result<(), Fail> {
     let folder = own_folder(&rt, process::id(rt.process()), "shared")?;
-    drop(taken(rt, folder.as_str())?);
+    drop(SpillFolder::take(rt, folder.as_str())?);
     fs::set_permissions(&rt, folder.as_str(), fs::Permissions::from_mode(0o750))?;
     let response = refusal_of(rt, folder.as_str())?;
-    holds!(rt; response.as_str().ends_with("is not its owner's alone (chmod 700)"));
+    assert!(rt;
+        response
+            .as_str()
+            .ends_with("is not its owner's alone (chmod 700)"),
+        "{response}"
+    );
     fs::remove_dir_all(&rt, folder.as_str())?;
     Ok(())
 }
@@ -138,7 +138,7 @@ fn spilled_objects_are_removed_and_nothing_else(rt: HostRuntime) -> Result<(), F
             "of others",
         )?;
     }
-    let taken = taken(rt, folder.as_str())?;
+    let taken = SpillFolder::take(rt, folder.as_str())?;
     same!(rt; are_there(&rt, folder.as_str(), &SPILLED)?, 0);
     same!(rt; are_there(&rt, folder.as_str(), &OTHERS)?, 7);
     let mut device = over_files(&rt, folder.as_str())?;

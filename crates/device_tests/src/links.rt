@@ -1,10 +1,6 @@
 //! The links: what comes out of one, when it is full, and when each end comes to its end.
-ghost use Rattle.std.specs.Prelude.{IfOk};
-ghost use Rattle.fetch_link.specs.Ends.{AreEnds};
-
 use assertions::same;
 use fetch_link::{LinkReceiver, LinkSender, MOST_IN_FLIGHT, Sent, open, reunite};
-use std::alloc::{AllocError, Global};
 use std::process::Abort;
 use std::sync::Wait;
 use std::test::Fail;
@@ -12,16 +8,6 @@ use std::thread;
 
 /// More messages than a link holds at once.
 const MANY: u64 = 5_000;
-
-/// A link; once more if memory ran out.
-fn opened(alloc: Global) -> Result<(LinkSender<u64>, LinkReceiver<u64>), AllocError>
-    ensures { IfOk result (λ ends. AreEnds ends.0 ends.1) }
-{
-    match open(alloc) {
-        Ok(ends) => Ok(ends),
-        Err(_) => open(alloc),
-    }
-}
 
 /// Sends 0, 1, 2 and so on for as long as they are accepted. How many were, and what became of the next.
 fn fill<R: Wait>(rt: &R, sender: &mut LinkSender<u64>) -> (u64, Sent) {
@@ -84,7 +70,7 @@ fn pass_some<R: Wait + Abort>(
 
 #[test]
 fn messages_are_received_in_the_order_in_which_they_were_sent(rt: HostRuntime) -> Result<(), Fail> {
-    let (mut sender, mut receiver) = opened(rt.alloc())?;
+    let (mut sender, mut receiver) = open::<u64>(rt.alloc())?;
     pass_some(&rt, &mut sender, &mut receiver);
     Ok(())
 }
@@ -104,7 +90,7 @@ fn fill_again<R: Wait + Abort>(
 
 #[test]
 fn the_message_after_1024_finds_no_room(rt: HostRuntime) -> Result<(), Fail> {
-    let (mut sender, mut receiver) = opened(rt.alloc())?;
+    let (mut sender, mut receiver) = open::<u64>(rt.alloc())?;
     fill_again(&rt, &mut sender, &mut receiver);
     Ok(())
 }
@@ -127,7 +113,7 @@ fn close_and_drain<R: Wait + Abort>(
 fn a_closed_end_sends_no_more_and_what_was_accepted_is_received(
     rt: HostRuntime,
 ) -> Result<(), Fail> {
-    let (mut sender, mut receiver) = opened(rt.alloc())?;
+    let (mut sender, mut receiver) = open::<u64>(rt.alloc())?;
     close_and_drain(&rt, &mut sender, &mut receiver);
     Ok(())
 }
@@ -139,7 +125,7 @@ fn send_one<R: Wait>(rt: &R, mut sender: LinkSender<u64>) -> Sent {
 
 #[test]
 fn a_sending_end_that_is_dropped_is_closed(rt: HostRuntime) -> Result<(), Fail> {
-    let (sender, mut receiver) = opened(rt.alloc())?;
+    let (sender, mut receiver) = open::<u64>(rt.alloc())?;
     same!(rt; send_one(&rt, sender), Sent::Accepted);
     same!(rt; drain(&rt, &mut receiver), Some(1));
     Ok(())
@@ -147,7 +133,7 @@ fn a_sending_end_that_is_dropped_is_closed(rt: HostRuntime) -> Result<(), Fail> 
 
 #[test]
 fn without_a_receiver_nothing_is_accepted(rt: HostRuntime) -> Result<(), Fail> {
-    let (mut sender, receiver) = opened(rt.alloc())?;
+    let (mut sender, receiver) = open::<u64>(rt.alloc())?;
     same!(rt; sender.send_next(&rt, 0), Sent::Accepted);
     drop(receiver);
     same!(rt; sender.send_next(&rt, 1), Sent::Ended);
@@ -156,7 +142,7 @@ fn without_a_receiver_nothing_is_accepted(rt: HostRuntime) -> Result<(), Fail> {
 
 #[test]
 fn ends_are_taken_back_with_a_message_between_them(rt: HostRuntime) -> Result<(), Fail> {
-    let (mut sender, mut receiver) = opened(rt.alloc())?;
+    let (mut sender, mut receiver) = open::<u64>(rt.alloc())?;
     let sent = [sender.send_next(&rt, 7), sender.send_next(&rt, 8)];
     let received = receiver.receive_next(&rt);
     reunite(sender, receiver);
@@ -166,7 +152,7 @@ fn ends_are_taken_back_with_a_message_between_them(rt: HostRuntime) -> Result<()
 
 #[test]
 fn another_thread_receives_all_that_is_sent(rt: HostRuntime) -> Result<(), Fail> {
-    let (mut sender, mut receiver) = opened(rt.alloc())?;
+    let (mut sender, mut receiver) = open::<u64>(rt.alloc())?;
     let receiving = thread::spawn(&rt, move || drain(&rt, &mut receiver))?;
     let accepted = send_all(&rt, &mut sender);
     same!(rt; (accepted, receiving.join(&rt)), (MANY, Some(MANY)));

@@ -24,19 +24,13 @@ const FAULTS: [&str; 9] = [
     "00000022020000000000000000000000000000000000000000000000000000000002000000ff",
 ];
 
-/// What the piece gives, asked for once more if memory ran out.
-fn fed(alloc: Global, reader: &mut Reader, piece: &[u8]) -> Result<Vec<Item>, Refusal> {
-    match reader.feed(alloc, piece) {
-        Err(Refusal::NoMemory) => reader.feed(alloc, piece),
-        answer => answer,
-    }
-}
+const MALFORMED: Option<Refusal> = Some(Refusal::Malformed);
 
 /// The items of the pieces, one after the other.
 fn items_of(alloc: Global, reader: &mut Reader, pieces: &[&[u8]]) -> Result<Vec<Item>, Refusal> {
     let mut items = Vec::new(alloc);
     for piece in pieces {
-        for item in fed(alloc, reader, piece)? {
+        for item in reader.feed(alloc, piece)? {
             items.push(item)?;
         }
     }
@@ -88,7 +82,7 @@ fn a_session_is_read_byte_by_byte(rt: HostRuntime) -> Result<(), Fail> {
     let mut reader = Reader::new(alloc);
     let mut items = Vec::new(alloc);
     for byte in &bytes {
-        for item in fed(alloc, &mut reader, &[*byte])? {
+        for item in reader.feed(alloc, &[*byte])? {
             items.push(item)?;
         }
     }
@@ -103,18 +97,9 @@ fn a_fault_is_answered_for_good(rt: HostRuntime) -> Result<(), Fail> {
     for fault in FAULTS {
         let mut reader = Reader::new(alloc);
         let bytes = hex::decode(alloc, fault)?;
-        assert!(rt;
-            matches!(fed(alloc, &mut reader, &bytes), Err(Refusal::Malformed)),
-            "{fault}"
-        );
-        assert!(rt;
-            matches!(reader.feed(alloc, &[]), Err(Refusal::Malformed)),
-            "{fault}"
-        );
-        assert!(rt;
-            matches!(reader.feed(alloc, &session), Err(Refusal::Malformed)),
-            "{fault}"
-        );
+        assert_eq!(rt; reader.feed(alloc, &bytes).err(), MALFORMED, "{fault}");
+        assert_eq!(rt; reader.feed(alloc, &[]).err(), MALFORMED, "{fault}");
+        assert_eq!(rt; reader.feed(alloc, &session).err(), MALFORMED, "{fault}");
     }
     Ok(())
 }
@@ -128,13 +113,10 @@ fn items_before_a_fault_are_given(rt: HostRuntime) -> Result<(), Fail> {
         let behind = hex::decode(alloc, fault)?;
         bytes.extend_from_slice(&behind)?;
         let mut reader = Reader::new(alloc);
-        let items = fed(alloc, &mut reader, &bytes)?;
+        let items = reader.feed(alloc, &bytes)?;
         assert!(rt; is_the_session(&items, object), "{fault}");
         assert!(rt; reader.in_mid_frame(), "{fault}");
-        assert!(rt;
-            matches!(reader.feed(alloc, &[]), Err(Refusal::Malformed)),
-            "{fault}"
-        );
+        assert_eq!(rt; reader.feed(alloc, &[]).err(), MALFORMED, "{fault}");
     }
     Ok(())
 }
@@ -145,7 +127,7 @@ fn a_frame_that_is_not_whole_is_no_fault(rt: HostRuntime) -> Result<(), Fail> {
     for text in ["00", "000000", "00010040", "0000000a99"] {
         let bytes = hex::decode(alloc, text)?;
         let mut reader = Reader::new(alloc);
-        assert!(rt; fed(alloc, &mut reader, &bytes)?.is_empty(), "{text}");
+        assert!(rt; reader.feed(alloc, &bytes)?.is_empty(), "{text}");
         assert!(rt; reader.in_mid_frame(), "{text}");
     }
     Ok(())

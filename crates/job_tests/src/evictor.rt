@@ -152,42 +152,26 @@ fn stands(order: &UseOrder, indexes: &[u32]) -> bool {
     left.next().is_none()
 }
 
-/// Enters the id, once more if memory ran out: nothing has changed then.
-fn enter(order: &mut UseOrder, index: u32, before: &[u32]) -> Result<bool, Refusal> {
-    let id = object(index)?;
-    match order.enter(id) {
-        Ok(()) => Ok(true),
-        Err(_) => {
-            let kept = stands(order, before);
-            order.enter(id)?;
-            Ok(kept)
-        }
-    }
-}
-
-/// Enters ids of these indexes. Whether they stand in this order, and did as far as they were entered if memory ran out.
-fn all_entered(order: &mut UseOrder, indexes: &[u32]) -> Result<bool, Refusal> {
-    let mut entered = 0usize;
-    let mut all = true;
+/// Enters ids of these indexes.
+fn enter_all(order: &mut UseOrder, indexes: &[u32]) -> Result<(), Refusal> {
     for index in indexes {
-        let (before, _) = indexes.split_at(entered.min(indexes.len()));
-        all = all && enter(order, *index, before)?;
-        entered = entered.saturating_add(1);
+        order.enter(object(*index)?)?;
     }
-    Ok(all && stands(order, indexes))
+    Ok(())
 }
 
 #[test]
 fn ids_stand_in_the_order_of_their_use(rt: HostRuntime) -> Result<(), Fail> {
     let mut order = UseOrder::new(rt.alloc());
-    holds!(rt; all_entered(&mut order, &[4, 1, 2, 3, 5, 6, 7, 8, 9])?);
-    holds!(rt; enter(&mut order, 4, &[4, 1, 2, 3, 5, 6, 7, 8, 9])?);
+    enter_all(&mut order, &[4, 1, 2, 3, 5, 6, 7, 8, 9])?;
+    holds!(rt; stands(&order, &[4, 1, 2, 3, 5, 6, 7, 8, 9]));
+    enter_all(&mut order, &[4])?;
     holds!(rt; stands(&order, &[1, 2, 3, 5, 6, 7, 8, 9, 4]));
     Ok(())
 }
 
 /// The plan for so many bytes in a window of so many, with these copies by rising use.
-fn plan_once(
+fn plan(
     alloc: Global,
     window: u64,
     copies: &[(u32, CopyFacts)],
@@ -201,20 +185,6 @@ fn plan_once(
         index = index.saturating_add(1);
     }
     store.plan(alloc, len, device)
-}
-
-/// The same, once more if memory ran out.
-fn plan(
-    alloc: Global,
-    window: u64,
-    copies: &[(u32, CopyFacts)],
-    len: u32,
-    device: DeviceRoom,
-) -> Result<Planned, Refusal> {
-    match plan_once(alloc, window, copies, len, device) {
-        Err(Refusal::NoMemory) => plan_once(alloc, window, copies, len, device),
-        answer => answer,
-    }
 }
 
 #[test]

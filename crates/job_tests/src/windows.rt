@@ -1,34 +1,20 @@
-//! A job's window, if memory is wanting. Where a window has room is a matter of contracts, and of worked schedules.
+//! A job's window: that it has memory for extents, and what they show. Where a window has room is a matter of contracts, and of worked schedules.
 ghost use Rattle.std.specs.Prelude.{◌≡◌, IfOk};
 ghost use Rattle.obj_id.specs.declared.works.Extent.{Extent};
 ghost use Rattle.job_region.specs.Region.{IsAt};
 
-use assertions::{holds, same};
+use assertions::holds;
 use bytes::Bytes;
 use job_region::{Window, Zeros};
 use obj_id::{Extent, Refusal};
-use std::alloc::Global;
-use std::process::Abort;
+use std::alloc::{AllocError, Global};
 use std::test::Fail;
 
-/// A window of so many bytes, asked for once more if memory ran out.
-fn window(alloc: Global, quota: u64) -> Result<Window, Refusal> {
-    match Window::new(alloc, quota) {
-        Err(Refusal::NoMemory) => Window::new(alloc, quota),
-        answer => answer,
-    }
-}
-
-/// An extent for so many bytes, asked for once more if memory ran out: then nothing has changed.
-fn place(rt: &impl Abort, window: &mut Window, len: u32) -> Result<Extent, Refusal>
+/// An extent for so many bytes: those that were there before stay.
+fn place(window: &mut Window, len: u32) -> Result<Extent, Refusal>
     ensures there { IfOk result (λ e. IsAt e window.new.placed) }
     ensures stays { (e : Extent) → IsAt e window.old.placed → IsAt e window.new.placed }
 {
-    let gap = window.fits_without(&[], len);
-    if let Ok(extent) = window.place(len) {
-        return Ok(extent);
-    }
-    same!(rt; window.fits_without(&[], len), gap);
     let extent = window.place(len)?;
     Ok(extent)
 }
@@ -49,24 +35,19 @@ fn shows(window: &Window, extent: &Extent, bytes: &[u8]) -> bool
     window.bytes_of(extent) == bytes
 }
 
-/// Gives the window so many bytes, once more if memory ran out: then nothing has changed.
-fn resize(rt: &impl Abort, window: &mut Window, quota: u64) -> Result<(), Refusal>
+/// Gives the window so many bytes: the extents stay.
+fn resize(window: &mut Window, quota: u64) -> Result<(), Refusal>
     ensures { window.new.placed ≡ window.old.placed }
 {
-    let before = window.quota();
-    if window.resize(quota).is_ok() {
-        return Ok(());
-    }
-    same!(rt; window.quota(), before);
     window.resize(quota)
 }
 
 /// Fills a window of 32 bytes, has it grow, and fills it again. Whether each extent shows what was written there.
-fn is_filled(rt: &impl Abort, window: &mut Window) -> Result<bool, Refusal> {
-    let first = place(rt, window, 17)?;
+fn is_filled(window: &mut Window) -> Result<bool, Refusal> {
+    let first = place(window, 17)?;
     write(window, &first, 14, &[7, 8])?;
-    resize(rt, window, 64)?;
-    let second = place(rt, window, 30)?;
+    resize(window, 64)?;
+    let second = place(window, 30)?;
     write(window, &second, 0, &[9])?;
     let mut due = [0; 32];
     due[0] = 9;
@@ -78,25 +59,21 @@ fn is_filled(rt: &impl Abort, window: &mut Window) -> Result<bool, Refusal> {
 
 #[test]
 fn a_window_is_filled_and_grows(rt: HostRuntime) -> Result<(), Fail> {
-    let mut window = window(rt.alloc(), 32)?;
-    holds!(rt; is_filled(&rt, &mut window)?);
+    let mut window = Window::new(rt.alloc(), 32)?;
+    holds!(rt; is_filled(&mut window)?);
     Ok(())
 }
 
 /// So many bytes are shared, and not copied.
 const LONG: u32 = 40_000;
 
-/// The bytes of the extent, shared, once more if memory ran out.
-fn share(window: &mut Window, extent: &Extent) -> Option<Bytes>
+/// The bytes of the extent, shared: they are, unless memory ran out.
+fn share(window: &mut Window, extent: &Extent) -> Result<Bytes, Refusal>
     requires { IsAt extent.now window.old.placed }
     ensures { window.new ≡ window.old }
 {
     window.freeze(extent);
-    if let Some(bytes) = window.shared(extent) {
-        return Some(bytes);
-    }
-    window.freeze(extent);
-    window.shared(extent)
+    window.shared(extent).ok_or(Refusal::NoMemory)
 }
 
 /// Whether the bytes are so many, and begin and end with these.
@@ -107,79 +84,57 @@ fn begin_and_end(bytes: &Bytes, first: u8, last: u8) -> bool {
 }
 
 /// Whether what was shared of an extent stays as it is while that is written, and taken back.
-fn what_is_shared_stays(rt: &impl Abort, window: &mut Window) -> Result<bool, Refusal> {
-    let extent = place(rt, window, LONG)?;
+fn what_is_shared_stays(window: &mut Window) -> Result<bool, Refusal> {
+    let extent = place(window, LONG)?;
     write(window, &extent, LONG - 1, &[7])?;
-    let Some(before) = share(window, &extent) else {
-        return Ok(false);
-    };
+    let before = share(window, &extent)?;
     write(window, &extent, 0, &[9])?;
-    let Some(after) = share(window, &extent) else {
-        return Ok(false);
-    };
+    let after = share(window, &extent)?;
     window.clear();
     Ok(begin_and_end(&before, 0, 7) && begin_and_end(&after, 9, 7))
 }
 
 #[test]
 fn shared_bytes_stay(rt: HostRuntime) -> Result<(), Fail> {
-    let mut window = window(rt.alloc(), 65_536)?;
-    holds!(rt; what_is_shared_stays(&rt, &mut window)?);
+    let mut window = Window::new(rt.alloc(), 65_536)?;
+    holds!(rt; what_is_shared_stays(&mut window)?);
     Ok(())
 }
 
-/// Fives, once more if memory ran out.
-fn fives(alloc: Global) -> Result<Bytes, Refusal> {
-    match Bytes::copy_from_slice(alloc, &[5; 40_000]) {
-        Ok(bytes) => Ok(bytes),
-        Err(_) => Ok(Bytes::copy_from_slice(alloc, &[5; 40_000])?),
-    }
+fn fives(alloc: Global) -> Result<Bytes, AllocError> {
+    Bytes::copy_from_slice(alloc, &[5; 40_000])
 }
 
 /// Whether an extent takes over bytes that it is given, and keeps them until they are written.
-fn what_is_given_is_taken_over(
-    rt: &impl Abort,
-    alloc: Global,
-    window: &mut Window,
-) -> Result<bool, Refusal> {
-    let extent = place(rt, window, LONG)?;
+fn what_is_given_is_taken_over(alloc: Global, window: &mut Window) -> Result<bool, Refusal> {
+    let extent = place(window, LONG)?;
     let bytes = fives(alloc)?;
     if bytes.len() as u64 != extent.length {
         return Ok(false);
     }
     window.adopt(&extent, bytes);
-    let Some(taken) = share(window, &extent) else {
-        return Ok(false);
-    };
+    let taken = share(window, &extent)?;
     Ok(begin_and_end(&taken, 5, 5))
 }
 
 #[test]
 fn given_bytes_are_taken_over(rt: HostRuntime) -> Result<(), Fail> {
-    let mut window = window(rt.alloc(), 65_536)?;
-    holds!(rt; what_is_given_is_taken_over(&rt, rt.alloc(), &mut window)?);
+    let mut window = Window::new(rt.alloc(), 65_536)?;
+    holds!(rt; what_is_given_is_taken_over(rt.alloc(), &mut window)?);
     Ok(())
 }
 
-/// Zeros that are made ahead, once more if memory ran out.
-fn zeros(alloc: Global) -> Result<Zeros, Refusal> {
-    match Zeros::for_object(alloc, LONG) {
-        Ok(zeros) => Ok(zeros),
-        Err(_) => Ok(Zeros::for_object(alloc, LONG)?),
-    }
-}
-
 /// Whether an extent is of the zeros that were made ahead, which are then used up.
-fn zeros_are_used(rt: &impl Abort, alloc: Global, window: &mut Window) -> Result<bool, Refusal> {
-    let before = window.keep_zeros(Some(zeros(alloc)?));
-    let extent = place(rt, window, LONG)?;
+fn zeros_are_used(alloc: Global, window: &mut Window) -> Result<bool, Refusal> {
+    let before = window.keep_zeros(Some(Zeros::for_object(alloc, LONG)?));
+    let extent = place(window, LONG)?;
     let used = window.keep_zeros(None).is_none();
     Ok(before.is_none() && used && shows(window, &extent, &[0; 40_000]))
 }
 
 #[test]
 fn zeros_made_ahead_are_used(rt: HostRuntime) -> Result<(), Fail> {
-    let mut window = window(rt.alloc(), 65_536)?;
-    holds!(rt; zeros_are_used(&rt, rt.alloc(), &mut window)?);
+    let mut window = Window::new(rt.alloc(), 65_536)?;
+    holds!(rt; zeros_are_used(rt.alloc(), &mut window)?);
     Ok(())
 }

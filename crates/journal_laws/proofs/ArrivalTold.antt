@@ -40,7 +40,7 @@ use Rattle.node_core.specs.Hosted.{Hosted, ShowsAll}
 use Rattle.node_core.specs.Judged.{IsArrivalJudged, arrived}
 use Rattle.node_core.specs.Steps.{NodeGiven, NodeStep, NodeStepFrom, answer_of_check, before_of, stale_unless}
 use Rattle.world_core.specs.WorldSteps.{handed, message_of}
-use Rattle.store_program.specs.SavedRuns.{SavedStep, located_entries, entry_mark, input_said, with_step}
+use Rattle.schedule_runs.specs.SavedRuns.{SavedStep, located_entries, entry_mark, input_said, with_step}
 use Rattle.journal_laws.proofs.StoreAnswers.{early_stale, is_of_live}
 use Rattle.journal_laws.proofs.Entered.{AllJournalsOf, IsJournalOf, due_here, entered, if_own, place_at, unbegun_here}
 use Rattle.journal_laws.proofs.EventTold.{is_refused, mark_elsewhere, one_or, own_inputs}

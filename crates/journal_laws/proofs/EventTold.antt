@@ -47,7 +47,7 @@ use Rattle.node_core.specs.Outcomes.{inputs_noted}
 use Rattle.node_core.specs.Steps.{NodeGiven, IsEventAnswer, IsGiven, IsStepOf, NodeStep, NodeStepFrom, answer_of_check, before_of, job_of_event}
 use Rattle.node_core.proofs.ForCallers.{IsFinishAnswer, finish_answer, own_due_is, own_here_is, told_never}
 use Rattle.job_row.specs.Row.{Row}
-use Rattle.store_program.specs.SavedRuns.{SavedStep, entry_mark, input_said, kept_under, with_entry_item, with_notes, with_step}
+use Rattle.schedule_runs.specs.SavedRuns.{SavedStep, entry_mark, input_said, kept_under, with_entry_item, with_notes, with_step}
 use Rattle.journal_laws.proofs.GoodGrants.{AreGood, IsDeep, seen_deep}
 use Rattle.journal_laws.proofs.StoreAnswers.{answer_proper, early_stale, is_of_live}
 use Rattle.journal_laws.proofs.Entered.{AllJournalsOf, IsJournalOf, due_here, entered, entered_elsewhere, if_none, if_own, place_at, unbegun_here}

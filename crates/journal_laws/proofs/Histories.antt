@@ -28,7 +28,7 @@ use Rattle.node_core.specs.declared.outcome.Note.{Note}
 use Rattle.node_core.specs.Hosted.{Hosted}
 use Rattle.world_core.specs.Noting.{IsNoted, keeps_event, keeps_arrival, passes_node, tells_directory, finds_nothing, wants_memory}
 use Rattle.world_core.specs.Worlds.{Hosting, IsAfter}
-use Rattle.store_program.specs.Lines.{Spells, IsSpelled, stands, finishes}
+use Rattle.schedule_runs.specs.Lines.{Spells, IsSpelled, stands, finishes}
 use Rattle.journal_laws.proofs.GoodGrants.{AreGood, table_good}
 use Rattle.journal_laws.proofs.EventTold.{IsSpoken}
 

@@ -34,7 +34,7 @@ use Rattle.journal_replay.specs.Saved.{AreSound, entries_saved}
 use Rattle.node_core.specs.declared.outcome.Note.{Note}
 use Rattle.node_core.specs.Outcomes.{inputs_noted, input_noted}
 use Rattle.node_core.specs.Steps.{JobJudged, judged_notes}
-use Rattle.store_program.specs.SavedRuns.{input_said, note_mark, with_notes}
+use Rattle.schedule_runs.specs.SavedRuns.{input_said, note_mark, with_notes}
 use Rattle.journal_laws.proofs.GoodGrants.{AreGood, ends_good, gives_well, is_good, last_good}
 use Rattle.journal_laws.proofs.Entered.{AllJournalsOf, IsJournalOf, due_here, entered, entered_elsewhere, if_own, place_at}
 

@@ -13,9 +13,9 @@ use Rattle.journal_replay.proofs.ForCallers.{replays_saved}
 use Rattle.world_core.specs.declared.ClusterSize.{ClusterSize}
 use Rattle.world_core.specs.Worlds.{is_shape, most_nodes}
 use Rattle.job_admission.specs.Admissions.{largest_memory}
-use Rattle.store_program.specs.SavedRuns.{IsSavedStep}
-use Rattle.store_program.specs.Lines.{AreHeard, LineRead, items_of_lines}
-use Rattle.store_program.specs.Runs.{AreKept, Ran}
+use Rattle.schedule_runs.specs.SavedRuns.{IsSavedStep}
+use Rattle.schedule_runs.specs.Lines.{AreHeard, LineRead, items_of_lines}
+use Rattle.schedule_runs.specs.Runs.{AreKept, Ran}
 use Rattle.journal_laws.specs.SavedRuns.{IsTextOf}
 use Rattle.journal_laws.proofs.WorldTold.{all_told}
 

@@ -33,9 +33,9 @@ use Rattle.world_core.specs.WorldSteps.{handed, message_of}
 use Rattle.world_core.specs.Noting.{IsArrivalNoted, IsEventNoted, IsNoted, NotesNothing, keeps_event, keeps_arrival, passes_node, tells_directory, finds_nothing, wants_memory}
 use Rattle.world_core.specs.Worlds.{Hosting, IsAfter}
 use Rattle.world_core.proofs.ForCallers.{slice_get-slice_set, slice_get-slice_set_other}
-use Rattle.store_program.specs.SavedRuns.{entry_place, with_entry_item, with_step}
-use Rattle.store_program.specs.Lines.{AreHeard, LineRead, IsAnswered, history_of, items_of_lines, with_answered, with_heard}
-use Rattle.store_program.specs.Runs.{KeepsHeard, LeadTo}
+use Rattle.schedule_runs.specs.SavedRuns.{entry_place, with_entry_item, with_step}
+use Rattle.schedule_runs.specs.Lines.{AreHeard, LineRead, IsAnswered, history_of, items_of_lines, with_answered, with_heard}
+use Rattle.schedule_runs.specs.Runs.{KeepsHeard, LeadTo}
 use Rattle.journal_laws.proofs.Entered.{AllJournalsOf}
 use Rattle.journal_laws.proofs.EventTold.{IsSpoken, event_elsewhere, event_told, shown_after, views_after}
 use Rattle.journal_laws.proofs.ArrivalTold.{Tells, arrival_elsewhere, arrival_told}

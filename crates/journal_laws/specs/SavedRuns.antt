@@ -2,7 +2,7 @@
 use Rattle.std.specs.Prelude.{◌≡◌, ℕ, true, false, List, Option}
 use Rattle.journal_text.specs.declared.saved.JournalItem.{JournalItem}
 use Rattle.journal_text.specs.Saved.{Saved, is_folded, saved_text}
-use Rattle.store_program.specs.SavedRuns.{IsSavedStep}
+use Rattle.schedule_runs.specs.SavedRuns.{IsSavedStep}
 
 -- the text is that of the entries and notes that the journal has, of which none was folded: `RunJournal::into_text` gives such a text
 abbrev pub IsTextOf : Option Saved → List ℕ → Type 0

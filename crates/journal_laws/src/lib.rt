@@ -10,7 +10,7 @@ ghost use Rattle.journal_replay.specs.Saved.{lines_after_first, SavedReplays};
 ghost use Rattle.journal_replay.specs.Texts.{Replays};
 ghost use Rattle.world_core.specs.declared.ClusterSize.{ClusterSize};
 ghost use Rattle.world_core.specs.Worlds.{is_shape};
-ghost use Rattle.store_program.specs.Runs.{Ran};
+ghost use Rattle.schedule_runs.specs.Runs.{Ran};
 ghost use Rattle.journal_laws.specs.SavedRuns.{IsTextOf};
 
 /// Whatever schedule `run_text` carried out to its end, keeping a journal: over the text that `RunJournal::into_text` gives of it

@@ -1,5 +1,5 @@
 //! Messages that arrive at a node for one of its jobs.
-ghost use Rattle.std.specs.Prelude.{◌≡◌, ℕ, ◌≤◌, List, [], false, length, Some, IfOk, OnOk, OnErr};
+ghost use Rattle.std.specs.Prelude.{◌≡◌, ℕ, ◌≤◌, List, [], false, length, Some, IfOk, OnOk, OnErr, is_ok, true, not, is_some};
 ghost use Rattle.obj_id.specs.declared.ids.JobNo.{JobNo};
 ghost use Rattle.obj_id.specs.declared.ids.ObjectId.{ObjectId};
 ghost use Rattle.obj_id.specs.declared.commands.Reply.TheVariants as reply;
@@ -10,14 +10,16 @@ ghost use Rattle.private_store.specs.declared.schedules.NodeEvent.TheVariants as
 ghost use Rattle.private_store.specs.rules.Contents.{Contents, judge, source_in as source_in_lem};
 ghost use Rattle.private_store.specs.rules.Grants.{StandingGrant};
 ghost use Rattle.spill_work.specs.Line.{same_work_job, IsSameFor};
+ghost use Rattle.job_admission.specs.Admissions.{live_at};
+ghost use Rattle.obj_id.specs.declared.messages.Arrival.{Arrival};
 ghost use Rattle.node_table.specs.Asked.{HasAsked};
 ghost use Rattle.node_table.specs.Outcomes.{row_given_of};
-ghost use Rattle.node_table.specs.Shown.{seen, IsShown, RowStep};
+ghost use Rattle.node_table.specs.Shown.{only, seen, IsShown, RowStep};
 ghost use Rattle.node_core.specs.Foreseen.{most_by_arrival};
 ghost use Rattle.node_core.specs.Hosted.{row_at};
 ghost use Rattle.node_core.specs.Judged.{IsArrivalJudged};
 ghost use Rattle.node_core.specs.MemoryLast.{IsMemoryLast};
-ghost use Rattle.node_core.specs.Outcomes.{node_given_of};
+ghost use Rattle.node_core.specs.Outcomes.{node_given_of, with_no_notes};
 ghost use Rattle.node_core.specs.Steps.{NodeStep};
 ghost use Rattle.node_table.specs.Beside.{beside_of};
 
@@ -31,16 +33,34 @@ use spill_work::Works;
 use std::alloc::{AllocError, Global};
 
 impl Node {
+    /// Whether each message of the job is stale here, as the job isn't live. Takes no memory.
+    pub fn is_stale(&self, job: JobNo) -> bool
+        ensures live { result ≡ not (is_some (live_at self.now.admissions job)) }
+        ensures stale { result ≡ true → (a : Arrival) → NodeStep self.now (node_event.Arrive job a) (with_no_notes (only (reply.Refused Stale))) self.now }
+    {
+        match self.rows.get(&job) {
+            Some(_) => false,
+            None => true,
+        }
+    }
+
     /// A message of a job arrives.
     ///
     /// The view that the node shows of the job afterwards is what the private step makes of the view before on that
     /// message, and every other job's is as it was. `Stale` if the job isn't live, and then nothing changes. The error
     /// is out of memory, and then nothing has changed; it never stands in for `Stale`. It sends no more messages than
-    /// `foresee_arrival` says, tells no job of a grant, and says what it was to its own job: nothing if it is stale.
-    pub fn arrive(&mut self, job: JobNo, arrival: &Arrival) -> Result<NodeOutcome, AllocError>
+    /// `foresee_arrival` says, tells no job of a grant, and says what it was to its own job: nothing if it is stale. `room` is
+    /// what came of the caller's growth to keep the messages, as in `apply`.
+    pub fn arrive(
+        &mut self,
+        job: JobNo,
+        arrival: &Arrival,
+        room: Result<(), AllocError>,
+    ) -> Result<NodeOutcome, AllocError>
         ensures ok { IfOk result (λ o. NodeStep self.old (node_event.Arrive job arrival.now) (node_given_of o) self.new) }
         ensures memory_last { OnErr result (IsMemoryLast self.old (node_event.Arrive job arrival.now)) }
         ensures bounded { IfOk result (λ o. length o.messages ≤ most_by_arrival (row_at self.old job) arrival.now) }
+        ensures unsent { IfOk result (λ o. is_ok room ≡ false → o.messages ≡ []) }
         ensures judged { IfOk result (λ o. IsArrivalJudged self.old job arrival.now o.reply o.judged) }
         ensures silent { IfOk result (λ o. o.notes ≡ []) }
         ensures stale { IfOk result (λ o. o.reply ≡ reply.Refused Stale → self.new ≡ self.old) }
@@ -51,7 +71,14 @@ impl Node {
             let outcome = node_table::RowOutcome::only(self.alloc, reply);
             return Ok(NodeOutcome::of_row(self.alloc, outcome, None));
         };
-        let (outcome, judged) = deliver(self.alloc, self.number, row, &mut self.works, arrival)?;
+        let (outcome, judged) = deliver(
+            self.alloc,
+            room,
+            self.number,
+            row,
+            &mut self.works,
+            arrival,
+        )?;
         Ok(NodeOutcome::of_row(self.alloc, outcome, Some(judged)))
     }
 }
@@ -60,6 +87,7 @@ impl Node {
 /// has changed. Works that it asks for come last in the line, and those before them stay.
 fn deliver(
     alloc: Global,
+    room: Result<(), AllocError>,
     node: u32,
     row: &mut JobRow,
     works: &mut Works,
@@ -71,6 +99,7 @@ fn deliver(
         → o.1 ≡ judge node (seen row.old (beside_of works.old grants bytes row.old.job) contents) (input.Arrive arrival.now)) }
     ensures response { IfOk result (λ o. o.0.reply ≡ reply.Ok) }
     ensures bounded { IfOk result (λ o. length o.0.messages ≤ most_by_arrival (Some row.old) arrival.now) }
+    ensures unsent { IfOk result (λ o. is_ok room ≡ false → o.0.messages ≡ []) }
     ensures line { OnOk result (HasAsked works.old (record { 0 = row.old.job }) works.new) }
     ensures others { (other : JobNo) → same_work_job (record { 0 = row.old.job }) other ≡ false → IsSameFor other works.old works.new }
     ensures err { OnErr result (row.new ≡ row.old) }
@@ -92,13 +121,16 @@ fn deliver(
             };
             Ok((outcome, judged))
         }
-        Arrival::FromPeer(from, message) => deliver_from(alloc, node, row, works, *from, message),
+        Arrival::FromPeer(from, message) => deliver_from(
+            alloc, room, node, row, works, *from, message,
+        ),
     }
 }
 
 /// The same of a message from another node.
 fn deliver_from(
     alloc: Global,
+    room: Result<(), AllocError>,
     node: u32,
     row: &mut JobRow,
     works: &mut Works,
@@ -111,6 +143,7 @@ fn deliver_from(
         → o.1 ≡ judge node (seen row.old (beside_of works.old grants bytes row.old.job) contents) (input.Arrive (arrival.FromPeer from message.now))) }
     ensures response { IfOk result (λ o. o.0.reply ≡ reply.Ok) }
     ensures bounded { IfOk result (λ o. length o.0.messages ≤ most_by_arrival (Some row.old) (arrival.FromPeer from message.now)) }
+    ensures unsent { IfOk result (λ o. is_ok room ≡ false → o.0.messages ≡ []) }
     ensures line { OnOk result (HasAsked works.old (record { 0 = row.old.job }) works.new) }
     ensures others { (other : JobNo) → same_work_job (record { 0 = row.old.job }) other ≡ false → IsSameFor other works.old works.new }
     ensures err { OnErr result (row.new ≡ row.old) }
@@ -128,6 +161,7 @@ fn deliver_from(
             let outcome = node_table::serve_pull(
                 row,
                 alloc,
+                room,
                 node,
                 works,
                 from,
@@ -155,6 +189,7 @@ fn deliver_from(
             let taken = node_table::chunk(
                 row,
                 alloc,
+                room,
                 NodeNo(node),
                 id,
                 FetchNo(*number),
@@ -172,7 +207,14 @@ fn deliver_from(
             Ok((taken.outcome, judged))
         }
         PeerMessage::NotHere(id, number) => {
-            let outcome = node_table::not_here(row, alloc, NodeNo(from), id, FetchNo(*number))?;
+            let outcome = node_table::not_here(
+                row,
+                alloc,
+                room,
+                NodeNo(from),
+                id,
+                FetchNo(*number),
+            )?;
             Ok((
                 outcome,
                 Judged::NotHere {

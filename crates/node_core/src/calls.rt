@@ -1,5 +1,5 @@
 //! The commands of a session, carried out on the row of its job.
-ghost use Rattle.std.specs.Prelude.{◌≡◌, ℕ, ◌≤◌, length, Some, true, false, IfOk, OnOk, OnErr, IsOk};
+ghost use Rattle.std.specs.Prelude.{◌≡◌, ℕ, ◌≤◌, length, Some, true, false, IfOk, OnOk, OnErr, IsOk, is_ok, []};
 ghost use Rattle.obj_id.specs.declared.ids.JobNo.{JobNo};
 ghost use Rattle.spill_work.specs.Line.{same_work_job, IsSameFor};
 ghost use Rattle.node_table.specs.Asked.{HasAsked};
@@ -22,6 +22,7 @@ use std::alloc::{AllocError, Global};
 /// come last in the line, and those before them stay.
 pub(crate) fn carry_out(
     alloc: Global,
+    room: Result<(), AllocError>,
     node: u32,
     job: JobNo,
     row: &mut JobRow,
@@ -32,6 +33,7 @@ pub(crate) fn carry_out(
     requires { is_of_row command.now ≡ true }
     ensures ok { IfOk result (λ o. CallStep node job.0 row.old works.old session command.now (row_given_of o) row.new works.new) }
     ensures bounded { IfOk result (λ o. length o.messages ≤ most_by_command (Some row.old) command.now) }
+    ensures unsent { IfOk result (λ o. is_ok room ≡ false → o.messages ≡ []) }
     ensures line { OnOk result (HasAsked works.old job works.new) }
     ensures others { (other : JobNo) → same_work_job job other ≡ false → IsSameFor other works.old works.new }
     ensures memory_last { OnErr result (IsUnrefused row.old job.0 session command.now) }
@@ -48,15 +50,16 @@ pub(crate) fn carry_out(
             id,
             kind,
             length: len,
-        } => node_table::create(row, alloc, node, works, id, *kind, *len),
-        Command::Get(id) => node_table::get(row, alloc, node, works, session, id),
-        _ => carry_out_without_work(alloc, node, row, works, session, command),
+        } => node_table::create(row, alloc, room, node, works, id, *kind, *len),
+        Command::Get(id) => node_table::get(row, alloc, room, node, works, session, id),
+        _ => carry_out_without_work(alloc, room, node, row, works, session, command),
     }
 }
 
 /// The same of a command that asks for no work, and whose object, if it names one, is the job's own.
 fn carry_out_without_work(
     alloc: Global,
+    room: Result<(), AllocError>,
     node: u32,
     row: &mut JobRow,
     works: &Works,
@@ -66,16 +69,17 @@ fn carry_out_without_work(
     requires { is_plain command.now ≡ true }
     ensures ok { IfOk result (λ o. (job : ℕ) → is_own_lem job command.now ≡ true → CallStep node job row.old works.now session command.now (row_given_of o) row.new works.now) }
     ensures bounded { IfOk result (λ o. length o.messages ≤ most_by_command (Some row.old) command.now) }
+    ensures unsent { IfOk result (λ o. is_ok room ≡ false → o.messages ≡ []) }
     ensures memory_last { OnErr result (IsMemoryLastOnRow row.old session command.now) }
     ensures err { OnErr result (row.new ≡ row.old) }
 {
     match command {
-        Command::Seal(id) => Ok(node_table::seal(row, alloc, node, id)?),
+        Command::Seal(id) => Ok(node_table::seal(row, alloc, room, node, id)?),
         Command::Release(id) => Ok(node_table::release(row, alloc, session, id)),
-        Command::Unpin(id, task) => Ok(node_table::unpin(row, alloc, node, id, *task)?),
+        Command::Unpin(id, task) => Ok(node_table::unpin(row, alloc, room, node, id, *task)?),
         Command::Borrow(id, task) => node_table::borrow(row, alloc, id, *task),
-        Command::GiveUp(id, task) => Ok(node_table::give_up(row, alloc, node, id, *task)?),
-        Command::Delete(id) => Ok(node_table::delete(row, alloc, node, id)?),
+        Command::GiveUp(id, task) => Ok(node_table::give_up(row, alloc, room, node, id, *task)?),
+        Command::Delete(id) => Ok(node_table::delete(row, alloc, room, node, id)?),
         Command::Leave => Ok(node_table::leave(row, alloc, session)?),
         _ => {
             let reply = answer(alloc, row, works, session, command)?;

@@ -1,5 +1,5 @@
 //! The end of a job, and what it is to those to whom the job granted objects.
-ghost use Rattle.std.specs.Prelude.{◌≡◌, ◌≤◌, None, true, length, map, is_some, IfOk, OnErr};
+ghost use Rattle.std.specs.Prelude.{◌≡◌, ◌≤◌, None, true, length, map, is_some, IfOk, OnErr, is_ok, false, []};
 ghost use Rattle.private_store.specs.declared.schedules.Event.TheVariants as event;
 ghost use Rattle.private_store.specs.declared.schedules.NodeEvent.TheVariants as node_event;
 ghost use Rattle.private_store.specs.rules.Grants.{is_given_by};
@@ -23,9 +23,14 @@ impl Node {
     /// The operator ends a job: nothing is left of it here, the directory is notified, the device keys of its copies are to be
     /// erased, and what it granted ends, with all that hangs on it: the grantees are notified in the order of the ends. The error
     /// is out of memory, and then nothing has changed.
-    pub(crate) fn end_job(&mut self, job: JobNo) -> Result<NodeOutcome, AllocError>
+    pub(crate) fn end_job(
+        &mut self,
+        job: JobNo,
+        room: Result<(), AllocError>,
+    ) -> Result<NodeOutcome, AllocError>
         ensures ok { IfOk result (λ o. NodeStep self.old (node_event.Own (event.JobEnd job)) (node_given_of o) self.new) }
         ensures bounded { IfOk result (λ o. length o.messages ≤ 1) }
+        ensures unsent { IfOk result (λ o. is_ok room ≡ false → o.messages ≡ []) }
         ensures judged { IfOk result (λ o. o.judged ≡ judged_as (event.JobEnd job) o.reply) }
         ensures grantees { IfOk result (λ o. AreTakers self.old.grants (event.JobEnd job) o.reply (map (λ note. note.job) o.notes)) }
         ensures memory_last { OnErr result (end_check self.old.admissions job ≡ None) }
@@ -36,16 +41,21 @@ impl Node {
         }
         let ends = self.grants.ends_with_job(job)?;
         let notes = Vec::with_capacity(self.alloc, ends.grants().len())?;
-        let outcome = self.own_end(job)?;
+        let outcome = self.own_end(job, room)?;
         self.let_job_go(job, &ends);
         let judged = Some(Judged::End);
         Ok(NodeOutcome::with_ends(outcome, notes, ends.grants(), judged))
     }
 
     /// What the end of a live job gives to the job itself, before anything changes.
-    fn own_end(&self, job: JobNo) -> Result<node_table::RowOutcome, AllocError>
+    fn own_end(
+        &self,
+        job: JobNo,
+        room: Result<(), AllocError>,
+    ) -> Result<node_table::RowOutcome, AllocError>
         requires { is_some (live_at self.now.admissions job) ≡ true }
-        ensures { IfOk result (λ o. IsOwnEnd self.now job (row_given_of o)) }
+        ensures ok { IfOk result (λ o. IsOwnEnd self.now job (row_given_of o)) }
+        ensures unsent { IfOk result (λ o. is_ok room ≡ false → o.messages ≡ []) }
     {
         let Some(row) = self.rows.get(&job) else {
             unreachable!()
@@ -54,6 +64,7 @@ impl Node {
         let message = Message::ToDirectory(DirectoryMessage::EndJob(self.number));
         let messages = node_table::RowOutcome::one_message(
             self.alloc,
+            room,
             Endpoint::Directory,
             message,
         )?;

@@ -122,10 +122,18 @@ impl Node {
     /// Release and Usage take no memory, nor does Leave while no copy is doomed. It sends no more messages than
     /// `foresee` says, tells of grants the jobs that `grantees` says, and says what it was to its own job. The reply to a command
     /// has a frame.
-    pub fn apply(&mut self, event: &Event) -> Result<NodeOutcome, AllocError>
+    ///
+    /// `room` is what came of the caller's growth to keep the messages. If that was refused, a step that sends some is out of memory, and
+    /// any other is taken.
+    pub fn apply(
+        &mut self,
+        event: &Event,
+        room: Result<(), AllocError>,
+    ) -> Result<NodeOutcome, AllocError>
         ensures ok { IfOk result (λ o. NodeStep self.old (node_event.Own event.now) (node_given_of o) self.new) }
         ensures memory_last { OnErr result (IsMemoryLast self.old (node_event.Own event.now)) }
         ensures bounded { IfOk result (λ o. length o.messages ≤ most_messages self.old event.now) }
+        ensures unsent { IfOk result (λ o. is_ok room ≡ false → o.messages ≡ []) }
         ensures judged { IfOk result (λ o. IsJudged self.old event.now o.reply o.judged) }
         ensures grantees { IfOk result (λ o. AreTakers self.old.grants event.now o.reply (map (λ note. note.job) o.notes)) }
         ensures small { IfOk result (λ o. IsSmall self.old event.now o.reply) }
@@ -143,9 +151,9 @@ impl Node {
             return Ok(NodeOutcome::of_row(self.alloc, outcome, judged));
         }
         if judged::moves_grants(event) {
-            return self.move_grants(event);
+            return self.move_grants(event, room);
         }
-        let outcome = self.step_one(event)?;
+        let outcome = self.step_one(event, room)?;
         let judged = judged::judged_as(event, &outcome.reply);
         Ok(NodeOutcome::of_row(self.alloc, outcome, judged))
     }
@@ -158,17 +166,22 @@ impl Node {
     }
 
     /// A step of what may end grants or give one.
-    fn move_grants(&mut self, event: &Event) -> Result<NodeOutcome, AllocError>
+    fn move_grants(
+        &mut self,
+        event: &Event,
+        room: Result<(), AllocError>,
+    ) -> Result<NodeOutcome, AllocError>
         requires moves { moves_grants event.now ≡ true }
         ensures ok { IfOk result (λ o. NodeStep self.old (node_event.Own event.now) (node_given_of o) self.new) }
         ensures bounded { IfOk result (λ o. length o.messages ≤ most_messages self.old event.now) }
+        ensures unsent { IfOk result (λ o. is_ok room ≡ false → o.messages ≡ []) }
         ensures judged { IfOk result (λ o. o.judged ≡ judged_as event.now o.reply) }
         ensures grantees { IfOk result (λ o. AreTakers self.old.grants event.now o.reply (map (λ note. note.job) o.notes)) }
         ensures memory_last { OnErr result (IsEventUnrefused self.old event.now) }
         ensures err { OnErr result (self.new ≡ self.old) }
     {
         match event {
-            Event::JobEnd(job) => self.end_job(*job),
+            Event::JobEnd(job) => self.end_job(*job, room),
             Event::Call {
                 job,
                 session,
@@ -183,17 +196,22 @@ impl Node {
                 job,
                 session,
                 command: Command::EndTask(task),
-            } => { self.end_task(*job, *session, *task) }
+            } => { self.end_task(*job, *session, *task, room) }
             _ => unreachable!(),
         }
     }
 
     /// A step of all else but a Finish.
-    fn step_one(&mut self, event: &Event) -> Result<node_table::RowOutcome, AllocError>
+    fn step_one(
+        &mut self,
+        event: &Event,
+        room: Result<(), AllocError>,
+    ) -> Result<node_table::RowOutcome, AllocError>
         requires other { is_finish event.now ≡ false }
         requires lasting { moves_grants event.now ≡ false }
         ensures ok { IfOk result (λ o. NodeStepOne self.old event.now (row_given_of o) self.new) }
         ensures bounded { IfOk result (λ o. length o.messages ≤ most_messages self.old event.now) }
+        ensures unsent { IfOk result (λ o. is_ok room ≡ false → o.messages ≡ []) }
         ensures memory_last { OnErr result (IsEventUnrefused self.old event.now) }
         ensures without_memory { needs_no_memory self.old event.now ≡ true → IsOk result }
         ensures err { OnErr result (self.new ≡ self.old) }
@@ -206,7 +224,7 @@ impl Node {
                 job,
                 session,
                 command,
-            } => self.call(*job, *session, command),
+            } => self.call(*job, *session, command, room),
             Event::JobEnd(_) | Event::Finish { .. } => unreachable!(),
         }
     }
@@ -286,10 +304,12 @@ impl Node {
         job: JobNo,
         session: u32,
         command: &Command<Bytes>,
+        room: Result<(), AllocError>,
     ) -> Result<node_table::RowOutcome, AllocError>
         requires lasting { moves_grants (event.Call job session command.now) ≡ false }
         ensures ok { IfOk result (λ o. NodeStepOne self.old (event.Call job session command.now) (row_given_of o) self.new) }
         ensures bounded { IfOk result (λ o. length o.messages ≤ most_by_command (row_at self.old job) command.now) }
+        ensures unsent { IfOk result (λ o. is_ok room ≡ false → o.messages ≡ []) }
         ensures memory_last { OnErr result (IsCallUnrefused self.old job session command.now) }
         ensures without_memory { takes_no_memory (row_at self.old job) command.now ≡ true → IsOk result }
         ensures err { OnErr result (self.new ≡ self.old) }
@@ -305,7 +325,7 @@ impl Node {
         {
             return self.peek(job, session, id, *offset, *len);
         }
-        self.call_row(job, session, command)
+        self.call_row(job, session, command, room)
     }
 
     /// The same of a command that a row carries out.
@@ -314,10 +334,12 @@ impl Node {
         job: JobNo,
         session: u32,
         command: &Command<Bytes>,
+        room: Result<(), AllocError>,
     ) -> Result<node_table::RowOutcome, AllocError>
         requires { is_of_row command.now ≡ true }
         ensures ok { IfOk result (λ o. NodeStepOne self.old (event.Call job session command.now) (row_given_of o) self.new) }
         ensures bounded { IfOk result (λ o. length o.messages ≤ most_by_command (row_at self.old job) command.now) }
+        ensures unsent { IfOk result (λ o. is_ok room ≡ false → o.messages ≡ []) }
         ensures memory_last { OnErr result (IsCallUnrefused self.old job session command.now) }
         ensures without_memory { takes_no_memory (row_at self.old job) command.now ≡ true → IsOk result }
         ensures err { OnErr result (self.new ≡ self.old) }
@@ -328,6 +350,7 @@ impl Node {
         };
         calls::carry_out(
             self.alloc,
+            room,
             self.number,
             job,
             row,

@@ -1,5 +1,5 @@
 //! The end of a task, and what it is to those to whom its job granted the task's objects.
-ghost use Rattle.std.specs.Prelude.{◌≡◌, ◌≤◌, length, map, IfOk, OnErr};
+ghost use Rattle.std.specs.Prelude.{◌≡◌, ◌≤◌, length, map, IfOk, OnErr, is_ok, false, []};
 ghost use Rattle.obj_id.specs.declared.commands.Command.TheVariants as command;
 ghost use Rattle.private_store.specs.declared.schedules.Event.TheVariants as event;
 ghost use Rattle.private_store.specs.declared.schedules.NodeEvent.TheVariants as node_event;
@@ -25,9 +25,11 @@ impl Node {
         job: JobNo,
         session: u32,
         task: TaskNo,
+        room: Result<(), AllocError>,
     ) -> Result<NodeOutcome, AllocError>
         ensures ok { IfOk result (λ o. NodeStep self.old (node_event.Own (event.Call job session (command.EndTask task))) (node_given_of o) self.new) }
         ensures bounded { IfOk result (λ o. length o.messages ≤ most_by_command (row_at self.old job) (command.EndTask task)) }
+        ensures unsent { IfOk result (λ o. is_ok room ≡ false → o.messages ≡ []) }
         ensures judged { IfOk result (λ o. o.judged ≡ judged_as (event.Call job session (command.EndTask task)) o.reply) }
         ensures grantees { IfOk result (λ o. AreTakers self.old.grants (event.Call job session (command.EndTask task)) o.reply (map (λ note. note.job) o.notes)) }
         ensures memory_last { OnErr result (IsCallUnrefused self.old job session (command.EndTask task)) }
@@ -43,7 +45,7 @@ impl Node {
         let Some(row) = self.rows.get_mut(&job) else {
             unreachable!()
         };
-        let outcome = node_table::end_task(row, self.alloc, self.number, task)?;
+        let outcome = node_table::end_task(row, self.alloc, room, self.number, task)?;
         self.grants.take_out(&ends);
         Ok(NodeOutcome::with_ends(outcome, notes, ends.grants(), judged))
     }

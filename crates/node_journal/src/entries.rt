@@ -11,6 +11,7 @@ use obj_id::{Arrival, ItemList, JobNo, ObjectId, PeerMessage, Quota, Reply};
 use private_store::{Event, Judged, work_without_payload};
 use std::alloc::Global;
 use std::marker::PhantomData;
+use std::snapshot::Snapshot;
 use std::sync::ledger::Ledger;
 
 /// Which event an entry is of, without contents. A key isn't kept.
@@ -135,11 +136,15 @@ pub enum Agreement {
 }
 
 /// The name of one entry in a journal of the ledger `L`: a step makes it, and it isn't copied.
+///
+/// Clauses also see the whole event, of one that is no arrival, and the whole answer, with all contents. Neither takes any bytes.
 #[derive(Drop)]
 pub struct Receipt<L: Ledger> {
     pub(crate) node: u32,
     pub(crate) job: JobNo,
     pub(crate) entry: Entry,
+    pub(crate) asked: Snapshot<Event>,
+    pub(crate) whole: Snapshot<Reply<Bytes>>,
     pub(crate) name: PhantomData<L>,
 }
 

@@ -36,6 +36,7 @@ use obj_id::{Arrival, Endpoint, ItemList, JobKey, JobNo, ObjectId, Refusal};
 use private_store::Event;
 use std::alloc::{AllocError, Global};
 use std::marker::PhantomData;
+use std::snapshot::Snapshot;
 use std::sync::ledger::{Ledger, Share};
 
 /// The number of the last entry that a journal can have.
@@ -101,6 +102,8 @@ impl<L: Ledger> Kept<L> {
         ensures journal { IfOk result (λ r. (job : ℕ) → journal_of self.new.logs job
             ≡ journal_after self.old.node (self.old.count + 1) (node_event.Own event.now) r.outcome.judged (node_given_of r.outcome) job (journal_of self.old.logs job)) }
         ensures receipt { IfOk result (λ r. (r.receipt.node ≡ self.old.number) × (r.receipt.job.0 ≡ job_at self.old.node.works.works (node_event.Own event.now)) × (r.receipt.entry ≡ entry_for (self.old.count + 1) (event_name (node_event.Own event.now)) r.outcome.judged r.outcome.reply)) }
+        ensures asked { IfOk result (λ r. r.receipt.asked.value ≡ event.now) }
+        ensures whole { IfOk result (λ r. r.receipt.whole.value ≡ r.outcome.reply) }
         ensures judged { IfOk result (λ r. IsJudged self.old.node event.now r.outcome.reply r.outcome.judged) }
         ensures count { OnOk result (self.new.count ≡ self.old.count + 1) }
         ensures answered { IfOk result (λ r. is_call event.now ≡ true → wants_memory r.outcome.reply ≡ false) }
@@ -132,6 +135,7 @@ impl<L: Ledger> Kept<L> {
         ensures journal { IfOk result (λ r. (a : Arrival) → arrival_of posted.from posted.message ≡ Some a → (other : ℕ) → journal_of self.new.logs other
             ≡ journal_after self.old.node (self.old.count + 1) (node_event.Arrive posted.job a) r.outcome.judged (node_given_of r.outcome) other (journal_of self.old.logs other)) }
         ensures receipt { IfOk result (λ r. (r.receipt.node ≡ self.old.number) × (r.receipt.job.0 ≡ posted.job.0) × ((a : Arrival) → arrival_of posted.from posted.message ≡ Some a → r.receipt.entry ≡ entry_for (self.old.count + 1) (event_name (node_event.Arrive posted.job a)) r.outcome.judged r.outcome.reply)) }
+        ensures whole { IfOk result (λ r. r.receipt.whole.value ≡ r.outcome.reply) }
         ensures judged { IfOk result (λ r. (a : Arrival) → arrival_of posted.from posted.message ≡ Some a → IsArrivalJudged self.old.node posted.job a r.outcome.reply r.outcome.judged) }
         ensures entered { IfOk result (λ r. (a : Arrival) → arrival_of posted.from posted.message ≡ Some a → is_entered a r.outcome.reply r.outcome.judged ≡ true) }
         ensures silent { IfOk result (λ r. r.outcome.notes ≡ []) }
@@ -163,6 +167,7 @@ impl<L: Ledger> Kept<L> {
         ensures journal { IfOk result (λ r. (other : ℕ) → journal_of self.new.logs other
             ≡ journal_after self.old.node (self.old.count + 1) (node_event.Arrive job arrival.now) r.outcome.judged (node_given_of r.outcome) other (journal_of self.old.logs other)) }
         ensures receipt { IfOk result (λ r. (r.receipt.node ≡ self.old.number) × (r.receipt.job.0 ≡ job.0) × (r.receipt.entry ≡ entry_for (self.old.count + 1) (event_name (node_event.Arrive job arrival.now)) r.outcome.judged r.outcome.reply)) }
+        ensures whole { IfOk result (λ r. r.receipt.whole.value ≡ r.outcome.reply) }
         ensures judged { IfOk result (λ r. IsArrivalJudged self.old.node job arrival.now r.outcome.reply r.outcome.judged) }
         ensures entered { IfOk result (λ r. is_entered arrival.now r.outcome.reply r.outcome.judged ≡ true) }
         ensures silent { IfOk result (λ r. r.outcome.notes ≡ []) }
@@ -193,6 +198,8 @@ impl<L: Ledger> Kept<L> {
         ensures journal { IfOk result (λ r. (job : ℕ) → journal_of self.new.logs job
             ≡ journal_after self.old.node (self.old.count + 1) (node_event.Own event.now) r.outcome.judged (node_given_of r.outcome) job (journal_of self.old.logs job)) }
         ensures receipt { IfOk result (λ r. (r.receipt.node ≡ self.old.number) × (r.receipt.job.0 ≡ job_at self.old.node.works.works (node_event.Own event.now)) × (r.receipt.entry ≡ entry_for (self.old.count + 1) (event_name (node_event.Own event.now)) r.outcome.judged r.outcome.reply)) }
+        ensures asked { IfOk result (λ r. r.receipt.asked.value ≡ event.now) }
+        ensures whole { IfOk result (λ r. r.receipt.whole.value ≡ r.outcome.reply) }
         ensures judged { IfOk result (λ r. IsJudged self.old.node event.now r.outcome.reply r.outcome.judged) }
         ensures count { OnOk result (self.new.count ≡ self.old.count + 1) }
         ensures answered { IfOk result (λ r. is_call event.now ≡ true → wants_memory r.outcome.reply ≡ false) }
@@ -498,6 +505,8 @@ fn record<L: Ledger>(
     requires few { (job : ℕ) → length (list_of logs.old job) ≤ most_lines }
     ensures node { IfOk result (λ r. NodeStep node.old (node_event.Own event.now) (node_given_of r.outcome) node.new) }
     ensures receipt { IfOk result (λ r. (r.receipt.node ≡ number) × (r.receipt.job.0 ≡ job_at node.old.works.works (node_event.Own event.now)) × (r.receipt.entry ≡ entry_for (count.old + 1) (event_name (node_event.Own event.now)) r.outcome.judged r.outcome.reply)) }
+    ensures asked { IfOk result (λ r. r.receipt.asked.value ≡ event.now) }
+    ensures whole { IfOk result (λ r. r.receipt.whole.value ≡ r.outcome.reply) }
     ensures judged { IfOk result (λ r. IsJudged node.old event.now r.outcome.reply r.outcome.judged) }
     ensures small { IfOk result (λ r. IsSmall node.old event.now r.outcome.reply) }
     ensures logs { IfOk result (λ r. (job : ℕ) → journal_of logs.new job
@@ -519,7 +528,7 @@ fn record<L: Ledger>(
     logs.reserve(job, grantees.as_slice())?;
     // the bases are those before the step
     let bases = bases_of(alloc, node, logs, job, grantees.as_slice())?;
-    let outcome = node.apply(event)?;
+    let outcome = node.apply(event, Ok(()))?;
     *count += 1;
     let named = name_of(event);
     logs.fold_all(bases);
@@ -529,6 +538,8 @@ fn record<L: Ledger>(
         node: number,
         job,
         entry: entry_of(alloc, *count, &named, &outcome),
+        asked: Snapshot::of(event),
+        whole: Snapshot::of(&outcome.reply),
         name: PhantomData,
     };
     Ok(Made { outcome, receipt })
@@ -549,6 +560,7 @@ fn record_arrival<L: Ledger>(
     requires few { (other : ℕ) → length (list_of logs.old other) ≤ most_lines }
     ensures node { IfOk result (λ r. NodeStep node.old (node_event.Arrive job arrival.now) (node_given_of r.outcome) node.new) }
     ensures receipt { IfOk result (λ r. (r.receipt.node ≡ number) × (r.receipt.job.0 ≡ job.0) × (r.receipt.entry ≡ entry_for (count.old + 1) (event_name (node_event.Arrive job arrival.now)) r.outcome.judged r.outcome.reply)) }
+    ensures whole { IfOk result (λ r. r.receipt.whole.value ≡ r.outcome.reply) }
     ensures judged { IfOk result (λ r. IsArrivalJudged node.old job arrival.now r.outcome.reply r.outcome.judged) }
     ensures silent { IfOk result (λ r. r.outcome.notes ≡ []) }
     ensures stale { IfOk result (λ r. r.outcome.reply ≡ reply.Refused Stale → node.new ≡ node.old) }
@@ -566,7 +578,7 @@ fn record_arrival<L: Ledger>(
     logs.reserve(job, &[])?;
     // the base is that before the step
     let bases = bases_of(alloc, node, logs, job, &[])?;
-    let outcome = node.arrive(job, arrival)?;
+    let outcome = node.arrive(job, arrival, Ok(()))?;
     *count += 1;
     let named = name_of_arrival(arrival);
     logs.fold_all(bases);
@@ -575,6 +587,9 @@ fn record_arrival<L: Ledger>(
         node: number,
         job,
         entry: entry_of(alloc, *count, &named, &outcome),
+        // an arrival is no event of a session, a worker or the operator
+        asked: Snapshot::of(&Event::Take),
+        whole: Snapshot::of(&outcome.reply),
         name: PhantomData,
     };
     Ok(Made { outcome, receipt })

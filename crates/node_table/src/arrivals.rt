@@ -1,5 +1,5 @@
 //! Messages that arrive for a copy that is on its way: the directory's answer, and that the source has no such copy.
-ghost use Rattle.std.specs.Prelude.{◌≡◌, ◌≤◌, ℕ, length, IfOk, OnErr};
+ghost use Rattle.std.specs.Prelude.{◌≡◌, ◌≤◌, ℕ, length, IfOk, OnErr, is_ok, false, []};
 ghost use Rattle.obj_id.specs.declared.commands.Reply.TheVariants as reply;
 ghost use Rattle.obj_id.specs.declared.messages.Arrival.TheVariants as arrival;
 ghost use Rattle.obj_id.specs.declared.messages.PeerMessage.TheVariants as peer;
@@ -30,6 +30,7 @@ pub fn located(row: &mut JobRow, node: NodeNo, id: &ObjectId, number: FetchNo, e
 pub fn not_here(
     row: &mut JobRow,
     alloc: Global,
+    room: Result<(), AllocError>,
     from: NodeNo,
     id: &ObjectId,
     number: FetchNo,
@@ -38,13 +39,14 @@ pub fn not_here(
         → RowStep node row.old beside contents (input.Arrive (arrival.FromPeer from (peer.NotHere id.now number))) (row_given_of o) row.new beside) }
     ensures response { IfOk result (λ o. o.reply ≡ reply.Ok) }
     ensures bounded { IfOk result (λ o. length o.messages ≤ 1) }
+    ensures unsent { IfOk result (λ o. is_ok room ≡ false → o.messages ≡ []) }
     ensures err { OnErr result (row.new ≡ row.old) }
 {
     if !row.copies().asks(id, number, from) {
         return Ok(RowOutcome::only(alloc, Reply::Ok));
     }
     let message = DirectoryMessage::RemoveLocation(*id, from.0);
-    let messages = RowOutcome::to_directory(alloc, Some(message))?;
+    let messages = RowOutcome::to_directory(alloc, room, Some(message))?;
     row.fail_fetch(id, FetchFault::Absent);
     Ok(RowOutcome {
         reply: Reply::Ok,

@@ -1,5 +1,5 @@
 //! The bytes of an object are asked for at their source.
-ghost use Rattle.std.specs.Prelude.{◌≡◌, ◌==◌, ℕ, ◌+◌, ◌≤◌, List, length, true, false, Ok, Some, IfOk, OnOk, OnErr};
+ghost use Rattle.std.specs.Prelude.{◌≡◌, ◌==◌, ℕ, ◌+◌, ◌≤◌, List, length, true, false, Ok, Some, IfOk, OnOk, OnErr, is_ok, []};
 ghost use Rattle.obj_id.specs.declared.ids.JobNo.{JobNo};
 ghost use Rattle.obj_id.specs.declared.commands.CopyState.TheVariants.{Fetching};
 ghost use Rattle.obj_id.specs.declared.commands.Command.TheVariants as command;
@@ -44,6 +44,7 @@ use std::alloc::{AllocError, Global};
 pub(crate) fn begin_pull(
     row: &mut JobRow,
     alloc: Global,
+    room: Result<(), AllocError>,
     node: u32,
     works: &mut Works,
     id: &ObjectId,
@@ -54,6 +55,7 @@ pub(crate) fn begin_pull(
     ensures ok { IfOk result (λ o. (session : ℕ) (grants : List StandingGrant) (bytes : ObjectId → List ℕ) (contents : Contents) → (id.now.job.0 == row.old.job) ≡ true → IsShown row.old (beside_of works.old grants bytes row.old.job) contents
         → RowStep node row.old (beside_of works.old grants bytes row.old.job) contents (input.Call session (command.Get id.now)) (row_given_of o) row.new (beside_of works.new grants bytes row.old.job)) }
     ensures bounded { IfOk result (λ o. length o.messages ≤ length row.old.copies + 1) }
+    ensures unsent { IfOk result (λ o. is_ok room ≡ false → o.messages ≡ []) }
     ensures line { OnOk result (HasAsked works.old id.now.job works.new) }
     ensures memory_last { OnErr result ((id.now.job.0 == row.old.job) ≡ true → IsDueMore node row.old works.old (command.Get id.now)) }
     ensures others { (other : JobNo) → same_work_job id.now.job other ≡ false → IsSameFor other works.old works.new }
@@ -67,7 +69,7 @@ pub(crate) fn begin_pull(
     let _place = copy.offset();
     let len = copy.length();
     match room_for(row, alloc, works, id.job(), len)? {
-        MadeRoom::Place(placement) => pull_in_place(row, alloc, node, id, len, &placement),
+        MadeRoom::Place(placement) => pull_in_place(row, alloc, room, node, id, len, &placement),
         MadeRoom::Refused(refusal) => refuse(alloc, refusal),
     }
 }
@@ -76,6 +78,7 @@ pub(crate) fn begin_pull(
 fn pull_in_place(
     row: &mut JobRow,
     alloc: Global,
+    room: Result<(), AllocError>,
     node: u32,
     id: &ObjectId,
     len: u32,
@@ -91,8 +94,10 @@ fn pull_in_place(
         → MakesPlace (make_room row.old.order (shape_of row.old beside) len) (shape_of row.old beside) len placement.now.victims
         → RowStep node row.old beside contents (input.Call session (command.Get id.now)) (row_given_of o) row.new beside) }
     ensures bounded { IfOk result (λ o. length o.messages ≤ length row.old.copies + 1) }
+    ensures unsent { IfOk result (λ o. is_ok room ≡ false → o.messages ≡ []) }
     ensures err { OnErr result (row.new ≡ row.old) }
 {
+    room?;
     let victims = placement.victims.as_slice();
     let mut messages = removals(alloc, node, row.copies(), victims)?;
     messages.push(question(row, alloc, id)?)?;

@@ -1,5 +1,5 @@
 //! The commands that move bytes, Write, Seal and Read; and bytes that are lent.
-ghost use Rattle.std.specs.Prelude.{◌≡◌, ◌≤◌, length, ◌==◌, ℕ, true, Some, None, take, IfOk, IfErr, IsOk, OnErr};
+ghost use Rattle.std.specs.Prelude.{◌≡◌, ◌≤◌, length, ◌==◌, ℕ, true, Some, None, take, IfOk, IfErr, IsOk, OnErr, is_ok, false, []};
 ghost use Rattle.obj_id.specs.declared.works.Extent.{Extent};
 ghost use Rattle.private_store.specs.rules.Tables.{at};
 ghost use Rattle.private_store.specs.rules.Copies.{extent_of};
@@ -40,12 +40,14 @@ pub fn write(row: &mut JobRow, id: &ObjectId, offset: u32, bytes: &[u8]) -> Repl
 pub fn seal(
     row: &mut JobRow,
     alloc: Global,
+    room: Result<(), AllocError>,
     node: u32,
     id: &ObjectId,
 ) -> Result<RowOutcome, AllocError>
     ensures ok { IfOk result (λ o. (session : ℕ) (beside : SharedTables) (contents : Contents) → (id.now.job.0 == row.old.job) ≡ true → IsShown row.old beside contents
         → RowStep node row.old beside contents (input.Call session (command.Seal id.now)) (row_given_of o) row.new beside) }
     ensures bounded { IfOk result (λ o. length o.messages ≤ 1) }
+    ensures unsent { IfOk result (λ o. is_ok room ≡ false → o.messages ≡ []) }
     ensures memory_last { OnErr result (seal_check_lem row.old.copies id.now ≡ None) }
     ensures err { OnErr result (row.new ≡ row.old) }
 {
@@ -54,7 +56,7 @@ pub fn seal(
         Ok(entry) => entry,
     };
     let message = Message::ToDirectory(DirectoryMessage::AddLocation(*id, entry));
-    let messages = RowOutcome::one_message(alloc, Endpoint::Directory, message)?;
+    let messages = RowOutcome::one_message(alloc, room, Endpoint::Directory, message)?;
     let after = row.apply(id, Mark::Sealed(entry.digest));
     row.freeze_at(after.eviction_info.extent);
     Ok(RowOutcome {

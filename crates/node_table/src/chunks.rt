@@ -1,5 +1,5 @@
 //! Chunks that arrive for a copy that is on its way.
-ghost use Rattle.std.specs.Prelude.{◌≡◌, ◌≤◌, ◌<◌, ◌+◌, ◌*◌, ◌^◌, true, false, Some, length, take, IfOk, OnErr};
+ghost use Rattle.std.specs.Prelude.{◌≡◌, ◌≤◌, ◌<◌, ◌+◌, ◌*◌, ◌^◌, true, false, Some, length, take, IfOk, OnErr, is_ok, []};
 ghost use Rattle.std.specs.Option.{option_map_or};
 ghost use Rattle.obj_id.specs.declared.commands.Reply.TheVariants as reply;
 ghost use Rattle.obj_id.specs.declared.messages.Arrival.TheVariants as arrival;
@@ -40,6 +40,7 @@ pub struct ChunkTaken {
 pub fn chunk(
     row: &mut JobRow,
     alloc: Global,
+    room: Result<(), AllocError>,
     node: NodeNo,
     id: &ObjectId,
     number: FetchNo,
@@ -53,6 +54,7 @@ pub fn chunk(
         → t.verdict ≡ chunk_verdict (seen row.old beside contents) id.now number index bytes.now from) }
     ensures response { IfOk result (λ t. t.outcome.reply ≡ reply.Ok) }
     ensures bounded { IfOk result (λ t. length t.outcome.messages ≤ 1) }
+    ensures unsent { IfOk result (λ t. is_ok room ≡ false → t.outcome.messages ≡ []) }
     ensures err { OnErr result (row.new ≡ row.old) }
 {
     let fit = row.copies().chunk_fit(id, number, index, from, bytes.len());
@@ -63,7 +65,7 @@ pub fn chunk(
         });
     }
     if fit.last {
-        return last_chunk(row, alloc, node, id, number, index, from, bytes);
+        return last_chunk(row, alloc, room, node, id, number, index, from, bytes);
     }
     let after = row.apply(
         id,
@@ -85,6 +87,7 @@ pub fn chunk(
 fn last_chunk(
     row: &mut JobRow,
     alloc: Global,
+    room: Result<(), AllocError>,
     node: NodeNo,
     id: &ObjectId,
     number: FetchNo,
@@ -100,6 +103,7 @@ fn last_chunk(
         → t.verdict ≡ chunk_verdict (seen row.old beside contents) id.now number index bytes.now from) }
     ensures response { IfOk result (λ t. t.outcome.reply ≡ reply.Ok) }
     ensures bounded { IfOk result (λ t. length t.outcome.messages ≤ 1) }
+    ensures unsent { IfOk result (λ t. is_ok room ≡ false → t.outcome.messages ≡ []) }
     ensures err { OnErr result (row.new ≡ row.old) }
 {
     let Some(copy) = row.copies().get(id) else {
@@ -115,7 +119,7 @@ fn last_chunk(
         digest,
     };
     let message = DirectoryMessage::AddLocation(*id, entry);
-    let messages = RowOutcome::to_directory(alloc, Some(message))?;
+    let messages = RowOutcome::to_directory(alloc, room, Some(message))?;
     put_chunk(row, place, index, bytes);
     if !has_digest(row, id, &digest) {
         row.fail_fetch(id, FetchFault::Damaged);

@@ -1,5 +1,5 @@
 //! Create: a copy to be written, in a place that is made for it.
-ghost use Rattle.std.specs.Prelude.{◌≡◌, ◌==◌, ℕ, ◌≤◌, List, length, true, false, None, IfOk, OnOk, OnErr};
+ghost use Rattle.std.specs.Prelude.{◌≡◌, ◌==◌, ℕ, ◌≤◌, List, length, true, false, None, IfOk, OnOk, OnErr, is_ok, []};
 ghost use Rattle.obj_id.specs.declared.ids.JobNo.{JobNo};
 ghost use Rattle.obj_id.specs.declared.commands.Command.TheVariants as command;
 ghost use Rattle.private_store.specs.declared.inputs.Input.TheVariants as input;
@@ -34,6 +34,7 @@ use std::alloc::{AllocError, Global};
 pub fn create(
     row: &mut JobRow,
     alloc: Global,
+    room: Result<(), AllocError>,
     node: u32,
     works: &mut Works,
     id: &ObjectId,
@@ -43,6 +44,7 @@ pub fn create(
     ensures ok { IfOk result (λ o. (session : ℕ) (grants : List StandingGrant) (bytes : ObjectId → List ℕ) (contents : Contents) → (id.now.job.0 == row.old.job) ≡ true → IsShown row.old (beside_of works.old grants bytes row.old.job) contents
         → RowStep node row.old (beside_of works.old grants bytes row.old.job) contents (input.Call session (command.Create id.now kind len)) (row_given_of o) row.new (beside_of works.new grants bytes row.old.job)) }
     ensures bounded { IfOk result (λ o. length o.messages ≤ length row.old.copies) }
+    ensures unsent { IfOk result (λ o. is_ok room ≡ false → o.messages ≡ []) }
     ensures line { OnOk result (HasAsked works.old id.now.job works.new) }
     ensures memory_last { OnErr result ((id.now.job.0 == row.old.job) ≡ true → IsDueMore node row.old works.old (command.Create id.now kind len)) }
     ensures others { (other : JobNo) → same_work_job id.now.job other ≡ false → IsSameFor other works.old works.new }
@@ -54,7 +56,7 @@ pub fn create(
     }
     match room_for(row, alloc, works, id.job(), len)? {
         MadeRoom::Place(placement) => {
-            create_in_place(row, alloc, node, id, kind, len, &placement)
+            create_in_place(row, alloc, room, node, id, kind, len, &placement)
         }
         MadeRoom::Refused(refusal) => refuse(alloc, refusal),
     }
@@ -64,6 +66,7 @@ pub fn create(
 fn create_in_place(
     row: &mut JobRow,
     alloc: Global,
+    room: Result<(), AllocError>,
     node: u32,
     id: &ObjectId,
     kind: Kind,
@@ -77,8 +80,10 @@ fn create_in_place(
         → MakesPlace (make_room row.old.order (shape_of row.old beside) len) (shape_of row.old beside) len placement.now.victims
         → RowStep node row.old beside contents (input.Call session (command.Create id.now kind len)) (row_given_of o) row.new beside) }
     ensures bounded { IfOk result (λ o. length o.messages ≤ length row.old.copies) }
+    ensures unsent { IfOk result (λ o. is_ok room ≡ false → o.messages ≡ []) }
     ensures err { OnErr result (row.new ≡ row.old) }
 {
+    room?;
     let victims = placement.victims.as_slice();
     let messages = removals(alloc, node, row.copies(), victims)?;
     let extent = row.replace_copies(alloc, id, kind, len, placement)?;

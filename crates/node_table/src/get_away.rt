@@ -1,5 +1,5 @@
 //! Get of a copy that is on the device alone.
-ghost use Rattle.std.specs.Prelude.{◌≡◌, ◌==◌, ℕ, ◌+◌, ◌≤◌, List, length, true, false, Ok, Some, IfOk, OnOk, OnErr};
+ghost use Rattle.std.specs.Prelude.{◌≡◌, ◌==◌, ℕ, ◌+◌, ◌≤◌, List, length, true, false, Ok, Some, IfOk, OnOk, OnErr, is_ok, []};
 ghost use Rattle.obj_id.specs.declared.ids.JobNo.{JobNo};
 ghost use Rattle.obj_id.specs.declared.commands.CopyState.TheVariants.{Away};
 ghost use Rattle.obj_id.specs.declared.commands.Command.TheVariants as command;
@@ -29,6 +29,7 @@ use std::alloc::{AllocError, Global};
 pub(crate) fn get_away(
     row: &mut JobRow,
     alloc: Global,
+    room: Result<(), AllocError>,
     node: u32,
     works: &mut Works,
     id: &ObjectId,
@@ -38,6 +39,7 @@ pub(crate) fn get_away(
     ensures ok { IfOk result (λ o. (session : ℕ) (grants : List StandingGrant) (bytes : ObjectId → List ℕ) (contents : Contents) → (id.now.job.0 == row.old.job) ≡ true → IsShown row.old (beside_of works.old grants bytes row.old.job) contents
         → RowStep node row.old (beside_of works.old grants bytes row.old.job) contents (input.Call session (command.Get id.now)) (row_given_of o) row.new (beside_of works.new grants bytes row.old.job)) }
     ensures bounded { IfOk result (λ o. length o.messages ≤ length row.old.copies + 1) }
+    ensures unsent { IfOk result (λ o. is_ok room ≡ false → o.messages ≡ []) }
     ensures line { OnOk result (HasAsked works.old id.now.job works.new) }
     ensures memory_last { OnErr result ((id.now.job.0 == row.old.job) ≡ true → IsDueMore node row.old works.old (command.Get id.now)) }
     ensures others { (other : JobNo) → same_work_job id.now.job other ≡ false → IsSameFor other works.old works.new }
@@ -49,6 +51,6 @@ pub(crate) fn get_away(
             row.apply(id, Mark::FaultTold);
             refuse(alloc, fault.refusal())
         }
-        None => restore(row, alloc, node, works, id.job(), id),
+        None => restore(row, alloc, room, node, works, id.job(), id),
     }
 }

@@ -1,5 +1,5 @@
 //! Get: a hold on a copy that is here, and otherwise what brings it here.
-ghost use Rattle.std.specs.Prelude.{◌≡◌, [], ◌==◌, ℕ, ◌+◌, ◌≤◌, List, length, true, false, None, IsOk, IfOk, IfSome, IfNone, OnOk, OnErr};
+ghost use Rattle.std.specs.Prelude.{◌≡◌, [], ◌==◌, ℕ, ◌+◌, ◌≤◌, List, length, true, false, None, IsOk, IfOk, IfSome, IfNone, OnOk, OnErr, is_ok};
 ghost use Rattle.std.specs.Option.{option_map_or};
 ghost use Rattle.obj_id.specs.declared.ids.JobNo.{JobNo};
 ghost use Rattle.obj_id.specs.declared.refusals.Refusal.TheVariants.{Pending};
@@ -59,6 +59,7 @@ fn get_sealed(
 fn begin_fetch(
     row: &mut JobRow,
     alloc: Global,
+    room: Result<(), AllocError>,
     node: u32,
     id: &ObjectId,
 ) -> Result<RowOutcome, AllocError>
@@ -67,6 +68,7 @@ fn begin_fetch(
     ensures ok { IfOk result (λ o. (session : ℕ) (beside : SharedTables) (contents : Contents) → (id.now.job.0 == row.old.job) ≡ true → IsShown row.old beside contents
         → RowStep node row.old beside contents (input.Call session (command.Get id.now)) (row_given_of o) row.new beside) }
     ensures bounded { IfOk result (λ o. length o.messages ≤ 1) }
+    ensures unsent { IfOk result (λ o. is_ok room ≡ false → o.messages ≡ []) }
     ensures memory_last { OnErr result ((line : WorkLine) → (id.now.job.0 == row.old.job) ≡ true → IsDueMore node row.old line (command.Get id.now)) }
     ensures err { OnErr result (row.new ≡ row.old) }
 {
@@ -75,7 +77,7 @@ fn begin_fetch(
         return Ok(RowOutcome::only(alloc, Reply::Refused(refusal)));
     }
     let number = FetchNo(begun + 1);
-    let messages = locate(alloc, node, *id, number)?;
+    let messages = locate(alloc, room, node, *id, number)?;
     row.enter_fetch(alloc, id, number)?;
     Ok(pending(messages))
 }
@@ -85,6 +87,7 @@ fn begin_fetch(
 fn get_unsealed(
     row: &mut JobRow,
     alloc: Global,
+    room: Result<(), AllocError>,
     node: u32,
     works: &mut Works,
     id: &ObjectId,
@@ -94,6 +97,7 @@ fn get_unsealed(
     ensures ok { IfOk result (λ o. (session : ℕ) (grants : List StandingGrant) (bytes : ObjectId → List ℕ) (contents : Contents) → (id.now.job.0 == row.old.job) ≡ true → IsShown row.old (beside_of works.old grants bytes row.old.job) contents
         → RowStep node row.old (beside_of works.old grants bytes row.old.job) contents (input.Call session (command.Get id.now)) (row_given_of o) row.new (beside_of works.new grants bytes row.old.job)) }
     ensures bounded { IfOk result (λ o. length o.messages ≤ length row.old.copies + 1) }
+    ensures unsent { IfOk result (λ o. is_ok room ≡ false → o.messages ≡ []) }
     ensures line { OnOk result (HasAsked works.old id.now.job works.new) }
     ensures memory_last { OnErr result ((id.now.job.0 == row.old.job) ≡ true → IsDueMore node row.old works.old (command.Get id.now)) }
     ensures others { (other : JobNo) → same_work_job id.now.job other ≡ false → IsSameFor other works.old works.new }
@@ -102,14 +106,14 @@ fn get_unsealed(
 {
     let state = match row.copies().visible_state(id) {
         Err(refusal) => return refuse(alloc, refusal),
-        Ok(None) => return begin_fetch(row, alloc, node, id),
+        Ok(None) => return begin_fetch(row, alloc, room, node, id),
         Ok(Some(state)) => state,
     };
     match state {
-        CopyState::Fetching => get_fetching(row, alloc, node, works, id),
+        CopyState::Fetching => get_fetching(row, alloc, room, node, works, id),
         CopyState::Created => refuse(alloc, Refusal::NotSealed),
         CopyState::Restoring => refuse(alloc, Refusal::Pending),
-        CopyState::Away => get_away(row, alloc, node, works, id),
+        CopyState::Away => get_away(row, alloc, room, node, works, id),
         CopyState::Sealed => unreachable!(),
     }
 }
@@ -123,6 +127,7 @@ fn get_unsealed(
 pub fn get(
     row: &mut JobRow,
     alloc: Global,
+    room: Result<(), AllocError>,
     node: u32,
     works: &mut Works,
     session: u32,
@@ -131,6 +136,7 @@ pub fn get(
     ensures ok { IfOk result (λ o. (grants : List StandingGrant) (bytes : ObjectId → List ℕ) (contents : Contents) → (id.now.job.0 == row.old.job) ≡ true → IsShown row.old (beside_of works.old grants bytes row.old.job) contents
         → RowStep node row.old (beside_of works.old grants bytes row.old.job) contents (input.Call session (command.Get id.now)) (row_given_of o) row.new (beside_of works.new grants bytes row.old.job)) }
     ensures bounded { IfOk result (λ o. length o.messages ≤ length row.old.copies + 1) }
+    ensures unsent { IfOk result (λ o. is_ok room ≡ false → o.messages ≡ []) }
     ensures line { OnOk result (HasAsked works.old id.now.job works.new) }
     ensures memory_last { OnErr result ((id.now.job.0 == row.old.job) ≡ true → IsDueMore node row.old works.old (command.Get id.now)) }
     ensures others { (other : JobNo) → same_work_job id.now.job other ≡ false → IsSameFor other works.old works.new }
@@ -143,7 +149,7 @@ pub fn get(
     if let Some(reply) = get_sealed(row, session, id)? {
         return Ok(RowOutcome::only(alloc, reply));
     }
-    get_unsealed(row, alloc, node, works, id)
+    get_unsealed(row, alloc, room, node, works, id)
 }
 
 /// A refusal, and nothing else.
@@ -168,16 +174,18 @@ pub(crate) fn pending(messages: ItemList<(Endpoint, Message)>) -> RowOutcome
 /// The question where copies of the object are.
 pub(crate) fn locate(
     alloc: Global,
+    room: Result<(), AllocError>,
     node: u32,
     id: ObjectId,
     number: FetchNo,
 ) -> Result<ItemList<(Endpoint, Message)>, AllocError>
-    ensures { IfOk result (λ messages. messages ≡ to_directory (Locate id node number)) }
+    ensures ok { IfOk result (λ messages. messages ≡ to_directory (Locate id node number)) }
+    ensures unsent { IfOk result (λ messages. is_ok room ≡ false → messages ≡ []) }
 {
     let message = Message::ToDirectory(DirectoryMessage::Locate {
         id,
         node,
         number: number.0,
     });
-    RowOutcome::one_message(alloc, Endpoint::Directory, message)
+    RowOutcome::one_message(alloc, room, Endpoint::Directory, message)
 }

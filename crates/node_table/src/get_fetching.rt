@@ -1,5 +1,5 @@
 //! Get of a copy that is on its way.
-ghost use Rattle.std.specs.Prelude.{◌≡◌, ◌==◌, ℕ, ◌+◌, ◌≤◌, List, length, true, false, Ok, Some, IfOk, OnOk, OnErr, ◌∷◌, [], unwrap_or};
+ghost use Rattle.std.specs.Prelude.{◌≡◌, ◌==◌, ℕ, ◌+◌, ◌≤◌, List, length, true, false, Ok, Some, IfOk, OnOk, OnErr, ◌∷◌, [], unwrap_or, is_ok};
 ghost use Rattle.obj_id.specs.declared.ids.JobNo.{JobNo};
 ghost use Rattle.obj_id.specs.declared.commands.CopyState.TheVariants.{Fetching};
 ghost use Rattle.obj_id.specs.declared.commands.Command.TheVariants as command;
@@ -37,6 +37,7 @@ use std::alloc::{AllocError, Global};
 pub(crate) fn get_fetching(
     row: &mut JobRow,
     alloc: Global,
+    room: Result<(), AllocError>,
     node: u32,
     works: &mut Works,
     id: &ObjectId,
@@ -46,6 +47,7 @@ pub(crate) fn get_fetching(
     ensures ok { IfOk result (λ o. (session : ℕ) (grants : List StandingGrant) (bytes : ObjectId → List ℕ) (contents : Contents) → (id.now.job.0 == row.old.job) ≡ true → IsShown row.old (beside_of works.old grants bytes row.old.job) contents
         → RowStep node row.old (beside_of works.old grants bytes row.old.job) contents (input.Call session (command.Get id.now)) (row_given_of o) row.new (beside_of works.new grants bytes row.old.job)) }
     ensures bounded { IfOk result (λ o. length o.messages ≤ length row.old.copies + 1) }
+    ensures unsent { IfOk result (λ o. is_ok room ≡ false → o.messages ≡ []) }
     ensures line { OnOk result (HasAsked works.old id.now.job works.new) }
     ensures memory_last { OnErr result ((id.now.job.0 == row.old.job) ≡ true → IsDueMore node row.old works.old (command.Get id.now)) }
     ensures others { (other : JobNo) → same_work_job id.now.job other ≡ false → IsSameFor other works.old works.new }
@@ -60,9 +62,9 @@ pub(crate) fn get_fetching(
     };
     let len = copy.length();
     match fetch.stage() {
-        Stage::Locating => Ok(pending(locate(alloc, node, *id, fetch.number())?)),
-        Stage::Pulling(source) => Ok(pending(pull(alloc, *id, copy, fetch, source)?)),
-        Stage::Sized(_) => get_sized(row, alloc, node, works, id, len),
+        Stage::Locating => Ok(pending(locate(alloc, room, node, *id, fetch.number())?)),
+        Stage::Pulling(source) => Ok(pending(pull(alloc, room, *id, copy, fetch, source)?)),
+        Stage::Sized(_) => get_sized(row, alloc, room, node, works, id, len),
         Stage::Failed(fault) => Ok(tell_failed(row, alloc, id, fault)),
     }
 }
@@ -72,6 +74,7 @@ pub(crate) fn get_fetching(
 fn get_sized(
     row: &mut JobRow,
     alloc: Global,
+    room: Result<(), AllocError>,
     node: u32,
     works: &mut Works,
     id: &ObjectId,
@@ -84,6 +87,7 @@ fn get_sized(
     ensures ok { IfOk result (λ o. (session : ℕ) (grants : List StandingGrant) (bytes : ObjectId → List ℕ) (contents : Contents) → (id.now.job.0 == row.old.job) ≡ true → IsShown row.old (beside_of works.old grants bytes row.old.job) contents
         → RowStep node row.old (beside_of works.old grants bytes row.old.job) contents (input.Call session (command.Get id.now)) (row_given_of o) row.new (beside_of works.new grants bytes row.old.job)) }
     ensures bounded { IfOk result (λ o. length o.messages ≤ length row.old.copies + 1) }
+    ensures unsent { IfOk result (λ o. is_ok room ≡ false → o.messages ≡ []) }
     ensures line { OnOk result (HasAsked works.old id.now.job works.new) }
     ensures memory_last { OnErr result ((id.now.job.0 == row.old.job) ≡ true → IsDueMore node row.old works.old (command.Get id.now)) }
     ensures others { (other : JobNo) → same_work_job id.now.job other ≡ false → IsSameFor other works.old works.new }
@@ -93,7 +97,7 @@ fn get_sized(
     if !row.window().may_have(len) {
         return refuse(alloc, Refusal::BadSize);
     }
-    begin_pull(row, alloc, node, works, id)
+    begin_pull(row, alloc, room, node, works, id)
 }
 
 /// Get of an object whose fetch failed: what it came to is answered, and the copy is removed.
@@ -112,6 +116,7 @@ fn tell_failed(row: &mut JobRow, alloc: Global, id: &ObjectId, fault: FetchFault
 /// The question for the chunks that are still missing, at the source.
 fn pull(
     alloc: Global,
+    room: Result<(), AllocError>,
     id: ObjectId,
     copy: &RowCopy,
     fetch: &FetchIn,
@@ -119,7 +124,8 @@ fn pull(
 ) -> Result<ItemList<(Endpoint, Message)>, AllocError>
     requires own { copy.now.copy.fetch ≡ Some (store_fetch_of fetch.now) }
     requires pulled { fetch.now.phase ≡ pulling source (missing_of fetch.now.phase) }
-    ensures { IfOk result (λ messages. messages ≡ to_peer source (Pull id fetch.now.number copy.now.copy.length (unwrap_or copy.now.digest no_digest) (missing_of fetch.now.phase)) ∷ []) }
+    ensures ok { IfOk result (λ messages. messages ≡ to_peer source (Pull id fetch.now.number copy.now.copy.length (unwrap_or copy.now.digest no_digest) (missing_of fetch.now.phase)) ∷ []) }
+    ensures unsent { IfOk result (λ messages. is_ok room ≡ false → messages ≡ []) }
 {
     let Some(digest) = copy.digest() else {
         unreachable!()
@@ -133,5 +139,5 @@ fn pull(
         digest,
         indexes: ItemList::from_vec(indexes),
     });
-    RowOutcome::one_message(alloc, Endpoint::Node(source.0), message)
+    RowOutcome::one_message(alloc, room, Endpoint::Node(source.0), message)
 }

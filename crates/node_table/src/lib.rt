@@ -1,5 +1,8 @@
 //! What the commands of a job's sessions, the messages that arrive for it and the answers of devices do to the job's row at a node. Each is
 //! a function over the row, and knows no other job's.
+//!
+//! What may send messages is given `room`: what came of its caller's growth, before the step, to keep them. If that was refused, a step
+//! that sends something is out of memory as well, after its own checks; any other takes no notice.
 #![tactic(auto)]
 
 mod arrivals;

@@ -1,5 +1,5 @@
 //! What a step of a row gives.
-ghost use Rattle.std.specs.Prelude.{◌≡◌, ◌∷◌, [], IfOk, option_to_list};
+ghost use Rattle.std.specs.Prelude.{◌≡◌, ◌∷◌, [], IfOk, option_to_list, is_ok, false};
 ghost use Rattle.obj_id.specs.declared.commands.Reply.TheVariants as reply;
 ghost use Rattle.node_table.specs.Shown.{only as only_lem};
 ghost use Rattle.node_table.specs.Erased.{keys_of};
@@ -65,26 +65,36 @@ impl RowOutcome {
     /// This message to the directory, or none, in a list with room for no more.
     pub fn to_directory(
         alloc: Global,
+        room: Result<(), AllocError>,
         message: Option<DirectoryMessage>,
     ) -> Result<ItemList<(Endpoint, Message)>, AllocError>
-        ensures { IfOk result (λ messages. messages ≡ notice_posts message) }
+        ensures ok { IfOk result (λ messages. messages ≡ notice_posts message) }
+        ensures unsent { IfOk result (λ messages. is_ok room ≡ false → messages ≡ []) }
     {
         match message {
             None => Ok(ItemList::new(alloc)),
             Some(message) => {
-                RowOutcome::one_message(alloc, Endpoint::Directory, Message::ToDirectory(message))
+                RowOutcome::one_message(
+                    alloc,
+                    room,
+                    Endpoint::Directory,
+                    Message::ToDirectory(message),
+                )
             }
         }
     }
 
-    /// A list of one message, with room for no more: who keeps what was sent keeps no idle memory.
+    /// A list of one message, with room for no more: what keeps what was sent keeps no idle memory.
     pub fn one_message(
         alloc: Global,
+        room: Result<(), AllocError>,
         to: Endpoint,
         message: Message,
     ) -> Result<ItemList<(Endpoint, Message)>, AllocError>
-        ensures { IfOk result (λ messages. messages ≡ (to, message) ∷ []) }
+        ensures ok { IfOk result (λ messages. messages ≡ (to, message) ∷ []) }
+        ensures unsent { IfOk result (λ messages. is_ok room ≡ false → messages ≡ []) }
     {
+        room?;
         let mut messages = Vec::with_capacity(alloc, 1)?;
         messages.push((to, message))?;
         Ok(ItemList::from_vec(messages))

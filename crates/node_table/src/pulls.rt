@@ -1,5 +1,5 @@
 //! A Pull that arrives: another node asks for chunks of a copy.
-ghost use Rattle.std.specs.Prelude.{◌≡◌, ℕ, ◌+◌, ◌≤◌, List, [], ◌∷◌, map, take, length, false, Ok, Some, None, IfOk, OnOk, OnErr};
+ghost use Rattle.std.specs.Prelude.{◌≡◌, ℕ, ◌+◌, ◌≤◌, List, [], ◌∷◌, map, take, length, false, Ok, Some, None, IfOk, OnOk, OnErr, is_ok};
 ghost use Rattle.std.specs.Option.{option_map_or};
 ghost use Rattle.obj_id.specs.declared.ids.JobNo.{JobNo};
 ghost use Rattle.obj_id.specs.declared.commands.CopyState.TheVariants.{Away};
@@ -104,6 +104,7 @@ pub fn pull_matches(row: &JobRow, id: &ObjectId, length: u32, digest: &Digest) -
 pub fn serve_pull(
     row: &mut JobRow,
     alloc: Global,
+    room: Result<(), AllocError>,
     node: u32,
     works: &mut Works,
     from: u32,
@@ -117,16 +118,19 @@ pub fn serve_pull(
         → RowStep node row.old (beside_of works.old grants bytes row.old.job) contents (input.Arrive (arrival.FromPeer from (peer.Pull id.now number len digest.now indexes.now))) (row_given_of o) row.new (beside_of works.new grants bytes row.old.job)) }
     ensures response { IfOk result (λ o. o.reply ≡ reply.Ok) }
     ensures bounded { IfOk result (λ o. length o.messages ≤ length row.old.copies + length indexes.now + 1) }
+    ensures unsent { IfOk result (λ o. is_ok room ≡ false → o.messages ≡ []) }
     ensures line { OnOk result (HasAsked works.old (record { 0 = row.old.job }) works.new) }
     ensures others { (other : JobNo) → same_work_job (record { 0 = row.old.job }) other ≡ false → IsSameFor other works.old works.new }
     ensures err { OnErr result (row.new ≡ row.old) }
     ensures works { OnErr result (works.new ≡ works.old) }
 {
     match pull_answer(row.copies(), id, len, digest) {
-        PullAnswer::NotHere => Ok(answered(tell_not_here(alloc, from, id, number)?)),
-        PullAnswer::Chunks => Ok(answered(chunk_messages(row, alloc, from, id, number, indexes)?)),
+        PullAnswer::NotHere => Ok(answered(tell_not_here(alloc, room, from, id, number)?)),
+        PullAnswer::Chunks => Ok(answered(chunk_messages(
+            row, alloc, room, from, id, number, indexes,
+        )?)),
         PullAnswer::Nothing => Ok(RowOutcome::only(alloc, Reply::Ok)),
-        PullAnswer::Restore => restore_quietly(row, alloc, node, works, id),
+        PullAnswer::Restore => restore_quietly(row, alloc, room, node, works, id),
     }
 }
 
@@ -134,6 +138,7 @@ pub fn serve_pull(
 fn chunk_messages(
     row: &JobRow,
     alloc: Global,
+    room: Result<(), AllocError>,
     from: u32,
     id: &ObjectId,
     number: u64,
@@ -142,7 +147,9 @@ fn chunk_messages(
     ensures ok { IfOk result (λ messages. (k : CopyView) (e : Extent) → at row.now.copies id.now ≡ Some k → extent_of k.copy ≡ Some e
         → messages ≡ chunks_to (take k.copy.length (placed_bytes e row.now.window.placed)) from id.now number indexes.now) }
     ensures bounded { IfOk result (λ messages. length messages ≤ length indexes.now) }
+    ensures unsent { IfOk result (λ messages. is_ok room ≡ false → messages ≡ []) }
 {
+    room?;
     let bytes = row.lent(id).whole(alloc)?;
     let chunks = chunks_asked(alloc, &bytes, *id, number, indexes)?;
     Ok(all_to_peer(alloc, from, chunks)?)
@@ -153,6 +160,7 @@ fn chunk_messages(
 fn restore_quietly(
     row: &mut JobRow,
     alloc: Global,
+    room: Result<(), AllocError>,
     node: u32,
     works: &mut Works,
     id: &ObjectId,
@@ -164,6 +172,7 @@ fn restore_quietly(
         → RowStep node row.old (beside_of works.old grants bytes row.old.job) contents (input.Arrive (arrival.FromPeer from (peer.Pull id.now number n digest indexes))) (row_given_of o) row.new (beside_of works.new grants bytes row.old.job)) }
     ensures response { IfOk result (λ o. o.reply ≡ reply.Ok) }
     ensures bounded { IfOk result (λ o. length o.messages ≤ length row.old.copies + 1) }
+    ensures unsent { IfOk result (λ o. is_ok room ≡ false → o.messages ≡ []) }
     ensures line { OnOk result (HasAsked works.old (record { 0 = row.old.job }) works.new) }
     ensures others { (other : JobNo) → same_work_job (record { 0 = row.old.job }) other ≡ false → IsSameFor other works.old works.new }
     ensures err { OnErr result (row.new ≡ row.old) }
@@ -171,7 +180,7 @@ fn restore_quietly(
 {
     let spill_failed = row.spill_failed();
     let job = row.job();
-    let outcome = restore(row, alloc, node, works, job, id)?;
+    let outcome = restore(row, alloc, room, node, works, job, id)?;
     row.put_spill_failed(spill_failed);
     Ok(answered(outcome.messages))
 }
@@ -190,14 +199,16 @@ fn answered(messages: ItemList<(Endpoint, Message)>) -> RowOutcome
 /// That there is no such copy, to the node that asked for it.
 fn tell_not_here(
     alloc: Global,
+    room: Result<(), AllocError>,
     from: u32,
     id: &ObjectId,
     number: u64,
 ) -> Result<ItemList<(Endpoint, Message)>, AllocError>
-    ensures { IfOk result (λ messages. messages ≡ to_peer from (peer.NotHere id.now number) ∷ []) }
+    ensures ok { IfOk result (λ messages. messages ≡ to_peer from (peer.NotHere id.now number) ∷ []) }
+    ensures unsent { IfOk result (λ messages. is_ok room ≡ false → messages ≡ []) }
 {
     let message = Message::ToPeer(PeerMessage::NotHere(*id, number));
-    RowOutcome::one_message(alloc, Endpoint::Node(from), message)
+    RowOutcome::one_message(alloc, room, Endpoint::Node(from), message)
 }
 
 /// The messages, each to the node.

@@ -1,5 +1,5 @@
 //! A copy that is away is read back.
-ghost use Rattle.std.specs.Prelude.{◌≡◌, ◌==◌, ℕ, ◌+◌, ◌<◌, ◌≤◌, List, length, true, false, Ok, Some, None, IfOk, OnOk, OnErr};
+ghost use Rattle.std.specs.Prelude.{◌≡◌, ◌==◌, ℕ, ◌+◌, ◌<◌, ◌≤◌, List, length, true, false, Ok, Some, None, IfOk, OnOk, OnErr, is_ok, []};
 ghost use Rattle.obj_id.specs.declared.ids.JobNo.{JobNo};
 ghost use Rattle.obj_id.specs.declared.commands.CopyState.TheVariants.{Away};
 ghost use Rattle.obj_id.specs.declared.commands.Command.TheVariants as command;
@@ -43,6 +43,7 @@ use std::alloc::{AllocError, Global};
 pub(crate) fn restore(
     row: &mut JobRow,
     alloc: Global,
+    room: Result<(), AllocError>,
     node: u32,
     works: &mut Works,
     job: JobNo,
@@ -54,6 +55,7 @@ pub(crate) fn restore(
         → is_remembered row.old.ended_tasks id.now.task ≡ false → IsShown row.old (beside_of works.old grants bytes row.old.job) contents
         → RowStep node row.old (beside_of works.old grants bytes row.old.job) contents (input.Call session (command.Get id.now)) (row_given_of o) row.new (beside_of works.new grants bytes row.old.job)) }
     ensures bounded { IfOk result (λ o. length o.messages ≤ length row.old.copies + 1) }
+    ensures unsent { IfOk result (λ o. is_ok room ≡ false → o.messages ≡ []) }
     ensures line { OnOk result (HasAsked works.old job works.new) }
     ensures memory_last { OnErr result (job ≡ record { 0 = row.old.job } → (id.now.job.0 == row.old.job) ≡ true → is_remembered row.old.ended_tasks id.now.task ≡ false → IsDueMore node row.old works.old (command.Get id.now)) }
     ensures others { (other : JobNo) → same_work_job job other ≡ false → IsSameFor other works.old works.new }
@@ -75,13 +77,14 @@ pub(crate) fn restore(
     if plan.makes_place() && asked == u64::MAX {
         return refuse(alloc, Refusal::TooMany);
     }
-    restore_by(row, alloc, node, works, job, id, len, plan)
+    restore_by(row, alloc, room, node, works, job, id, len, plan)
 }
 
 /// The same by this plan, which is that of the row, where neither works nor numbers are too many.
 fn restore_by(
     row: &mut JobRow,
     alloc: Global,
+    room: Result<(), AllocError>,
     node: u32,
     works: &mut Works,
     job: JobNo,
@@ -102,6 +105,7 @@ fn restore_by(
         → plan ≡ planned_by row.old.order (shape_of row.old (beside_of works.old grants bytes row.old.job)) len
         → RowStep node row.old (beside_of works.old grants bytes row.old.job) contents (input.Call session (command.Get id.now)) (row_given_of o) row.new (beside_of works.new grants bytes row.old.job)) }
     ensures bounded { IfOk result (λ o. length o.messages ≤ length row.old.copies + 1) }
+    ensures unsent { IfOk result (λ o. is_ok room ≡ false → o.messages ≡ []) }
     ensures line { OnOk result (HasAsked works.old job works.new) }
     ensures memory_last { OnErr result (refuses plan ≡ false) }
     ensures others { (other : JobNo) → same_work_job job other ≡ false → IsSameFor other works.old works.new }
@@ -110,7 +114,7 @@ fn restore_by(
 {
     match room_by(row, alloc, works, job, len, plan)? {
         MadeRoom::Place(placement) => {
-            restore_in_place(row, alloc, node, works, job, id, len, &placement)
+            restore_in_place(row, alloc, room, node, works, job, id, len, &placement)
         }
         MadeRoom::Refused(refusal) => refuse(alloc, refusal),
     }
@@ -120,6 +124,7 @@ fn restore_by(
 fn restore_in_place(
     row: &mut JobRow,
     alloc: Global,
+    room: Result<(), AllocError>,
     node: u32,
     works: &mut Works,
     job: JobNo,
@@ -140,11 +145,13 @@ fn restore_in_place(
         → MakesPlace (make_room row.old.order (shape_of row.old (beside_of works.old grants bytes row.old.job)) len) (shape_of row.old (beside_of works.old grants bytes row.old.job)) len placement.now.victims
         → RowStep node row.old (beside_of works.old grants bytes row.old.job) contents (input.Call session (command.Get id.now)) (row_given_of o) row.new (beside_of works.new grants bytes row.old.job)) }
     ensures bounded { IfOk result (λ o. length o.messages ≤ length row.old.copies + 1) }
+    ensures unsent { IfOk result (λ o. is_ok room ≡ false → o.messages ≡ []) }
     ensures line { OnOk result (HasAsked works.old job works.new) }
     ensures others { (other : JobNo) → same_work_job job other ≡ false → IsSameFor other works.old works.new }
     ensures err { OnErr result (row.new ≡ row.old) }
     ensures works { OnErr result (works.new ≡ works.old) }
 {
+    room?;
     let victims = placement.victims.as_slice();
     let messages = removals(alloc, node, row.copies(), victims)?;
     // a copy that is away has some bytes, and the plan found a place for them

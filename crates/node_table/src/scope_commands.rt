@@ -1,5 +1,5 @@
 //! The commands that say what keeps an object in scope: Unpin, Borrow, GiveUp and Delete.
-ghost use Rattle.std.specs.Prelude.{◌≡◌, ◌==◌, ◌||◌, ℕ, ◌≤◌, [], length, true, None, IfOk, OnErr};
+ghost use Rattle.std.specs.Prelude.{◌≡◌, ◌==◌, ◌||◌, ℕ, ◌≤◌, [], length, true, None, IfOk, OnErr, is_ok, false};
 ghost use Rattle.obj_id.specs.declared.commands.Command.TheVariants as command;
 ghost use Rattle.private_store.specs.declared.inputs.Input.TheVariants as input;
 ghost use Rattle.private_store.specs.rules.Contents.{Contents};
@@ -20,6 +20,7 @@ use std::alloc::{AllocError, Global};
 pub fn unpin(
     row: &mut JobRow,
     alloc: Global,
+    room: Result<(), AllocError>,
     node: u32,
     id: &ObjectId,
     task: TaskNo,
@@ -27,6 +28,7 @@ pub fn unpin(
     ensures ok { IfOk result (λ o. (session : ℕ) (beside : SharedTables) (contents : Contents) → (id.now.job.0 == row.old.job) ≡ true → IsShown row.old beside contents
         → RowStep node row.old beside contents (input.Call session (command.Unpin id.now task)) (row_given_of o) row.new beside) }
     ensures bounded { IfOk result (λ o. length o.messages ≤ 1) }
+    ensures unsent { IfOk result (λ o. is_ok room ≡ false → o.messages ≡ []) }
     ensures memory_last { OnErr result (unpin_check_lem row.old.copies id.now task ≡ None) }
     ensures err { OnErr result (row.new ≡ row.old) }
 {
@@ -34,7 +36,7 @@ pub fn unpin(
         Err(refusal) => return Ok(RowOutcome::only(alloc, Reply::Refused(refusal))),
         Ok(message) => message,
     };
-    let messages = RowOutcome::to_directory(alloc, message)?;
+    let messages = RowOutcome::to_directory(alloc, room, message)?;
     let erased = row.apply_and_settle(id, Mark::Unpinned);
     Ok(RowOutcome::done(messages, erased))
 }
@@ -70,6 +72,7 @@ pub fn borrow(
 pub fn give_up(
     row: &mut JobRow,
     alloc: Global,
+    room: Result<(), AllocError>,
     node: u32,
     id: &ObjectId,
     task: TaskNo,
@@ -77,6 +80,7 @@ pub fn give_up(
     ensures ok { IfOk result (λ o. (session : ℕ) (beside : SharedTables) (contents : Contents) → (id.now.job.0 == row.old.job) ≡ true → IsShown row.old beside contents
         → RowStep node row.old beside contents (input.Call session (command.GiveUp id.now task)) (row_given_of o) row.new beside) }
     ensures bounded { IfOk result (λ o. length o.messages ≤ 1) }
+    ensures unsent { IfOk result (λ o. is_ok room ≡ false → o.messages ≡ []) }
     ensures memory_last { OnErr result (give_up_check_lem row.old.copies id.now task ≡ None) }
     ensures err { OnErr result (row.new ≡ row.old) }
 {
@@ -84,7 +88,7 @@ pub fn give_up(
         Err(refusal) => return Ok(RowOutcome::only(alloc, Reply::Refused(refusal))),
         Ok(message) => message,
     };
-    let messages = RowOutcome::to_directory(alloc, message)?;
+    let messages = RowOutcome::to_directory(alloc, room, message)?;
     let erased = row.apply_and_settle(id, Mark::GivenUp(task));
     Ok(RowOutcome::done(messages, erased))
 }
@@ -94,12 +98,14 @@ pub fn give_up(
 pub fn delete(
     row: &mut JobRow,
     alloc: Global,
+    room: Result<(), AllocError>,
     node: u32,
     id: &ObjectId,
 ) -> Result<RowOutcome, AllocError>
     ensures ok { IfOk result (λ o. (session : ℕ) (beside : SharedTables) (contents : Contents) → (id.now.job.0 == row.old.job) ≡ true → IsShown row.old beside contents
         → RowStep node row.old beside contents (input.Call session (command.Delete id.now)) (row_given_of o) row.new beside) }
     ensures bounded { IfOk result (λ o. length o.messages ≤ 1) }
+    ensures unsent { IfOk result (λ o. is_ok room ≡ false → o.messages ≡ []) }
     ensures memory_last { OnErr result (delete_check_lem row.old.copies id.now ≡ None) }
     ensures err { OnErr result (row.new ≡ row.old) }
 {
@@ -107,7 +113,7 @@ pub fn delete(
         Err(refusal) => return Ok(RowOutcome::only(alloc, Reply::Refused(refusal))),
         Ok(message) => message,
     };
-    let messages = RowOutcome::to_directory(alloc, message)?;
+    let messages = RowOutcome::to_directory(alloc, room, message)?;
     let erased = row.apply_and_settle(id, Mark::Doomed);
     Ok(RowOutcome::done(messages, erased))
 }

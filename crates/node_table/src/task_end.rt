@@ -1,5 +1,5 @@
 //! EndTask: a task of the job ends.
-ghost use Rattle.std.specs.Prelude.{◌≡◌, ℕ, None, map, fold, length, IfOk, OnErr, ◌++◌, ◌+◌, ◌*◌, ◌≤◌, ◌<◌, vec_len, vec_capacity, option_to_list, option_map};
+ghost use Rattle.std.specs.Prelude.{◌≡◌, ℕ, None, map, fold, length, IfOk, OnErr, ◌++◌, ◌+◌, ◌*◌, ◌≤◌, ◌<◌, vec_len, vec_capacity, option_to_list, option_map, is_ok, false, []};
 ghost use Rattle.std.specs.Option.{option_map_or};
 ghost use Rattle.obj_id.specs.declared.commands.Command.TheVariants as command;
 ghost use Rattle.obj_id.specs.declared.commands.Reply.TheVariants as reply;
@@ -28,6 +28,7 @@ use std::alloc::{AllocError, Global};
 pub fn end_task(
     row: &mut JobRow,
     alloc: Global,
+    room: Result<(), AllocError>,
     node: u32,
     task: TaskNo,
 ) -> Result<RowOutcome, AllocError>
@@ -35,12 +36,14 @@ pub fn end_task(
         → RowStep node row.old beside contents (input.Call session (command.EndTask task)) (row_given_of o) row.new (beside_after row.old task beside)) }
     ensures reply { IfOk result (λ o. o.reply ≡ option_map_or reply.Refused (end_task_check_lem row.old task) reply.Ok) }
     ensures bounded { IfOk result (λ o. length o.messages ≤ 2 * length row.old.copies) }
+    ensures unsent { IfOk result (λ o. is_ok room ≡ false → o.messages ≡ []) }
     ensures memory_last { OnErr result (end_task_check_lem row.old task ≡ None) }
     ensures err { OnErr result (row.new ≡ row.old) }
 {
     if let Some(refusal) = row.end_task_check(task) {
         return Ok(RowOutcome::only(alloc, Reply::Refused(refusal)));
     }
+    room?;
     let items = row.copies().items(alloc)?;
     let keys = keys_with_ids(row, alloc, items.as_slice())?;
     let mut messages = Vec::with_capacity(alloc, 2 * row.copies().len())?;

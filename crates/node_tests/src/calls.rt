@@ -18,25 +18,14 @@ const ZEROS: JobKey = JobKey([0; 32]);
 /// A length that no Read may carry.
 const LONG: usize = 65_552;
 
-/// What the event gives, which is taken once more if memory ran out: then nothing has changed.
-pub(crate) fn taken(
-    rt: &impl Abort,
-    node: &mut Node,
-    event: &Event,
-) -> Result<NodeOutcome, AllocError> {
-    let before = usages(node);
-    match node.apply(event) {
-        Ok(outcome) => Ok(outcome),
-        Err(_) => {
-            same!(rt; usages(node), before);
-            node.apply(event)
-        }
-    }
+/// What the event gives.
+pub(crate) fn taken(node: &mut Node, event: &Event) -> Result<NodeOutcome, AllocError> {
+    node.apply(event, Ok(()))
 }
 
 /// Gives the node an event that it doesn't refuse.
 pub(crate) fn accepted(rt: &impl Abort, node: &mut Node, event: &Event) -> Result<(), AllocError> {
-    let outcome = taken(rt, node, event)?;
+    let outcome = taken(node, event)?;
     holds!(rt; !matches!(outcome.reply, Reply::Refused(_)));
     Ok(())
 }

@@ -65,10 +65,7 @@ fn described(alloc: Global, most: usize, outcome: &NodeOutcome) -> Result<String
     let response = reply_word(&outcome.reply);
     let judged = word_of(&outcome.judged);
     let bytes = bytes_of(&outcome.judged);
-    match format!(in alloc; "{most} {sent} {response} {judged} {bytes}") {
-        Ok(text) => Ok(text),
-        Err(_) => format!(in alloc; "{most} {sent} {response} {judged} {bytes}"),
-    }
+    format!(in alloc; "{most} {sent} {response} {judged} {bytes}")
 }
 
 /// The job whose work the reply gives: 0 if it gives none.
@@ -85,7 +82,7 @@ fn check_row(rt: &impl Abort, alloc: Global, node: &mut Node, row: &str) -> Resu
     let event = event_of(rt, alloc, line)?;
     let most = node.foresee(&event).most_messages;
     let in_turn = node.job_in_turn();
-    let outcome = taken(rt, node, &event)?;
+    let outcome = taken(node, &event)?;
     if matches!(&event, Event::Take) {
         same!(rt; job_given(&outcome.reply), in_turn);
     }

@@ -21,13 +21,9 @@ const QUOTA: Quota = Quota {
     device: 64,
 };
 
-/// The receipt of a step, which is made once more if memory ran out.
+/// The receipt of a step.
 fn stepped<L: Ledger>(kept: &mut Kept<L>, event: &Event) -> Result<Receipt<L>, Fail> {
-    let made = match kept.step(event) {
-        Ok(made) => made,
-        Err(_) => kept.step(event).ok().ok_or("no step")?,
-    };
-    Ok(made.into_parts().receipt)
+    Ok(kept.step(event)?.into_parts().receipt)
 }
 
 fn called<L: Ledger>(kept: &mut Kept<L>, command: Command<Bytes>) -> Result<(), Fail> {
@@ -73,21 +69,9 @@ fn ask_for_a_work<L: Ledger>(kept: &mut Kept<L>) -> Result<(), Fail> {
     )
 }
 
-/// Folds the job's list, once more if memory ran out.
-fn fold<L: Ledger>(kept: &mut Kept<L>) -> Result<(), Fail> {
-    if kept.checkpoint(JOB).is_err() {
-        kept.checkpoint(JOB).ok().ok_or("no fold")?;
-    }
-    Ok(())
-}
-
 /// Whether the journal lists the number 0 and the job, in this order.
 fn lists_both<L: Ledger>(kept: &Kept<L>) -> Result<bool, Fail> {
-    let jobs = match kept.jobs() {
-        Ok(jobs) => jobs,
-        Err(_) => kept.jobs()?,
-    };
-    Ok(jobs.as_slice() == [NO_JOB, JOB].as_slice())
+    Ok(kept.jobs()?.as_slice() == [NO_JOB, JOB].as_slice())
 }
 
 /// The job that a Take's entry stands under.
@@ -113,7 +97,7 @@ fn check_fold<L: Ledger, R: Abort>(
 ) -> Result<(), Fail> {
     same!(rt; (given.job(), given.number()), (JOB, 6));
     same!(rt; said_of(kept, given), (Agreement::Yes, 0, 5));
-    fold(kept)?;
+    kept.checkpoint(JOB)?;
     same!(rt; said_of(kept, given), (Agreement::Folded, 6, 0));
     Ok(())
 }

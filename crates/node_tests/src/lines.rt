@@ -5,17 +5,9 @@ use schedule_text::{Line, read_line};
 use std::alloc::{AllocError, Global};
 use std::process::Abort;
 
-/// What the line says, asked for once more if memory ran out.
-fn read(alloc: Global, line: &str) -> Result<Option<Line>, AllocError> {
-    match read_line(alloc, line, 2) {
-        Ok(read) => Ok(read),
-        Err(_) => read_line(alloc, line, 2),
-    }
-}
-
 /// The event that the line spells; the answer of a work is that it was done.
 pub(crate) fn event_of(rt: &impl Abort, alloc: Global, line: &str) -> Result<Event, AllocError> {
-    match read(alloc, line)? {
+    match read_line(alloc, line, 2)? {
         Some(Line::Step(Step::At(_, event))) => Ok(event),
         Some(Line::Finish { job, number, .. }) => {
             Ok(Event::Finish {

@@ -6,10 +6,11 @@ use bytes::Bytes;
 use node_core::{Erase, Node};
 use obj_id::{DeviceAnswer, JobNo, ObjectId, Refusal, Reply, TaskNo, Work};
 use private_store::Event;
-use spill_device::{FileDevice, SpillDevice};
-use std::alloc::Global;
+use spill_device::{DeviceFault, FileDevice, SpillDevice};
+use std::alloc::{AllocError, Global};
 use std::process::{self, Abort};
 use std::rt::{Env, Files};
+use std::test::Fail;
 use std::{env, fs};
 
 /// The file of the job's first work.
@@ -37,44 +38,56 @@ const SECOND: &str = "\
 cmd 0 1 1 create t1.2 32
 cmd 0 1 1 seal t1.2";
 
-// Each of these gives nothing if memory ran out, or a file failed.
-
 /// A folder of this test's own that isn't there.
-fn own_folder<R: Files + Env + AllocGlobal>(rt: &R, process: u32) -> Option<String> {
-    let temporary = env::temp_dir(rt).ok()?;
+fn own_folder<R: Files + Env + AllocGlobal>(rt: &R, process: u32) -> Result<String, Fail> {
+    let temporary = env::temp_dir(rt)?;
     let below = temporary.as_str();
-    let folder = format!(in rt.alloc(); "{below}/restoring-{process}").ok()?;
+    let folder = format!(in rt.alloc(); "{below}/restoring-{process}")?;
     let _ = fs::remove_dir_all(rt, folder.as_str());
-    Some(folder)
+    Ok(folder)
 }
 
 /// Gives the node the events of these lines, none of which it refuses.
-fn carry_out(rt: &impl Abort, alloc: Global, node: &mut Node, lines: &str) -> Option<()> {
+fn carry_out(
+    rt: &impl Abort,
+    alloc: Global,
+    node: &mut Node,
+    lines: &str,
+) -> Result<(), AllocError> {
     for line in lines.lines() {
-        let event = event_of(rt, alloc, line).ok()?;
-        accepted(rt, node, &event).ok()?;
+        let event = event_of(rt, alloc, line)?;
+        accepted(rt, node, &event)?;
     }
-    Some(())
+    Ok(())
 }
 
 /// Gives the node the line's event, which is refused so.
-fn refuse(rt: &impl Abort, alloc: Global, node: &mut Node, line: &str, due: Refusal) -> Option<()> {
-    let event = event_of(rt, alloc, line).ok()?;
-    let outcome = taken(rt, node, &event).ok()?;
+fn refuse(
+    rt: &impl Abort,
+    alloc: Global,
+    node: &mut Node,
+    line: &str,
+    due: Refusal,
+) -> Result<(), AllocError> {
+    let event = event_of(rt, alloc, line)?;
+    let outcome = taken(node, &event)?;
     holds!(rt; matches!(outcome.reply, Reply::Refused(refusal) if refusal == due));
-    Some(())
+    Ok(())
 }
 
 /// What the device does for a work.
-fn answer_of<D: SpillDevice>(device: &mut D, work: &Work<Bytes>) -> Option<DeviceAnswer> {
+fn answer_of<D: SpillDevice>(
+    device: &mut D,
+    work: &Work<Bytes>,
+) -> Result<DeviceAnswer, DeviceFault> {
     match &work.payload {
         Some(bytes) => {
-            device.write(work.key, bytes.as_slice()).ok()?;
-            Some(DeviceAnswer::Done)
+            device.write(work.key, bytes.as_slice())?;
+            Ok(DeviceAnswer::Done)
         }
         None => {
-            let bytes = device.read(work.key, work.length).ok()?;
-            Some(DeviceAnswer::Bytes(bytes))
+            let bytes = device.read(work.key, work.length)?;
+            Ok(DeviceAnswer::Bytes(bytes))
         }
     }
 }
@@ -84,9 +97,9 @@ fn finish_of<D: SpillDevice>(
     rt: &impl Abort,
     device: &mut D,
     reply: &Reply<Bytes>,
-) -> Option<Event> {
+) -> Result<Event, DeviceFault> {
     match reply {
-        Reply::Work(work) => Some(Event::Finish {
+        Reply::Work(work) => Ok(Event::Finish {
             job: work.job,
             number: work.number,
             answer: answer_of(device, work)?,
@@ -96,10 +109,11 @@ fn finish_of<D: SpillDevice>(
 }
 
 /// Takes the work in turn, and answers it by what the device does.
-fn work_once<D: SpillDevice>(rt: &impl Abort, node: &mut Node, device: &mut D) -> Option<()> {
-    let outcome = taken(rt, node, &Event::Take).ok()?;
+fn work_once<D: SpillDevice>(rt: &impl Abort, node: &mut Node, device: &mut D) -> Result<(), Fail> {
+    let outcome = taken(node, &Event::Take)?;
     let finish = finish_of(rt, device, &outcome.reply)?;
-    accepted(rt, node, &finish).ok()
+    accepted(rt, node, &finish)?;
+    Ok(())
 }
 
 /// Reads the first object back from its file, which has these bytes.
@@ -110,8 +124,8 @@ fn read_back<R: Files + Abort, D: SpillDevice>(
     device: &mut D,
     file: &str,
     bytes: &str,
-) -> Option<()> {
-    fs::write(rt, file, bytes).ok()?;
+) -> Result<(), Fail> {
+    fs::write(rt, file, bytes)?;
     refuse(rt, alloc, node, GET, Refusal::Pending)?;
     work_once(rt, node, device)
 }
@@ -123,13 +137,13 @@ fn restore<R: Files + Abort, D: SpillDevice>(
     node: &mut Node,
     device: &mut D,
     file: &str,
-) -> Option<()> {
+) -> Result<(), Fail> {
     read_back(rt, alloc, node, device, file, DAMAGED)?;
     refuse(rt, alloc, node, GET, Refusal::Damaged)?;
     read_back(rt, alloc, node, device, file, WRITTEN)?;
     carry_out(rt, alloc, node, GET)?;
     holds!(rt; is_restored(node));
-    Some(())
+    Ok(())
 }
 
 /// Whether session 1 holds the first object with the bytes that were written.
@@ -144,23 +158,32 @@ fn is_restored(node: &Node) -> bool {
 }
 
 /// Erases the files of these keys, of which there are two.
-fn erase_both<D: SpillDevice>(rt: &impl Abort, device: &mut D, erase: &Erase) -> Option<()> {
+fn erase_both<D: SpillDevice>(
+    rt: &impl Abort,
+    device: &mut D,
+    erase: &Erase,
+) -> Result<(), DeviceFault> {
     match erase {
         Erase::Many(keys) => {
             same!(rt; keys.as_slice().len(), 2);
             for key in keys.as_slice() {
-                device.erase(*key).ok()?;
+                device.erase(*key)?;
             }
-            Some(())
+            Ok(())
         }
         _ => panic!(rt; "not both keys"),
     }
 }
 
 /// Ends the job, and erases the files of both works.
-fn end_and_erase<D: SpillDevice>(rt: &impl Abort, node: &mut Node, device: &mut D) -> Option<()> {
-    let outcome = taken(rt, node, &Event::JobEnd(JobNo(1))).ok()?;
-    erase_both(rt, device, &outcome.erase)
+fn end_and_erase<D: SpillDevice>(
+    rt: &impl Abort,
+    node: &mut Node,
+    device: &mut D,
+) -> Result<(), Fail> {
+    let outcome = taken(node, &Event::JobEnd(JobNo(1)))?;
+    erase_both(rt, device, &outcome.erase)?;
+    Ok(())
 }
 
 /// Two objects of a window with room for one: both are written to files, and the first is read back.
@@ -170,7 +193,7 @@ fn spill_and_restore<R: Files + Abort, D: SpillDevice>(
     node: &mut Node,
     device: &mut D,
     file: &str,
-) -> Option<()> {
+) -> Result<(), Fail> {
     carry_out(rt, alloc, node, FIRST)?;
     refuse(rt, alloc, node, CREATE, Refusal::Pending)?;
     work_once(rt, node, device)?;
@@ -186,8 +209,8 @@ fn try_device<R: Files + AllocGlobal + Clone + Drop + Abort>(
     rt: &R,
     folder: &str,
     file: &str,
-) -> Option<()> {
-    let mut device = FileDevice::new(rt.clone().ok()?, folder).ok()?;
+) -> Result<(), Fail> {
+    let mut device = FileDevice::new(rt.clone()?, folder)?;
     let mut node = Node::new(rt.alloc(), 0, 1_024);
     spill_and_restore(rt, rt.alloc(), &mut node, &mut device, file)
 }
@@ -196,19 +219,18 @@ fn try_device<R: Files + AllocGlobal + Clone + Drop + Abort>(
 fn try_files<R: Files + Env + AllocGlobal + Clone + Drop + Abort>(
     rt: &R,
     process: u32,
-) -> Option<()> {
+) -> Result<(), Fail> {
     let folder = own_folder(rt, process)?;
     let below = folder.as_str();
-    let file = format!(in rt.alloc(); "{below}/{FILE}").ok()?;
+    let file = format!(in rt.alloc(); "{below}/{FILE}")?;
     try_device(rt, folder.as_str(), file.as_str())?;
-    fs::remove_dir(rt, folder.as_str()).ok()
+    fs::remove_dir(rt, folder.as_str())?;
+    Ok(())
 }
 
-/// Tried once more if memory ran out.
 #[test]
-fn a_copy_is_read_back_from_its_file_and_both_files_are_erased(rt: HostRuntime) {
-    let process = process::id(rt.process());
-    if try_files(&rt, process).is_none() {
-        same!(rt; try_files(&rt, process), Some(()));
-    }
+fn a_copy_is_read_back_from_its_file_and_both_files_are_erased(
+    rt: HostRuntime,
+) -> Result<(), Fail> {
+    try_files(&rt, process::id(rt.process()))
 }

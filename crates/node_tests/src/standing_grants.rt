@@ -14,39 +14,20 @@ fn object(job: u32, task: u64) -> Result<ObjectId, Refusal> {
     ObjectId::new(TaskNo::numbered(task), JobNo(job), 1)
 }
 
-/// Grants, once more if memory ran out: then nothing has changed.
-fn grant(
-    rt: &impl Abort,
-    grants: &mut Grants,
-    grantor: u32,
-    id: ObjectId,
-    target: u32,
-) -> Result<(), Refusal> {
-    let given = match grants.grant(JobNo(grantor), id, JobNo(target)) {
-        Err(Refusal::NoMemory) => {
-            holds!(rt; !grants.has_given(JobNo(grantor), id, JobNo(target)));
-            grants.grant(JobNo(grantor), id, JobNo(target))
-        }
-        response => response,
-    };
-    given.map(|_| ())
+// What a table of grants promises is long. The tests call it by these, which promise nothing.
+
+fn grant(grants: &mut Grants, grantor: u32, id: ObjectId, target: u32) -> Result<(), Refusal> {
+    grants.grant(JobNo(grantor), id, JobNo(target))?;
+    Ok(())
 }
 
-/// Withdraws, once more if memory ran out.
 fn withdraw(
-    rt: &impl Abort,
     grants: &mut Grants,
     grantor: u32,
     id: ObjectId,
     target: u32,
 ) -> Result<ItemList<StandingGrant>, Refusal> {
-    match grants.withdraw(JobNo(grantor), id, JobNo(target)) {
-        Err(Refusal::NoMemory) => {
-            holds!(rt; grants.has_given(JobNo(grantor), id, JobNo(target)));
-            grants.withdraw(JobNo(grantor), id, JobNo(target))
-        }
-        response => response,
-    }
+    grants.withdraw(JobNo(grantor), id, JobNo(target))
 }
 
 /// Whether these are the grants, each as grantor, grantee and depth.
@@ -88,39 +69,37 @@ fn depths(grants: &Grants, id: ObjectId) -> [u32; 4] {
 
 /// Grants the object once for each of these: grantor and grantee.
 fn grant_all(
-    rt: &impl Abort,
     grants: &mut Grants,
     id: ObjectId,
     given_grants: &[(u32, u32)],
 ) -> Result<(), Refusal> {
     for (grantor, target) in given_grants {
-        grant(rt, grants, *grantor, id, *target)?;
+        grant(grants, *grantor, id, *target)?;
     }
     Ok(())
 }
 
 /// Whether the withdrawal of a grant ends these.
 fn ends(
-    rt: &impl Abort,
     grants: &mut Grants,
     id: ObjectId,
     (grantor, target): (u32, u32),
     ended: &[(u32, u32, u32)],
 ) -> Result<bool, Refusal> {
-    Ok(are(withdraw(rt, grants, grantor, id, target)?.as_slice(), ended))
+    Ok(are(withdraw(grants, grantor, id, target)?.as_slice(), ended))
 }
 
 /// Job 3 hands on along the older of its grants, and then along the other.
 fn hand_on(rt: &impl Abort, grants: &mut Grants, id: ObjectId) -> Result<(), Refusal> {
-    grant_all(rt, grants, id, &[(1, 2), (2, 3), (1, 3), (3, 4)])?;
+    grant_all(grants, id, &[(1, 2), (2, 3), (1, 3), (3, 4)])?;
     same!(rt; depths(grants, id), [0, 1, 2, 3]);
-    same!(rt; grant(rt, grants, 4, id, 2), Err(Refusal::TooMany));
+    same!(rt; grant(grants, 4, id, 2), Err(Refusal::TooMany));
     let first = [(1, 2, 1), (2, 3, 2), (3, 4, 3)];
-    holds!(rt; ends(rt, grants, id, (1, 2), &first)?);
+    holds!(rt; ends(grants, id, (1, 2), &first)?);
     same!(rt; depths(grants, id), [0, 0, 1, 0]);
-    grant(rt, grants, 3, id, 4)?;
+    grant(grants, 3, id, 4)?;
     same!(rt; (depths(grants, id), grants.is_granted(id)), ([0, 0, 1, 2], true));
-    holds!(rt; ends(rt, grants, id, (1, 3), &[(1, 3, 1), (3, 4, 2)])?);
+    holds!(rt; ends(grants, id, (1, 3), &[(1, 3, 1), (3, 4, 2)])?);
     holds!(rt; !grants.is_granted(id));
     Ok(())
 }
@@ -135,8 +114,8 @@ fn an_object_is_handed_on_along_its_oldest_grant(rt: HostRuntime) -> Result<(), 
 
 /// A withdrawal in the middle of a chain leaves what is above.
 fn withdraw_the_middle(rt: &impl Abort, grants: &mut Grants, id: ObjectId) -> Result<(), Refusal> {
-    grant_all(rt, grants, id, &[(1, 2), (2, 3), (3, 4)])?;
-    holds!(rt; ends(rt, grants, id, (2, 3), &[(2, 3, 2), (3, 4, 3)])?);
+    grant_all(grants, id, &[(1, 2), (2, 3), (3, 4)])?;
+    holds!(rt; ends(grants, id, (2, 3), &[(2, 3, 2), (3, 4, 3)])?);
     same!(rt; depths(grants, id), [0, 1, 0, 0]);
     Ok(())
 }
@@ -151,9 +130,9 @@ fn a_withdrawal_in_the_middle_leaves_what_is_above(rt: HostRuntime) -> Result<()
 
 /// A withdrawal takes away a second grant to its own grantor.
 fn withdraw_a_ring(rt: &impl Abort, grants: &mut Grants, id: ObjectId) -> Result<(), Refusal> {
-    grant_all(rt, grants, id, &[(1, 2), (2, 3), (3, 2)])?;
+    grant_all(grants, id, &[(1, 2), (2, 3), (3, 2)])?;
     same!(rt; depths(grants, id), [0, 1, 2, 0]);
-    holds!(rt; ends(rt, grants, id, (2, 3), &[(2, 3, 2), (3, 2, 3)])?);
+    holds!(rt; ends(grants, id, (2, 3), &[(2, 3, 2), (3, 2, 3)])?);
     same!(rt; depths(grants, id), [0, 1, 0, 0]);
     Ok(())
 }
@@ -167,14 +146,14 @@ fn grants_may_run_in_a_ring(rt: HostRuntime) -> Result<(), Fail> {
 }
 
 /// What grants are answered, of the object of job 1.
-fn answers(rt: &impl Abort, grants: &mut Grants, id: ObjectId) -> [Result<(), Refusal>; 6] {
+fn answers(grants: &mut Grants, id: ObjectId) -> [Result<(), Refusal>; 6] {
     [
-        grant(rt, grants, 1, id, 0),
-        grant(rt, grants, 1, id, 1),
-        grant(rt, grants, 2, id, 1),
-        grant(rt, grants, 2, id, 3),
-        grant(rt, grants, 1, id, 2),
-        grant(rt, grants, 1, id, 2),
+        grant(grants, 1, id, 0),
+        grant(grants, 1, id, 1),
+        grant(grants, 2, id, 1),
+        grant(grants, 2, id, 3),
+        grant(grants, 1, id, 2),
+        grant(grants, 1, id, 2),
     ]
 }
 
@@ -190,8 +169,8 @@ fn a_grant_is_refused_in_the_order_of_the_rules(rt: HostRuntime) -> Result<(), F
         Ok(()),
         Err(Refusal::Exists),
     ];
-    same!(rt; answers(&rt, &mut grants, id), due);
-    let refused = withdraw(&rt, &mut grants, 2, id, 1).err();
+    same!(rt; answers(&mut grants, id), due);
+    let refused = withdraw(&mut grants, 2, id, 1).err();
     same!(rt; refused, Some(Refusal::NotGranted));
     Ok(())
 }
@@ -203,16 +182,16 @@ fn give_too_many(
     own: ObjectId,
     foreign: ObjectId,
 ) -> Result<(), Refusal> {
-    grant_all(rt, grants, foreign, &[(2, 1), (1, 3)])?;
+    grant_all(grants, foreign, &[(2, 1), (1, 3)])?;
     for target in 2..65 {
-        grant(rt, grants, 1, own, target)?;
+        grant(grants, 1, own, target)?;
     }
-    same!(rt; grant(rt, grants, 1, own, 65), Err(Refusal::TooMany));
-    same!(rt; grant(rt, grants, 1, foreign, 65), Err(Refusal::TooMany));
+    same!(rt; grant(grants, 1, own, 65), Err(Refusal::TooMany));
+    same!(rt; grant(grants, 1, foreign, 65), Err(Refusal::TooMany));
     // the limit is each grantor's own
-    grant(rt, grants, 2, foreign, 65)?;
-    withdraw(rt, grants, 1, foreign, 3)?;
-    grant(rt, grants, 1, own, 65)
+    grant(grants, 2, foreign, 65)?;
+    withdraw(grants, 1, foreign, 3)?;
+    grant(grants, 1, own, 65)
 }
 
 #[test]
@@ -223,26 +202,20 @@ fn the_65th_grant_of_a_grantor_is_refused(rt: HostRuntime) -> Result<(), Fail> {
     Ok(())
 }
 
-/// What ends with job 1, asked for once more if memory ran out.
+/// What ends with job 1.
 #[tactic(auto, using(crate::proofs::Found::found_in))]
 fn found_with_job(grants: &Grants) -> Result<EndingGrants, AllocError>
     ensures { IfOk result (λ ends. AreFoundIn grants.now ends) }
 {
-    match grants.ends_with_job(JobNo(1)) {
-        Ok(ends) => Ok(ends),
-        Err(_) => grants.ends_with_job(JobNo(1)),
-    }
+    grants.ends_with_job(JobNo(1))
 }
 
-/// What ends with the first task of job 1, asked for once more if memory ran out.
+/// What ends with the first task of job 1.
 #[tactic(auto, using(crate::proofs::Found::found_in))]
 fn found_with_task(grants: &Grants) -> Result<EndingGrants, AllocError>
     ensures { IfOk result (λ ends. AreFoundIn grants.now ends) }
 {
-    match grants.ends_with_task(JobNo(1), TaskNo::numbered(1)) {
-        Ok(ends) => Ok(ends),
-        Err(_) => grants.ends_with_task(JobNo(1), TaskNo::numbered(1)),
-    }
+    grants.ends_with_task(JobNo(1), TaskNo::numbered(1))
 }
 
 /// The end of a job ends what it gave, by depth, object, grantor and grantee.
@@ -252,8 +225,8 @@ fn end_job(
     first: ObjectId,
     second: ObjectId,
 ) -> Result<(), Refusal> {
-    grant_all(rt, grants, second, &[(1, 9), (1, 3), (3, 4)])?;
-    grant(rt, grants, 1, first, 5)?;
+    grant_all(grants, second, &[(1, 9), (1, 3), (3, 4)])?;
+    grant(grants, 1, first, 5)?;
     let ends = found_with_job(grants)?;
     holds!(rt; are(ends.grants(), &[(1, 5, 1), (1, 3, 1), (1, 9, 1), (3, 4, 2)]));
     holds!(rt; all_stand(grants, &[(1, first, 5), (1, second, 9), (3, second, 4)]));
@@ -270,22 +243,6 @@ fn ends_are_told_by_depth_object_grantor_and_grantee(rt: HostRuntime) -> Result<
     Ok(())
 }
 
-/// Ends all grants of the object, once more if memory ran out: then these grants stand.
-fn drop_object(
-    rt: &impl Abort,
-    grants: &mut Grants,
-    id: ObjectId,
-    stand: &[(u32, ObjectId, u32)],
-) -> Result<ItemList<StandingGrant>, AllocError> {
-    match grants.drop_object(id) {
-        Ok(ended) => Ok(ended),
-        Err(_) => {
-            holds!(rt; all_stand(grants, stand));
-            grants.drop_object(id)
-        }
-    }
-}
-
 /// The end of a task ends what was given of its objects, and the end of an object all of its grants.
 fn end_task(
     rt: &impl Abort,
@@ -293,15 +250,15 @@ fn end_task(
     own: ObjectId,
     foreign: ObjectId,
 ) -> Result<(), Refusal> {
-    grant_all(rt, grants, foreign, &[(2, 1), (1, 3)])?;
-    grant(rt, grants, 1, own, 3)?;
+    grant_all(grants, foreign, &[(2, 1), (1, 3)])?;
+    grant(grants, 1, own, 3)?;
     let ends = found_with_task(grants)?;
     holds!(rt; are(ends.grants(), &[(1, 3, 1)]));
     holds!(rt; all_stand(grants, &[(1, own, 3), (1, foreign, 3)]));
     grants.take_out(&ends);
     holds!(rt; !grants.has_given(JobNo(1), own, JobNo(3)));
     same!(rt; depths(grants, foreign), [1, 0, 2, 0]);
-    let ended = drop_object(rt, grants, foreign, &[(2, foreign, 1), (1, foreign, 3)])?;
+    let ended = grants.drop_object(foreign)?;
     holds!(rt; are(ended.as_slice(), &[(2, 1, 1), (1, 3, 2)]));
     Ok(())
 }
@@ -314,30 +271,6 @@ fn the_end_of_a_task_leaves_what_was_received(rt: HostRuntime) -> Result<(), Fai
     Ok(())
 }
 
-/// The grants that job 3 sees, once more if memory ran out.
-fn seen(grants: &Grants) -> Result<ItemList<StandingGrant>, AllocError> {
-    match grants.seen(JobNo(3)) {
-        Ok(seen) => Ok(seen),
-        Err(_) => grants.seen(JobNo(3)),
-    }
-}
-
-/// The grants to job 3, once more if memory ran out.
-fn received(grants: &Grants) -> Result<ItemList<StandingGrant>, AllocError> {
-    match grants.given_to(JobNo(3)) {
-        Ok(received) => Ok(received),
-        Err(_) => grants.given_to(JobNo(3)),
-    }
-}
-
-/// The grants by job 2, once more if memory ran out.
-fn given(grants: &Grants) -> Result<ItemList<StandingGrant>, AllocError> {
-    match grants.given_by(JobNo(2)) {
-        Ok(given) => Ok(given),
-        Err(_) => grants.given_by(JobNo(2)),
-    }
-}
-
 /// Of each object the oldest grant is seen, by object; grants are listed as they were given.
 fn list_all(
     rt: &impl Abort,
@@ -345,12 +278,12 @@ fn list_all(
     late: ObjectId,
     early: ObjectId,
 ) -> Result<(), Refusal> {
-    grant_all(rt, grants, late, &[(1, 2), (2, 3)])?;
-    grant(rt, grants, 2, early, 3)?;
-    grant(rt, grants, 1, late, 3)?;
-    holds!(rt; are(seen(grants)?.as_slice(), &[(2, 3, 1), (2, 3, 2)]));
-    holds!(rt; are(received(grants)?.as_slice(), &[(2, 3, 2), (2, 3, 1), (1, 3, 1)]));
-    holds!(rt; are(given(grants)?.as_slice(), &[(2, 3, 2), (2, 3, 1)]));
+    grant_all(grants, late, &[(1, 2), (2, 3)])?;
+    grant(grants, 2, early, 3)?;
+    grant(grants, 1, late, 3)?;
+    holds!(rt; are(grants.seen(JobNo(3))?.as_slice(), &[(2, 3, 1), (2, 3, 2)]));
+    holds!(rt; are(grants.given_to(JobNo(3))?.as_slice(), &[(2, 3, 2), (2, 3, 1), (1, 3, 1)]));
+    holds!(rt; are(grants.given_by(JobNo(2))?.as_slice(), &[(2, 3, 2), (2, 3, 1)]));
     Ok(())
 }
 

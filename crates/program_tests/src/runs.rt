@@ -1,10 +1,11 @@
 //! Runs over streams of which one call fails, and what is kept of their output.
 use assertions::same;
+use program_lines::Fault;
+use schedule_runs::{Keep, RunJournal, run_text};
 use session_engine::FaultyStream;
 use std::alloc::Global;
-use std::io::{self, BufReader, BufWriter, ErrorKind};
+use std::io::{self, BufReader, BufWriter};
 use std::test::Fail;
-use store_program::{Fault, Keep, RunJournal, run_text};
 use world_core::ClusterSize;
 
 const SHAPE: ClusterSize = ClusterSize {
@@ -17,23 +18,19 @@ admit 0 1 64 0
 cmd 0 1 1 usage
 ";
 
+/// More bytes than the schedule is answered: what is written to needs no more memory.
+const ROOM: usize = 64;
+
 /// How the run of the schedule ends whose read number `read`, from 1, fails, and its write number `write`; at 0 none does. The
 /// reader and the writer keep what they hand on in pieces: all is read at once, and written at the flush.
-fn run_once(alloc: Global, read: u64, write: u64) -> io::Result<Result<(), Fault>> {
+fn run(alloc: Global, read: u64, write: u64) -> io::Result<Result<(), Fault>> {
     let mut reader = BufReader::new(alloc, FaultyStream::new(SCHEDULE.as_bytes(), read))?;
-    let mut writer = BufWriter::new(alloc, FaultyStream::new(Vec::new(alloc), write))?;
+    let mut writer = BufWriter::new(
+        alloc,
+        FaultyStream::new(Vec::with_capacity(alloc, ROOM)?, write),
+    )?;
     let mut journal = RunJournal::new(alloc, Keep::Nothing)?;
     Ok(run_text(alloc, SHAPE, &mut reader, &mut writer, &mut journal))
-}
-
-/// The same, made once more if memory ran out: that of what is written to too, which is told as a failed write.
-fn run(alloc: Global, read: u64, write: u64) -> io::Result<Result<(), Fault>> {
-    match run_once(alloc, read, write) {
-        Ok(Err(Fault::NoMemory)) => run_once(alloc, read, write),
-        Ok(Err(Fault::Output)) if write == 0 => run_once(alloc, read, write),
-        Err(error) if error.kind() == ErrorKind::OutOfMemory => run_once(alloc, read, write),
-        ended => ended,
-    }
 }
 
 #[test]

@@ -4,9 +4,9 @@ use Rattle.std.specs.Prelude.{if◌then◌else◌, IfOk}
 use Rattle.store_facts.proofs.Tests.{true_false}
 use Rattle.journal_text.specs.declared.saved.JournalItem.{JournalItem}
 use Rattle.journal_text.specs.Saved.{Saved, is_folded, saved_text}
-use Rattle.store_program.specs.declared.fault.Fault.{Fault}
-use Rattle.store_program.specs.declared.fault.Fault.TheVariants.{Folded}
-use Rattle.store_program.specs.SavedRuns.{IsSavedStep}
+use Rattle.program_lines.specs.declared.fault.Fault.{Fault}
+use Rattle.program_lines.specs.declared.fault.Fault.TheVariants.{Folded}
+use Rattle.schedule_runs.specs.SavedRuns.{IsSavedStep}
 use Rattle.schedules.specs.Transcripts.{IsJournalEnding, run_ending}
 
 pub folded_ending : (journal : Option Saved) (fault : Fault) (text : List ℕ) → fault ≡ Folded → is_some journal ≡ true → ((marks : List JournalItem) → IsSavedStep true journal marks → is_folded marks ≡ true)

@@ -2,10 +2,10 @@
 use Rattle.std.specs.Prelude.{◌≡◌, ℕ, Bool, if◌then◌else◌, List, [], ◌++◌, codes, decimal, Option, None, Some, Result, Ok, Err, ⊤}
 use Rattle.journal_text.specs.declared.saved.JournalItem.{JournalItem}
 use Rattle.journal_text.specs.Saved.{Saved, IsSaved, is_folded, saved_text}
-use Rattle.store_program.specs.declared.fault.Fault.TheVariants.{Folded}
-use Rattle.store_program.specs.declared.fault.Fault.{Fault}
-use Rattle.store_program.specs.Endings.{fault_text, status_of}
-use Rattle.store_program.specs.Runs.{Ran}
+use Rattle.program_lines.specs.declared.fault.Fault.TheVariants.{Folded}
+use Rattle.program_lines.specs.declared.fault.Fault.{Fault}
+use Rattle.program_lines.specs.Endings.{fault_text, status_of}
+use Rattle.schedule_runs.specs.Runs.{Ran}
 use Rattle.journal_replay.specs.declared.fault.ReplayFault.{ReplayFault}
 use Rattle.journal_replay.specs.declared.program.Verdict.{Verdict}
 use Rattle.journal_replay.specs.declared.program.Verdict.TheVariants.{Agrees, Differs}

@@ -4,14 +4,13 @@ ghost use Rattle.journal_replay.specs.Texts.{replay_fault_text};
 ghost use Rattle.world_core.specs.Worlds.{is_shape};
 ghost use Rattle.schedules.specs.Transcripts.{IsJournalEnding, Retells, Transcribes, run_ending as run_ending_lem, replay_ending as replay_ending_lem};
 ghost use Rattle.std.specs.String.{string_bytes};
-ghost use Rattle.store_program.specs.SavedRuns.{is_asked};
+ghost use Rattle.schedule_runs.specs.SavedRuns.{is_asked};
 
 use journal_replay::{ReplayFault, Verdict, replay_text, status_of as status_of_replay};
+use program_lines::{Fault, status_of};
+use schedule_runs::{Keep, RunJournal, Task, read_task, run_text, status_of_error};
 use std::alloc::{AllocError, Global};
 use std::fmt::Write as _;
-use store_program::{
-    Fault, Keep, RunJournal, Task, read_task, run_text, status_of, status_of_error,
-};
 use world_core::ClusterSize;
 
 /// What a process with these words prints when it is given the schedule, or of a replay the journal, and what it says at

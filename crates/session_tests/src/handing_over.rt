@@ -82,14 +82,10 @@ struct Seen {
     at_wait: Option<usize>,
 }
 
-fn watched_once(alloc: Global, mut input: &[u8], failing: u32) -> Result<Seen, AllocError> {
+fn watched(alloc: Global, mut input: &[u8], failing: u32) -> Result<Seen, AllocError> {
     let handed_over = Cell::new(0);
-    let written = match Vec::with_capacity(alloc, ROOM) {
-        Ok(written) => written,
-        Err(_) => Vec::with_capacity(alloc, ROOM)?,
-    };
     let mut parcel = Parcel {
-        written,
+        written: Vec::with_capacity(alloc, ROOM)?,
         handed_over: &handed_over,
         flushes: 0,
         failing,
@@ -106,16 +102,6 @@ fn watched_once(alloc: Global, mut input: &[u8], failing: u32) -> Result<Seen, A
         handed_over: handed_over.get(),
         at_wait: watch.seen,
     })
-}
-
-/// What is seen of the session, once more if memory ran out.
-fn watched(alloc: Global, input: &[&str], failing: u32) -> Result<Seen, FromHexError> {
-    let input = bytes_of(alloc, input)?;
-    let seen = watched_once(alloc, &input, failing)?;
-    if seen.outcome != Err(SessionFault::Memory) {
-        return Ok(seen);
-    }
-    Ok(watched_once(alloc, &input, failing)?)
 }
 
 /// What is wanted of a session whose input was answered to its end.
@@ -135,8 +121,8 @@ fn look(
     failing: u32,
     wanted: Seen,
 ) -> Result<(), FromHexError> {
-    let seen = watched(alloc, input, failing)?;
-    same!(rt; seen, wanted);
+    let input = bytes_of(alloc, input)?;
+    same!(rt; watched(alloc, &input, failing)?, wanted);
     Ok(())
 }
 

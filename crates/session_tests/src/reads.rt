@@ -6,7 +6,6 @@ use hex::FromHexError;
 use session_engine::{Ended, SessionFault, serve};
 use std::alloc::Global;
 use std::io::{self, Read, Write};
-use std::process::Abort;
 use std::test::Fail;
 
 /// A writer that only counts: what it takes, and how often it is asked to hand that over.
@@ -68,16 +67,9 @@ impl Read for Trickle {
     }
 }
 
-fn trickled(alloc: Global) -> Seen {
-    served_over(alloc, &mut Trickle { left: 200_000 })
-}
-
 #[test]
 fn a_session_is_answered_however_often_it_reads(rt: HostRuntime) -> Result<(), Fail> {
-    let mut found = trickled(rt.alloc());
-    if found.outcome == Err(SessionFault::Memory) {
-        found = trickled(rt.alloc());
-    }
+    let found = served_over(rt.alloc(), &mut Trickle { left: 200_000 });
     // a refusal of 6 bytes to each frame of 5, and the read that tells the end
     let wanted = Seen {
         outcome: Ok(Ended::Clean),
@@ -109,23 +101,15 @@ impl<'a> Read for Rooms<'a> {
     }
 }
 
-fn rooms_of(alloc: Global, pieces: &[&[u8]]) -> [usize; 4] {
+/// The room of each read of a session that is answered to its end.
+fn rooms_of(alloc: Global, pieces: &[&[u8]]) -> Result<[usize; 4], SessionFault> {
     let mut reader = Rooms {
         pieces,
         rooms: [0; 4],
         reads: 0,
     };
-    let _ = served_over(alloc, &mut reader);
-    reader.rooms
-}
-
-/// The room of each read, once more if memory may have run out.
-fn look_at_rooms(rt: &impl Abort, alloc: Global, pieces: &[&[u8]], wanted: [usize; 4]) {
-    let mut found = rooms_of(alloc, pieces);
-    if found != wanted {
-        found = rooms_of(alloc, pieces);
-    }
-    same!(rt; found, wanted);
+    served_over(alloc, &mut reader).outcome?;
+    Ok(reader.rooms)
 }
 
 #[test]
@@ -135,40 +119,24 @@ fn little_is_read_at_once_until_a_hello_is_accepted(rt: HostRuntime) -> Result<(
     let hello = bytes_of(alloc, &[HELLO])?;
     let stranger = bytes_of(alloc, &[HELLO_WITH_ANOTHER_KEY])?;
     let pieces = [get.as_slice(), stranger.as_slice(), get.as_slice()];
-    look_at_rooms(&rt, alloc, &pieces, [4_096; 4]);
+    same!(rt; rooms_of(alloc, &pieces), Ok([4_096; 4]));
     let pieces = [get.as_slice(), hello.as_slice(), get.as_slice()];
-    look_at_rooms(&rt, alloc, &pieces, [4_096, 4_096, 65_536, 65_536]);
+    same!(rt; rooms_of(alloc, &pieces), Ok([4_096, 4_096, 65_536, 65_536]));
     Ok(())
 }
 
-/// More bytes than any long piece here has.
-const LONG: usize = 10_010;
-
 /// The bytes of these frames, and then 2,000 Leaves.
 fn with_leaves(alloc: Global, texts: &[&str]) -> Result<Vec<u8>, FromHexError> {
-    let first = bytes_of(alloc, texts)?;
-    let mut bytes = match Vec::with_capacity(alloc, LONG) {
-        Ok(bytes) => bytes,
-        Err(_) => Vec::with_capacity(alloc, LONG)?,
-    };
-    bytes.extend_from_slice(&first)?;
+    let mut bytes = bytes_of(alloc, texts)?;
     for _ in 0..2_000 {
         bytes.extend_from_slice(&LEAVE_FRAME)?;
     }
     Ok(bytes)
 }
 
+/// What is seen of a session whose input comes in two pieces.
 fn pieced(alloc: Global, first: &[u8], second: &[u8]) -> Seen {
     served_over(alloc, &mut Read::chain(first, second))
-}
-
-/// What is seen of a session whose input comes in two pieces, once more if memory ran out.
-fn look_at_pieces(rt: &impl Abort, alloc: Global, first: &[u8], second: &[u8], wanted: Seen) {
-    let mut found = pieced(alloc, first, second);
-    if found.outcome == Err(SessionFault::Memory) {
-        found = pieced(alloc, first, second);
-    }
-    same!(rt; found, wanted);
 }
 
 #[test]
@@ -181,7 +149,7 @@ fn a_long_piece_is_answered_in_one(rt: HostRuntime) -> Result<(), Fail> {
         written: 5 + 2_000 * 5,
         flushes: 3,
     };
-    look_at_pieces(&rt, alloc, &hello, &leaves, wanted);
+    same!(rt; pieced(alloc, &hello, &leaves), wanted);
     // what stands after a fault isn't answered, though it is most of the piece
     let no_frame = with_leaves(alloc, &[NO_KIND])?;
     let wanted = Seen {
@@ -189,6 +157,6 @@ fn a_long_piece_is_answered_in_one(rt: HostRuntime) -> Result<(), Fail> {
         written: 5 + 6,
         flushes: 2,
     };
-    look_at_pieces(&rt, alloc, &hello, &no_frame, wanted);
+    same!(rt; pieced(alloc, &hello, &no_frame), wanted);
     Ok(())
 }

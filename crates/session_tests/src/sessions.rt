@@ -63,21 +63,13 @@ const BYTES: &str = "000007d183";
 const MALFORMED: &str = "000000028f14";
 
 /// The bytes of all texts, one after another.
-fn joined(alloc: Global, texts: &[&str]) -> Result<Vec<u8>, FromHexError> {
+pub(crate) fn bytes_of(alloc: Global, texts: &[&str]) -> Result<Vec<u8>, FromHexError> {
     let mut bytes = Vec::new(alloc);
     for text in texts {
         let part = hex::decode(alloc, *text)?;
         bytes.extend_from_slice(&part)?;
     }
     Ok(bytes)
-}
-
-/// The same, once more if memory ran out.
-pub(crate) fn bytes_of(alloc: Global, texts: &[&str]) -> Result<Vec<u8>, FromHexError> {
-    match joined(alloc, texts) {
-        Err(FromHexError::OutOfMemory) => joined(alloc, texts),
-        made => made,
-    }
 }
 
 /// A reader that gives so many bytes at once, at most.
@@ -144,12 +136,8 @@ struct Outbox {
 
 impl Outbox {
     fn new(alloc: Global) -> Result<Outbox, AllocError> {
-        let written = match Vec::with_capacity(alloc, ROOM) {
-            Ok(written) => written,
-            Err(_) => Vec::with_capacity(alloc, ROOM)?,
-        };
         Ok(Outbox {
-            written,
+            written: Vec::with_capacity(alloc, ROOM)?,
             handed_over: 0,
         })
     }
@@ -192,7 +180,7 @@ impl Write for Sips {
     }
 }
 
-fn session_once(alloc: Global, input: &[u8], way: Way) -> Result<Session, AllocError> {
+fn session_over(alloc: Global, input: &[u8], way: Way) -> Result<Session, AllocError> {
     let cut = way.cut.min(input.len());
     let pieces = Read::chain(&input[..cut], &input[cut..]);
     let drip = Drip {
@@ -215,7 +203,7 @@ fn session_once(alloc: Global, input: &[u8], way: Way) -> Result<Session, AllocE
     })
 }
 
-/// A session, once more if memory ran out: what was written then is a beginning.
+/// A session: what it wrote is a beginning of the whole answer, also if memory ran out, which is an error.
 fn served(
     rt: &impl Abort,
     alloc: Global,
@@ -223,13 +211,11 @@ fn served(
     way: Way,
     whole: &[u8],
 ) -> Result<Session, AllocError> {
-    let session = session_once(alloc, input, way)?;
+    let session = session_over(alloc, input, way)?;
     look_at(rt, &session, whole);
-    if session.outcome != Err(SessionFault::Memory) {
-        return Ok(session);
+    if session.outcome == Err(SessionFault::Memory) {
+        return Err(AllocError);
     }
-    let session = session_once(alloc, input, way)?;
-    look_at(rt, &session, whole);
     Ok(session)
 }
 
@@ -477,9 +463,7 @@ fn an_answer_goes_on_after_short_writes(rt: HostRuntime) -> Result<(), Fail> {
 /// The answers to a Hello and a Read.
 fn long_answers(alloc: Global) -> Result<Vec<u8>, FromHexError> {
     let mut whole = bytes_of(alloc, &[OK, BYTES])?;
-    if whole.extend_from_slice(&PAGE).is_err() {
-        whole.extend_from_slice(&PAGE)?;
-    }
+    whole.extend_from_slice(&PAGE)?;
     Ok(whole)
 }
 
@@ -513,10 +497,7 @@ fn faults_are_told_in_words(rt: HostRuntime) -> Result<(), Fail> {
         (SessionFault::Memory, "no memory for the session"),
     ];
     for (fault, text) in texts {
-        let response = match format!(in alloc; "{fault}") {
-            Ok(response) => response,
-            Err(_) => format!(in alloc; "{fault}")?,
-        };
+        let response = format!(in alloc; "{fault}")?;
         same!(rt; response.as_str(), text);
     }
     Ok(())

@@ -15,8 +15,8 @@ use Rattle.node_journal.specs.Journals.{entry_for, event_name, is_call}
 use Rattle.session_threads.specs.Witnesses.{IsCalledBy, Witness}
 
 pub called_by : (works : List Queued) (e : Event) (response : Reply (List ℕ)) (w : Witness) (number : ℕ) (was : Option Judged) → w.job.0 ≡ job_at works (Own e) → w.entry ≡ entry_for number (event_name (Own e)) was response
-    → IsCallJudged e was → (is_call e ≡ true → wants_memory response ≡ false) → IsCalledBy e response w
-called_by works (event.Call job session c) response w number was of_job entry judged answered =
+    → w.asked ≡ e → w.whole ≡ response → IsCallJudged e was → (is_call e ≡ true → wants_memory response ≡ false) → IsCalledBy e response w
+called_by works (event.Call job session c) response w number was of_job entry asked whole judged answered =
     let numbered : ℕ → JobNo = λ n. record { 0 = n } in (
       answered refl,
       record {
@@ -24,13 +24,15 @@ called_by works (event.Call job session c) response w number was of_job entry ju
         named = ap (λ (e : Entry). e.event) entry;
         input = ap (λ (e : Entry). e.input) entry ∙ judged;
         answer = ap (λ (e : Entry). e.reply) entry;
+        asked = asked;
+        whole = whole;
       },
     )
-called_by works (event.Admit job quota key) response w number was of_job entry judged answered = tt
-called_by works (event.Requota job quota) response w number was of_job entry judged answered = tt
-called_by works (event.JobEnd job) response w number was of_job entry judged answered = tt
-called_by works event.Take response w number was of_job entry judged answered = tt
-called_by works (event.Finish job number' a) response w number was of_job entry judged answered = tt
+called_by works (event.Admit job quota key) response w number was of_job entry asked whole judged answered = tt
+called_by works (event.Requota job quota) response w number was of_job entry asked whole judged answered = tt
+called_by works (event.JobEnd job) response w number was of_job entry asked whole judged answered = tt
+called_by works event.Take response w number was of_job entry asked whole judged answered = tt
+called_by works (event.Finish job number' a) response w number was of_job entry asked whole judged answered = tt
 
 pub small_call : (e : Event) (response : Reply (List ℕ)) → (is_call e ≡ true → is_small_reply response ≡ true) → IsSmallCall e response
 small_call (event.Call job session c) response small = small refl

@@ -42,6 +42,7 @@ pub record IsOneStep (e : NodeEvent) (response : Reply (List ℕ)) (sent : List 
   pub journals : (job : ℕ) → journal_of new.logs job ≡ journal_after old.node (old.count + 1) e was given job (journal_of old.logs job)
   pub of_job : witness.job.0 ≡ job_at old.node.works.works e
   pub entry : witness.entry ≡ entry_for (old.count + 1) (event_name e) was response
+  pub whole : witness.whole ≡ response
 
 -- one step was made, and then the journal of the job of this number was folded, or not
 pub record IsOneStepFolded (e : NodeEvent) (job : ℕ) (response : Reply (List ℕ)) (sent : List Post) (witness : Witness) (old new : Locked) : Type 0 where

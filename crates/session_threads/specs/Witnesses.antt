@@ -24,31 +24,38 @@ use Rattle.node_journal.specs.Posts.{is_entered}
 use Rattle.node_journal.specs.Replies.{kept_reply}
 use Rattle.session_engine.specs.Calls.{GateCall, to_enter, to_call, to_wait, to_leave, GateAnswer, entered, replied, left}
 
--- what a receipt tells of its entry: the job under which it is kept, and the entry
+-- what a receipt tells of its step: the job under which its entry is kept, the entry, and the whole event and answer, with all contents
 pub record Witness : Type 0 where
   pub job : JobNo
   pub entry : Entry
+  -- of one that is no arrival
+  pub asked : Event
+  pub whole : Reply (List ℕ)
 
 abbrev pub witness_of : {L : Type 0} → Receipt L → Witness
-witness_of receipt = record { job = receipt.job; entry = receipt.entry }
+witness_of receipt = record { job = receipt.job; entry = receipt.entry; asked = receipt.asked.value; whole = receipt.whole.value }
 
 -- whether the entry of an event may stand under the job of this number: a Take's stands under the job whose work it gives
 abbrev pub IsUnder : ℕ → Event → Type 0
 IsUnder job event.Take = ⊤
 IsUnder job e = job ≡ job_of_event e
 
--- the entry is of this job, session and command, and has this answer
+-- the step is of this job, session and command, and has this answer, with all that both carry; the entry has them without contents
 pub record IsCalled (job : JobNo) (session : ℕ) (c : Command (List ℕ)) (response : Reply (List ℕ)) (witness : Witness) : Type 0 where
   pub of_job : witness.job ≡ job
   pub named : witness.entry.event ≡ name.Call session
   pub input : witness.entry.input ≡ Some (judged.Call session (without_payload c))
   pub answer : witness.entry.reply ≡ kept_reply response
+  pub asked : witness.asked ≡ event.Call job session c
+  pub whole : witness.whole ≡ response
 
--- the entry is of this event, and has this answer: it stands under the event's job, or under that whose work a Take gives
+-- the step is of this event, and has this answer: the entry stands under the event's job, or under that whose work a Take gives
 pub record IsReceiptOf (e : Event) (response : Reply (List ℕ)) (witness : Witness) : Type 0 where
   pub of_job : IsUnder witness.job.0 e
   pub named : witness.entry.event ≡ event_name (Own e)
   pub answer : witness.entry.reply ≡ kept_reply response
+  pub asked : witness.asked ≡ e
+  pub whole : witness.whole ≡ response
 
 -- of a session's command more is said: of its session and the command, and that the answer isn't out of memory
 abbrev pub IsCalledBy : Event → Reply (List ℕ) → Witness → Type 0
@@ -61,6 +68,7 @@ pub record IsArrived (job : JobNo) (a : Arrival) (witness : Witness) : Type 0 wh
   pub named : witness.entry.event ≡ event_name (Arrive job a)
   pub response : Reply (List ℕ)
   pub answer : witness.entry.reply ≡ kept_reply response
+  pub whole : witness.whole ≡ response
   pub input : is_entered a response witness.entry.input ≡ true
 
 -- the last receipt is of this job, session, command and answer, or there was no memory

@@ -14,7 +14,7 @@ use std::sync::ledger::Ledger;
 impl<L: Ledger, P: Pause> SharedNode<L, P> {
     /// Leaves a session, with the receipt of the entry. If there is no memory for that, the session is marked.
     pub(crate) fn leave<R: Wait>(&self, rt: &R, job: JobNo, session: u32) -> Option<Receipt<L>>
-        ensures { IfSome result (λ r. IsLast job session (record { job = r.job; entry = r.entry })) }
+        ensures { IfSome result (λ r. IsLast job session (record { job = r.job; entry = r.entry; asked = r.asked.value; whole = r.whole.value })) }
     {
         let (_, receipt) = self.call(rt, job, session, Command::Leave);
         if receipt.is_none() {

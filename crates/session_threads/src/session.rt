@@ -66,8 +66,8 @@ impl<'a, L: Ledger, R: Wait + Clock, P: Pause> Gate for Session<'a, L, R, P> {
     ghost use Rattle.std.specs.Prelude.{option_map};
     ghost use Rattle.session_threads.specs.Witnesses.{IsWitnessed, IsLetIn};
 
-    ghost gives = { λ before asked response after. IsWitnessed asked response (option_map (λ r. record { job = r.job; entry = r.entry }) before.receipts.last)
-        (option_map (λ r. record { job = r.job; entry = r.entry }) after.receipts.last) × IsLetIn asked response (option_map (λ e. record { job = e.job; key = e.key; session = e.session }) after.entered) };
+    ghost gives = { λ before asked response after. IsWitnessed asked response (option_map (λ r. record { job = r.job; entry = r.entry; asked = r.asked.value; whole = r.whole.value }) before.receipts.last)
+        (option_map (λ r. record { job = r.job; entry = r.entry; asked = r.asked.value; whole = r.whole.value }) after.receipts.last) × IsLetIn asked response (option_map (λ e. record { job = e.job; key = e.key; session = e.session }) after.entered) };
 
     fn enter(&mut self, job: JobNo, key: JobKey) -> Result<u32, Refusal> {
         let entered = self.node.enter(self.rt, job, &key)?;

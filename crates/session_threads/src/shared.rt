@@ -283,7 +283,7 @@ impl<L: Ledger, P: Pause> SharedNode<L, P> {
         session: u32,
         awaited: &Awaited,
     ) -> (Result<Stepped<L>, AllocError>, Versions)
-        ensures called { IfOk result.0 (λ s. (wants_memory s.reply ≡ false) × IsCalled job session (tried awaited.now) s.reply (record { job = s.receipt.job; entry = s.receipt.entry })) }
+        ensures called { IfOk result.0 (λ s. (wants_memory s.reply ≡ false) × IsCalled job session (tried awaited.now) s.reply (record { job = s.receipt.job; entry = s.receipt.entry; asked = s.receipt.asked.value; whole = s.receipt.whole.value })) }
         ensures small { IfOk result.0 (λ s. is_small_reply s.reply ≡ true) }
     {
         self.leave_marked(rt);

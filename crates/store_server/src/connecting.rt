@@ -5,6 +5,8 @@ use crate::control::{Asking, Control};
 use crate::patient::Patient;
 use crate::serve_fault::ServeFault;
 use crate::sockets::{SocketFile, bind_alone};
+use operator_service::{LastLine, attend, serve_text};
+use program_lines::Fault;
 use session_threads::SharedNode;
 use std::alloc::{AllocError, Global};
 use std::fs::Files;
@@ -17,7 +19,6 @@ use std::sync::{Arc, Wait};
 use std::thread::{JoinHandle, Threads};
 use std::time::{Clock, Duration};
 use std::{io, thread};
-use store_program::{Fault, LastLine, attend, serve_text};
 
 /// How long a listener rests after it failed to accept, in milliseconds.
 const REST: u64 = 10;

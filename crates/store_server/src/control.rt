@@ -1,4 +1,6 @@
 //! The control socket of nodes that serve: what its connections share, and when the server closes.
+use operator_service::Closing;
+use program_lines::Fault;
 use session_threads::{Report, SharedNode};
 use std::alloc::{AllocError, Global};
 use std::net::Shutdown;
@@ -8,7 +10,6 @@ use std::sync::ledger::Ledger;
 use std::sync::{Arc, Condvar, Mutex, Wait};
 use std::thread;
 use std::time::{Clock, Duration};
-use store_program::{Closing, Fault};
 
 /// How many control connections are open at most.
 const MOST_CONNECTIONS: usize = 16;

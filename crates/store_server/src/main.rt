@@ -14,15 +14,14 @@ mod sockets;
 mod telling;
 
 use journal_replay::{ReplayFault, Verdict, replay_text, status_of as status_of_replay};
+use program_lines::{Fault, status_of};
+use schedule_runs::{Keep, RunJournal, ScheduleRun, Task, read_task, run_text, status_of_error};
 use serve_fault::PrintedFault;
 use serving::serve;
 use std::fs::File;
 use std::io::{BufReader, BufWriter, ErrorKind};
 use std::process::ExitCode;
 use std::{env, fs, io};
-use store_program::{
-    Fault, Keep, RunJournal, ScheduleRun, Task, read_task, run_text, status_of, status_of_error,
-};
 use world_core::ClusterSize;
 
 fn main(rt: HostRuntime) -> io::Result<ExitCode> {

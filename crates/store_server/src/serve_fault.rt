@@ -1,8 +1,8 @@
 //! Why nodes aren't served, or no longer.
+use program_lines::Fault;
 use spill_device::FolderFault;
 use std::alloc::{AllocError, AllocFailed};
 use std::io;
-use store_program::Fault;
 use thiserror::Error;
 
 /// Why nodes aren't served, or no longer: the line that the process writes to standard error, without its line feed.

@@ -8,6 +8,9 @@ use crate::patient::Patient;
 use crate::serve_fault::{PrintedFault, ServeFault};
 use crate::sockets::{SocketFile, bind};
 use crate::telling::{Telling, TellingDevice};
+use operator_service::{serve_text, write_report};
+use program_lines::Fault;
+use schedule_runs::Serving;
 use session_threads::{Cluster, Listening, NoPause, Report, SharedNode, Working, listen, work};
 use spill_device::SpillFolder;
 use std::alloc::{AllocError, Global};
@@ -19,7 +22,6 @@ use std::sync::ledger::{Blank, Ledger};
 use std::sync::{Arc, Wait};
 use std::thread::Threads;
 use std::time::Clock;
-use store_program::{Fault, Serving, serve_text, write_report};
 
 /// The socket of a node.
 #[derive(Drop)]

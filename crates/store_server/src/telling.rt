@@ -3,6 +3,7 @@ ghost use Rattle.std.specs.Prelude.{◌≡◌};
 
 use bytes::Bytes;
 use obj_id::DeviceKey;
+use program_lines::{DeviceCall, FailedCall, SaidCalls};
 use spill_device::{DeviceFault, FileDevice, FolderFault, SpillDevice};
 use std::alloc::{AllocError, Global};
 use std::sync::atomic::{AtomicBool, Ordering};
@@ -10,7 +11,6 @@ use std::sync::{Arc, Mutex, Wait};
 use std::thread::Threads;
 use std::time::{Clock, Instant};
 use std::{io, thread};
-use store_program::{DeviceCall, FailedCall, SaidCalls};
 
 /// What the devices of all nodes share: what was said of their calls, and whether a line is being written.
 #[derive(Drop)]

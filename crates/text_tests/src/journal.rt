@@ -67,14 +67,6 @@ fn written(alloc: Global, text: &str, version: Version) -> Result<String, AllocE
     }
 }
 
-/// The same, asked for once more if memory ran out.
-fn again(alloc: Global, text: &str, version: Version) -> Result<String, AllocError> {
-    match written(alloc, text, version) {
-        Ok(text) => Ok(text),
-        Err(_) => written(alloc, text, version),
-    }
-}
-
 /// Checks what is written for the line once it is read.
 fn gives(
     rt: &impl Abort,
@@ -83,22 +75,14 @@ fn gives(
     version: Version,
     line: &str,
 ) -> Result<(), AllocError> {
-    let written = again(alloc, text, version)?;
+    let written = written(alloc, text, version)?;
     same!(rt; written.as_str(), line);
     Ok(())
 }
 
-/// The answer in a line, asked for once more if memory ran out.
-fn answered(alloc: Global, text: &str) -> Result<String, AllocError> {
-    match answer_of(alloc, text) {
-        Ok(answer) => Ok(answer),
-        Err(_) => answer_of(alloc, text),
-    }
-}
-
 /// Checks the answer in a line.
 fn answers(rt: &impl Abort, alloc: Global, text: &str, answer: &str) -> Result<(), AllocError> {
-    let response = answered(alloc, text)?;
+    let response = answer_of(alloc, text)?;
     same!(rt; response.as_str(), answer);
     Ok(())
 }

@@ -21,14 +21,6 @@ const DEVICE: Prefix = Prefix::Device(0);
 
 const OPERATOR: Prefix = Prefix::Operator(1);
 
-/// The line, asked for once more if memory ran out.
-fn line(alloc: Global, prefix: Prefix, answer: &StepAnswer) -> Result<String, AllocError> {
-    match answer_line(alloc, prefix, answer) {
-        Ok(line) => Ok(line),
-        Err(_) => answer_line(alloc, prefix, answer),
-    }
-}
-
 /// Checks what is printed of the answer.
 fn is_line(
     rt: &impl Abort,
@@ -37,7 +29,7 @@ fn is_line(
     answer: StepAnswer,
     text: &str,
 ) -> Result<(), AllocError> {
-    let line = line(alloc, prefix, &answer)?;
+    let line = answer_line(alloc, prefix, &answer)?;
     same!(rt; line.as_str(), text);
     Ok(())
 }
@@ -57,6 +49,7 @@ fn numbered(task: u64, job: u32, index: u32) -> Result<ObjectId, Refusal> {
     ObjectId::new(TaskNo::numbered(task), JobNo(job), index)
 }
 
+/// One own item.
 fn own(
     alloc: Global,
     id: ObjectId,
@@ -71,19 +64,6 @@ fn own(
         length: 20,
     })?;
     Ok(items)
-}
-
-/// One own item, built once more if memory ran out.
-fn one(
-    alloc: Global,
-    id: ObjectId,
-    state: CopyState,
-    kind: Kind,
-) -> Result<ItemList<OwnItem>, AllocError> {
-    match own(alloc, id, state, kind) {
-        Ok(items) => Ok(items),
-        Err(_) => own(alloc, id, state, kind),
-    }
 }
 
 fn own_and_granted(
@@ -190,10 +170,7 @@ fn own_items_come_before_granted_ones(rt: HostRuntime) -> Result<(), Fail> {
     let alloc = rt.alloc();
     let id = numbered(1, 1, 1)?;
     let granted = numbered(1, 2, 1)?;
-    let list = match own_and_granted(alloc, id, granted) {
-        Ok(list) => list,
-        Err(_) => own_and_granted(alloc, id, granted)?,
-    };
+    let list = own_and_granted(alloc, id, granted)?;
     let text =
         "n0 j1 s3 list t1.1:fetching:secondary:20 t1.1:created:primary:7 2/t1.1:granted:4:1 2/t1.1:granted:5:3\n";
     Ok(prints(&rt, alloc, SESSION, list, text)?)
@@ -203,7 +180,7 @@ fn own_items_come_before_granted_ones(rt: HostRuntime) -> Result<(), Fail> {
 fn a_task_without_a_number_is_printed_in_full(rt: HostRuntime) -> Result<(), Fail> {
     let alloc = rt.alloc();
     let id = ObjectId::new(TaskNo([7; 20]), JobNo(1), 258)?;
-    let items = one(alloc, id, CopyState::Sealed, Kind::Primary)?;
+    let items = own(alloc, id, CopyState::Sealed, Kind::Primary)?;
     let list = Reply::List(items, ItemList::new(alloc));
     let text =
         "n0 j1 s3 list 07070707070707070707070707070707070707070000000100000102:sealed:primary:20\n";
@@ -234,7 +211,7 @@ fn states_have_words(rt: HostRuntime) -> Result<(), Fail> {
         (CopyState::Away, "n0 j1 s3 list t0.2:away:secondary:20\n"),
     ];
     for (state, text) in states {
-        let items = one(alloc, id, state, Kind::Secondary)?;
+        let items = own(alloc, id, state, Kind::Secondary)?;
         let list = Reply::List(items, ItemList::new(alloc));
         prints(&rt, alloc, SESSION, list, text)?;
     }

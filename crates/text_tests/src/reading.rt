@@ -45,12 +45,9 @@ list = List
 usage = Usage
 leave = Leave";
 
-/// What the line says, asked for once more if memory ran out.
+/// What the line says. Unlike `read_line` it promises nothing.
 fn read(alloc: Global, text: &str) -> Result<Option<Line>, AllocError> {
-    match read_line(alloc, text, 2) {
-        Ok(line) => Ok(line),
-        Err(_) => read_line(alloc, text, 2),
-    }
+    read_line(alloc, text, 2)
 }
 
 /// The text, with this name in place of the value.
@@ -65,10 +62,10 @@ fn named<T: Debug + Drop>(
 }
 
 /// What the line says, with names for what is long.
-fn said_once(alloc: Global, line: &str) -> Result<String, Refusal> {
+fn said(alloc: Global, line: &str) -> Result<String, Refusal> {
     let first = ObjectId::new(TaskNo::numbered(1), JobNo(1), 1)?;
     let foreign = ObjectId::new(TaskNo::numbered(9), JobNo(2), 9)?;
-    let line = read_line(alloc, line, 2)?;
+    let line = read(alloc, line)?;
     let text = format!(in alloc; "{line:?}")?;
     let text = named(alloc, text.as_str(), first, "FIRST")?;
     let text = named(alloc, text.as_str(), foreign, "FOREIGN")?;
@@ -83,20 +80,9 @@ fn said_once(alloc: Global, line: &str) -> Result<String, Refusal> {
     Ok(text)
 }
 
-/// The same, once more if memory ran out.
-fn said(alloc: Global, line: &str) -> Result<String, Refusal> {
-    match said_once(alloc, line) {
-        Ok(text) => Ok(text),
-        Err(_) => said_once(alloc, line),
-    }
-}
-
 fn joined(alloc: Global, parts: [&str; 3]) -> Result<String, AllocError> {
     let [before, text, after] = parts;
-    match format!(in alloc; "{before}{text}{after}") {
-        Ok(whole) => Ok(whole),
-        Err(_) => format!(in alloc; "{before}{text}{after}"),
-    }
+    format!(in alloc; "{before}{text}{after}")
 }
 
 /// Checks what a line says.

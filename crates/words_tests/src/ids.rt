@@ -16,22 +16,6 @@ const COUNTED: [u8; 28] = [
 
 const COUNTED_TEXT: &str = "0b0c0d0e0f101112131415161718191a1b1c1d1e0102030405060708";
 
-/// The printed text, asked for once more if memory ran out.
-fn printed(alloc: Global, id: ObjectId) -> Result<String, AllocError> {
-    match id.write(alloc, SPEAKER) {
-        Ok(text) => Ok(text),
-        Err(_) => id.write(alloc, SPEAKER),
-    }
-}
-
-/// The task's printed text, asked for once more if memory ran out.
-fn printed_task(alloc: Global, task: TaskNo) -> Result<String, AllocError> {
-    match task.write(alloc) {
-        Ok(text) => Ok(text),
-        Err(_) => task.write(alloc),
-    }
-}
-
 #[test]
 fn an_id_is_28_bytes_with_the_highest_byte_first(rt: HostRuntime) -> Result<(), Fail> {
     let id = ObjectId::from_bytes(&COUNTED)?;
@@ -81,7 +65,7 @@ fn check_id(rt: &impl Abort, alloc: Global, text: &str, bytes: &str) -> Result<(
         ObjectId::read(bytes, SPEAKER)?,
     );
     same!(rt; read, (id, id));
-    same!(rt; printed(alloc, id)?.as_str(), text);
+    same!(rt; id.write(alloc, SPEAKER)?.as_str(), text);
     Ok(())
 }
 
@@ -152,7 +136,7 @@ t18446744073709551615 = 000000000000000000000000ffffffffffffffff
 fn check_task(rt: &impl Abort, alloc: Global, text: &str, bytes: &str) -> Result<(), Fail> {
     let task = TaskNo::read_full(bytes)?;
     same!(rt; (TaskNo::read(text)?, TaskNo::read(bytes)?), (task, task));
-    same!(rt; printed_task(alloc, task)?.as_str(), text);
+    same!(rt; task.write(alloc)?.as_str(), text);
     Ok(())
 }
 

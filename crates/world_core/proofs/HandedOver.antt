@@ -1,5 +1,5 @@
 -- A message that is handed over, to a node or to the directory: the world afterwards, and what the parts of a delivery give.
-use Rattle.std.proofs.Common.{◌≡◌, ℕ, Bool, true, false, cond, ◌<◌, List, ◌∷◌, Some, None, is_some, refl, sym, ap, subst, ◌∙◌, Option}
+use Rattle.std.proofs.Common.{◌≡◌, ℕ, Bool, true, false, cond, if◌then◌else◌, ◌==◌, ◌<◌, ◌++◌, List, [], ◌∷◌, Some, None, is_some, slice_get, refl, sym, ap, subst, ◌∙◌, Option}
 use Rattle.std.specs.Prelude.{Result, Ok, Err, IfOk}
 use Rattle.std.specs.Option.{option_map_or}
 use Rattle.obj_id.specs.declared.ids.JobNo.{JobNo}
@@ -9,7 +9,9 @@ use Rattle.obj_id.specs.declared.commands.Reply.TheVariants as reply
 use Rattle.obj_id.specs.declared.messages.Endpoint.{Endpoint}
 use Rattle.obj_id.specs.declared.messages.Endpoint.TheVariants.{Node, Directory}
 use Rattle.obj_id.specs.declared.messages.Arrival.{Arrival}
+use Rattle.obj_id.specs.declared.messages.Arrival.TheVariants as arrival
 use Rattle.obj_id.specs.declared.messages.DirectoryMessage.{DirectoryMessage}
+use Rattle.obj_id.specs.declared.messages.DirectoryMessage.TheVariants.{EndJob}
 use Rattle.obj_id.specs.declared.messages.Message.{Message}
 use Rattle.obj_id.specs.declared.messages.Message.TheVariants as message
 use Rattle.private_store.specs.declared.inputs.Input.TheVariants as input
@@ -18,21 +20,30 @@ use Rattle.private_store.specs.declared.schedules.StepAnswer.{StepAnswer}
 use Rattle.private_store.specs.declared.schedules.StepAnswer.TheVariants.{Response, HandedOver, NoMessage}
 use Rattle.private_store.specs.declared.schedules.Traced.{Traced}
 use Rattle.private_store.specs.declared.schedules.NodeEvent.TheVariants.{Arrive}
-use Rattle.private_store.specs.rules.Private.{Store}
-use Rattle.private_store.specs.rules.Cluster.{Cluster, arrival_of, deliver, unmoved, input_at, directory_told_of, handed_to_directory, cluster_step}
+use Rattle.private_store.specs.rules.Private.{Post, Store}
+use Rattle.std.proofs.lemmas.List.{append-nil}
+use Rattle.private_store.specs.rules.Cluster.{Cluster, posted, arrival_of, deliver, unmoved, input_at, directory_told_of, handed_to_directory, cluster_step}
 use Rattle.private_store.specs.laws.NodeInputs.{wants_memory}
 use Rattle.private_store.specs.rules.Shared.{deliver_answer}
 use Rattle.private_store.specs.rules.Trace.{is_no_memory, cluster_until}
 use Rattle.store_facts.proofs.Tests.{some_value, none_some, true_false}
 use Rattle.job_admission.specs.Admissions.{live_at}
-use Rattle.node_core.specs.Steps.{NodeGiven, answer_of_check, stale_unless}
+use Rattle.node_core.specs.Hosted.{Hosted}
+use Rattle.node_core.specs.Steps.{NodeGiven, NodeStep, answer_of_check, stale_unless}
 use Rattle.world_core.specs.Logs.{sent_of, message_in}
 use Rattle.world_core.specs.Worlds.{Hosting, IsAfter, is_place}
 use Rattle.world_core.specs.WorldSteps.{HostingStep, as_damaged, handed, message_of, for_directory, IsDelivered, to_directory, past_directory, to_node, past_node, nothing, delivered, WorldStep, delivers, Arrives}
+use Rattle.world_core.specs.Noting.{IsNoted, passes_node}
 use Rattle.world_core.proofs.Numbers.{is_less}
+use Rattle.world_core.proofs.Places.{slice_set_same}
 use Rattle.world_core.proofs.Entries.{IsEntry}
 use Rattle.world_core.proofs.Stepping.{here, view_at, shown, after_event}
 use Rattle.world_core.proofs.Deliveries.{step_is, answer_is, after_nothing, after_directory, live_is, handed_is, handed_wants, stale_answers, is_arrival}
+
+-- what sends nothing leaves what was sent
+nothing_sent : {X : Type 0} (b : Bool) (xs : List X) → xs ≡ (if b then xs ++ [] else xs)
+nothing_sent true xs = sym (append-nil xs)
+nothing_sent false xs = refl
 
 -- ---- after a delivery
 
@@ -109,6 +120,54 @@ handed_wants_none nodes memory history old new job from to m response h inside (
     let s = moves.steps.each (view_at nodes memory place old history h within moves.before moves.found) (shown nodes memory place old history h within moves.before moves.found) in
     true_false (sym (ap (λ r. is_no_memory (handed m r)) s.operator ∙ handed_wants m (is_some (live_at moves.before.admissions job))) ∙ n)
 handed_wants_none nodes memory history old new job from to m response h inside (past_node place node found is same) n = same
+
+-- what a message that was handed over is answered is never NoMemory
+pub handed_answered : (nodes memory : ℕ) (history : List Traced) (old new : Hosting) (job : JobNo) (from to : Endpoint) (m : Message) (response : StepAnswer)
+    → IsAfter nodes memory old history → is_place nodes to ≡ true → IsDelivered old job from m new to response → is_no_memory response ≡ false
+handed_answered nodes memory history old new job from to m response h inside (to_directory d is moves) = refl
+handed_answered nodes memory history old new job from to m response h inside (past_directory is same) = refl
+handed_answered nodes memory history old new job from to m response h inside (to_node place given a is moves) =
+    let within = is_less place nodes inside in
+    let s = moves.steps.each (view_at nodes memory place old history h within moves.before moves.found) (shown nodes memory place old history h within moves.before moves.found) in
+    ap (λ r. is_no_memory (handed m r)) s.operator ∙ handed_wants m (is_some (live_at moves.before.admissions job))
+handed_answered nodes memory history old new job from to m response h inside (past_node place node found is same) = handed_wants m (is_some (live_at node.admissions job))
+
+-- a message for a node at which its job isn't live is nothing there, whatever it is
+module _ (world : Hosting) (place : ℕ) (node : Hosted) (job : JobNo) (found : slice_get world.nodes place ≡ Some node) (dead : is_some (live_at node.admissions job) ≡ false)
+    (given : NodeGiven) (said : given.reply ≡ reply.Refused Stale) (quiet : given.posts ≡ []) (stale : (a : Arrival) → NodeStep node (Arrive job a) given node) where
+  stale_step : (a : Arrival) → HostingStep world place (Arrive job a) given world
+  stale_step a = record {
+    before = node;
+    after = node;
+    found = found;
+    steps = stale a;
+    nodes = sym (slice_set_same world.nodes place node found);
+    tables = refl;
+    sent = λ other. subst (λ (ps : List Post). sent_of world.messages other ≡ (if job.0 == other then sent_of world.messages other ++ posted (Node place) ps else sent_of world.messages other)) (sym quiet)
+        (nothing_sent (job.0 == other) (sent_of world.messages other));
+  }
+
+  come : (from : Endpoint) (m : Message) (a : Arrival) → arrival_of from m ≡ Some a → IsDelivered world job from m world (Node place) (Response (reply.Refused Stale))
+  come from m a is = subst (λ r. IsDelivered world job from m world (Node place) (handed m r)) said (to_node place given a is (stale_step a))
+
+  past : (from : Endpoint) (m : Message) → arrival_of from m ≡ None → IsDelivered world job from m world (Node place) (Response (reply.Refused Stale))
+  past from m none =
+      subst (λ b. IsDelivered world job from m world (Node place) (handed m (answer_of_check (stale_unless b)))) dead (past_node place node found none refl)
+
+  pub stale_delivered : (from : Endpoint) (m : Message) → IsDelivered world job from m world (Node place) (Response (reply.Refused Stale))
+  stale_delivered Directory (message.Located id number entries) = come Directory (message.Located id number entries) (arrival.Located id number entries) refl
+  stale_delivered (Node n) (message.ToPeer m) = come (Node n) (message.ToPeer m) (arrival.FromPeer n m) refl
+  stale_delivered Directory (message.ToPeer m) = past Directory (message.ToPeer m) refl
+  stale_delivered Directory (message.ToDirectory m) = past Directory (message.ToDirectory m) refl
+  stale_delivered (Node n) (message.Located id number entries) = past (Node n) (message.Located id number entries) refl
+  stale_delivered (Node n) (message.ToDirectory m) = past (Node n) (message.ToDirectory m) refl
+
+-- and nobody is told of it
+pub stale_noted : (world : Hosting) (job : JobNo) (place : ℕ) (from : Endpoint) (number : ℕ) (damage : Bool) → IsNoted world world None [] (Deliver job from (Node place) number damage) (Response (reply.Refused Stale))
+stale_noted world job place Directory number damage =
+    passes_node job Directory place number damage (message.ToDirectory (EndJob 0)) (reply.Refused Stale) refl (record { none = refl; nobody = refl; nodes = refl })
+stale_noted world job place (Node n) number damage =
+    passes_node job (Node n) place number damage (message.ToDirectory (EndJob 0)) (reply.Refused Stale) refl (record { none = refl; nobody = refl; nodes = refl })
 
 abbrev is_directory : Endpoint → Bool
 is_directory Directory = true

@@ -1,3 +1,4 @@
+mod AtPlace
 mod Numbers
 mod Logging
 mod Numbering

@@ -101,6 +101,14 @@ turned_by old new place e response k =
     subst (λ r. WorldStep old new (At place e) (Response r)) k.reply
     (at place e k.given (record { before = k.before; after = k.after; found = k.found; steps = k.steps; nodes = k.nodes; tables = k.tables; sent = k.sent }))
 
+-- no node answers an event that there is no memory
+pub event_told : (place : ℕ) (e : Event) (response : Reply (List ℕ)) (old new : Hosting) → place < length old.nodes → EventStep old place e response new
+    → (nodes memory : ℕ) (history : List Traced) → IsAfter nodes memory old history → is_no_memory (Response response) ≡ false
+event_told place e response old new within k nodes memory history h =
+    subst (λ r. is_no_memory (Response r) ≡ false) k.reply
+    (event_answered nodes memory place e k.given old new history h (subst (λ n. place < n) h.count within)
+    (record { before = k.before; after = k.after; found = k.found; steps = k.steps; nodes = k.nodes; tables = k.tables; sent = k.sent }))
+
 module _ (nodes memory : ℕ) (history : List Traced) (old new : Hosting) (step : Step) (h : IsAfter nodes memory old history) (inside : is_within (length old.nodes) step ≡ true) where
   within_nodes : is_within nodes step ≡ true
   within_nodes = subst (λ n. is_within n step ≡ true) h.count inside

@@ -3,3 +3,4 @@ pub mod WorldSteps
 pub mod Runs
 pub mod Worlds
 pub mod Noting
+pub mod MemoryLast

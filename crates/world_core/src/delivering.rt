@@ -1,11 +1,20 @@
 //! Messages that are handed over, to a node or to the directory.
-ghost use Rattle.std.specs.Prelude.{◌≡◌, ℕ, ◌<◌, Bool, true, length, slice_get, Some, is_some, IfOk, OnOk, OnErr};
+ghost use Rattle.std.specs.Prelude.{◌≡◌, ℕ, ◌<◌, Bool, true, false, List, [], length, slice_get, Some, None, is_some, IfOk, OnOk, OnErr};
 ghost use Rattle.obj_id.specs.declared.messages.Endpoint.TheVariants as places;
 ghost use Rattle.private_store.specs.declared.schedules.Step.TheVariants as steps;
 ghost use Rattle.job_admission.specs.Admissions.{live_at};
 ghost use Rattle.node_core.specs.Hosted.{Hosted};
 ghost use Rattle.node_core.specs.Steps.{answer_of_check, stale_unless};
-ghost use Rattle.world_core.specs.Worlds.{is_place};
+ghost use Rattle.world_core.specs.Worlds.{IsAfter, is_place};
+ghost use Rattle.world_core.specs.MemoryLast.{IsDeliveryDue, IsMemoryLastAt, IsTakenAt};
+ghost use Rattle.private_store.specs.declared.schedules.NodeEvent.TheVariants.{Arrive};
+ghost use Rattle.private_store.specs.declared.schedules.StepAnswer.TheVariants.{Response};
+ghost use Rattle.private_store.specs.declared.schedules.Traced.{Traced};
+ghost use Rattle.private_store.specs.rules.Trace.{is_no_memory};
+ghost use Rattle.obj_id.specs.declared.commands.Reply.TheVariants as reply;
+ghost use Rattle.obj_id.specs.declared.messages.Endpoint.{Endpoint};
+ghost use Rattle.obj_id.specs.declared.messages.Message.{Message};
+ghost use Rattle.obj_id.specs.declared.refusals.Refusal.TheVariants.{Stale};
 ghost use Rattle.world_core.specs.WorldSteps.{Arrives, MovesDirectory, IsDelivered, WorldStep};
 ghost use Rattle.world_core.specs.Noting.{IsNoted, IsArrivalNoted};
 
@@ -32,12 +41,18 @@ impl World {
     ) -> Result<Stepped, AllocError>
         requires { is_place (length self.old.nodes) to ≡ true }
         ensures ok { IfOk result (λ s. WorldStep self.old self.new (steps.Deliver job from to number damaged) s.answer) }
+        ensures answered { IfOk result (λ s. (nodes memory : ℕ) (history : List Traced) → IsAfter nodes memory self.old history → is_no_memory s.answer ≡ false) }
+        ensures memory_last { OnErr result (IsDeliveryDue self.old job from to number) }
         ensures kept { IfOk result (λ s. IsNoted self.old self.new s.judged s.notes (steps.Deliver job from to number damaged) s.answer) }
         ensures err { OnErr result (self.new ≡ self.old) }
     {
         let Some(sent) = self.messages.find(job, from, to, number) else {
             return Ok(Stepped::alone(self.alloc, StepAnswer::NoMessage));
         };
+        if self.is_stale_at(job, to) {
+            let stale = StepAnswer::Response(Reply::Refused(Refusal::Stale));
+            return Ok(Stepped::alone(self.alloc, stale));
+        }
         let message = as_it_arrives(self.alloc, sent, damaged)?;
         match to {
             Endpoint::Node(place) => self.deliver_to_node(job, from, place, message),
@@ -45,6 +60,19 @@ impl World {
                 let answer = self.deliver_to_directory(job, from, message)?;
                 Ok(Stepped::alone(self.alloc, answer))
             }
+        }
+    }
+
+    /// Whether the place is a node at which the job isn't live, so that each message of the job is stale there. Takes no memory.
+    fn is_stale_at(&self, job: JobNo, to: Endpoint) -> bool
+        requires { is_place (length self.now.nodes) to ≡ true }
+        ensures ok { result ≡ true → (from : Endpoint) (m : Message) → IsDelivered self.now job from m self.now to (Response (reply.Refused Stale)) }
+        ensures kept { result ≡ true → (from : Endpoint) (number : ℕ) (damaged : Bool) → IsNoted self.now self.now None [] (steps.Deliver job from to number damaged) (Response (reply.Refused Stale)) }
+        ensures taken { result ≡ false → IsTakenAt self.now job to }
+    {
+        match to {
+            Endpoint::Node(place) => self.nodes[place as usize].is_stale(job),
+            Endpoint::Directory => false,
         }
     }
 
@@ -82,15 +110,16 @@ impl World {
     fn arrive(&mut self, job: JobNo, place: u32, arrival: &Arrival) -> Result<Given, AllocError>
         requires { place < length self.old.nodes }
         ensures ok { IfOk result (λ given. Arrives self.old place job arrival.now given.reply self.new) }
+        ensures memory_last { OnErr result (IsMemoryLastAt self.old place (Arrive job arrival.now)) }
         ensures kept { IfOk result (λ given. IsArrivalNoted self.old self.new place job arrival.now given.reply given.judged given.notes) }
         ensures err { OnErr result (self.new ≡ self.old) }
     {
-        // all growth comes before the node's step, and a step that sends nothing needs none
+        // all growth comes before the node's step, which answers for it that memory ran out only after its own checks
         let most = self.nodes[place as usize]
             .foresee_arrival(job, arrival)
             .most_messages;
-        self.messages.reserve(job, most)?;
-        let outcome = self.nodes[place as usize].arrive(job, arrival)?;
+        let room = self.messages.reserve(job, most);
+        let outcome = self.nodes[place as usize].arrive(job, arrival, room)?;
         let NodeOutcome {
             reply,
             messages,

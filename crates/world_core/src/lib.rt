@@ -2,7 +2,7 @@
 //! number, the job's locations, and what it sent; after every history of steps that is the job's private cluster.
 #![tactic(auto)]
 
-ghost use Rattle.std.specs.Prelude.{◌≡◌, ℕ, ◌<◌, List, [], ◌∷◌, true, length, IfOk, OnErr};
+ghost use Rattle.std.specs.Prelude.{◌≡◌, ℕ, ◌<◌, List, [], ◌∷◌, true, length, IfOk, OnErr, false};
 ghost use Rattle.private_store.specs.declared.schedules.Traced.{Traced};
 ghost use Rattle.private_store.specs.rules.Trace.{is_no_memory};
 ghost use Rattle.node_core.specs.Steps.{job_of_event};
@@ -10,6 +10,8 @@ ghost use Rattle.world_core.specs.Worlds.{is_shape, is_within as is_within_lem, 
 ghost use Rattle.world_core.specs.WorldSteps.{EventStep, WorldStep};
 ghost use Rattle.world_core.specs.Noting.{IsNoted, IsEventNoted};
 ghost use Rattle.world_core.specs.Runs.{is_replied};
+ghost use Rattle.world_core.specs.MemoryLast.{IsMemoryLastAt, IsMemoryLastIn};
+ghost use Rattle.private_store.specs.declared.schedules.NodeEvent.TheVariants.{Own};
 
 mod delivering;
 mod messages;
@@ -81,13 +83,14 @@ impl World {
         })
     }
 
-    /// Takes one step and gives its answer. Out of memory is the answer `NoMemory`, and then nothing has
-    /// changed.
+    /// Takes one step and gives its answer. Out of memory is the answer `NoMemory`, and then nothing has changed: no refusal,
+    /// and no answer that there is no such message, was due.
     pub fn step(&mut self, step: &Step) -> StepAnswer
         requires { is_within_lem (length self.old.nodes) step.now ≡ true }
         ensures after { (nodes memory : ℕ) (history : List Traced) → IsAfter nodes memory self.old history
             → IsAfter nodes memory self.new (record { step = step.now; answer = result } ∷ history) }
         ensures memory { (nodes memory : ℕ) (history : List Traced) → IsAfter nodes memory self.old history → is_no_memory result ≡ true → self.new ≡ self.old }
+        ensures memory_last { (nodes memory : ℕ) (history : List Traced) → IsAfter nodes memory self.old history → is_no_memory result ≡ true → IsMemoryLastIn self.old step.now }
         ensures replied { is_replied step.now result ≡ true }
         ensures count { length self.new.nodes ≡ length self.old.nodes }
     {
@@ -100,6 +103,7 @@ impl World {
         ensures after { (nodes memory : ℕ) (history : List Traced) → IsAfter nodes memory self.old history
             → IsAfter nodes memory self.new (record { step = step.now; answer = result.answer } ∷ history) }
         ensures memory { (nodes memory : ℕ) (history : List Traced) → IsAfter nodes memory self.old history → is_no_memory result.answer ≡ true → self.new ≡ self.old }
+        ensures memory_last { (nodes memory : ℕ) (history : List Traced) → IsAfter nodes memory self.old history → is_no_memory result.answer ≡ true → IsMemoryLastIn self.old step.now }
         ensures replied { is_replied step.now result.answer ≡ true }
         ensures count { length self.new.nodes ≡ length self.old.nodes }
         ensures kept { IsNoted self.old self.new result.judged result.notes step.now result.answer }
@@ -114,6 +118,8 @@ impl World {
     fn turn(&mut self, step: &Step) -> Result<Stepped, AllocError>
         requires { is_within_lem (length self.old.nodes) step.now ≡ true }
         ensures ok { IfOk result (λ s. WorldStep self.old self.new step.now s.answer) }
+        ensures answered { IfOk result (λ s. (nodes memory : ℕ) (history : List Traced) → IsAfter nodes memory self.old history → is_no_memory s.answer ≡ false) }
+        ensures memory_last { OnErr result (IsMemoryLastIn self.old step.now) }
         ensures replied { IfOk result (λ s. is_replied step.now s.answer ≡ true) }
         ensures kept { IfOk result (λ s. IsNoted self.old self.new s.judged s.notes step.now s.answer) }
         ensures err { OnErr result (self.new ≡ self.old) }
@@ -141,14 +147,15 @@ impl World {
     fn apply(&mut self, place: u32, event: &Event) -> Result<Given, AllocError>
         requires { place < length self.old.nodes }
         ensures ok { IfOk result (λ given. EventStep self.old place event.now given.reply self.new) }
+        ensures memory_last { OnErr result (IsMemoryLastAt self.old place (Own event.now)) }
         ensures kept { IfOk result (λ given. IsEventNoted self.old self.new place event.now given.reply given.judged given.notes) }
         ensures err { OnErr result (self.new ≡ self.old) }
     {
         let job = job_of(event);
-        // all growth comes before the node's step, and a step that sends nothing needs none
+        // all growth comes before the node's step, which answers for it that memory ran out only after its own checks
         let most = self.nodes[place as usize].foresee(event).most_messages;
-        self.messages.reserve(job, most)?;
-        let outcome = self.nodes[place as usize].apply(event)?;
+        let room = self.messages.reserve(job, most);
+        let outcome = self.nodes[place as usize].apply(event, room)?;
         let NodeOutcome {
             reply,
             messages,

@@ -37,11 +37,11 @@ returns-clause-ok c =
     let live = ap (λ (n : Hosted). is_some (live_at n.admissions c.args.job)) (sym c.self.view_is) ∙ sym c.is_live.ensures ∙ c.if-not-is_live.false in
     let ended = c.grants-2.ensures ∙ ap grants_sorted c.in_ok-ends.ensures.found ∙ ap (λ (n : Hosted). grants_ended (is_given_by c.args.job.0) n.grants) c.self.view_is in
     subst (λ given. NodeStep c.args.self.now e given c.let_job_go.new.self) (sym (c.with_ends.ensures.given ∙ ap (with_ends (row_given_of c.in_ok-outcome.outcome)) ended))
-    (job_ends c.args.self.now c.let_job_go.new.self c.args.job (row_given_of c.in_ok-outcome.outcome) hosted live c.in_ok-outcome.ensures c.let_job_go.ensures)
+    (job_ends c.args.self.now c.let_job_go.new.self c.args.job (row_given_of c.in_ok-outcome.outcome) hosted live c.in_ok-outcome.ensures.ok c.let_job_go.ensures)
 
 pub returns-clause-grantees : goal.returns-clause-grantees
 returns-clause-grantees c =
     subst (λ response. AreTakers c.args.self.now.grants (event.JobEnd c.args.job) response (map (λ (note : Note). note.job) c.with_ends.result.notes))
-    (sym (ap (λ g. g.reply) (c.with_ends.ensures.given ∙ ap (λ given. with_ends given c.grants-2.result.now) c.in_ok-outcome.ensures.is)))
+    (sym (ap (λ g. g.reply) (c.with_ends.ensures.given ∙ ap (λ given. with_ends given c.grants-2.result.now) c.in_ok-outcome.ensures.ok.is)))
     (grantees_noted c.with_ends.result.notes c.grants-2.result.now (ap (λ g. g.notes) c.with_ends.ensures.given)
     ∙ ap grantees_in (c.grants-2.ensures ∙ ap grants_sorted c.in_ok-ends.ensures.found ∙ ap (λ (n : Hosted). grants_ended (is_given_by c.args.job.0) n.grants) c.self.view_is))

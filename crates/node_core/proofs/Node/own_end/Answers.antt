@@ -15,9 +15,9 @@ unreachable-requires c =
     true_false (sym (has_row c.self.inside.admission c.self.inside.rows.entries c.args.job c.self.invariant.jobs (sym live)
     (sym c.get.ensures.value ∙ ap option_copied c.in_default.is)))
 
-pub returns : goal.returns
-returns c =
-    let posts = c.in_ok-messages.ensures ∙ ap (λ (n : Hosted). to_directory (EndJob n.number)) c.self.view_is in
+pub returns-clause-ok : goal.returns-clause-ok
+returns-clause-ok c =
+    let posts = c.in_ok-messages.ensures.ok ∙ ap (λ (n : Hosted). to_directory (EndJob n.number)) c.self.view_is in
     record {
       row = c.in-Some.row.now;
       found = ap (λ (n : Hosted). row_at n c.args.job) (sym c.self.view_is) ∙ sym c.get.ensures.value ∙ ap option_copied c.in-Some.is;

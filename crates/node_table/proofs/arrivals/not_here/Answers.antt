@@ -23,4 +23,4 @@ returns-clause-ok c node beside contents h =
     subst (λ r. RowStep node c.args.row.now beside contents (input.Arrive (arrival.FromPeer c.args.from (peer.NotHere c.args.id.now c.args.number))) (record { reply = reply.Ok; posts = c.in_ok-messages.messages; erased = [] }) r beside) (sym c.fail_fetch.ensures.row)
     (not_here_at node c.args.row.now beside contents h c.args.id.now c.args.number c.args.from c.fail_fetch.ensures.placed
     (ap (λ t. option_map_or (asks c.args.number c.args.from) (at t c.args.id.now) false) (sym c.copies.ensures.copies) ∙ sym c.asks.ensures ∙ c.if-not-asks.false)
-    c.in_ok-messages.messages (c.in_ok-messages.ensures ∙ ap (λ n. to_directory (RemoveLocation c.args.id.now n)) c.from.view_is))
+    c.in_ok-messages.messages (c.in_ok-messages.ensures.ok ∙ ap (λ n. to_directory (RemoveLocation c.args.id.now n)) c.from.view_is))

@@ -17,7 +17,7 @@ returns-clause-ok c session beside contents mine h =
     let entry = c.in-Ok.entry in
     let digest = seal_digest c.args.node c.args.row.now beside contents session c.args.id.now mine h passed entry.digest entry.digest refl c.in-Ok.ensures.digest in
     subst (λ r. RowStep c.args.node c.args.row.now beside contents (input.Call session (command.Seal c.args.id.now)) (record { reply = reply.Ok; posts = c.in_ok-messages.messages; erased = [] }) r beside) (sym (c.freeze_at.ensures ∙ c.apply-after.ensures.row))
-    (seal_done_so c.args.node c.args.row.now beside contents session c.args.id.now mine h passed entry.digest digest c.in_ok-messages.messages entry c.in-Ok.ensures.node c.in-Ok.ensures.length refl c.in_ok-messages.ensures)
+    (seal_done_so c.args.node c.args.row.now beside contents session c.args.id.now mine h passed entry.digest digest c.in_ok-messages.messages entry c.in-Ok.ensures.node c.in-Ok.ensures.length refl c.in_ok-messages.ensures.ok)
 
 pub freeze_at-requires : goal.freeze_at-requires
 freeze_at-requires c e is = c.apply-after.ensures.placed.there c.args.id.now e (sym c.apply-after.ensures.place ∙ is)

@@ -37,7 +37,7 @@ returns-clause-ok c beside contents h =
     (sym (c.freeze_at.ensures ∙ c.apply-after.ensures.row ∙ ap (λ r. with_copy after_last_chunk r c.args.id.now) put.written))
     (whole_done c.args.node c.args.row.now beside contents h c.args.id.now c.args.number c.args.from c.args.index c.args.bytes.now a c.copies.ensures.placed
     c.requires.last c.in-Some-digest.digest put.known (put.test ∙ c.if-not-has_digest.false) (record { node = c.node.inside.0; length = c.length.result; digest = c.in-Some-digest.digest }) c.in_ok-messages.messages
-    (λ i. record { node = c.node.view_is i; length = (c.length.ensures ∙ ap (λ (z : CopyView). z.copy.length) (sym put.same)) i; digest = c.in-Some-digest.digest }) c.in_ok-messages.ensures)
+    (λ i. record { node = c.node.view_is i; length = (c.length.ensures ∙ ap (λ (z : CopyView). z.copy.length) (sym put.same)) i; digest = c.in-Some-digest.digest }) c.in_ok-messages.ensures.ok)
 
 pub returns-then-not-has_digest-clause-verdict : goal.returns-then-not-has_digest-clause-verdict
 returns-then-not-has_digest-clause-verdict c beside contents h =

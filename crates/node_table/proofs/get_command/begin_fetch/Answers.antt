@@ -28,7 +28,7 @@ returns-clause-ok c session beside contents mine h =
     let begun = c.fetches_begun-begun.ensures in
     let passed = ap (λ n. fetch_check c.args.row.now.copies n) (sym begun) ∙ ap (λ t. fetch_check t c.fetches_begun-begun.result) (sym c.copies.ensures.copies) ∙ sym c.fetch_check.ensures ∙ c.in_default.is in
     let row = c.in_ok-enter_fetch.ensures.ok ∙ ap (λ n. entered c.args.row.now c.args.id.now (n + 1)) begun in
-    let sent = c.in_ok-messages.ensures ∙ ap (λ n. to_directory (Locate c.args.id.now c.args.node (n + 1))) begun in
+    let sent = c.in_ok-messages.ensures.ok ∙ ap (λ n. to_directory (Locate c.args.id.now c.args.node (n + 1))) begun in
     subst (λ g. RowStep c.args.node c.args.row.now beside contents (input.Call session (command.Get c.args.id.now)) g c.enter_fetch.new.self beside) (sym c.pending.ensures)
     (subst (λ r. RowStep c.args.node c.args.row.now beside contents (input.Call session (command.Get c.args.id.now)) (record { reply = reply.Refused Pending; posts = c.in_ok-messages.messages; erased = [] }) r beside) (sym row)
     (subst (λ ms. RowStep c.args.node c.args.row.now beside contents (input.Call session (command.Get c.args.id.now)) (record { reply = reply.Refused Pending; posts = ms; erased = [] }) (entered c.args.row.now c.args.id.now (c.args.row.now.fetches_begun + 1)) beside) (sym sent)

@@ -40,7 +40,7 @@ returns-in_ok-locate-in-Locating-clause-ok c session grants bytes contents mine 
     subst (λ g. RowStep c.args.node c.args.row.now beside contents (input.Call session (command.Get c.args.id.now)) g c.args.row.now beside) (sym c.pending.ensures)
     (located_again c.args.node c.args.row.now beside contents session c.args.id.now mine c.requires.alive h k found st.0 st.1 (store_fetch_of c.in-Some-fetch.fetch.now) fetched
     (sym c.stage.ensures ∙ ap (λ stage. phase_of stage (missing_of c.in-Some-fetch.fetch.now.phase)) c.in-Locating.is) c.in_ok-locate-in-Locating.field-0
-    (c.in_ok-locate-in-Locating.ensures ∙ ap (λ n. to_directory (Locate c.args.id.now c.args.node n)) c.number.ensures))
+    (c.in_ok-locate-in-Locating.ensures.ok ∙ ap (λ n. to_directory (Locate c.args.id.now c.args.node n)) c.number.ensures))
 
 pub returns-in_ok-pull-in-Pulling-clause-ok : goal.returns-in_ok-pull-in-Pulling-clause-ok
 returns-in_ok-pull-in-Pulling-clause-ok c session grants bytes contents mine h =
@@ -51,7 +51,7 @@ returns-in_ok-pull-in-Pulling-clause-ok c session grants bytes contents mine h =
     let beside = beside_of c.args.works.now grants bytes c.args.row.now.job in
     subst (λ g. RowStep c.args.node c.args.row.now beside contents (input.Call session (command.Get c.args.id.now)) g c.args.row.now beside) (sym c.pending-in-Pulling.ensures)
     (pulled_again c.args.node c.args.row.now beside contents session c.args.id.now mine c.requires.alive h k found st.0 st.1 (store_fetch_of c.in-Some-fetch.fetch.now) fetched
-    c.in-Pulling.source (missing_of c.in-Some-fetch.fetch.now.phase) (sym c.stage.ensures ∙ ap (λ stage. phase_of stage (missing_of c.in-Some-fetch.fetch.now.phase)) c.in-Pulling.is) c.in_ok-pull-in-Pulling.field-0 c.in_ok-pull-in-Pulling.ensures)
+    c.in-Pulling.source (missing_of c.in-Some-fetch.fetch.now.phase) (sym c.stage.ensures ∙ ap (λ stage. phase_of stage (missing_of c.in-Some-fetch.fetch.now.phase)) c.in-Pulling.is) c.in_ok-pull-in-Pulling.field-0 c.in_ok-pull-in-Pulling.ensures.ok)
 
 pub get_sized-requires-clause-sized : goal.get_sized-requires-clause-sized
 get_sized-requires-clause-sized c k found =

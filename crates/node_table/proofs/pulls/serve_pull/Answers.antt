@@ -16,7 +16,7 @@ returns-in_ok-tell_not_here-in-NotHere-clause-ok c grants bytes contents h =
     let row = c.args.row.now in
     let beside = beside_of c.args.works.now grants bytes row.job in
     let x = input.Arrive (arrival.FromPeer c.args.from (peer.Pull c.args.id.now c.args.number c.args.len c.args.digest.now c.args.indexes.now)) in
-    subst (λ g. RowStep c.args.node row beside contents x g row beside) (sym (c.answered.ensures ∙ ap (λ posts. record { reply = reply.Ok; posts = posts; erased = [] }) c.in_ok-tell_not_here-in-NotHere.ensures))
+    subst (λ g. RowStep c.args.node row beside contents x g row beside) (sym (c.answered.ensures ∙ ap (λ posts. record { reply = reply.Ok; posts = posts; erased = [] }) c.in_ok-tell_not_here-in-NotHere.ensures.ok))
     (not_here_done c.args.node row beside contents h c.args.from c.args.id.now c.args.number c.args.len c.args.digest.now c.args.indexes.now
     (ap (λ t. row_pull_answer c.args.len c.args.digest.now (at t c.args.id.now)) (sym c.copies.ensures.copies) ∙ sym c.pull_answer.ensures ∙ c.in-NotHere.is))
 

@@ -24,4 +24,4 @@ returns-clause-ok c session beside contents mine h =
     (sym c.apply_and_settle-erased.ensures.row)
     (delete_done_so c.args.node c.args.row.now beside contents session c.args.id.now mine h
     (ap (λ t. delete_check t c.args.id.now) (sym c.copies.ensures.copies) ∙ c.in-Ok.ensures.passed refl)
-    c.in_ok-messages.messages (c.in_ok-messages.ensures ∙ ap notice_posts (c.in-Ok.ensures.ok ∙ ap (λ t. removal_notice_at c.args.node t c.args.id.now true) c.copies.ensures.copies)) c.apply_and_settle-erased.ensures.placed))
+    c.in_ok-messages.messages (c.in_ok-messages.ensures.ok ∙ ap notice_posts (c.in-Ok.ensures.ok ∙ ap (λ t. removal_notice_at c.args.node t c.args.id.now true) c.copies.ensures.copies)) c.apply_and_settle-erased.ensures.placed))

@@ -26,5 +26,5 @@ returns-clause-ok c session beside contents mine h =
     (give_up_done_so c.args.node c.args.row.now beside contents session c.args.id.now mine h c.args.task
     (ap (λ t. give_up_check t c.args.id.now c.args.task) (sym c.copies.ensures.copies) ∙ c.in-Ok.ensures.passed refl)
     (stays_at c.args.task c.args.row.now.copies c.args.id.now) refl c.in_ok-messages.messages
-    (c.in_ok-messages.ensures ∙ ap notice_posts (c.in-Ok.ensures.ok ∙ ap (λ t. removal_notice_at c.args.node t c.args.id.now (not (stays_at c.args.task t c.args.id.now))) c.copies.ensures.copies))
+    (c.in_ok-messages.ensures.ok ∙ ap notice_posts (c.in-Ok.ensures.ok ∙ ap (λ t. removal_notice_at c.args.node t c.args.id.now (not (stays_at c.args.task t c.args.id.now))) c.copies.ensures.copies))
     c.apply_and_settle-erased.ensures.placed))

@@ -22,6 +22,7 @@ returns-in-Ok-clause-once g c a is =
         journals = done.journal a is;
         of_job = ap (λ r. r.job.0) response.receipt ∙ done.receipt.1;
         entry = kept ∙ ap (entry_for _ _ made.outcome.judged) (sym response.reply);
+        whole = ap (λ r. r.whole.value) response.receipt ∙ done.whole ∙ sym response.reply;
       };
       entered = (λ i. is_entered a (response.reply i) (kept i).input) ∙ done.entered a is;
     }

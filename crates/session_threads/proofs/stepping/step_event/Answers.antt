@@ -11,7 +11,7 @@ returns-clause-called g c =
     let made = c.in_ok-made.made in
     let done = c.in_ok-made.ensures in
     let response = c.finish_step.ensures in
-    let answered = called_by old.node.works.works e made.outcome.reply (witness_of made.receipt) (old.count + 1) made.outcome.judged done.receipt.1 done.receipt.2 done.judged.by_call done.answered in
+    let answered = called_by old.node.works.works e made.outcome.reply (witness_of made.receipt) (old.count + 1) made.outcome.judged done.receipt.1 done.receipt.2 done.asked done.whole done.judged.by_call done.answered in
     subst (λ r. IsCalledBy e r (witness_of c.finish_step.result.receipt)) (sym response.reply) (subst (λ t. IsCalledBy e made.outcome.reply (witness_of t)) (sym response.receipt) answered)
 
 pub returns-clause-small : goal.returns-clause-small

@@ -7,6 +7,6 @@ returns-in-Ok-clause-once g c found a is =
     record {
       response = stepped.reply;
       sent = posts_left stepped.mail;
-      witness = record { job = stepped.receipt.job; entry = stepped.receipt.entry };
+      witness = record { job = stepped.receipt.job; entry = stepped.receipt.entry; asked = stepped.receipt.asked.value; whole = stepped.receipt.whole.value };
       arrival = c.in-Ok.ensures.once a is;
     }

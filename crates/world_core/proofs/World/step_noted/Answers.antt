@@ -1,4 +1,4 @@
-use Rattle.std.proofs.Common.{None, [], refl, sym, ap, subst}
+use Rattle.std.proofs.Common.{refl, sym, ap, subst}
 use Rattle.world_core.specs.WorldSteps.{WorldStep, wants}
 use Rattle.world_core.specs.Noting.{IsNoted, wants_memory}
 use Rattle.world_core.proofs.Turning.{turn_count, world_after, world_same}

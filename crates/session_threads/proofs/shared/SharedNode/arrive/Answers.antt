@@ -10,5 +10,6 @@ returns-clause-arrived g c a is =
       named = ap (λ (e : Entry). e.event) arrival.step.entry;
       response = c.in_ok-receipt.field-0.reply;
       answer = ap (λ (e : Entry). e.reply) arrival.step.entry;
+      whole = arrival.step.whole;
       input = arrival.entered;
     }

@@ -1,0 +1,3 @@
+mod Attends
+mod Handled
+mod Serves

@@ -1,0 +1,157 @@
+-- The lines of a control connection, and their answers.
+use Rattle.std.specs.Prelude.{◌≡◌, ℕ, suc, ◌<◌, ◌⊎◌, Bool, true, false, List, [], ◌∷◌, ◌++◌, length, Option, Some, None, Result, Ok, Err, codes, decimal, ⊤}
+use Rattle.std.specs.Io.KnownBytes.{Appends, Consumes, IsAtEnd}
+use Rattle.std.specs.Str.{IsUtf8}
+use Rattle.std.specs.String.{string_bytes}
+use Rattle.obj_id.specs.declared.commands.Reply.{Reply}
+use Rattle.private_store.specs.declared.schedules.StepAnswer.TheVariants.{Response}
+use Rattle.schedule_text.specs.declared.prefixes.Prefix.TheVariants.{Operator}
+use Rattle.schedule_text.specs.Printing.{line_text}
+use Rattle.schedule_text.specs.Reading.{is_skipped}
+use Rattle.session_threads.specs.declared.cluster.Report.{Report}
+use Rattle.operator_service.specs.declared.attending.TheConstants.{ORDERS}
+use Rattle.program_lines.specs.declared.taking.TheConstants.{LONGEST_LINE}
+use Rattle.program_lines.specs.declared.control_lines.ControlLine.{ControlLine}
+use Rattle.program_lines.specs.declared.control_lines.ControlLine.TheVariants as asked
+use Rattle.operator_service.specs.declared.attending.Answer.{Answer}
+use Rattle.program_lines.specs.declared.fault.Fault.{Fault}
+use Rattle.program_lines.specs.declared.fault.Fault.TheVariants.{NotAStep, Input, Output, Socket, Folded, NoMemory}
+use Rattle.program_lines.specs.declared.operator.Order.TheVariants as order
+use Rattle.program_lines.specs.declared.taking.LineTaken.{LineTaken}
+use Rattle.program_lines.specs.declared.taking.LineTaken.TheVariants.{Line, TooLong}
+use Rattle.program_lines.specs.ControlLines.{IsControlLine, IsAskedWithin}
+use Rattle.schedule_text.specs.Lines.{with_line_feed}
+use Rattle.operator_service.specs.Looks.{IsLookText}
+use Rattle.operator_service.specs.Servings.{IsWritten, report_line}
+use Rattle.program_lines.specs.TakenLines.{IsUnbroken}
+
+-- ---- answers
+
+-- to the line of this number, which is no order
+abbrev pub no_order_line : ℕ → List ℕ
+no_order_line number = with_line_feed (codes "line " ++ decimal number ++ codes ": not an order: the orders are " ++ ORDERS.now)
+
+-- to a line that asks for a change: the node's, with a reply
+pub record IsChangeLine (node : ℕ) (line : List ℕ) : Type 0 where
+  pub response : Reply (List ℕ)
+  pub is : line ≡ line_text (Operator node) (Response response)
+
+-- to one that lets the server close: its report, or that a fault ended it
+abbrev pub closing_line : Option Report → List ℕ
+closing_line (Some report) = report_line report
+closing_line None = with_line_feed (codes "not done: a fault ends the server")
+
+pub record IsClosingLine (line : List ℕ) : Type 0 where
+  pub report : Option Report
+  pub is : line ≡ closing_line report
+
+abbrev pub IsAnswer : ControlLine → List ℕ → Type 0
+IsAnswer (asked.Order (order.Change node c)) line = IsChangeLine node line
+IsAnswer (asked.Order order.Close) line = IsClosingLine line
+IsAnswer asked.CloseNow line = IsClosingLine line
+IsAnswer (asked.Look node what) line = IsLookText node what line
+
+-- after it nothing more is read
+abbrev pub is_closing : ControlLine → Bool
+is_closing (asked.Order order.Close) = true
+is_closing asked.CloseNow = true
+is_closing _ = false
+
+-- the text is no order for so many nodes, or it is longer than a line may be
+pub record IsNoAsked (nodes count : ℕ) (text : List ℕ) : Type 0 where
+  pub speaks : is_skipped text ≡ false
+  pub none : IsUtf8 text → (a : ControlLine) → IsControlLine nodes text a → IsAskedWithin count a → ⊥
+
+-- a line with this number, without its line feed, was answered so, and whether it was the last: what is skipped has no answer, an order
+-- its own, and any other line is answered that it is none
+pub data IsHandled (nodes count number : ℕ) (text : List ℕ) : List ℕ → Bool → Type 0 where
+  skipped : is_skipped text ≡ true → IsHandled nodes count number text [] false
+  long : LONGEST_LINE < length text → IsHandled nodes count number text (no_order_line number) false
+  none : IsNoAsked nodes count text → IsHandled nodes count number text (no_order_line number) false
+  answered : (a : ControlLine) (line : List ℕ) → IsControlLine nodes text a → IsAnswer a line → IsHandled nodes count number text line (is_closing a)
+
+-- the answer that was made of it
+abbrev pub IsAnswered : ℕ → ℕ → ℕ → List ℕ → Answer → Type 0
+IsAnswered nodes count number text a = IsHandled nodes count number text (string_bytes a.line) a.is_last
+
+-- what was made of an order: its answer, or that it is none, since there is no such node
+pub record IsNone (number : ℕ) (a : Answer) : Type 0 where
+  pub line : string_bytes a.line ≡ no_order_line number
+  pub further : a.is_last ≡ false
+
+pub record IsAnswerOf (what : ControlLine) (a : Answer) : Type 0 where
+  pub line : IsAnswer what (string_bytes a.line)
+  pub last : a.is_last ≡ is_closing what
+
+abbrev pub IsAnswerMade : ℕ → ℕ → ControlLine → Answer → Type 0
+IsAnswerMade count number what a = IsAnswerOf what a ⊎ ((IsAskedWithin count what → ⊥) × IsNone number a)
+
+-- the text that was taken, of which only a line that isn't too long was kept
+abbrev pub IsAnswerText : LineTaken → List ℕ → List ℕ → Type 0
+IsAnswerText Line line text = text ≡ line
+IsAnswerText TooLong line text = LONGEST_LINE < length text
+
+-- a line is answered, and the answer written
+pub record Replies (nodes count number : ℕ) (text : List ℕ) (written_old written_new : Option (List ℕ)) (is_last : Bool) : Type 0 where
+  pub answer : List ℕ
+  pub handled : IsHandled nodes count number text answer is_last
+  pub written : Appends written_old written_new answer
+
+-- ---- the whole of a connection
+
+-- a line, without its line feed, and its answer
+pub record Attended : Type 0 where
+  pub text : List ℕ
+  pub answer : List ℕ
+  pub is_last : Bool
+
+-- of lines that stand newest first: each is one, with the next number, and was answered
+abbrev pub AreAttended : ℕ → ℕ → List Attended → Type 0
+AreAttended nodes count [] = ⊤
+AreAttended nodes count (a ∷ lines) = IsUnbroken a.text × IsHandled nodes count (suc (length lines)) a.text a.answer a.is_last × AreAttended nodes count lines
+
+-- the bytes that were read
+abbrev pub texts_of : List Attended → List ℕ
+texts_of [] = []
+texts_of (a ∷ lines) = texts_of lines ++ with_line_feed a.text
+
+-- the bytes that were written
+abbrev pub answers_of : List Attended → List ℕ
+answers_of [] = []
+answers_of (a ∷ lines) = answers_of lines ++ a.answer
+
+-- the connection so far
+pub record Attending (nodes count number : ℕ) (read_old read_new written_old written_new : Option (List ℕ)) : Type 0 where
+  -- newest first
+  pub lines : List Attended
+  -- the number of the next line
+  pub counted : suc (length lines) ≡ number
+  pub attended : AreAttended nodes count lines
+  pub consumed : Consumes read_old read_new (texts_of lines)
+  pub written : Appends written_old written_new (answers_of lines)
+
+-- whether the newest let the server close
+abbrev pub was_last : List Attended → Bool
+was_last [] = false
+was_last (a ∷ lines) = a.is_last
+
+-- it ends without a fault after a line that lets the server close, or at the end of the input, of which a part of a line may be left
+abbrev pub AttendingEnds : Option (List ℕ) → List Attended → List ℕ → Result ⊤ Fault → Type 0
+AttendingEnds read_new lines rest (Ok u) = ((was_last lines ≡ true) × (rest ≡ [])) ⊎ (IsAtEnd read_new × IsUnbroken rest)
+AttendingEnds read_new lines rest (Err (NotAStep n)) = ⊥
+AttendingEnds read_new lines rest (Err Input) = ⊤
+AttendingEnds read_new lines rest (Err Output) = ⊤
+AttendingEnds read_new lines rest (Err Socket) = ⊥
+AttendingEnds read_new lines rest (Err Folded) = ⊥
+AttendingEnds read_new lines rest (Err NoMemory) = ⊤
+
+-- the whole of it
+pub record HasAttended (nodes count : ℕ) (read_old read_new written_old written_new : Option (List ℕ)) (result : Result ⊤ Fault) : Type 0 where
+  -- newest first
+  pub lines : List Attended
+  -- what was read after them
+  pub rest : List ℕ
+  pub attended : AreAttended nodes count lines
+  pub consumed : Consumes read_old read_new (texts_of lines ++ rest)
+  pub written : IsWritten written_old written_new (answers_of lines) result
+  pub ends : AttendingEnds read_new lines rest result

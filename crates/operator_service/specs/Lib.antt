@@ -1,0 +1,3 @@
+pub mod Attending
+pub mod Looks
+pub mod Servings

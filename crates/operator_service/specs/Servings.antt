@@ -1,0 +1,135 @@
+-- The operator's lines that were carried out, and what was printed for them.
+use Rattle.std.specs.Prelude.{◌≡◌, ℕ, suc, false, true, Bool, List, [], ◌∷◌, ◌++◌, length, Option, IfSome, Result, Ok, Err, codes, decimal, ⊤}
+use Rattle.std.specs.Io.KnownBytes.{Appends, Consumes, Keeps}
+use Rattle.std.specs.Str.{IsUtf8}
+use Rattle.obj_id.specs.declared.commands.Reply.{Reply}
+use Rattle.private_store.specs.declared.schedules.StepAnswer.TheVariants.{Response}
+use Rattle.schedule_text.specs.declared.prefixes.Prefix.TheVariants.{Operator}
+use Rattle.schedule_text.specs.Printing.{line_text}
+use Rattle.session_threads.specs.declared.cluster.Report.{Report}
+use Rattle.program_lines.specs.declared.fault.Fault.{Fault}
+use Rattle.program_lines.specs.declared.fault.Fault.TheVariants.{NotAStep, Input, Output, Socket, Folded, NoMemory}
+use Rattle.program_lines.specs.declared.operator.Change.{Change}
+use Rattle.program_lines.specs.declared.operator.Order.{Order}
+use Rattle.program_lines.specs.declared.operator.Order.TheVariants as order
+use Rattle.operator_service.specs.declared.serving.LastLine.{LastLine}
+use Rattle.operator_service.specs.declared.serving.LastLine.TheVariants.{Close, OfInput}
+use Rattle.schedule_text.specs.Lines.{with_line_feed, IsNextLine}
+use Rattle.program_lines.specs.Orders.{IsOrder, IsWithin}
+
+-- a line, without its line feed, and the answer to it
+pub record Obeyed : Type 0 where
+  pub text : List ℕ
+  pub node : ℕ
+  pub change : Change
+  pub reply : Reply (List ℕ)
+
+-- the bytes of a line that was answered
+abbrev pub order_answer_text : Obeyed → List ℕ
+order_answer_text o = line_text (Operator o.node) (Response o.reply)
+
+-- of lines that stand newest first: each spells its change
+abbrev pub AreObeyed : ℕ → List Obeyed → Type 0
+AreObeyed nodes [] = ⊤
+AreObeyed nodes (o ∷ lines) = IsOrder nodes o.text (order.Change o.node o.change) × AreObeyed nodes lines
+
+-- the bytes that were read
+abbrev pub orders_of : List Obeyed → List ℕ
+orders_of [] = []
+orders_of (o ∷ lines) = orders_of lines ++ with_line_feed o.text
+
+-- the bytes that were written
+abbrev pub answers_of : List Obeyed → List ℕ
+answers_of [] = []
+answers_of (o ∷ lines) = answers_of lines ++ order_answer_text o
+
+-- an answer is written
+pub record Replies (node : ℕ) (written_old written_new : Option (List ℕ)) : Type 0 where
+  pub reply : Reply (List ℕ)
+  pub written : Appends written_old written_new (line_text (Operator node) (Response reply))
+
+-- a line is carried out, and its answer written
+pub record CarriesOut (nodes : ℕ) (bytes : List ℕ) (written_old written_new : Option (List ℕ)) : Type 0 where
+  pub obeyed : Obeyed
+  pub is_text : bytes ≡ with_line_feed obeyed.text
+  pub spelled : IsOrder nodes obeyed.text (order.Change obeyed.node obeyed.change)
+  pub written : Appends written_old written_new (order_answer_text obeyed)
+
+-- the bytes of `close`
+abbrev pub close_line : List ℕ
+close_line = with_line_feed (codes "close")
+
+-- a line after which it goes on, or doesn't
+abbrev pub ServesLine : ℕ → List ℕ → Option (List ℕ) → Option (List ℕ) → Bool → Type 0
+ServesLine nodes bytes written_old written_new true = CarriesOut nodes bytes written_old written_new
+ServesLine nodes bytes written_old written_new false = (bytes ≡ close_line) × Keeps written_old written_new
+
+-- an answer that isn't written, but perhaps a part if the output failed
+abbrev pub StopsReply : Option (List ℕ) → Option (List ℕ) → Fault → Type 0
+StopsReply written_old written_new (NotAStep n) = ⊥
+StopsReply written_old written_new Input = ⊥
+StopsReply written_old written_new Output = ⊤
+StopsReply written_old written_new Socket = ⊥
+StopsReply written_old written_new Folded = ⊥
+StopsReply written_old written_new NoMemory = Keeps written_old written_new
+
+-- bytes that aren't a line of the operator's: its line feed is missing, or its text spells no order for so many nodes
+pub record IsNoOrder (nodes count : ℕ) (bytes : List ℕ) : Type 0 where
+  pub none : (text : List ℕ) → bytes ≡ with_line_feed text → IsUtf8 text → (asked : Order) → IsOrder nodes text asked → IsWithin count asked → ⊥
+
+-- a line at which the serving stops: nothing is written, unless the output failed
+abbrev pub StopsOrder : ℕ → ℕ → ℕ → List ℕ → Option (List ℕ) → Option (List ℕ) → Fault → Type 0
+StopsOrder nodes count number bytes written_old written_new (NotAStep n) = (n ≡ number) × IsNoOrder nodes count bytes × Keeps written_old written_new
+StopsOrder nodes count number bytes written_old written_new Input = ⊥
+StopsOrder nodes count number bytes written_old written_new Output = ⊤
+StopsOrder nodes count number bytes written_old written_new Socket = ⊥
+StopsOrder nodes count number bytes written_old written_new Folded = ⊥
+StopsOrder nodes count number bytes written_old written_new NoMemory = Keeps written_old written_new
+
+-- the serving so far
+pub record Serving (nodes number : ℕ) (read_old read_new written_old written_new : Option (List ℕ)) : Type 0 where
+  -- newest first
+  pub lines : List Obeyed
+  -- the number of the next line
+  pub counted : suc (length lines) ≡ number
+  pub obeyed : AreObeyed nodes lines
+  pub consumed : Consumes read_old read_new (orders_of lines)
+  pub written : Appends written_old written_new (answers_of lines)
+
+-- it ends without a fault at `close`, or once the lines are the whole input, and tells which; a fault for a line tells its number, and
+-- the line is the next one of the input, and none of the operator's
+abbrev pub ServingEnds : ℕ → ℕ → ℕ → Option (List ℕ) → List ℕ → List ℕ → Result LastLine Fault → Type 0
+ServingEnds nodes count number read_old input rest (Ok Close) = rest ≡ close_line
+ServingEnds nodes count number read_old input rest (Ok OfInput) = IfSome read_old (λ all. all ≡ input)
+ServingEnds nodes count number read_old input rest (Err (NotAStep n)) = (n ≡ number) × IsNoOrder nodes count rest × IsNextLine read_old input rest
+ServingEnds nodes count number read_old input rest (Err Input) = ⊤
+ServingEnds nodes count number read_old input rest (Err Output) = ⊤
+ServingEnds nodes count number read_old input rest (Err Socket) = ⊥
+ServingEnds nodes count number read_old input rest (Err Folded) = ⊥
+ServingEnds nodes count number read_old input rest (Err NoMemory) = ⊤
+
+-- what was written; if the output failed, nobody knows
+abbrev pub IsWritten : {A : Type 0} → Option (List ℕ) → Option (List ℕ) → List ℕ → Result A Fault → Type 0
+IsWritten written_old written_new text (Ok u) = Appends written_old written_new text
+IsWritten written_old written_new text (Err (NotAStep n)) = Appends written_old written_new text
+IsWritten written_old written_new text (Err Input) = Appends written_old written_new text
+IsWritten written_old written_new text (Err Output) = ⊤
+IsWritten written_old written_new text (Err Socket) = ⊥
+IsWritten written_old written_new text (Err Folded) = ⊥
+IsWritten written_old written_new text (Err NoMemory) = Appends written_old written_new text
+
+-- the whole of it, at a cluster of so many nodes, which lines may name up to another number
+pub record ServedText (nodes count : ℕ) (read_old read_new written_old written_new : Option (List ℕ)) (result : Result LastLine Fault) : Type 0 where
+  -- newest first
+  pub lines : List Obeyed
+  -- what was read of the line after them
+  pub rest : List ℕ
+  pub obeyed : AreObeyed nodes lines
+  pub consumed : Consumes read_old read_new (orders_of lines ++ rest)
+  pub written : IsWritten written_old written_new (answers_of lines) result
+  pub ends : ServingEnds nodes count (suc (length lines)) read_old (orders_of lines) rest result
+
+-- the line of a report
+abbrev pub report_line : Report → List ℕ
+report_line r =
+    with_line_feed (codes "report " ++ decimal r.entries ++ codes " " ++ decimal r.receipts ++ codes " " ++ decimal r.disagreeing ++ codes " " ++ decimal r.lost ++ codes " " ++ decimal r.erase_failures)

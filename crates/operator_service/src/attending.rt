@@ -1,0 +1,244 @@
+//! A control connection: each line of it is answered by one line.
+ghost use Rattle.std.specs.Prelude.{◌≡◌, ℕ, List, true, false, length, IfOk, IfErr, IfSome};
+ghost use Rattle.std.specs.String.{string_bytes};
+ghost use Rattle.std.specs.Str.{IsUtf8};
+ghost use Rattle.schedule_text.specs.Fields.{Reads};
+ghost use Rattle.program_lines.specs.ControlLines.{IsControlLine};
+ghost use Rattle.operator_service.specs.Attending.{HasAttended, IsAnswered, IsChangeLine, IsClosingLine, IsAnswerMade, IsNone, IsAnswerText, Replies, closing_line as closing_line_lem, no_order_line as no_order_line_lem};
+ghost use Rattle.operator_service.specs.Looks.{IsLookText};
+ghost use Rattle.operator_service.specs.Servings.{StopsReply};
+
+use crate::looks::look_text;
+use crate::serving::{carry_out, node_at, report_line, write_out};
+use bytes::Bytes;
+use obj_id::Reply;
+use private_store::StepAnswer;
+use program_lines::{ControlLine, Fault, LineTaken, Look, Order, read_control_line, take_line};
+use schedule_text::{Prefix, answer_line, is_skipped};
+use session_threads::{Report, SharedNode};
+use std::alloc::{AllocError, Global};
+use std::io::{Read, Write};
+use std::str;
+use std::sync::ledger::Ledger;
+use std::sync::{Arc, Wait};
+
+/// The words that are orders, as a line that is none is answered.
+const ORDERS: &str =
+    "admit NODE JOB WINDOW DEVICE KEY, quota NODE JOB WINDOW DEVICE, end NODE JOB, jobs NODE, usage NODE JOB, sessions NODE, close, close now";
+
+/// What closes the server for a control connection.
+pub trait Closing {
+    /// Lets the server close, and waits for its report; with the sessions that are open ended, or only waited for. `None` if there is
+    /// no report, since a fault ended the server.
+    fn close<R: Wait>(&self, rt: &R, now: bool) -> Option<Report>;
+}
+
+/// The answer to a line, with its line feed, and whether it is the last.
+#[derive(Drop)]
+struct Answer {
+    line: String,
+    is_last: bool,
+}
+
+/// Answers the lines of a control connection, each by one line, until one lets the server close or the reader is at its end.
+///
+/// What was read is those lines, and perhaps a part of another one; what was written is their answers, in that order. An empty line and
+/// one that begins with `#` have none. A line that is no order is answered so, with its number, counted from 1, and so is one of more
+/// than 4,096 bytes. A fault is of this connection alone, and the next line has no answer; only if the output failed nobody knows what
+/// was written.
+pub fn attend<L: Ledger, R: Wait, I: Read, O: Write, C: Closing>(
+    rt: &R,
+    alloc: Global,
+    nodes: &[Arc<SharedNode<L>>],
+    count: u32,
+    reader: &mut I,
+    writer: &mut O,
+    closing: &C,
+) -> Result<(), Fault>
+    ensures { HasAttended count (length nodes.now) (I.remaining reader.old) (I.remaining reader.new) (O.contents writer.old) (O.contents writer.new) result }
+{
+    let mut line = Vec::new(alloc);
+    for number in 1..u64::MAX {
+        match take_line(reader, &mut line) {
+            Err(fault) => return Err(fault),
+            Ok(None) => return Ok(()),
+            Ok(Some(taken)) => match reply_to(
+                rt, alloc, nodes, count, number, taken, &line, writer, closing,
+            ) {
+                Err(fault) => return Err(fault),
+                Ok(true) => return Ok(()),
+                Ok(false) => {}
+            },
+        }
+    }
+    // more lines than there are numbers
+    Err(Fault::Input)
+}
+
+/// Answers the line of this number, and hands the answer over: whether it is the last.
+fn reply_to<L: Ledger, R: Wait, O: Write, C: Closing>(
+    rt: &R,
+    alloc: Global,
+    nodes: &[Arc<SharedNode<L>>],
+    count: u32,
+    number: u64,
+    taken: LineTaken,
+    line: &[u8],
+    writer: &mut O,
+    closing: &C,
+) -> Result<bool, Fault>
+    ensures ok { IfOk result (λ is_last. (text : List ℕ) → IsAnswerText taken line.now text → Replies count (length nodes.now) number text (O.contents writer.old) (O.contents writer.new) is_last) }
+    ensures err { IfErr result (StopsReply (O.contents writer.old) (O.contents writer.new)) }
+{
+    let Ok(Answer { line, is_last }) = answer_of(
+        rt, alloc, nodes, count, number, taken, line, closing,
+    ) else {
+        return Err(Fault::NoMemory)
+    };
+    match write_out(line.as_bytes(), writer) {
+        Ok(()) => Ok(is_last),
+        Err(_) => Err(Fault::Output),
+    }
+}
+
+/// The answer to what was taken as the line of this number.
+fn answer_of<L: Ledger, R: Wait, C: Closing>(
+    rt: &R,
+    alloc: Global,
+    nodes: &[Arc<SharedNode<L>>],
+    count: u32,
+    number: u64,
+    taken: LineTaken,
+    line: &[u8],
+    closing: &C,
+) -> Result<Answer, AllocError>
+    ensures { IfOk result (λ answer. (text : List ℕ) → IsAnswerText taken line.now text → IsAnswered count (length nodes.now) number text answer) }
+{
+    match taken {
+        LineTaken::Line => answer_to(rt, alloc, nodes, count, number, line, closing),
+        LineTaken::TooLong => no_order(alloc, number),
+    }
+}
+
+/// The answer to the text of a line.
+fn answer_to<L: Ledger, R: Wait, C: Closing>(
+    rt: &R,
+    alloc: Global,
+    nodes: &[Arc<SharedNode<L>>],
+    count: u32,
+    number: u64,
+    text: &[u8],
+    closing: &C,
+) -> Result<Answer, AllocError>
+    ensures { IfOk result (IsAnswered count (length nodes.now) number text.now) }
+{
+    if is_skipped(text) {
+        return Ok(Answer {
+            line: String::new(alloc),
+            is_last: false,
+        });
+    }
+    match hear_asked(alloc, text, count)? {
+        Some(asked) => answer_asked(rt, alloc, nodes, number, asked, closing),
+        None => no_order(alloc, number),
+    }
+}
+
+/// What the text of a line asks for.
+fn hear_asked(alloc: Global, text: &[u8], nodes: u32) -> Result<Option<ControlLine>, AllocError>
+    ensures sound { IfOk result (λ found. IfSome found (IsControlLine nodes text.now)) }
+    ensures whole { IfOk result (λ found. IsUtf8 text.now → Reads found (IsControlLine nodes text.now)) }
+{
+    match str::from_utf8(text) {
+        Ok(text) => read_control_line(alloc, text, nodes),
+        Err(_) => Ok(None),
+    }
+}
+
+/// Does what was asked for, and answers.
+fn answer_asked<L: Ledger, R: Wait, C: Closing>(
+    rt: &R,
+    alloc: Global,
+    nodes: &[Arc<SharedNode<L>>],
+    number: u64,
+    asked: ControlLine,
+    closing: &C,
+) -> Result<Answer, AllocError>
+    ensures { IfOk result (IsAnswerMade (length nodes.now) number asked) }
+{
+    match asked {
+        ControlLine::Order(Order::Close) => last_answer(alloc, closing.close(rt, false)),
+        ControlLine::CloseNow => last_answer(alloc, closing.close(rt, true)),
+        ControlLine::Order(Order::Change(node, change)) => match node_at(nodes, node) {
+            Some(shared) => change_answer(alloc, node, carry_out(rt, shared, change)),
+            None => no_order(alloc, number),
+        },
+        ControlLine::Look(node, look) => match node_at(nodes, node) {
+            Some(shared) => look_answer(rt, alloc, shared, node, look),
+            None => no_order(alloc, number),
+        },
+    }
+}
+
+/// The answer to a line that is no order.
+fn no_order(alloc: Global, number: u64) -> Result<Answer, AllocError>
+    ensures { IfOk result (IsNone number) }
+{
+    Ok(Answer {
+        line: no_order_line(alloc, number)?,
+        is_last: false,
+    })
+}
+
+/// The line of that answer.
+fn no_order_line(alloc: Global, number: u64) -> Result<String, AllocError>
+    ensures { IfOk result (λ line. string_bytes line ≡ no_order_line_lem number) }
+{
+    format!(in alloc; "line {number}: not an order: the orders are {ORDERS}\n")
+}
+
+/// The answer to a change, to which the node replied so.
+fn change_answer(alloc: Global, node: u32, reply: Reply<Bytes>) -> Result<Answer, AllocError>
+    ensures { IfOk result (λ answer. IsChangeLine node (string_bytes answer.line) × (answer.is_last ≡ false)) }
+{
+    Ok(Answer {
+        line: answer_line(alloc, Prefix::Operator(node), &StepAnswer::Response(reply))?,
+        is_last: false,
+    })
+}
+
+/// The answer that shows something of a node.
+fn look_answer<L: Ledger, R: Wait>(
+    rt: &R,
+    alloc: Global,
+    shared: &SharedNode<L>,
+    node: u32,
+    look: Look,
+) -> Result<Answer, AllocError>
+    ensures { IfOk result (λ answer. IsLookText node look (string_bytes answer.line) × (answer.is_last ≡ false)) }
+{
+    Ok(Answer {
+        line: look_text(rt, alloc, shared, node, look)?,
+        is_last: false,
+    })
+}
+
+/// The answer to what let the server close.
+fn last_answer(alloc: Global, report: Option<Report>) -> Result<Answer, AllocError>
+    ensures { IfOk result (λ answer. IsClosingLine (string_bytes answer.line) × (answer.is_last ≡ true)) }
+{
+    Ok(Answer {
+        line: closing_line(alloc, report)?,
+        is_last: true,
+    })
+}
+
+/// The line of that answer.
+fn closing_line(alloc: Global, report: Option<Report>) -> Result<String, AllocError>
+    ensures { IfOk result (λ line. string_bytes line ≡ closing_line_lem report) }
+{
+    match report {
+        Some(report) => report_line(alloc, &report),
+        None => String::from_str(alloc, "not done: a fault ends the server\n"),
+    }
+}

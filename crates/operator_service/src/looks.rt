@@ -1,0 +1,83 @@
+//! What the operator is shown of a node, as lines.
+ghost use Rattle.std.specs.Prelude.{◌≡◌, IfOk};
+ghost use Rattle.std.specs.String.{string_bytes};
+ghost use Rattle.operator_service.specs.Looks.{IsLookText, IsUsageReply, job_text as job_text_lem, jobs_text as jobs_text_lem, jobs_line as jobs_line_lem, sessions_line as sessions_line_lem};
+
+use bytes::Bytes;
+use obj_id::{JobNo, Reply};
+use private_store::StepAnswer;
+use program_lines::Look;
+use schedule_text::{Prefix, answer_line};
+use session_threads::{LiveJob, SharedNode};
+use std::alloc::{AllocError, Global};
+use std::sync::Wait;
+use std::sync::ledger::Ledger;
+
+/// The line that shows something of the node of this number.
+pub(crate) fn look_text<L: Ledger, R: Wait>(
+    rt: &R,
+    alloc: Global,
+    shared: &SharedNode<L>,
+    node: u32,
+    look: Look,
+) -> Result<String, AllocError>
+    ensures { IfOk result (λ line. IsLookText node look (string_bytes line)) }
+{
+    match look {
+        Look::Jobs => jobs_line(alloc, node, &shared.live_jobs(rt)?),
+        Look::Usage(job) => {
+            let response = StepAnswer::Response(usage_reply(rt, shared, job));
+            answer_line(alloc, Prefix::Operator(node), &response)
+        }
+        Look::Sessions => sessions_line(alloc, node, shared.open_sessions(rt)),
+    }
+}
+
+/// What a job uses of its quotas, or that it isn't live.
+fn usage_reply<L: Ledger, R: Wait>(rt: &R, shared: &SharedNode<L>, job: JobNo) -> Reply<Bytes>
+    ensures { IsUsageReply result }
+{
+    match shared.usage(rt, job) {
+        Ok(usage) => Reply::Usage(usage),
+        Err(refusal) => Reply::Refused(refusal),
+    }
+}
+
+/// `nNODE op sessions` and their number.
+fn sessions_line(alloc: Global, node: u32, sessions: usize) -> Result<String, AllocError>
+    ensures { IfOk result (λ line. string_bytes line ≡ sessions_line_lem node sessions) }
+{
+    format!(in alloc; "n{node} op sessions {sessions}\n")
+}
+
+/// `nNODE op jobs`, and each job with its quotas.
+fn jobs_line(alloc: Global, node: u32, jobs: &[LiveJob]) -> Result<String, AllocError>
+    ensures { IfOk result (λ line. string_bytes line ≡ jobs_line_lem node jobs.now) }
+{
+    let mut line = format!(in alloc; "n{node} op jobs")?;
+    line.push_str(&jobs_text(alloc, jobs)?)?;
+    line.push('\n')?;
+    Ok(line)
+}
+
+/// Each job with its quotas, after a space.
+fn jobs_text(alloc: Global, jobs: &[LiveJob]) -> Result<String, AllocError>
+    ensures { IfOk result (λ text. string_bytes text ≡ jobs_text_lem jobs.now) }
+{
+    let mut text = String::new(alloc);
+    for job in jobs {
+        let job = job_text(alloc, job)?;
+        text.push_str(&job)?;
+    }
+    Ok(text)
+}
+
+/// ` JOB:WINDOW:DEVICE`.
+fn job_text(alloc: Global, live: &LiveJob) -> Result<String, AllocError>
+    ensures { IfOk result (λ text. string_bytes text ≡ job_text_lem live.now) }
+{
+    let job = live.job.0;
+    let window = live.usage.window;
+    let device = live.usage.device;
+    format!(in alloc; " {job}:{window}:{device}")
+}

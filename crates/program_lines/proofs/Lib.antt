@@ -1,0 +1,5 @@
+mod Asking
+mod Ordering
+mod TakenLines
+mod NextLines
+pub mod ForCallers

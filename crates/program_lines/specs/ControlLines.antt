@@ -1,0 +1,50 @@
+-- Which order a line of a control connection spells.
+use Rattle.std.specs.Prelude.{◌≡◌, ℕ, ◌<◌, List, [], ◌∷◌, codes}
+use Rattle.schedule_text.specs.Fields.{IsJob, IsNode, fields_of}
+use Rattle.schedule_text.specs.Reading.{IsNodeAlone}
+use Rattle.program_lines.specs.declared.control_lines.ControlLine.{ControlLine}
+use Rattle.program_lines.specs.declared.control_lines.ControlLine.TheVariants as asked
+use Rattle.program_lines.specs.declared.control_lines.Look.{Look}
+use Rattle.program_lines.specs.declared.control_lines.Look.TheVariants as look
+use Rattle.program_lines.specs.declared.control_lines.LookAt.{LookAt}
+use Rattle.program_lines.specs.Orders.{IsOrder, IsWithin}
+
+-- the first word of a line that asks for this
+abbrev pub look_word : Look → List ℕ
+look_word look.Jobs = codes "jobs"
+look_word (look.Usage job) = codes "usage"
+look_word look.Sessions = codes "sessions"
+
+-- `NODE JOB`, each in its field
+abbrev pub IsUsageOf : ℕ → List ℕ → List ℕ → ℕ → Look → Type 0
+IsUsageOf nodes node job n (look.Usage j) = IsNode nodes node n × IsJob job j
+IsUsageOf nodes node job n _ = ⊥
+
+abbrev pub IsJobLook : ℕ → List (List ℕ) → LookAt → Type 0
+IsJobLook nodes (node ∷ job ∷ []) x = IsUsageOf nodes node job x.node x.look
+IsJobLook nodes _ x = ⊥
+
+-- what comes after that word
+abbrev pub IsLookFields : ℕ → List (List ℕ) → ℕ → Look → Type 0
+IsLookFields nodes fields node look.Jobs = IsNodeAlone nodes fields node
+IsLookFields nodes fields node (look.Usage job) = IsJobLook nodes fields (record { node = node; look = look.Usage job })
+IsLookFields nodes fields node look.Sessions = IsNodeAlone nodes fields node
+
+abbrev pub IsLookAfter : ℕ → List ℕ → List (List ℕ) → LookAt → Type 0
+IsLookAfter nodes word fields x = (word ≡ look_word x.look) × IsLookFields nodes fields x.node x.look
+
+abbrev pub IsLookLine : ℕ → List (List ℕ) → LookAt → Type 0
+IsLookLine nodes [] x = ⊥
+IsLookLine nodes (word ∷ fields) x = IsLookAfter nodes word fields x
+
+-- a line of the operator's, `close now`, `jobs NODE`, `usage NODE JOB` or `sessions NODE`
+abbrev pub IsControlLine : ℕ → List ℕ → ControlLine → Type 0
+IsControlLine nodes text (asked.Order order) = IsOrder nodes text order
+IsControlLine nodes text asked.CloseNow = text ≡ codes "close now"
+IsControlLine nodes text (asked.Look node what) = IsLookLine nodes (fields_of text) (record { node = node; look = what })
+
+-- it is for one of so many nodes, or for the whole cluster
+abbrev pub IsAskedWithin : ℕ → ControlLine → Type 0
+IsAskedWithin count (asked.Order order) = IsWithin count order
+IsAskedWithin count asked.CloseNow = Unit {0}
+IsAskedWithin count (asked.Look node what) = node < count

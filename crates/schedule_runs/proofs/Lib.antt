@@ -1,0 +1,4 @@
+mod Hearing
+mod Crews
+mod Running
+mod Within

@@ -1,6 +1,0 @@
-use Rattle.std.proofs.Common.{length}
-use Rattle.store_program.proofs.Handled.{long_answered}
-use Rattle.store_program.proofs.attending.answer_of.Goals as goal
-
-pub returns-in-TooLong : goal.returns-in-TooLong
-returns-in-TooLong g c = long_answered c.args.count (length c.args.nodes.now) c.args.number c.args.taken c.in-TooLong.is c.args.line.now _ c.no_order.ensures

@@ -1,6 +1,0 @@
-use Rattle.std.proofs.Common.{length}
-use Rattle.store_program.specs.Attending.{Attending}
-use Rattle.store_program.proofs.attending.attend.Given as goal
-
-abbrev pub invariant-loop-number : goal.invariant-loop-number
-invariant-loop-number g l = Attending l.count (length l.nodes) l.number (g.I.Read.remaining l.fn.reader) (g.I.Read.remaining l.reader) (g.O.Write.contents l.fn.writer) (g.O.Write.contents l.writer)

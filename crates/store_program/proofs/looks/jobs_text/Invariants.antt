@@ -1,7 +1,0 @@
-use Rattle.std.proofs.Common.{◌≡◌, ◌++◌, drop}
-use Rattle.std.specs.String.{string_bytes}
-use Rattle.store_program.specs.Looks.{jobs_text}
-use Rattle.store_program.proofs.looks.jobs_text.Given as goal
-
-abbrev pub invariant-loop-job : goal.invariant-loop-job
-invariant-loop-job l = string_bytes l.text ++ jobs_text (drop l.job-index l.jobs) ≡ jobs_text l.jobs

@@ -1,6 +1,0 @@
-use Rattle.std.proofs.Common.{rules}
-use Rattle.std.proofs.lemmas.List.{append_assoc}
-use Rattle.store_program.proofs.serving.report_line.Goals as goal
-
-pub returns : goal.returns
-returns c = simp append_assoc (search rules)
