@@ -1,9 +1,15 @@
+# All tests that need no proof, side by side: those of the sources by builds without a proof, if the Rattle kit is here, and those of the
+# program that operate/program finds (see tests/all --help). PARTS="sessions pages" runs these alone.
+test:
+	tests/all $(PARTS)
+
 # The gate: every proof from nothing, the must-fail edits, the tests, and the programs with what they print. A crate has no
 # links, so the examples and the frames lie twice; that they are the same is looked at first. Checks run side by side, one for each
 # processor if there are 4.5 GB for each. By itself rt ci goes by how much it thinks a crate may need, thrice what node_table takes, so
 # that crate, on which most others stand, would wait until hardly anything else runs.
 CHECKS = $(shell awk -v most=$$(nproc) '/^MemAvailable/ { n = int($$2 / 4500000); print n < 1 ? 1 : n < most ? n : most }' /proc/meminfo)
-test:
+gate:
+	@command -v rt > /dev/null || { echo "make gate needs the Rattle kit, with rt on the path; make test runs what needs no proof" >&2; exit 2; }
 	diff -r -x '*.py' -x __pycache__ -x cluster examples crates/schedules/data/examples
 	cmp examples/first.schedule crates/store_server/stdin
 	cmp examples/first.expected crates/store_server/stdout
@@ -14,30 +20,25 @@ test:
 check:
 	rt all check
 
-# Proves the program over the crates below it, and leaves it as crates/store_server/out/store_server. A program is only
-# built to be run, so it is given an empty schedule.
+# Proves the program over the crates below it, and leaves it as crates/store_server/out/store_server, with a file beside it that says of
+# which crates/ it is. A program is only built to be run, so it is given an empty schedule.
 build:
-	cd crates/store_server && rt run -- run < /dev/null
+	@command -v rt > /dev/null || { echo "build: there is no rt on the path; without the kit, scripts take the release in dist/" >&2; exit 2; }
+	tree=$$(operate/note-program --tree); (cd crates/store_server && rt run -- run < /dev/null) && \
+	    if [ -n "$$tree" ]; then operate/note-program --proved yes --since "$$tree"; fi
 
 # Runs the first example by a build without a proof, as the last line says: proved=no.
 run:
 	cd crates/store_server && rt try -- run < ../../examples/first.schedule
 
-# The test crates with allocations failing: run N of a crate lets allocation N of each test fail. The gate makes none fail.
-# A run builds anew and takes about half a minute; for more of them, make faults FAULTS="$$(seq 1 60)". Of frame_tests only
-# the tests of memory are run: the others make texts and lists of their own, which they don't ask for again.
+# The test crates with allocations failing: run N of a crate lets allocation N of each test fail, which passes or says that memory ran
+# out (see tests/faults --help). The gate makes none fail. A run builds anew and takes about half a minute; for more of them, make faults
+# FAULTS=1-60.
 FAULTS = 1 2 3 5 8 13
-TEST_CRATES = words_tests copy_tests job_tests node_tests device_tests cluster_tests text_tests frame_tests session_tests call_tests \
-	program_tests
 faults:
-	@set -e; for crate in $(TEST_CRATES); do for n in $(FAULTS); do \
-	    case $$crate in frame_tests) only="-- memory";; *) only="";; esac; \
-	    echo "$$crate: allocation $$n of each test fails"; \
-	    (cd crates/$$crate && rt try --test --fail-alloc $$n $$only > faults.log 2>&1) || { cat crates/$$crate/faults.log; exit 1; }; \
-	    grep "^test result" crates/$$crate/faults.log; rm crates/$$crate/faults.log; \
-	done; done
+	tests/faults $(FAULTS)
 
-# Growths of memory refused in turn, in runs of worked schedules by the program that is there (see tests/growths --help).
+# Growths of memory refused in turn, in runs of worked schedules (see tests/growths --help).
 growths:
 	tests/growths
 
@@ -46,59 +47,59 @@ growths:
 edits:
 	tests/edits/try
 
-# Sessions of two jobs over the sockets of a built program.
-sessions: build
+# Here and below a script takes the program that operate/program finds, and says which one: the one that STORE_PROGRAM names, the
+# built one, if it is of the crates/ that are here, or that of the release in dist/.
+# Sessions of two jobs over its sockets.
+sessions:
 	tests/sessions
 
-# Orders on the control socket of a built program.
-control: build
+# Orders on its control socket.
+control:
 	tests/control
 
-# Malicious clients at a built program (see tests/attack --help).
-attack: build
+# Malicious clients at it (see tests/attack --help).
+attack:
 	tests/attack
 
-# Eight sessions at a built program of three nodes for an hour (see tests/soak --help).
-soak: build
+# Eight sessions at three nodes for an hour (see tests/soak --help).
+soak:
 	tests/soak
 
-# The same at the program that is there, under store-daemon and with a disk that is full now and then; an hour by MINUTES=60. Only root
+# The same under store-daemon and with a disk that is full now and then; an hour by MINUTES=60. Only root
 # may have such a disk.
 MINUTES = 5
 soak-service:
 	tests/soak --daemon --disk 12 --minutes $(MINUTES)
 
-# The Python client at a built program.
-client-test: build
+# The Python client.
+client-test:
 	python3 clients/python/tests/test_client.py
 
-# All of the clients' tests at the program that is there, with numpy, mypy, gcc and whatever else they can use; what is missing is
+# The client in Rust, if there is cargo.
+rust-client-test:
+	tests/rust_client
+
+# All of the clients' tests, with numpy, mypy, gcc and whatever else they can use; what is missing is
 # said. It takes some minutes.
 client-check:
 	clients/check
 
-# tests/sessions, tests/control, tests/shared_bytes, tests/journals, the client's tests and the daemon's at the program that is there already, as the gate
-# leaves it, with no new proof; and the tests of pages, of pictures, of what proofs cite of other crates and of who answers that memory ran
-# out, which need none. This is what the gate's script runs after the gate.
-try-built:
-	tests/built
-
-# The daemon that runs a server as a service, and storectl, at the program that is there.
+# The daemon that runs a server as a service, and storectl.
 daemon-test:
 	operate/tests/all
 
-# Serves from a folder of this checkout until it is interrupted, with the built program, or with the one of the release in dist/ if it
-# is of these sources; RELEASE=yes takes the release in any case, and FOLDER=PATH is another folder than out/serve.
+# Serves from a folder of this checkout until it is interrupted. RELEASE=yes takes the release in dist/ though a program was built, and
+# FOLDER=PATH is another folder than out/serve.
 serve:
 	@operate/serve $(if $(RELEASE),--release) $(if $(FOLDER),--folder '$(FOLDER)')
 
-# A release of the program that is there: dist/store-VERSION-x86_64-linux.tar.gz. GATE=FILE has what the gate printed.
+# A release of the built program, which has to be proved and of the last commit's crates/: dist/store-VERSION-x86_64-linux.tar.gz.
 dist:
-	operate/dist $(if $(GATE),--gate $(GATE))
+	operate/dist
 
-# The same, and a Debian package of it.
+# A Debian package of the same files; or if there is no such program, of the release that is kept in dist/.
 deb:
-	operate/dist --deb $(if $(GATE),--gate $(GATE))
+	operate/dist --deb
 
 # That a release and its package are the same each time, and serve from an empty folder.
 dist-check:
@@ -108,35 +109,36 @@ dist-check:
 hostile:
 	tests/hostile/run
 
-# Shows the guarantee on a schedule: without its second job's lines the program answers the first job alike.
+# Shows the guarantee on a schedule: without its second job's lines the program answers the first job alike. SERVED=yes shows it at a
+# program that serves: a session of one job is answered alike alone and beside busy sessions of another.
 show-guarantee:
-	bench/guarantee
+	@STORE_PROGRAM=$$(operate/program) && export STORE_PROGRAM && bench/guarantee $(if $(SERVED),--served)
 
-# Processes of two jobs that pass arrays along through a built program.
-pipeline: build
+# Processes of two jobs that pass arrays along.
+pipeline:
 	examples/pipeline.py
 
-# Dask over three hosts on this machine, each with a store; one is lost in the middle. And its tests, with each fault. Both are at the
-# program that is there, or at the one that STORE_PROGRAM names, and say what they leave out if Debian's packages aren't there.
+# Dask over three hosts on this machine, each with a store; one is lost in the middle. And its tests, with each fault. Both say what
+# they leave out if Debian's packages aren't there.
 cluster-demo:
 	examples/cluster/demo.py
 
 cluster-test:
 	examples/cluster/test.py
 
-# A built program and a plain model of it, on schedules drawn by lot and forged journals (see bench/model --help).
-model: build
+# The program and a plain model of it, on schedules drawn by lot and forged journals (see bench/model --help).
+model:
 	bench/model
 
-# Measures a built program, one that serves, and a journaled node (see bench/growth --help, bench/serve --help, bench/journal --help).
-bench: build
-	bench/growth
-	bench/serve
-	bench/journal
+# Measures the program, one that serves, and a journaled node (see bench/growth --help, bench/serve --help, bench/journal --help).
+bench:
+	STORE_PROGRAM=$$(operate/program) && export STORE_PROGRAM && bench/growth && bench/serve && bench/journal
 
-# Draws the picture of the parts, and the example's from the journal that the plain model keeps of it.
+# Draws the pictures of the parts, of the crates and of storectl top, and the example's from the journal that the plain model keeps of it.
 picture:
 	bench/parts -o docs/pictures/parts.svg
+	bench/crates_picture -o docs/pictures/crates.svg
+	bench/top_picture docs/pictures/top.json -o docs/pictures/top.svg
 	cd tests && python3 -B -m model journal < ../docs/pictures/spilling.schedule > ../docs/pictures/spilling.log
 	bench/picture docs/pictures/spilling.log -o docs/pictures/spilling.svg
 	rm docs/pictures/spilling.log
@@ -145,5 +147,5 @@ picture:
 proof-picture:
 	tests/proof_picture -o docs/pictures/proof.svg
 
-.PHONY: test check build run edits sessions attack soak soak-service client-test client-check try-built daemon-test serve dist deb dist-check \
-	hostile show-guarantee pipeline cluster-demo cluster-test model faults growths bench picture proof-picture
+.PHONY: test gate check build run edits sessions attack soak soak-service client-test rust-client-test client-check daemon-test serve dist \
+	deb dist-check hostile show-guarantee pipeline cluster-demo cluster-test model faults growths bench picture proof-picture

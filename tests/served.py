@@ -14,10 +14,7 @@ from pathlib import Path
 from typing import IO, List, Sequence, Tuple
 
 from serving import PATIENCE, READY, ROOT, report_of, say, start
-
-sys.path.insert(0, str(ROOT / "operate"))
-
-from store_operator.asking import Daemon  # noqa: E402
+from store_operator.asking import Daemon
 
 DAEMON = ROOT / "operate/store-daemon"
 # seconds for which the disk has room, and is full

@@ -6,13 +6,17 @@ import re
 import socket
 import struct
 import subprocess
+import sys
 from pathlib import Path
 from typing import List, Sequence, Tuple
 
 ROOT = Path(__file__).resolve().parent.parent
+sys.path.insert(0, str(ROOT / "operate"))
+
+from store_release.program import program_or_end as program_or_end  # noqa: E402
+
 # seconds that an answer or an end may take, on a machine that does much else
 PATIENCE = 100
-PROGRAM = ROOT / "crates/store_server/out/store_server"
 # on its standard error once all sockets listen
 READY = "store: ready\n"
 # and for a device call that failed: node, job, work, call, reason, and how many more failed without a line

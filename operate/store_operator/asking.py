@@ -2,15 +2,17 @@
 
 from __future__ import annotations
 
+import contextlib
 import errno
+import json
 import socket
-from typing import Dict, List, NamedTuple, Optional, Union
+from typing import Dict, List, NamedTuple, Optional, Tuple, Union
 
-# longer than the daemon itself waits for its server
-_PATIENCE = 90.0
+# seconds: longer than the daemon itself waits for its server, and more than the grace period that a close may take
+_PATIENCE, _END = 90.0, 30.0
 _NO_DAEMON = (errno.ENOENT, errno.ECONNREFUSED)
 
-Mark = Union[str, int, List[int]]
+Mark = Union[str, int, float, List[int]]
 
 
 class AskFault(Exception):
@@ -42,16 +44,18 @@ class UsageRow(NamedTuple):
 class Daemon:
     """A connection to the control socket of this path."""
 
-    def __init__(self, path: str) -> None:
+    def __init__(self, path: str, timeout: Optional[float] = None) -> None:
+        """With a timeout each answer has to come in so many seconds; otherwise the daemon has time to give up first."""
         self._path = path
+        self._timeout = timeout
         self._socket = socket.socket(socket.AF_UNIX)
-        self._socket.settimeout(_PATIENCE)
+        self._socket.settimeout(timeout or _PATIENCE)
         try:
             self._socket.connect(path)
         except OSError as error:
             self._socket.close()
             hint = ": does store-daemon run, and is this its control socket?" if error.errno in _NO_DAEMON else ""
-            raise AskFault(f"{path}: {error.strerror or error}{hint}") from error
+            raise AskFault(f"{path}: {self._why(error)}{hint}") from error
         self._answers = self._socket.makefile("r", encoding="utf-8", newline="\n")
 
     def close(self) -> None:
@@ -70,20 +74,25 @@ class Daemon:
             self._socket.sendall(f"{line}\n".encode())
             answer = self._answers.readline()
         except OSError as error:
-            raise AskFault(f"{self._path}: {error.strerror or error}") from error
+            raise AskFault(f"{self._path}: {self._why(error)}") from error
         if not answer.endswith("\n"):
             raise AskFault(f"{self._path}: the daemon ended before it answered")
         return answer[:-1]
 
     def end_store(self, at_once: bool) -> str:
-        """The server's report, or why there is none; however long open sessions may go on."""
-        self._socket.settimeout(None)
+        """The server's report, or why there is none. The daemon ends it after the grace period at the latest."""
+        if self._timeout is None:
+            self._socket.settimeout(float(str(self.status()["grace"])) + _END)
         return self.ask("close now" if at_once else "close")
+
+    def ping(self) -> Tuple[int, float]:
+        """How many nodes there are, and the milliseconds in which all answered."""
+        marks = self._marks("ping", "pong")
+        return int(marks["nodes"]), float(marks["milliseconds"])
 
     def status(self) -> Dict[str, Mark]:
         """Each mark by its name: a text, a number, or a number for each node."""
-        fields = (field.partition("=") for field in self._told("status", "status"))
-        return {name: _mark(name, value) for name, _, value in fields}
+        return {name: _mark(name, value) for name, value in self._marks("status", "status").items()}
 
     def jobs(self, node: int) -> List[JobRow]:
         rows = self._told(f"jobs {node}", f"n{node} op jobs")
@@ -96,8 +105,31 @@ class Daemon:
             return None
         return UsageRow(node, job, *_whole(_after(answer, f"n{node} op usage"), 6))
 
+    def metrics(self) -> str:
+        """The counters in Prometheus' text format."""
+        word, _, text = self.ask("metrics").partition(" ")
+        if word != "metrics":
+            raise AskFault(f"{word} {text}")
+        return str(json.loads(text))
+
+    def usages(self) -> List[UsageRow]:
+        """Of all jobs at all nodes, at most a second old."""
+        return [UsageRow(*_whole(row.split(":"), 8)) for row in self._told("usages", "usages")]
+
+    def sessions(self, node: int) -> int:
+        return _whole(self._told(f"sessions {node}", f"n{node} op sessions"), 1)[0]
+
+    def _marks(self, line: str, start: str) -> Dict[str, str]:
+        fields = (field.partition("=") for field in self._told(line, start))
+        return {name: value for name, _, value in fields}
+
     def _told(self, line: str, start: str) -> List[str]:
         return _after(self.ask(line), start)
+
+    def _why(self, error: OSError) -> str:
+        if isinstance(error, socket.timeout):
+            return f"no answer for {self._socket.gettimeout():.3g} seconds"
+        return error.strerror or str(error)
 
 
 def _after(answer: str, start: str) -> List[str]:
@@ -121,4 +153,10 @@ def _mark(name: str, value: str) -> Mark:
     """By the mark's name, as one node's list looks like a number."""
     if name in ("jobs", "sessions"):
         return [int(count) for count in value.split(",")]
-    return int(value) if value.isdigit() else value
+    if name == "state":
+        return value.replace("_", " ")
+    if value.isdigit():
+        return int(value)
+    with contextlib.suppress(ValueError):
+        return float(value)
+    return value

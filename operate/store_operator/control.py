@@ -4,26 +4,24 @@ from __future__ import annotations
 
 import asyncio
 import contextlib
+import json
 import logging
 import time
-from concurrent.futures import ThreadPoolExecutor
 from typing import Optional, Set
 
 import store_client
 
 from . import sockets
-from .inspection import Process, count_sessions, look_at
 from .limits import needed_descriptors
-from .orders import LONGEST_LINE, Admit, Close, End, Jobs, NotAnOrder, Order, Quota, Usage, read_order
-from .spill import SpillFault, Spilled
-from .supervisor import NotDone, State, Supervisor
-from .tidying import aside
+from .looking import PATIENCE, Looks, rows_text
+from .metrics import Metrics
+from .orders import (
+    LONGEST_LINE, Admit, Close, End, Jobs, NotAnOrder, Order, Ping, Prometheus, Quota, Sessions, Usage, Usages, read_order,
+)
+from .supervisor import NotDone, Supervisor
+from .watching import moment
 
-# seconds that a session which only asks for its job's usage may take, and how many there are at once
-_PATIENCE, _LOOKERS = 10.0, 4
 _MOST_CONNECTIONS = 200
-# seconds that a look at the disk may take
-_LOOK_AT_DISK = 5.0
 # seconds in which the last answers are still sent
 _LAST_ANSWERS = 1.0
 
@@ -31,18 +29,19 @@ _LAST_ANSWERS = 1.0
 class Control:
     """Takes orders for a supervisor, until it is closed."""
 
-    def __init__(self, supervisor: Supervisor, log: logging.Logger) -> None:
+    def __init__(self, supervisor: Supervisor, looks: Looks, metrics: Metrics, log: logging.Logger) -> None:
         self._supervisor = supervisor
+        self._looks = looks
+        self._metrics = metrics
         self._log = log
         self._path = supervisor.settings.control
         self._server: Optional[asyncio.AbstractServer] = None
         self._own: Optional[sockets.Identity] = None
         self._connections: Set["asyncio.Task[None]"] = set()
-        self._look: Optional["asyncio.Task[Spilled]"] = None
-        self._lookers = ThreadPoolExecutor(_LOOKERS, thread_name_prefix="usage")
 
     async def open(self) -> None:
         """Listens, for the owner alone. `SocketFault` if another daemon does."""
+        sockets.look_at_folder(self._path, self._supervisor.settings.socket_group)
         listening = sockets.listen(self._path)
         self._own = sockets.identity(self._path)
         self._server = await asyncio.start_unix_server(self._connect, sock=listening, limit=LONGEST_LINE)
@@ -57,7 +56,6 @@ class Control:
             await asyncio.wait(self._connections, timeout=_LAST_ANSWERS)
         for connection in self._connections:
             connection.cancel()
-        self._lookers.shutdown(wait=False)
 
     async def _connect(self, reader: asyncio.StreamReader, writer: asyncio.StreamWriter) -> None:
         task = asyncio.current_task()
@@ -105,73 +103,66 @@ class Control:
             self._supervisor.stop(order.at_once)
             await self._supervisor.ended.wait()
             return self._supervisor.end
+        return await self._look_at(order)
+
+    async def _look_at(self, order: Order) -> str:
+        """The answer to an order that changes nothing."""
         if isinstance(order, Jobs):
             jobs = (f" {job.job}:{job.window}:{job.device}" for job in self._supervisor.jobs.at(order.node))
             return f"n{order.node} op jobs{''.join(jobs)}"
+        if isinstance(order, Sessions):
+            return f"n{order.node} op sessions {self._looks.sessions()[order.node]}"
         if isinstance(order, Usage):
             return await self._usage(order)
+        if isinstance(order, Usages):
+            return rows_text(await self._looks.usages())
+        if isinstance(order, Ping):
+            seconds = await self._looks.ping(PATIENCE)
+            return f"pong nodes={self._supervisor.settings.nodes} milliseconds={1000 * seconds:.1f}"
+        if isinstance(order, Prometheus):
+            return f"metrics {json.dumps(await self._metrics.text())}"
         return await self._status()
 
     async def _usage(self, order: Usage) -> str:
         """What a session of the job is told: the daemon has its key."""
-        supervisor = self._supervisor
-        job = supervisor.jobs.get(order.node, order.job)
+        job = self._supervisor.jobs.get(order.node, order.job)
         if job is None:
             return f"n{order.node} op refused 1 NotAdmitted"
-        if supervisor.state is not State.RUNNING:
-            raise NotDone(f"the server is {supervisor.state.value}")
-        path = str(supervisor.settings.sockets()[order.node])
-        asking = asyncio.get_running_loop().run_in_executor(self._lookers, _ask_usage, path, job)
+        self._supervisor.running()
         try:
-            used = await asyncio.wait_for(asking, _PATIENCE)
-        except asyncio.TimeoutError:
-            raise NotDone(f"no answer for {_PATIENCE:.0f} seconds") from None
+            row = await self._looks.usage(job, PATIENCE)
         except store_client.Refused as refused:
             return f"n{order.node} op refused {refused.number} {type(refused).__name__}"
         except store_client.StoreError as error:
             raise NotDone(str(error)) from error
-        return (
-            f"n{order.node} op usage {used.window} {used.window_used} {used.device} {used.device_used} {used.copies} {used.works}"
-        )
-
-    async def _spilled(self) -> Spilled:
-        """What can't be looked at is nothing; no look begins before the last one has ended."""
-        if self._look is None or self._look.done():
-            self._look = asyncio.ensure_future(aside(self._supervisor.spill.spilled))
-            self._look.add_done_callback(lambda done: done.cancelled() or done.exception())
-        try:
-            return await asyncio.wait_for(asyncio.shield(self._look), _LOOK_AT_DISK)
-        except (asyncio.TimeoutError, SpillFault, OSError):
-            return Spilled(0, 0, 0)
+        return f"n{order.node} op usage {' '.join(map(str, row[2:]))}"
 
     async def _status(self) -> str:
         supervisor = self._supervisor
         settings, server = supervisor.settings, supervisor.server
-        process = look_at(server.process_id) if server else Process(0, 0, 0)
+        process = self._looks.process()
         with_jobs = (str(len(supervisor.jobs.at(node))) for node in range(settings.nodes))
-        spilled = await self._spilled()
+        spilled = await self._looks.spilled()
+        since = supervisor.watcher.silent_since
         marks = {
-            "state": supervisor.state.value,
+            "state": supervisor.state.value if since is None else f"not_answering_since_{moment(since)}",
             "process": server.process_id if server else 0,
             "seconds": int(time.monotonic() - supervisor.started) if server else 0,
             "restarts": supervisor.restarts,
             "nodes": settings.nodes,
             "jobs": ",".join(with_jobs),
-            "sessions": ",".join(map(str, count_sessions(settings.starting_sockets()))),
+            "sessions": ",".join(map(str, self._looks.sessions())),
             "threads": process.threads,
             "descriptors": process.descriptors,
             "descriptors_needed": needed_descriptors(settings.nodes),
             "resident": process.resident,
-            "spilled_files": spilled.files,
-            "spilled_bytes": spilled.bytes,
-            "spill_free": spilled.free,
+            "processor_seconds": f"{process.processor:.2f}",
+            "spilled_files": sum(each.files for each in spilled),
+            "spilled_bytes": sum(each.bytes for each in spilled),
+            "spill_free": min((each.free for each in spilled), default=0),
+            "grace": f"{settings.grace:g}",
         }
         return " ".join(["status", *(f"{name}={value}" for name, value in marks.items())])
-
-
-def _ask_usage(path: str, job: Admit) -> store_client.Usage:
-    with store_client.connect(path, job.job, bytes.fromhex(job.key), _PATIENCE) as session:
-        return session.usage()
 
 
 async def _read_line(reader: asyncio.StreamReader) -> Optional[str]:

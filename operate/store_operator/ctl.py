@@ -6,19 +6,23 @@ import argparse
 import contextlib
 import json
 import os
+import shutil
 import sys
 import time
 from pathlib import Path
-from typing import Any, Callable, Dict, List, Optional, Sequence
+from typing import Any, Callable, Dict, Optional, Sequence
 
 from . import __version__
-from .asking import AskFault, Daemon, Mark, UsageRow
+from .asking import AskFault, Daemon, Mark
 from .keys import KeyFault, read_key
 from .refusals import explained
 from .sizes import parse_size
-from .tables import jobs_table, status_text, usage_table
+from .tables import jobs_table, status_text, table, usage_table
+from .top import see, top_text
 
 _USUAL_CONTROL = "/run/store/control"
+# seconds that a command which only looks waits for each answer; for others the daemon has to give up
+_USUAL_TIMEOUT = 5.0
 # clears a terminal
 _CLEAR = "\033[H\033[J"
 
@@ -45,6 +49,33 @@ def _print_json(what: Any) -> None:
     print(json.dumps(what), flush=True)
 
 
+def _ping(daemon: Daemon, words: Words) -> int:
+    nodes, milliseconds = daemon.ping()
+    if words.json:
+        _print_json({"nodes": nodes, "milliseconds": milliseconds})
+    else:
+        print(f"pong: {nodes} nodes, {milliseconds} ms")
+    return 0
+
+
+def _metrics(daemon: Daemon, words: Words) -> int:
+    text = daemon.metrics()
+    if words.json:
+        _print_json({"metrics": text})
+    else:
+        print(text, end="")
+    return 0
+
+
+def _sessions(daemon: Daemon, words: Words) -> int:
+    counts = {node: daemon.sessions(node) for node in _nodes(daemon, words)}
+    if words.json:
+        _print_json([{"node": node, "sessions": count} for node, count in counts.items()])
+    else:
+        print(table(("NODE", "SESSIONS"), ((str(node), str(count)) for node, count in counts.items())))
+    return 0
+
+
 def _status(daemon: Daemon, words: Words) -> int:
     status = daemon.status()
     if words.json:
@@ -63,13 +94,9 @@ def _jobs(daemon: Daemon, words: Words) -> int:
     return 0
 
 
-def _usages(daemon: Daemon, words: Words) -> List[UsageRow]:
-    asked = [(node, job.job) for node in _nodes(daemon, words) for job in daemon.jobs(node) if words.job in (None, job.job)]
-    return [row for row in (daemon.usage(node, job) for node, job in asked) if row]
-
-
 def _usage(daemon: Daemon, words: Words) -> int:
-    rows = _usages(daemon, words)
+    nodes = _nodes(daemon, words)
+    rows = [row for row in daemon.usages() if row.node in nodes and words.job in (None, row.job)]
     if words.json:
         _print_json([row._asdict() for row in rows])
     else:
@@ -89,13 +116,34 @@ def _watch(daemon: Daemon, words: Words) -> int:
 
 
 def _watched(daemon: Daemon, words: Words) -> str:
-    status, rows = daemon.status(), []
-    # while a server is started again nobody can be asked
-    if status["state"] == "running":
-        rows = _usages(daemon, words)
+    seen = see(daemon, _nodes(daemon, words), words.job)
     if words.json:
-        return json.dumps({"status": status, "usage": [row._asdict() for row in rows]})
-    return f"{_one_line(status)}\n{usage_table(rows)}"
+        return json.dumps({"status": seen.status, "usage": [row._asdict() for row in seen.rows]})
+    return f"{_one_line(seen.status)}\n{usage_table(seen.rows)}"
+
+
+def _top(daemon: Daemon, words: Words) -> int:
+    """Again and again, until it is interrupted or the daemon ends; or once."""
+    nodes, last = _nodes(daemon, words), None
+    while True:
+        seen = see(daemon, nodes, words.job)
+        text = top_text(seen, last)
+        print(f"{_CLEAR}{_fitting(text)}" if sys.stdout.isatty() and not words.once else text, flush=True)
+        if words.once:
+            return 0
+        last = seen
+        time.sleep(words.interval)
+
+
+def _fitting(text: str) -> str:
+    """What a terminal has room for, so that its first line stays where it is."""
+    size = shutil.get_terminal_size()
+    # of a terminal that doesn't say, older Pythons give 0
+    columns, room = size.columns or 80, size.lines or 24
+    lines = [line[:columns] for line in text.splitlines()]
+    if len(lines) < room:
+        return "\n".join(lines)
+    return "\n".join([*lines[: room - 2], f"and {len(lines) - room + 2} more"])
 
 
 def _one_line(status: Dict[str, Mark]) -> str:
@@ -166,6 +214,10 @@ def arguments() -> argparse.ArgumentParser:
         "--control", default=os.environ.get("STORE_CONTROL", _USUAL_CONTROL), metavar="PATH",
         help="the daemon's control socket; otherwise STORE_CONTROL, or %(default)s",
     )
+    parser.add_argument(
+        "--timeout", type=_seconds, metavar="SECONDS",
+        help=f"how long it waits for each answer; otherwise {_USUAL_TIMEOUT:g}, and for what changes something until the daemon gives up",
+    )
     parser.add_argument("--json", action="store_true", help="answers for programs")
     parser.add_argument("--version", action="version", version=f"storectl {__version__}")
     at_nodes = argparse.ArgumentParser(add_help=False)
@@ -179,14 +231,10 @@ def arguments() -> argparse.ArgumentParser:
     quotas.add_argument("job", type=_number, metavar="JOB")
     quotas.add_argument("--window", type=_size, required=True, metavar="SIZE", help="the memory of the job at a node, like 64M")
     quotas.add_argument("--device", type=_size, required=True, metavar="SIZE", help="what it may spill, like 1G; 0 spills nothing")
+    parser.set_defaults(usual=None)
     commands = parser.add_subparsers(required=True, metavar="COMMAND")
 
-    commands.add_parser("status", help="shows the server's state").set_defaults(run=_status)
-    commands.add_parser("jobs", parents=[at_nodes], help="shows the jobs and their quotas").set_defaults(run=_jobs)
-    commands.add_parser("usage", parents=[at_nodes, of_job], help="shows what they use").set_defaults(run=_usage)
-    command = commands.add_parser("watch", parents=[at_nodes, of_job], help="shows it whenever it has changed")
-    command.add_argument("--every", type=_seconds, default=1.0, metavar="SECONDS", help="how often it looks")
-    command.set_defaults(run=_watch)
+    _add_looks(commands, at_nodes, of_job)
     command = commands.add_parser("admit", parents=[quotas, at_nodes], help="admits a job")
     command.add_argument("--key-file", type=Path, required=True, metavar="FILE", help="64 lower-case hexadecimal digits")
     command.set_defaults(run=_admit)
@@ -200,10 +248,28 @@ def arguments() -> argparse.ArgumentParser:
     return parser
 
 
+def _add_looks(commands: Any, at_nodes: argparse.ArgumentParser, of_job: argparse.ArgumentParser) -> None:
+    """The commands that change nothing."""
+    looks = {"usual": _USUAL_TIMEOUT}
+    commands.add_parser("ping", help="asks all nodes whether they answer").set_defaults(run=_ping, **looks)
+    commands.add_parser("status", help="shows the server's state").set_defaults(run=_status, **looks)
+    commands.add_parser("sessions", parents=[at_nodes], help="shows how many sessions are open").set_defaults(run=_sessions, **looks)
+    commands.add_parser("jobs", parents=[at_nodes], help="shows the jobs and their quotas").set_defaults(run=_jobs, **looks)
+    commands.add_parser("usage", parents=[at_nodes, of_job], help="shows what they use").set_defaults(run=_usage, **looks)
+    commands.add_parser("metrics", help="shows the counters in Prometheus' text format").set_defaults(run=_metrics, **looks)
+    command = commands.add_parser("watch", parents=[at_nodes, of_job], help="shows it whenever it has changed")
+    command.add_argument("--every", type=_seconds, default=1.0, metavar="SECONDS", help="how often it looks")
+    command.set_defaults(run=_watch, **looks)
+    command = commands.add_parser("top", parents=[at_nodes, of_job], help="shows it as a table with bars, again and again")
+    command.add_argument("--interval", type=_seconds, default=1.0, metavar="SECONDS", help="how often it looks")
+    command.add_argument("--once", action="store_true", help="looks once, and ends")
+    command.set_defaults(run=_top, **looks)
+
+
 def main(given: Optional[Sequence[str]] = None) -> int:
     words = arguments().parse_args(given)
     try:
-        with Daemon(words.control) as daemon:
+        with Daemon(words.control, words.timeout or words.usual) as daemon:
             status: int = words.run(daemon, words)
             return status
     except (AskFault, KeyFault) as fault:

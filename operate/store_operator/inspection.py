@@ -12,20 +12,31 @@ _CONNECTED = "03"
 
 
 class Process(NamedTuple):
-    """Counts of a process, and its resident memory in bytes; 0 of one that has ended."""
+    """Counts of a process, its resident memory in bytes, and the processor's seconds that it took; 0 of one that has ended."""
 
     threads: int
     descriptors: int
     resident: int
+    processor: float
+
+
+NO_PROCESS = Process(0, 0, 0, 0.0)
 
 
 def look_at(process: int) -> Process:
-    descriptors, fields = 0, {}
+    descriptors, fields, processor = 0, {}, 0.0
     with contextlib.suppress(OSError):
         descriptors = len(os.listdir(f"/proc/{process}/fd"))
         fields = _fields(Path(f"/proc/{process}/status").read_text(encoding="latin-1"))
+        processor = _processor(Path(f"/proc/{process}/stat").read_text(encoding="latin-1"))
     resident = int(fields.get("VmRSS", "0 kB").split()[0]) * 1024
-    return Process(int(fields.get("Threads", "0")), descriptors, resident)
+    return Process(int(fields.get("Threads", "0")), descriptors, resident, processor)
+
+
+def _processor(stat: str) -> float:
+    """Of a process's own and the system's work for it. The second field, its name, may hold anything."""
+    own, system = stat.rpartition(")")[2].split()[11:13]
+    return (int(own) + int(system)) / os.sysconf("SC_CLK_TCK")
 
 
 def _fields(text: str) -> Dict[str, str]:

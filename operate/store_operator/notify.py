@@ -6,6 +6,9 @@ import contextlib
 import os
 import socket
 
+# what the manager gives the daemon alone
+MANAGERS = ("NOTIFY_SOCKET", "WATCHDOG_USEC", "WATCHDOG_PID")
+
 
 def tell_manager(*states: str) -> None:
     """Sends states like READY=1 to the socket that NOTIFY_SOCKET names. That nobody hears them changes nothing."""

@@ -50,6 +50,26 @@ class Usage:
 
 
 @dataclass(frozen=True)
+class Sessions:
+    node: int
+
+
+@dataclass(frozen=True)
+class Usages:
+    """Of all jobs at all nodes."""
+
+
+@dataclass(frozen=True)
+class Ping:
+    pass
+
+
+@dataclass(frozen=True)
+class Prometheus:
+    pass
+
+
+@dataclass(frozen=True)
 class Status:
     pass
 
@@ -62,7 +82,7 @@ class Close:
 
 
 ServerOrder = Union[Admit, Quota, End]
-Order = Union[Admit, Quota, End, Jobs, Usage, Status, Close]
+Order = Union[Admit, Quota, End, Jobs, Usage, Usages, Sessions, Ping, Prometheus, Status, Close]
 
 
 class NotAnOrder(Exception):
@@ -157,6 +177,10 @@ _FORMS: Dict[str, _Form] = dict(
         _form("end NODE JOB", End),
         _form("jobs NODE", Jobs),
         _form("usage NODE JOB", Usage),
+        _form("usages", Usages),
+        _form("sessions NODE", Sessions),
+        _form("ping", Ping),
+        _form("metrics", Prometheus),
         _form("status", Status),
         _form("close", lambda: Close(False)),
     ]

@@ -9,7 +9,9 @@ import signal
 from collections import deque
 from typing import AsyncIterator, Callable, Deque, List, Optional
 
+from .notify import MANAGERS
 from .settings import Settings
+from .sockets import mask
 
 # seconds that a server which was told to end may still take
 _LAST_PATIENCE = 5.0
@@ -43,15 +45,16 @@ class Server:
 
     @classmethod
     async def start(cls, settings: Settings, lock: int, said: Said) -> "Server":
-        """Starts a server, with everything that it makes for its owner alone. What it says on standard error goes to `said`.
+        """Starts a server, whose sockets have the mode of the settings from the start on; what it spills is its owner's alone by its own
+        modes. What it says on standard error goes to `said`.
 
         A signal from the terminal doesn't reach it, nor does one end it that the daemon ignores: a write that is too large for a
         limit fails then. It holds the spill folder's lock. How its memory is given back can be set otherwise by the daemon's environment.
         """
-        names = {**_ALLOCATOR, **{name: value for name, value in os.environ.items() if name != "NOTIFY_SOCKET"}}
+        names = {**_ALLOCATOR, **{name: value for name, value in os.environ.items() if name not in MANAGERS}}
         pipe = asyncio.subprocess.PIPE
         process = await asyncio.create_subprocess_exec(
-            *command(settings), stdin=pipe, stdout=pipe, stderr=pipe, env=names, umask=0o077, start_new_session=True,
+            *command(settings), stdin=pipe, stdout=pipe, stderr=pipe, env=names, umask=mask(settings.socket_mode), start_new_session=True,
             restore_signals=False, pass_fds=(lock,),
         )
         return cls(process, said)

@@ -7,12 +7,13 @@ from __future__ import annotations
 
 import configparser
 import grp
+import logging
 import os
 import shutil
 import stat
 from dataclasses import dataclass
 from pathlib import Path
-from typing import Callable, Optional, Tuple, TypeVar
+from typing import Callable, Optional, Tuple, TypeVar, Union
 
 from .keys import KeyFault, read_key
 from .orders import Admit
@@ -24,15 +25,22 @@ LONGEST_SOCKET = 107
 _MOST_JOB = (1 << 32) - 1
 _MOST_MEMORY = 1 << 34
 STORE_OPTIONS = {
-    "program", "nodes", "memory", "overcommit", "socket", "socket_mode", "socket_group", "spill", "control", "ready", "log", "grace",
+    "program", "nodes", "memory", "overcommit", "socket", "socket_mode", "socket_group", "spill", "control", "ready", "log", "log_level",
+    "grace", "watch", "watch_patience", "restart_stuck", "metrics",
 }
 JOB_OPTIONS = {"nodes", "window", "device", "key_file"}
 # whoever may connect has to write to the socket; nobody runs one
 _USUAL_MODE = 0o600
 _MODES = (0o600, 0o660, 0o666)
-_USUAL_GRACE = 10.0
+_USUAL_GRACE, _USUAL_WATCH, _USUAL_PATIENCE = 10.0, 5.0, 30.0
+# as the log's lines name them
+_LEVELS = {"info": logging.INFO, "warning": logging.WARNING, "error": logging.ERROR}
+
+LOOPBACK = "127.0.0.1"
 
 Value = TypeVar("Value")
+# a port of 127.0.0.1, or the path of a socket
+Place = Union[int, Path]
 
 
 class SettingsFault(Exception):
@@ -44,7 +52,8 @@ class Settings:
     """What the server is started with, and the jobs in the order in which they are admitted.
 
     `memory` is of each node, in bytes, and with `overcommit` that of all may be more than the machine has; `grace` is how long sessions
-    may stay open after a close, in seconds. Node K listens on `socket`.K and spills into the folder `spill`/K.
+    may stay open after a close, in seconds. Node K listens on `socket`.K and spills into the folder `spill`/K. Each `watch` seconds the
+    server is looked at, never with 0; after `watch_patience` seconds without an answer it is stuck.
     """
 
     program: Path
@@ -58,7 +67,12 @@ class Settings:
     control: Path
     ready: Optional[Path]
     log: Optional[Path]
+    log_level: int
     grace: float
+    watch: float
+    watch_patience: float
+    restart_stuck: bool
+    metrics: Optional[Place]
     jobs: Tuple[Admit, ...]
 
     def sockets(self) -> Tuple[Path, ...]:
@@ -78,8 +92,8 @@ class Settings:
         return tuple(self.spill / str(node) for node in range(self.nodes))
 
 
-def read_settings(path: Path, usual_program: Path) -> Settings:
-    """The settings that a file has; `usual_program` is served if it names none."""
+def read_settings(path: Path, usual_program: Callable[[], Path]) -> Settings:
+    """The settings that a file has; if it names no program, `usual_program` is asked for one."""
     parser = configparser.ConfigParser(interpolation=None, default_section="every section")
     try:
         with open(path, encoding="utf-8") as file:
@@ -124,7 +138,7 @@ class _Section:
         return self.get(option, self.place)
 
     def get_path_if_there(self, option: str) -> Optional[Path]:
-        return self.place(self.options[option]) if option in self.options else None
+        return self.get_path(option) if option in self.options else None
 
     def place(self, text: str) -> Path:
         if not text:
@@ -141,7 +155,7 @@ class _Reader:
             raise SettingsFault(f"{path}: there is no section [store]")
         self.store = _Section(path, parser["store"], STORE_OPTIONS)
 
-    def settings(self, usual_program: Path) -> Settings:
+    def settings(self, usual_program: Callable[[], Path]) -> Settings:
         store = self.store
         nodes = store.get("nodes", _within(1, MOST_NODES, "nodes"))
         settings = Settings(
@@ -156,19 +170,28 @@ class _Reader:
             control=store.get_path("control"),
             ready=store.get_path_if_there("ready"),
             log=store.get_path_if_there("log"),
-            grace=store.get("grace", _seconds, _USUAL_GRACE),
+            log_level=store.get("log_level", _level, logging.INFO),
+            grace=store.get("grace", _seconds_from(0), _USUAL_GRACE),
+            watch=store.get("watch", _seconds_from(0), _USUAL_WATCH),
+            watch_patience=store.get("watch_patience", _seconds_from(0.1), _USUAL_PATIENCE),
+            restart_stuck=store.get("restart_stuck", _choice, False),
+            metrics=store.get("metrics", self.metrics) if "metrics" in store.options else None,
             jobs=self.jobs(nodes),
         )
-        for socket in (*settings.starting_sockets(), settings.control):
+        served = [settings.metrics] if isinstance(settings.metrics, Path) else []
+        for socket in (*settings.starting_sockets(), settings.control, *served):
             if len(os.fsencode(socket)) > LONGEST_SOCKET:
                 raise SettingsFault(f"{self.path}: socket {socket}: longer than {LONGEST_SOCKET} bytes")
         return settings
 
-    def program(self, usual: Path) -> Path:
-        program = self.store.get("program", self.store.place, usual)
+    def program(self, usual: Callable[[], Path]) -> Path:
+        program = self.store.get_path("program") if "program" in self.store.options else usual()
         if not shutil.which(str(program)):
             raise SettingsFault(f"{self.path}: program {program}: there is no such program")
         return program
+
+    def metrics(self, text: str) -> Place:
+        return metrics_place(text) or self.store.place(text)
 
     def jobs(self, nodes: int) -> Tuple[Admit, ...]:
         """By number, since at a node each job's number is greater than all before."""
@@ -247,11 +270,30 @@ def _group(text: str) -> int:
         raise ValueError(f"there is no group {text!r}") from None
 
 
-def _seconds(text: str) -> float:
-    try:
-        seconds = float(text)
-    except ValueError:
-        seconds = -1
-    if not 0 <= seconds <= 86_400:
-        raise ValueError(f"{text!r} isn't a number of seconds from 0 to 86400")
-    return seconds
+def _level(text: str) -> int:
+    if text not in _LEVELS:
+        raise ValueError(f"{text!r} isn't one of {', '.join(_LEVELS)}")
+    return _LEVELS[text]
+
+
+def _seconds_from(least: float) -> Callable[[str], float]:
+    def read(text: str) -> float:
+        try:
+            seconds = float(text)
+        except ValueError:
+            seconds = -1
+        if not least <= seconds <= 86_400:
+            raise ValueError(f"{text!r} isn't a number of seconds from {least:g} to 86400")
+        return seconds
+
+    return read
+
+
+def metrics_place(text: str) -> Optional[int]:
+    """The port of 127.0.0.1 that the text names; None of a path. What names another address is a fault: none but this machine may ask."""
+    address, colon, port = text.rpartition(":")
+    if not colon or "/" in text:
+        return None
+    if address != LOOPBACK:
+        raise ValueError(f"{text!r} isn't {LOOPBACK}:PORT, nor a path: only this machine may ask")
+    return _within(1, 65_535, "a port")(port)

@@ -75,16 +75,50 @@ async def await_all(paths: Sequence[Path]) -> None:
             await asyncio.sleep(_REST)
 
 
-def move(old: Sequence[Path], new: Sequence[Path], mode: int, group: Optional[int]) -> None:
-    """From here on sessions find the sockets: who may connect is the owner, and by the mode the group or everyone."""
+def mask(mode: int) -> int:
+    """The umask with which a process makes sockets of this mode."""
+    return 0o777 & ~mode
+
+
+def look_at_folder(path: Path, group: Optional[int]) -> None:
+    """A fault if others may put something in the place of a socket that is made there; `group` is whose members are others too."""
+    folder = path.parent
+    try:
+        found = folder.stat()
+    except FileNotFoundError:
+        raise SocketFault(f"socket {path}: there is no such folder") from None
+    except OSError as error:
+        raise SocketFault(f"socket {path}: {error.strerror}") from error
+    if found.st_uid not in (0, os.geteuid()):
+        raise SocketFault(f"socket {path}: its folder belongs to another user ({found.st_uid}), who may put others there")
+    mode = stat.S_IMODE(found.st_mode)
+    is_shared = found.st_gid != os.getegid() or found.st_gid == group
+    if mode & (0o022 if is_shared else 0o002) and not mode & stat.S_ISVTX:
+        raise SocketFault(f"socket {path}: others may write its folder (mode {mode:04o}): chmod go-w {folder}")
+
+
+def move(old: Sequence[Path], new: Sequence[Path], group: Optional[int]) -> None:
+    """From here on sessions find the sockets. Who may connect is said by the modes with which they were made, and by the group."""
     for path, place in zip(old, new):
         try:
-            if group is not None:
-                os.chown(path, -1, group, follow_symlinks=False)
-            path.chmod(mode)
+            _give(path, group)
             path.rename(place)
         except OSError as error:
             raise SocketFault(f"socket {path}: {error.strerror}") from error
+
+
+def _give(path: Path, group: Optional[int]) -> None:
+    """To the group if there is one. A fault if it isn't this user's socket, whatever a link there leads to."""
+    there = os.open(path, os.O_PATH | os.O_NOFOLLOW | os.O_CLOEXEC)
+    try:
+        found = os.fstat(there)
+        if not stat.S_ISSOCK(found.st_mode) or found.st_uid != os.geteuid():
+            raise SocketFault(f"socket {path}: another file has come into its place")
+        if group is not None:
+            # what is open, whatever is at the path by now
+            os.chown(f"/proc/self/fd/{there}", -1, group)
+    finally:
+        os.close(there)
 
 
 def remove(paths: Sequence[Path]) -> None:
@@ -117,7 +151,7 @@ def listen(path: Path) -> socket.socket:
     """A socket for the owner alone, at a path that is cleared."""
     clear(path)
     listening = socket.socket(socket.AF_UNIX)
-    before = os.umask(0o177)
+    before = os.umask(mask(0o600))
     try:
         listening.bind(str(path))
         listening.listen(_BACKLOG)

@@ -26,7 +26,7 @@ class SpillFault(Exception):
 
 
 class Spilled(NamedTuple):
-    """Spilled objects of all nodes: how many files, their bytes, and what is free beside them for the owner, in bytes."""
+    """Spilled objects of a node: how many files, their bytes, and what is free beside them for the owner, in bytes."""
 
     files: int
     bytes: int
@@ -85,11 +85,9 @@ class SpillFolders:
         """
         return sum(_sweep_jobs(folder, jobs) for folder, jobs in zip(self.nodes, over))
 
-    def spilled(self) -> Spilled:
-        """What lies there now."""
-        sizes = [size for folder in self.nodes for size in _sizes(folder)]
-        room = os.statvfs(self.above)
-        return Spilled(len(sizes), sum(sizes), room.f_bavail * room.f_frsize)
+    def spilled(self) -> Tuple[Spilled, ...]:
+        """What lies there now, by node."""
+        return tuple(_spilled_in(folder) for folder in self.nodes)
 
     def give_up(self) -> None:
         """Unlocks, once the server has ended too."""
@@ -145,12 +143,14 @@ def _sweep_jobs(folder: Path, over: Over) -> int:
         os.close(there)
 
 
-def _sizes(folder: Path) -> Iterator[int]:
+def _spilled_in(folder: Path) -> Spilled:
     there = _open(folder)
     try:
-        yield from (about.st_size for _, about in _spilled(there) if stat.S_ISREG(about.st_mode))
+        sizes = [about.st_size for _, about in _spilled(there) if stat.S_ISREG(about.st_mode)]
+        room = os.fstatvfs(there)
     finally:
         os.close(there)
+    return Spilled(len(sizes), sum(sizes), room.f_bavail * room.f_frsize)
 
 
 def _open(folder: Path) -> int:

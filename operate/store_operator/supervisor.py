@@ -12,6 +12,7 @@ from pathlib import Path
 from typing import Any, Dict, List, Optional
 
 from . import sockets
+from .counters import Counters
 from .inspection import count_sessions
 from .jobs import LiveJobs, Over
 from .limits import raise_limit
@@ -24,6 +25,7 @@ from .settings import Settings
 from .sockets import SocketFault
 from .spill import SpillFault, SpillFolders
 from .tidying import Tidying
+from .watching import Watcher, moment
 
 # seconds that the server may take for an answer, and until it listens
 _PATIENCE = 60.0
@@ -67,6 +69,8 @@ class Supervisor:
         self.end = "no server was running"
         self._log = log
         self._tidying = Tidying(self.spill, self._over, log)
+        self.watcher = Watcher(settings, log)
+        self.counters = Counters()
         self._own: Dict[Path, Optional[sockets.Identity]] = {}
         self._complaint = ""
         self._lock = -1
@@ -85,9 +89,20 @@ class Supervisor:
 
     async def carry_out(self, order: ServerOrder) -> str:
         """The server's answer to an order."""
+        return await self._give(self.running(), order)
+
+    def running(self) -> Server:
+        """The server, if it serves and answered the last look. `NotDone` otherwise, at once."""
+        server = self.serving()
+        if self.watcher.silent_since is not None:
+            raise NotDone(f"the server has not answered since {moment(self.watcher.silent_since)}")
+        return server
+
+    def serving(self) -> Server:
+        """The server, if it serves, whether it answers or not."""
         if self.state is not State.RUNNING or self.server is None:
             raise NotDone(f"the server is {self.state.value}")
-        return await self._give(self.server, order)
+        return self.server
 
     # ---- its run
 
@@ -98,6 +113,7 @@ class Supervisor:
     async def run(self) -> None:
         """From the first start to the end. A fault of `StartFault`, `SpillFault` or `SocketFault` if the first start fails."""
         try:
+            sockets.look_at_folder(self.settings.sockets()[0], self.settings.socket_group)
             for path in self._all_sockets():
                 sockets.clear(path)
             too_few = raise_limit(self.settings.nodes)
@@ -123,7 +139,7 @@ class Supervisor:
             self.server = await Server.start(self.settings, self._lock, self._heard)
             self._log.info("started the server: process %d", self.server.process_id)
             await self._bring_up(self.server)
-            await self._until(self.server.ended)
+            await self._watch(self.server)
         except (StartFault, SpillFault, SocketFault, OSError) as fault:
             if not self._has_served:
                 raise StartFault(str(fault)) from fault
@@ -149,6 +165,15 @@ class Supervisor:
         if not self._stop.is_set():
             self._open(server)
 
+    async def _watch(self, server: Server) -> None:
+        """Until it ends, or is to be started again since it is stuck, or a stop comes."""
+        watching = asyncio.ensure_future(self.watcher.run())
+        try:
+            await self._until(server.ended, watching)
+        finally:
+            watching.cancel()
+            self.watcher.silent_since = None
+
     async def _admit_jobs(self, server: Server) -> None:
         """The jobs of the settings, or after a crash those that lived."""
         for job in self.jobs.in_order():
@@ -166,7 +191,7 @@ class Supervisor:
     def _open(self, server: Server) -> None:
         """Sessions may come: no job is refused that a restart didn't admit yet."""
         settings = self.settings
-        sockets.move(settings.starting_sockets(), settings.sockets(), settings.socket_mode, settings.socket_group)
+        sockets.move(settings.starting_sockets(), settings.sockets(), settings.socket_group)
         self._own = {path: sockets.identity(path) for path in settings.sockets()}
         if settings.ready:
             write_new(settings.ready, f"{server.process_id}\n")
@@ -193,6 +218,7 @@ class Supervisor:
         if done.cancelled() or done.exception() is not None:
             return
         self._log.info("%s: %s", told(order), done.result())
+        self.counters.answered(order, done.result())
         if done.result().endswith(_OK):
             self.jobs.carried_out(order)
             if isinstance(order, End):
@@ -209,6 +235,7 @@ class Supervisor:
             self._log.info("the server says: %s", line)
             return
         self._complaint = line
+        self.counters.heard(line)
         self._log.warning("the server says: %s", line)
 
     async def _until(self, *events: "asyncio.Future[Any]", timeout: Optional[float] = None) -> None:

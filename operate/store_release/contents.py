@@ -5,11 +5,10 @@ from __future__ import annotations
 import hashlib
 import io
 import tarfile
-from pathlib import Path
-from typing import Dict, NamedTuple, Optional
+from typing import Dict, NamedTuple
 
-from .faults import DistFault, output
-from .proved import proved
+from .faults import output
+from .proved import PROVED
 from .wheel import wheel
 
 # where what the commit has goes; the first that fits
@@ -62,19 +61,15 @@ def _place(name: str) -> str:
     return there + name[len(source) :]
 
 
-def contents(program: Path, gate: Optional[Path]) -> Files:
-    """All files of the release. The last of them has the checksums of the others."""
-    try:
-        code = program.read_bytes()
-    except OSError as error:
-        raise DistFault(f"{program}: {error.strerror}: make build leaves it there, and so does the gate") from error
+def contents(program: bytes, proved: str) -> Files:
+    """All files of a release of this program, of which this is known. The last of them has the checksums of the others."""
     files = committed()
     project = files.pop(PROJECT).data
     package = {name[len(CLIENT) :]: file.data for name, file in files.items() if name.startswith(f"{CLIENT}store_client/")}
-    name, data = wheel(project, package, files[CLIENT_PAGE].data, commit_time())
+    name, data = wheel(project, package, files[CLIENT_PAGE].data, files["LICENSE"].data)
     files[f"share/store/python/{name}"] = Content(data, False)
-    files["bin/store"] = Content(code, True)
-    files["PROVED"] = Content(proved(code, gate), False)
+    files["bin/store"] = Content(program, True)
+    files[PROVED] = Content(proved.encode(), False)
     sums = (f"{hashlib.sha256(files[name].data).hexdigest()}  {name}\n" for name in sorted(files))
     files["SHA256SUMS"] = Content("".join(sums).encode(), False)
     return files

@@ -22,6 +22,8 @@ _PLACES = (
     ("etc/store.ini", "etc/store/store.ini"), ("LICENSE", f"usr/share/doc/{NAME}/copyright"),
     ("share/doc/store/", f"usr/share/doc/{NAME}/"), ("PROVED", f"usr/share/doc/{NAME}/PROVED"), ("bin/", "usr/bin/"), ("lib/", "usr/lib/"), ("share/", "usr/share/"),
 )
+# a link to the client, which lies where the programs find it, from where Debian's Python looks for packages
+_LINK, _LEADS_TO = "usr/lib/python3/dist-packages/store_client", "../../store/store_client"
 # dpkg has checksums of its own
 _LEFT_OUT = ("SHA256SUMS",)
 _CONTROL = """\
@@ -38,7 +40,8 @@ Description: shared, immutable object store for many jobs
  from job to job, over Unix sockets. A job's replies don't show its neighbours.
  .
  The package has the server, store-daemon, which runs it as a service, storectl,
- and a client in Python. The service isn't started: its settings come first.
+ and the client of Debian's Python, store_client. The service isn't started: its
+ settings come first.
 """
 _INSTALLED = """\
 #!/bin/sh
@@ -55,6 +58,8 @@ _REMOVING = """\
 #!/bin/sh
 set -e
 if [ "$1" = remove ] && [ -d /run/systemd/system ]; then systemctl disable --now store.service; fi
+# what Python has compiled belongs to no package
+find /usr/lib/store -name __pycache__ -prune -exec rm -r {} +
 """
 
 
@@ -73,12 +78,14 @@ def pack_deb(archive: bytes, version: str, moment: int) -> bytes:
     with tempfile.TemporaryDirectory(prefix="deb-") as folder:
         top = Path(folder) / "package"
         for name, file in {**files, **_control(files, version)}.items():
-            _write(top / name, file, moment)
+            _write(top / name, file)
+        (top / _LINK).parent.mkdir(parents=True)
+        (top / _LINK).symlink_to(_LEADS_TO)
         made = Path(folder) / "made.deb"
         for path in (top, *top.rglob("*")):
-            if path.is_dir():
+            if path.is_dir() and not path.is_symlink():
                 path.chmod(0o755)
-                os.utime(path, (moment, moment))
+            os.utime(path, (moment, moment), follow_symlinks=False)
         output("dpkg-deb", "--root-owner-group", "-Zgzip", "-z9", "--build", str(top), str(made), names=_names(moment))
         return made.read_bytes()
 
@@ -132,8 +139,7 @@ def _changes(version: str, moment: int) -> bytes:
     return f"{NAME} ({version}) stable; urgency=medium\n\n  * See PROVED for the commit.\n\n -- {_MAINTAINER}  {day}\n".encode()
 
 
-def _write(path: Path, file: Content, moment: int) -> None:
+def _write(path: Path, file: Content) -> None:
     path.parent.mkdir(parents=True, exist_ok=True)
     path.write_bytes(file.data)
     path.chmod(0o755 if file.is_program else 0o644)
-    os.utime(path, (moment, moment))

@@ -4,23 +4,36 @@ from __future__ import annotations
 
 import hashlib
 import tarfile
+import zlib
 from pathlib import Path
 from typing import Dict, List, NamedTuple, Tuple
 
+from .contents import Files
 from .debian import unpacked
 from .faults import ROOT, DistFault
-from .proved import read_proved
+from .proved import PROVED, is_about, read_proved
 
 PLACE = ROOT / "dist"
-_NAMES = "store-*-x86_64-linux.tar.gz"
+ENDING = ".tar.gz"
+_NAMES = f"store-*-x86_64-linux{ENDING}"
 
 
 class Kept(NamedTuple):
-    """A release: its archive, what it says of its program by name, and the program."""
+    """A release: its archive, the SHA-256 of that, what it says of its program by name, and its files."""
 
     path: Path
+    digest: str
     told: Dict[str, str]
-    program: bytes
+    files: Files
+
+    @property
+    def program(self) -> bytes:
+        return self.files["bin/store"].data
+
+    @property
+    def top(self) -> str:
+        """The name of the folder that it is unpacked to."""
+        return self.path.name[: -len(ENDING)]
 
 
 def newest() -> Kept:
@@ -28,15 +41,25 @@ def newest() -> Kept:
     found = sorted(PLACE.glob(_NAMES), key=_version)
     if not found:
         raise DistFault(f"there is no release in {PLACE}")
-    archive = found[-1].read_bytes()
-    _compare(found[-1], archive, _noted(found[-1]))
+    return read_release(found[-1])
+
+
+def read_release(path: Path) -> Kept:
+    """That of an archive, compared with the checksum beside it."""
+    try:
+        archive = path.read_bytes()
+    except OSError as error:
+        raise DistFault(f"{path}: {error.strerror}") from error
+    digest = _noted(path)
+    _compare(path, archive, digest)
     try:
         files = unpacked(archive)
-        told, program = read_proved(files["PROVED"].data.decode()), files["bin/store"].data
-        _compare(Path("bin/store"), program, told["program"].partition(" ")[2])
-    except (tarfile.TarError, KeyError, UnicodeDecodeError, EOFError) as error:
-        raise DistFault(f"{found[-1]}: no release: {error}") from error
-    return Kept(found[-1], told, program)
+        told = read_proved(files[PROVED].data.decode())
+        if not is_about(told, files["bin/store"].data):
+            raise DistFault(f"{path}: its {PROVED} is about another program")
+    except (tarfile.TarError, zlib.error, OSError, EOFError, KeyError, UnicodeDecodeError) as error:
+        raise DistFault(f"{path}: no release: {' '.join(str(error).split())}") from error
+    return Kept(path, digest, told, files)
 
 
 def _version(path: Path) -> Tuple[List[int], str]:

@@ -1,4 +1,4 @@
-"""What is known of a release's program."""
+"""What is known of a program: the file beside one that was built, and PROVED in a release, which has what that file had."""
 
 from __future__ import annotations
 
@@ -9,40 +9,52 @@ from pathlib import Path
 from typing import Dict, List, Optional
 
 from .faults import DistFault, output
-from .sources import crates_tree
 
 NOT_KNOWN = "not known"
+YES, NO = "yes", "no"
+# beside a program, after its name; and in a release
+ENDING, PROVED = ".proved", "PROVED"
 _HEAD = """\
-What was known of bin/store when this release was made: the commit that the files beside it are of, git's name of the tree of crates/
-in it, the toolchain that was there, the last line that the gate printed, and what it said of each crate. If the gate's isn't known,
-nothing says that this program was proved.
+What is known of the program that has this SHA-256: the commit at which it was built, or in a release that of the files beside it; git's
+name of the tree of crates/ that it was built of; the toolchain that was there; whether all of it was proved; the last line that the
+gate printed, and what the gate said of each crate. If it doesn't say that it was proved, nothing does.
 
 """
 _SAID = re.compile(r"rt: (\w+)(: its tests)? (?:is |are )?(proved|NOT PROVED|kept)\b")
-_ROW = re.compile(r"^(program|commit|sources|toolchain|gate) +(.+)$", re.MULTILINE)
+_ROW = re.compile(r"^(program|commit|sources|toolchain|proved|gate) +(.+)$", re.MULTILINE)
 
 
-def proved(program: bytes, gate: Optional[Path]) -> bytes:
-    """The text of the file PROVED."""
-    toolchain = NOT_KNOWN
-    if shutil.which("rt"):
-        toolchain = output("rt", "version").decode().splitlines()[0]
+def told_of(program: bytes, commit: str, sources: str, is_proved: bool, gate: Optional[Path]) -> str:
+    """The text of the file beside a program; `gate` has what the gate printed."""
+    toolchain = output("rt", "version").decode().splitlines()[0] if shutil.which("rt") else NOT_KNOWN
     lines = _lines(gate) if gate else []
     said = next((line for line in reversed(lines) if line.strip()), NOT_KNOWN)
     rows = [
-        ("program", f"sha256 {hashlib.sha256(program).hexdigest()}"),
-        ("commit", output("git", "rev-parse", "HEAD").decode().strip()),
-        ("sources", crates_tree()),
-        ("toolchain", toolchain),
-        ("gate", said),
+        ("program", f"sha256 {hashlib.sha256(program).hexdigest()}"), ("commit", commit), ("sources", sources),
+        ("toolchain", toolchain), ("proved", YES if is_proved else NO), ("gate", said),
     ]
     text = "".join(f"{name:<10} {value}\n" for name, value in rows)
-    return (_HEAD + text + "".join(f"  {verdict}\n" for verdict in verdicts(lines))).encode()
+    return _HEAD + text + "".join(f"  {verdict}\n" for verdict in verdicts(lines))
+
+
+def packed_in(text: str, commit: str) -> str:
+    """The same in a release of the files of this commit."""
+    return re.sub(r"^(commit +).+$", rf"\g<1>{commit}", text, count=1, flags=re.MULTILINE)
 
 
 def read_proved(text: str) -> Dict[str, str]:
     """Its rows by name."""
     return dict(_ROW.findall(text))
+
+
+def is_about(told: Dict[str, str], program: bytes) -> bool:
+    return told.get("program") == f"sha256 {hashlib.sha256(program).hexdigest()}"
+
+
+def file_of(program: Path) -> Path:
+    """The file that says what is known of a program; nobody looked whether it is there."""
+    above = program.parent.parent / PROVED
+    return above if program.parent.name == "bin" and above.is_file() else program.with_name(f"{program.name}{ENDING}")
 
 
 def _lines(gate: Path) -> List[str]:

@@ -18,8 +18,9 @@ sys.path[:0] = [str(HERE.parent), str(ROOT / "clients/python")]
 
 import store_client  # noqa: E402
 from store_operator.asking import Daemon  # noqa: E402
+from store_release.program import program_or_end  # noqa: E402
 
-PROGRAM = os.environ.get("STORE_PROGRAM", str(ROOT / "crates/store_server/out/store_server"))
+PROGRAM = program_or_end()
 DAEMON = str(HERE.parent / "store-daemon")
 CTL = str(HERE.parent / "storectl")
 # seconds that an answer or an end may take, on a machine that does much else

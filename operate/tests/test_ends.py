@@ -163,7 +163,7 @@ class Stops(unittest.TestCase):
         self.assertEqual({path.name for path in place.path.iterdir()}, kept)
 
     def test_signals_leave_nothing(self) -> None:
-        for number in (signal.SIGTERM, signal.SIGINT, signal.SIGHUP):
+        for number in (signal.SIGTERM, signal.SIGINT):
             with Place() as place:
                 daemon = place.start_ready()
                 server = place.server()

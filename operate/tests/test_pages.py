@@ -45,7 +45,7 @@ class SettingsToBeginWith(unittest.TestCase):
         with Place() as place:
             (place.path / "job1.key").symlink_to(place.key_file)
             place.settings.write_text(text)
-            settings = read_settings(place.settings, Path(PROGRAM))
+            settings = read_settings(place.settings, lambda: Path(PROGRAM))
             self.assertEqual((settings.nodes, settings.memory, str(settings.control)), (1, 1 << 30, "/run/store/control"))
             self.assertEqual([(job.job, job.window, job.device) for job in settings.jobs], [(1, 1 << 26, 1 << 30)])
 

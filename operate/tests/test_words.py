@@ -35,6 +35,12 @@ SETTINGS_FAULTS = (
     ("socket = store", "socket = " + 120 * "s", "longer than 107 bytes"),
     ("socket = store", "socket = store\nsocket_mode = 0777", "[store] socket_mode: '0777' isn't one of 0600, 0660, 0666"),
     ("socket = store", "socket = store\nsocket_group = nobody knows", "[store] socket_group: there is no group 'nobody knows'"),
+    ("grace = 0.5", "grace = 0.5\nlog =", "[store] log: a path is expected"),
+    ("grace = 0.5", "grace = 0.5\nlog_level = debug", "[store] log_level: 'debug' isn't one of info, warning, error"),
+    ("grace = 0.5", "grace = 0.5\nwatch = often", "[store] watch: 'often' isn't a number of seconds from 0 to 86400"),
+    ("grace = 0.5", "grace = 0.5\nwatch_patience = 0", "[store] watch_patience: '0' isn't a number of seconds from 0.1 to 86400"),
+    ("grace = 0.5", "grace = 0.5\nrestart_stuck = 1", "[store] restart_stuck: '1' isn't yes or no"),
+    ("grace = 0.5", "grace = 0.5\nmetrics = 10.0.0.1:80", "[store] metrics: '10.0.0.1:80' isn't 127.0.0.1:PORT, nor a path"),
     ("grace = 0.5", "grace = soon", "[store] grace: 'soon' isn't a number of seconds"),
     (f"program = {PROGRAM}", "program = missing", "there is no such program"),
     ("[job 1]", "[job 0]", "section [job 0]: '0' isn't a job's number"),
@@ -84,7 +90,7 @@ class Sizes(unittest.TestCase):
 
 class SettingsFiles(unittest.TestCase):
     def read(self, place: Place) -> Settings:
-        return read_settings(place.settings, Path(PROGRAM))
+        return read_settings(place.settings, lambda: Path(PROGRAM))
 
     def test_jobs_come_by_number_and_node(self) -> None:
         with Place(2, (3, 1)) as place:

@@ -1,0 +1,102 @@
+"""What `storectl top` shows: the server in two lines, and a line for each job and node with what changed since the last look."""
+
+from __future__ import annotations
+
+import time
+from typing import Callable, Dict, List, NamedTuple, Optional, Sequence, Tuple
+
+from .asking import AskFault, Daemon, Mark, UsageRow
+from .sizes import size_text
+from .tables import table
+
+_BAR = 20
+_RUNS = "running"
+_HEAD = ("NODE", "JOB", "WINDOW", "", "USED", "OF", "DEVICE", "OF", "COPIES", "WORKS", "+USED", "+DEVICE", "+COPIES")
+
+
+class Seen(NamedTuple):
+    """One look: by the clock that nobody sets, with the daemon's marks and a row for each job and node."""
+
+    moment: float
+    status: Dict[str, Mark]
+    rows: Tuple[UsageRow, ...]
+
+
+def see(daemon: Daemon, nodes: Sequence[int], job: Optional[int]) -> Seen:
+    """Of a server that doesn't answer there are no rows."""
+    status = daemon.status()
+    rows: List[UsageRow] = []
+    if status["state"] == _RUNS:
+        try:
+            rows = [row for row in daemon.usages() if row.node in nodes and job in (None, row.job)]
+        except AskFault as fault:
+            status["state"] = str(fault)
+    return Seen(time.monotonic(), status, tuple(rows))
+
+
+def top_text(seen: Seen, last: Optional[Seen]) -> str:
+    before = {(row.node, row.job): row for row in last.rows} if last else {}
+    rows = [_cells(row, before.get((row.node, row.job))) for row in seen.rows]
+    return "\n".join([*_header(seen, last), table(_HEAD, rows)])
+
+
+def _header(seen: Seen, last: Optional[Seen]) -> List[str]:
+    status = seen.status
+    sessions = status["sessions"]
+    count = sum(sessions) if isinstance(sessions, list) else 0
+    sizes = {name: size_text(_whole(status, name)) for name in ("resident", "spilled_bytes", "spill_free")}
+    return [
+        f"store: {status['state']}, up {_time_text(_whole(status, 'seconds'))}, {_many(_whole(status, 'nodes'), 'node')}, "
+        f"{_many(count, 'session')}, {_many(_whole(status, 'restarts'), 'restart')}",
+        f"memory {sizes['resident']}, processor {_processor(seen, last)}, {_many(_whole(status, 'threads'), 'thread')}, "
+        f"{status['descriptors']} of {status['descriptors_needed']} descriptors, {_many(_whole(status, 'spilled_files'), 'file')} "
+        f"with {sizes['spilled_bytes']} spilled, {sizes['spill_free']} free",
+        "",
+    ]
+
+
+def _whole(status: Dict[str, Mark], name: str) -> int:
+    mark = status[name]
+    return mark if isinstance(mark, int) else 0
+
+
+def _many(count: int, what: str) -> str:
+    return f"{count} {what}" if count == 1 else f"{count} {what}s"
+
+
+def _time_text(seconds: int) -> str:
+    """The two largest units."""
+    for unit, below, size in (("d", "h", 86_400), ("h", "m", 3_600), ("m", "s", 60)):
+        if seconds >= size:
+            return f"{seconds // size} {unit} {seconds % size * (24 if size == 86_400 else 60) // size} {below}"
+    return f"{seconds} s"
+
+
+def _processor(seen: Seen, last: Optional[Seen]) -> str:
+    """In percent of one since the last look at the same process; otherwise the seconds that it took."""
+    used = float(str(seen.status["processor_seconds"]))
+    if last is None or last.status["process"] != seen.status["process"] or seen.moment <= last.moment:
+        return f"{used:.1f} s"
+    return f"{100 * (used - float(str(last.status['processor_seconds']))) / (seen.moment - last.moment):.0f} %"
+
+
+def _cells(row: UsageRow, before: Optional[UsageRow]) -> Sequence[str]:
+    # of one that wasn't there before nothing is told
+    before = before or row
+    changes = (
+        _change(row.window_used - before.window_used, size_text), _change(row.device_used - before.device_used, size_text),
+        _change(row.copies - before.copies, str),
+    )
+    sizes = (size_text(size) for size in (row.window_used, row.window, row.device_used, row.device))
+    part = row.window_used / row.window if row.window else 0.0
+    return (str(row.node), str(row.job), _bar(part), f"{part:.0%}", *sizes, str(row.copies), str(row.works), *changes)
+
+
+def _bar(part: float) -> str:
+    full = round(_BAR * part)
+    return f"[{'#' * full}{'.' * (_BAR - full)}]"
+
+
+def _change(change: int, text: Callable[[int], str]) -> str:
+    """Nothing if it is none."""
+    return f"{'+' if change > 0 else '-'}{text(abs(change))}" if change else ""

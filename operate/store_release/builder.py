@@ -1,0 +1,19 @@
+"""What builds the client's package packs releases too: it lies in the client's folder, which stands alone.
+
+It is imported once something is packed: what only looks for a program, or reads a release, does without it.
+"""
+
+from __future__ import annotations
+
+import sys
+
+from .faults import ROOT
+
+sys.path.append(str(ROOT / "clients/python/backend"))
+
+from store_build.archives import pack  # noqa: E402
+from store_build.client import client_wheel  # noqa: E402
+from store_build.project import Project, ProjectFault  # noqa: E402
+from store_build.wheels import wheel as pack_wheel  # noqa: E402
+
+__all__ = ["Project", "ProjectFault", "client_wheel", "pack", "pack_wheel"]
