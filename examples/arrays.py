@@ -1,7 +1,7 @@
 #!/usr/bin/env python3
 """An array of numpy on its way from job to job: job 1 puts and grants it, and job 2 gets it, without a pickle.
 
-In the top folder, after `make build`, with numpy:
+In the top folder, with numpy:
 
     $ examples/arrays.py
 """

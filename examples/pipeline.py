@@ -2,8 +2,7 @@
 """Arrays on their way through three processes: two of job 1, and one of job 2, which sees what it was granted and nothing else.
 
 The first stores whole numbers. The second gets them, stores their squares, and grants these to job 2. The third, of job 2,
-peeks at the squares and adds them up; of the numbers themselves it is told only that it wasn't granted them. In the top
-folder, after `make build`:
+peeks at the squares and adds them up; of the numbers themselves it is told only that it wasn't granted them. In the top folder:
 
     $ examples/pipeline.py
 """

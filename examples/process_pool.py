@@ -1,7 +1,7 @@
 #!/usr/bin/env python3
 """A pool of processes that share objects: each worker gets its part of the text from the store, and puts what it found.
 
-The workers are given ids, and no bytes. In the top folder, after `make build`:
+The workers are given ids, and no bytes. In the top folder:
 
     $ examples/process_pool.py
 """

@@ -11,9 +11,16 @@ from pathlib import Path
 from typing import Iterator
 
 ROOT = Path(__file__).resolve().parents[1]
-sys.path.insert(0, str(ROOT / "clients/python"))
+sys.path[:0] = [str(ROOT / "clients/python"), str(ROOT / "operate")]
 
-PROGRAM = os.environ.get("STORE_PROGRAM", str(ROOT / "crates/store_server/out/store_server"))
+try:
+    from store_release.program import program_or_end
+except ImportError:
+    # in a release, which has its program in bin/
+    def program_or_end() -> str:
+        return os.environ.get("STORE_PROGRAM", str(ROOT.parents[2] / "bin/store"))
+
+
 KEYS = {1: bytes([1]) * 32, 2: bytes([2]) * 32}
 WINDOWS = {1: 2**23, 2: 2**10}
 
@@ -21,8 +28,9 @@ WINDOWS = {1: 2**23, 2: 2**10}
 @contextlib.contextmanager
 def served() -> Iterator[str]:
     """The path of the socket, once both jobs are admitted."""
+    program = program_or_end()
     with tempfile.TemporaryDirectory() as folder, tempfile.TemporaryFile("w+") as complaints:
-        words = [PROGRAM, "serve", "--socket", f"{folder}/store", "--nodes", "1", "--memory", str(2**24), "--spill", f"{folder}/spill"]
+        words = [program, "serve", "--socket", f"{folder}/store", "--nodes", "1", "--memory", str(2**24), "--spill", f"{folder}/spill"]
         with subprocess.Popen(words, stdin=subprocess.PIPE, stdout=subprocess.PIPE, stderr=complaints, text=True) as server:
             for job, window in WINDOWS.items():
                 server.stdin.write(f"admit 0 {job} {window} 0 {KEYS[job].hex()}\n")

@@ -1,7 +1,7 @@
 #!/usr/bin/env python3
 """Many coroutines on one connection wait for objects that another one puts later, in whatever order.
 
-In the top folder, after `make build`:
+In the top folder:
 
     $ examples/waiting.py
 """

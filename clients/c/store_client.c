@@ -1,10 +1,13 @@
 #include "store_client.h"
 
 #include <errno.h>
+#include <limits.h>
+#include <poll.h>
 #include <stdlib.h>
 #include <string.h>
 #include <sys/socket.h>
 #include <sys/un.h>
+#include <time.h>
 #include <unistd.h>
 
 enum command {
@@ -51,6 +54,8 @@ const char *store_result_name(int result)
         return "what came is no reply";
     case STORE_NO_MEMORY_HERE:
         return "no memory in this process";
+    case STORE_SILENT:
+        return "the server is silent";
     default:
         return result >= STORE_OK && result <= STORE_STALE ? names[result] : "no result";
     }
@@ -79,7 +84,34 @@ struct store_id store_id_of(uint64_t task, uint32_t job, uint32_t index)
     return id;
 }
 
-/* ---- the stream */
+/* ---- time */
+
+static int64_t now(void)
+{
+    struct timespec time;
+    clock_gettime(CLOCK_MONOTONIC, &time);
+    return (int64_t)time.tv_sec * 1000 + time.tv_nsec / 1000000;
+}
+
+/* A call begins. */
+static void begin(struct store *store)
+{
+    store->end = store->limit > 0 ? now() + store->limit : 0;
+}
+
+/* Until the socket takes or has something, or the call's time is over. */
+static int await(const struct store *store, short event)
+{
+    struct pollfd awaited = {.fd = store->socket, .events = event};
+    int64_t left = store->end > 0 ? store->end - now() : INT_MAX;
+    if (left <= 0)
+        return STORE_SILENT;
+    if (poll(&awaited, 1, left < INT_MAX ? (int)left : INT_MAX) < 0 && errno != EINTR)
+        return STORE_LOST;
+    return STORE_OK;
+}
+
+/* ---- the stream. The socket doesn't block. */
 
 static int send_all(const struct store *store, const void *bytes, size_t length)
 {
@@ -87,8 +119,12 @@ static int send_all(const struct store *store, const void *bytes, size_t length)
     while (length > 0) {
         /* a server that is gone is no reason for SIGPIPE */
         ssize_t sent = send(store->socket, at, length, MSG_NOSIGNAL);
-        if (sent < 0 && errno == EINTR)
+        if (sent < 0 && (errno == EAGAIN || errno == EINTR)) {
+            int result = await(store, POLLOUT);
+            if (result)
+                return result;
             continue;
+        }
         if (sent < 0)
             return STORE_LOST;
         at += sent;
@@ -102,8 +138,12 @@ static int receive_all(const struct store *store, void *bytes, size_t length)
     unsigned char *at = bytes;
     while (length > 0) {
         ssize_t got = recv(store->socket, at, length, 0);
-        if (got < 0 && errno == EINTR)
+        if (got < 0 && (errno == EAGAIN || errno == EINTR)) {
+            int result = await(store, POLLIN);
+            if (result)
+                return result;
             continue;
+        }
         if (got == 0)
             errno = 0;
         if (got <= 0)
@@ -170,9 +210,10 @@ static int ask_length(const struct store *store, enum command kind, struct store
     struct request request = on_object(kind, id);
     unsigned char body[4];
     int result = ask(store, &request, GOT, body, sizeof body);
-    if (!result)
-        *length = (uint32_t)number_at(body, sizeof body);
-    return result;
+    if (result)
+        return result;
+    *length = (uint32_t)number_at(body, sizeof body);
+    return *length >= 1 && *length <= STORE_LARGEST ? STORE_OK : STORE_PROTOCOL;
 }
 
 static int ask_bytes(const struct store *store, enum command kind, struct store_id id, uint32_t offset, void *bytes, uint32_t length)
@@ -192,6 +233,21 @@ static int ask_create(const struct store *store, enum command kind, struct store
     return ask(store, &request, PLACED, placed, sizeof placed);
 }
 
+static int ask_write(const struct store *store, struct store_id id, uint32_t offset, const void *bytes, uint32_t length)
+{
+    struct request request = on_object(WRITE, id);
+    add_number(&request, offset, 4);
+    request.bytes = bytes;
+    request.count = length;
+    return ask_ok(store, &request);
+}
+
+static int tell(const struct store *store, enum command kind, struct store_id id)
+{
+    struct request request = on_object(kind, id);
+    return ask_ok(store, &request);
+}
+
 static int ask_with_job(const struct store *store, enum command kind, struct store_id id, uint32_t job)
 {
     struct request request = on_object(kind, id);
@@ -205,20 +261,28 @@ int store_connect(struct store *store, const char *path, uint32_t job, const uns
 {
     struct sockaddr_un address = {.sun_family = AF_UNIX};
     unsigned char fields[4 + STORE_KEY_BYTES];
+    static const struct timespec pause = {.tv_nsec = 10000000};
     store->job = job;
     store->socket = -1;
+    store->limit = STORE_OPENING;
+    begin(store);
+    store->limit = 0;
     if (strlen(path) >= sizeof address.sun_path) {
         errno = ENAMETOOLONG;
         return STORE_LOST;
     }
     memcpy(address.sun_path, path, strlen(path) + 1);
-    store->socket = socket(AF_UNIX, SOCK_STREAM | SOCK_CLOEXEC, 0);
+    store->socket = socket(AF_UNIX, SOCK_STREAM | SOCK_CLOEXEC | SOCK_NONBLOCK, 0);
     if (store->socket < 0)
         return STORE_LOST;
-    /* a signal while the server's queue is full leaves the socket as it was */
-    while (connect(store->socket, (struct sockaddr *)&address, sizeof address) < 0)
-        if (errno != EINTR)
+    /* the server's queue may be full */
+    while (connect(store->socket, (struct sockaddr *)&address, sizeof address) < 0) {
+        if (errno != EAGAIN && errno != EINTR)
             return STORE_LOST;
+        if (now() >= store->end)
+            return STORE_SILENT;
+        nanosleep(&pause, NULL);
+    }
     put_number(fields, job, 4);
     memcpy(fields + 4, key, STORE_KEY_BYTES);
     struct request hello = request_of(HELLO, fields, sizeof fields);
@@ -232,8 +296,14 @@ void store_close(struct store *store)
     store->socket = -1;
 }
 
+void store_set_timeout(struct store *store, uint32_t milliseconds)
+{
+    store->limit = milliseconds;
+}
+
 int store_create(struct store *store, struct store_id id, uint32_t length)
 {
+    begin(store);
     return ask_create(store, CREATE, id, length);
 }
 
@@ -241,71 +311,72 @@ int store_write(struct store *store, struct store_id id, uint32_t offset, const 
 {
     if (length > STORE_MOST_BYTES)
         return STORE_BAD_SIZE; /* what is much longer is no frame, and would end the session */
-    struct request request = on_object(WRITE, id);
-    add_number(&request, offset, 4);
-    request.bytes = bytes;
-    request.count = length;
-    return ask_ok(store, &request);
+    begin(store);
+    return ask_write(store, id, offset, bytes, length);
 }
 
 int store_seal(struct store *store, struct store_id id)
 {
-    struct request request = on_object(SEAL, id);
-    return ask_ok(store, &request);
+    begin(store);
+    return tell(store, SEAL, id);
 }
 
 int store_put(struct store *store, struct store_id id, const void *bytes, size_t length)
 {
     if (length > UINT32_MAX)
         return STORE_BAD_SIZE;
+    begin(store);
     int result = ask_create(store, CREATE_WAIT, id, (uint32_t)length);
     if (result)
         return result;
     for (size_t at = 0; !result && at < length; at += STORE_MOST_BYTES) {
         size_t left = length - at;
         uint32_t count = left < STORE_MOST_BYTES ? (uint32_t)left : STORE_MOST_BYTES;
-        result = store_write(store, id, (uint32_t)at, (const unsigned char *)bytes + at, count);
+        result = ask_write(store, id, (uint32_t)at, (const unsigned char *)bytes + at, count);
     }
     if (!result)
-        result = store_seal(store, id);
+        result = tell(store, SEAL, id);
     if (result > STORE_OK)
-        store_delete(store, id);
+        tell(store, DELETE, id);
     return result;
 }
 
 int store_hold(struct store *store, struct store_id id, uint32_t *length)
 {
+    begin(store);
     return ask_length(store, GET, id, length);
 }
 
 int store_read(struct store *store, struct store_id id, uint32_t offset, void *bytes, uint32_t length)
 {
+    begin(store);
     return ask_bytes(store, READ, id, offset, bytes, length);
 }
 
 int store_release(struct store *store, struct store_id id)
 {
-    struct request request = on_object(RELEASE, id);
-    return ask_ok(store, &request);
+    begin(store);
+    return tell(store, RELEASE, id);
 }
 
 int store_get(struct store *store, struct store_id id, void **bytes, size_t *length)
 {
     uint32_t whole;
+    begin(store);
     int result = ask_length(store, GET_WAIT, id, &whole);
     if (result)
         return result;
     unsigned char *buffer = malloc(whole);
     if (!buffer) {
-        result = store_release(store, id);
+        result = tell(store, RELEASE, id);
         return result ? result : STORE_NO_MEMORY_HERE;
     }
     for (uint32_t at = 0; !result && at < whole; at += STORE_MOST_BYTES) {
         uint32_t left = whole - at;
-        result = store_read(store, id, at, buffer + at, left < STORE_MOST_BYTES ? left : STORE_MOST_BYTES);
+        result = ask_bytes(store, READ, id, at, buffer + at, left < STORE_MOST_BYTES ? left : STORE_MOST_BYTES);
     }
     if (result >= STORE_OK) {
-        int released = store_release(store, id);
+        int released = tell(store, RELEASE, id);
         result = result ? result : released;
     }
     if (result) {
@@ -319,28 +390,32 @@ int store_get(struct store *store, struct store_id id, void **bytes, size_t *len
 
 int store_delete(struct store *store, struct store_id id)
 {
-    struct request request = on_object(DELETE, id);
-    return ask_ok(store, &request);
+    begin(store);
+    return tell(store, DELETE, id);
 }
 
 int store_end_task(struct store *store, const unsigned char *task)
 {
     struct request request = request_of(END_TASK, task, STORE_TASK_BYTES);
+    begin(store);
     return ask_ok(store, &request);
 }
 
 int store_grant(struct store *store, struct store_id id, uint32_t job)
 {
+    begin(store);
     return ask_with_job(store, GRANT, id, job);
 }
 
 int store_withdraw(struct store *store, struct store_id id, uint32_t job)
 {
+    begin(store);
     return ask_with_job(store, WITHDRAW, id, job);
 }
 
 int store_peek(struct store *store, struct store_id id, uint32_t offset, void *bytes, uint32_t length)
 {
+    begin(store);
     return ask_bytes(store, PEEK, id, offset, bytes, length);
 }
 
@@ -348,6 +423,7 @@ int store_usage(struct store *store, struct store_usage *usage)
 {
     struct request request = request_of(USAGE, NULL, 0);
     unsigned char body[USAGE_BYTES];
+    begin(store);
     int result = ask(store, &request, USED, body, sizeof body);
     if (result)
         return result;

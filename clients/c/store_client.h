@@ -13,6 +13,7 @@ enum store_result {
     STORE_LOST = -1,         /* the server is gone, or closed the session; errno says more if it isn't 0 */
     STORE_PROTOCOL = -2,     /* what came is no reply to the command */
     STORE_NO_MEMORY_HERE = -3, /* malloc failed in this process; the session is usable */
+    STORE_SILENT = -4,       /* the server didn't answer in the time that the call had */
     STORE_OK = 0,
     /* what the server refuses; docs/rules/refusals.md says what each means and may have changed */
     STORE_NOT_ADMITTED = 1,
@@ -45,13 +46,17 @@ enum {
     STORE_KEY_BYTES = 32,
     STORE_TASK_BYTES = 20,
     STORE_ID_BYTES = 28,
-    STORE_MOST_BYTES = 65536 /* that one write, read or peek moves */
+    STORE_MOST_BYTES = 65536, /* that one write, read or peek moves */
+    STORE_LARGEST = 16777216, /* the most bytes of an object */
+    STORE_OPENING = 60000    /* so many milliseconds store_connect takes at most */
 };
 
-/* A session. */
+/* A session; how long each call takes at most, and when the one that is made is over, in milliseconds, or 0. */
 struct store {
     int socket;
     uint32_t job;
+    uint32_t limit;
+    int64_t end;
 };
 
 /* An object: its task, its job, and its index in the task, from 1. */
@@ -73,6 +78,10 @@ struct store_id store_id_of(uint64_t task, uint32_t job, uint32_t index);
 /* A session of the job, whose key of 32 bytes the operator gave. STORE_NOT_ADMITTED. Close it in any case. */
 int store_connect(struct store *store, const char *path, uint32_t job, const unsigned char *key);
 void store_close(struct store *store);
+
+/* From now on each call takes at most so many milliseconds; 0, as at first, is no limit. A put may wait for room, and a get for a transfer,
+ * and either may last for ever: so set one. What isn't answered in time is STORE_SILENT. */
+void store_set_timeout(struct store *store, uint32_t milliseconds);
 
 /* A sealed object of these bytes, 1 to 16,777,216. Waits for room. If it can't be written whole it is deleted again. STORE_EXISTS also
  * if a fetch is in its place, which a store_hold that was STORE_PENDING has entered: ask it again first, until it is another result. */

@@ -2,6 +2,7 @@
  *
  *     test PATH    the sessions; job N's key is 32 bytes of N
  *     test PATH RESULT    one store_seal, which has to give that result
+ *     test PATH RESULT get    one store_get, of at most half a second
  */
 #include "store_client.h"
 
@@ -104,9 +105,14 @@ int main(int count, char **words)
 {
     struct store store, stranger;
     unsigned char key[STORE_KEY_BYTES] = {0};
-    HOLDS(count == 2 || count == 3);
+    HOLDS(count >= 2 && count <= 4);
     store = entered(words[1], 1);
-    if (count == 3) {
+    if (count == 4) {
+        void *bytes;
+        size_t length;
+        store_set_timeout(&store, 500);
+        EXPECT(words[2], store_get(&store, store_id_of(1, 1, 1), &bytes, &length));
+    } else if (count == 3) {
         EXPECT(words[2], store_seal(&store, store_id_of(1, 1, 1)));
     } else {
         EXPECT("NotAdmitted", store_connect(&stranger, words[1], 1, key));

@@ -16,7 +16,7 @@ from pathlib import Path
 from typing import Any, Dict, Iterator, List, Optional
 
 from distributed import Client
-from inside import PROGRAM, has_network
+from inside import has_network
 
 from store_client import dask
 
@@ -159,7 +159,8 @@ class Hosts:
             # of a store that was killed, as store-daemon removes it
             left.unlink()
         memory = sum(job.window for job in self.jobs.values())
-        words = [PROGRAM, "serve", "--socket", str(self._folder / host.name), "--nodes", str(self._nodes)]
+        # which was found before
+        words = [os.environ["STORE_PROGRAM"], "serve", "--socket", str(self._folder / host.name), "--nodes", str(self._nodes)]
         words += ["--memory", str(memory), "--spill", str(self._folder / f"spill{host.name}")]
         host.store = subprocess.Popen(words, stdin=subprocess.PIPE, stdout=subprocess.PIPE, text=True)
         for number, job in self.jobs.items():

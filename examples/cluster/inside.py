@@ -20,7 +20,10 @@ from typing import Callable, List
 
 ROOT = Path(__file__).resolve().parents[2]
 CLIENT = ROOT / "clients/python"
-PROGRAM = os.environ.get("STORE_PROGRAM", str(ROOT / "crates/store_server/out/store_server"))
+sys.path.append(str(ROOT / "examples"))
+
+from serving import program_or_end  # noqa: E402
+
 # of Debian, which has the packages
 DEBIAN_PYTHON = "/usr/bin/python3"
 _FOLDER, _NETWORK = "STORE_CLUSTER_FOLDER", "STORE_CLUSTER_NETWORK"
@@ -44,10 +47,7 @@ def main(run: Callable[[Path], int], seconds: float) -> int:
         print(f"{name}: after apt-get install python3-distributed python3-numpy")
         print("0 passed, 0 failed")
         return 0
-    if not os.access(PROGRAM, os.X_OK):
-        print(f"{name}: there is no program {PROGRAM}: make build leaves it there, or set STORE_PROGRAM", file=sys.stderr)
-        return 1
-    return _apart(name, seconds)
+    return _apart(name, program_or_end(), seconds)
 
 
 def has_network() -> bool:
@@ -74,13 +74,13 @@ def _unshare() -> List[str]:
     return []
 
 
-def _apart(name: str, seconds: float) -> int:
+def _apart(name: str, program: str, seconds: float) -> int:
     prefix = _unshare()
     where = "each host is a network namespace" if prefix else "LEFT OUT, the network: namespaces aren't allowed here, all is 127.0.0.1"
-    print(f"{name}: {sys.executable}, {PROGRAM}; {where}", flush=True)
+    print(f"{name}: {sys.executable}, {program}; {where}", flush=True)
     folder = tempfile.mkdtemp(prefix="store-cluster-")
     words = [*prefix, sys.executable, "-B", *sys.argv]
-    around = {**os.environ, _FOLDER: folder, _NETWORK: "1" if prefix else "0"}
+    around = {**os.environ, "STORE_PROGRAM": program, _FOLDER: folder, _NETWORK: "1" if prefix else "0"}
     # a signal to this process ends the run as an exception does
     signal.signal(signal.SIGTERM, lambda *_: sys.exit(1))
     try:

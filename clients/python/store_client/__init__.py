@@ -2,16 +2,18 @@
 
     import store_client
 
-    with store_client.connect("/tmp/store.0", job=1, key=bytes(32)) as store:
+    with store_client.local() as store:
         one = store.put(b"Hello")
         with store.get(one) as view:
             print(bytes(view))
 
+`local` starts a server of its own; `connect` is for one that is there already.
 What a command does is said in docs/rules/commands.md, and what a frame is in docs/rules/frames.md.
 """
 
 from .calls import Calls, JobTask
 from .connection import Connection, connect
+from .embedded import LocalStore, local
 from .held import Held
 from .ids import ObjectId, Task
 from .items import GrantedItem, Kind, OwnItem, Placed, State, Usage
@@ -38,6 +40,7 @@ from .refusals import (
     NotOwner,
     NotResident,
     NotSealed,
+    NotStarted,
     OutOfBounds,
     Pending,
     ProtocolError,
@@ -46,10 +49,11 @@ from .refusals import (
     Stale,
     StoreError,
     TimedOut,
+    TooLong,
     TooMany,
 )
 
-__version__ = "0.2.0"
+__version__ = "0.4.0"
 
 __all__ = [
     "Absent",
@@ -70,6 +74,7 @@ __all__ = [
     "Held",
     "JobTask",
     "Kind",
+    "LocalStore",
     "Malformed",
     "NoMemory",
     "NoRoom",
@@ -79,6 +84,7 @@ __all__ = [
     "NotOwner",
     "NotResident",
     "NotSealed",
+    "NotStarted",
     "ObjectId",
     "OutOfBounds",
     "OwnItem",
@@ -93,7 +99,9 @@ __all__ = [
     "StoreError",
     "Task",
     "TimedOut",
+    "TooLong",
     "TooMany",
     "Usage",
     "connect",
+    "local",
 ]

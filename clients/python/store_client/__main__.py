@@ -8,12 +8,19 @@ import sys
 import time
 from typing import Callable, Optional, Sequence, Union
 
-from . import Connection, ObjectId, State, StoreError, Task, Usage, __version__, connect
+from . import Connection, ObjectId, Refused, State, StoreError, Task, Usage, __version__, connect
 from .checks import LAST_NUMBER, key_bytes, seconds, whole_number
 from .putting import Progress
+from .requests import Pieces
+from .steps import GRACE
 
 # adds a command: its word, what runs it, and what it does
 _Adding = Callable[[str, Callable[[Connection, argparse.Namespace], None], str], argparse.ArgumentParser]
+
+# from which length on it is shown how far a transfer is, and the length of the bar
+_LONG, _BAR = 1 << 26, 40
+# how long a server may be silent if the command has no timeout, in seconds
+_SILENCE = 60.0
 
 _ABOUT = """\
 Puts, gets and lists objects of a running store. The key is 64 hexadecimal digits. --key stands in the list of processes for
@@ -21,13 +28,15 @@ all users to see: give it in a file, by --key-file, or in the environment, as ST
 
 
 def _progress(what: str) -> Optional[Progress]:
-    """Shows how far a transfer is, if the error stream is a terminal."""
+    """Shows how far a long transfer is, if the error stream is a terminal."""
     if not sys.stderr.isatty():
         return None
 
     def show(moved: int, whole: int) -> None:
-        end = "\n" if moved == whole else ""
-        print(f"\r{what}: {100 * moved // whole} %", end=end, file=sys.stderr, flush=True)
+        if whole >= _LONG:
+            bar = "#" * (_BAR * moved // whole)
+            end = "\n" if moved == whole else ""
+            print(f"\r{what}: [{bar:{_BAR}}] {100 * moved // whole} % of {whole >> 20} MiB", end=end, file=sys.stderr, flush=True)
 
     return show
 
@@ -56,12 +65,11 @@ def put(store: Connection, words: argparse.Namespace) -> None:
         with open(words.file, "rb") as file:
             data = file.read()
     id = _id(store, words) if words.id else None
-    print(store.put(data, id, _progress("put"), words.timeout).text(store.job))
+    print(store._put_pieces(Pieces([memoryview(data)]), id, words.timeout, _progress("put")).text(store.job))
 
 
 def get(store: Connection, words: argparse.Namespace) -> None:
-    with store.get(_id(store, words), words.timeout, _progress("get")) as view:
-        _write(view)
+    _write(store._get_whole(_id(store, words), words.timeout, None, _progress("get")))
 
 
 def peek(store: Connection, words: argparse.Namespace) -> None:
@@ -69,15 +77,25 @@ def peek(store: Connection, words: argparse.Namespace) -> None:
 
 
 def delete(store: Connection, words: argparse.Namespace) -> None:
-    store.delete(_id(store, words))
+    """With its parts, if it is here and has some."""
+    id = _id(store, words)
+    if store.contains(id):
+        try:
+            return store.delete_value(id)
+        except Refused:
+            # it can't be read
+            pass
+    store.delete(id)
 
 
 def grant(store: Connection, words: argparse.Namespace) -> None:
-    store.grant(_id(store, words), words.grantee)
+    id = _id(store, words)
+    (store.grant_value if store.contains(id) else store.grant)(id, words.grantee)
 
 
 def withdraw(store: Connection, words: argparse.Namespace) -> None:
-    store.withdraw(_id(store, words), words.grantee)
+    id = _id(store, words)
+    (store.withdraw_value if store.contains(id) else store.withdraw)(id, words.grantee)
 
 
 def end_task(store: Connection, words: argparse.Namespace) -> None:
@@ -162,8 +180,8 @@ def arguments() -> argparse.ArgumentParser:
 def _connecting() -> argparse.ArgumentParser:
     """Where the store is, and who speaks. What the environment says is the default, which is read likewise."""
     place = os.environ
-    parser = argparse.ArgumentParser(prog="store_client", description=_ABOUT)
-    parser.add_argument("--version", action="version", version=__version__)
+    parser = argparse.ArgumentParser(prog="store-client", description=_ABOUT)
+    parser.add_argument("--version", action="version", version=f"%(prog)s {__version__}")
     parser.add_argument("--socket", default=place.get("STORE_SOCKET"), help="the socket of a node, PATH.0 for the first")
     parser.add_argument("--job", default=place.get("STORE_JOB"), type=_number("a job", 1), help="the job's number")
     keys = parser.add_mutually_exclusive_group()
@@ -173,17 +191,17 @@ def _connecting() -> argparse.ArgumentParser:
 
 
 def _add_objects(command: _Adding) -> None:
-    added = command("put", put, "stores a file's bytes, and prints the object's id")
-    added.add_argument("file", help="- reads the standard input")
-    added.add_argument("--id", help="tN.I or 56 hexadecimal digits; a new one otherwise")
+    added = command("put", put, "stores a file's bytes, and prints the object's id; more than 16 MiB, or than the window, go in parts")
+    added.add_argument("file", help="the file's path; - reads the standard input")
+    added.add_argument("--id", help="tN.I as t1.1, or 56 hexadecimal digits; a new one otherwise")
     added.add_argument("--timeout", type=_seconds, help="waits at most so many seconds for room; without end otherwise")
-    added = command("get", get, "writes an object's bytes to the standard output, also of one that another job granted")
-    added.add_argument("id", help="tN.I, or J/tN.I for an object of job J")
+    added = command("get", get, "writes an object's bytes, with those of its parts, to the standard output; also of one that was granted")
+    added.add_argument("id", help="tN.I as t1.1, or J/tN.I as 2/t1.1 for an object of job J")
     added.add_argument(
         "--timeout", type=_seconds, help="waits at most so many seconds until somebody has put the object; otherwise it has to be there"
     )
-    added = command("delete", delete, "removes an object once nobody holds it")
-    added.add_argument("id")
+    added = command("delete", delete, "removes an object, with its parts, once nobody holds it")
+    added.add_argument("id", help="tN.I as t1.1, or 56 hexadecimal digits")
     added = command("end-task", end_task, "removes all objects of a task once nobody holds them")
     added.add_argument("task", help="tN or 40 hexadecimal digits")
 
@@ -191,14 +209,14 @@ def _add_objects(command: _Adding) -> None:
 def _add_grants(command: _Adding) -> None:
     added = command("peek", peek, "writes some bytes of an object that another job granted")
     added.add_argument("id", help="J/tN.I")
-    added.add_argument("offset", type=_number("an offset"))
+    added.add_argument("offset", type=_number("an offset"), help="the first byte's, from 0")
     added.add_argument("count", type=_number("a number of bytes"), help="at most 65536")
-    added = command("grant", grant, "lets another job peek at an object")
-    added.add_argument("id")
-    added.add_argument("grantee", metavar="job", type=_number("a job"))
+    added = command("grant", grant, "lets another job get an object, with its parts")
+    added.add_argument("id", help="tN.I as t1.1, or J/tN.I for one that job J granted")
+    added.add_argument("grantee", metavar="job", type=_number("a job"), help="the other job's number")
     added = command("withdraw", withdraw, "ends a grant")
-    added.add_argument("id")
-    added.add_argument("grantee", metavar="job", type=_number("a job"))
+    added.add_argument("id", help="tN.I as t1.1, or J/tN.I for one that job J granted")
+    added.add_argument("grantee", metavar="job", type=_number("a job"), help="the other job's number")
 
 
 def _add_lists(command: _Adding) -> None:
@@ -207,6 +225,12 @@ def _add_lists(command: _Adding) -> None:
     command("usage", usage, "shows what the job uses of its quotas")
     added = command("watch", watch, "shows usage again whenever it has changed")
     added.add_argument("--every", type=_seconds, default=0.5, help="how often it looks, in seconds")
+
+
+def _patience(words: argparse.Namespace) -> float:
+    """How long the server may be silent: as long as the command may take, at least a second."""
+    given: Optional[float] = getattr(words, "timeout", None)
+    return _SILENCE if given is None else max(given, GRACE)
 
 
 def main(words: Optional[Sequence[str]] = None) -> int:
@@ -218,10 +242,10 @@ def main(words: Optional[Sequence[str]] = None) -> int:
         if value is None:
             parser.error(f"{name} is needed, or STORE_{name[2:].split('-')[0].upper()} in the environment")
     try:
-        with connect(chosen.socket, chosen.job, key) as store:
+        with connect(chosen.socket, chosen.job, key, _patience(chosen)) as store:
             chosen.run(store, chosen)
     except (StoreError, OSError, ValueError) as error:
-        print(f"store_client: {error}", file=sys.stderr)
+        print(f"store-client: {error}", file=sys.stderr)
         return 1
     except KeyboardInterrupt:
         return 130

@@ -15,23 +15,29 @@ from __future__ import annotations
 import asyncio
 import contextlib
 import time
-from typing import Any, List, Optional, Sequence, Tuple, TypeVar, Union
+from typing import TYPE_CHECKING, Any, List, Optional, Sequence, Tuple, Type, TypeVar, Union, overload
 
 from . import finding, parts, putting
 from .aio_session import Session
 from .calls import JobTask
-from .checks import LAST_NUMBER, Buffer, PathLike, flat, key_bytes, seconds, socket_path, whole_number, writable
-from .connection import NewIds
+from .checks import LAST_NUMBER, Buffer, PathLike, flat, key_bytes, length_limit, seconds, socket_path, whole_number, writable
+from .connection import OPENING, NewIds
 from .encoding import decode_array, decode_value, encode_array, encode_value
 from .held import ReadBytes
 from .ids import ObjectId, Task, expect_id
 from .items import GrantedItem, Kind, OwnItem, Placed, Usage
+from .keeping import Keeping
 from .putting import Progress
 from .refusals import ConnectionLost, ServerSilent, StoreError
 from .requests import Pieces, Request, Requests, hello, value_of
 from .steps import Ask, Deadline, Effect, Over, Rest, Steps, TakeBack, Together, answers_due, ask, fail, go_on
+from .values import check_trust, expected
+
+if TYPE_CHECKING:
+    import numpy
 
 T = TypeVar("T")
+V = TypeVar("V")
 
 # how much the reading end keeps before it lets the server wait, in bytes
 _READ_LIMIT = 1 << 20
@@ -66,17 +72,19 @@ class Held(ReadBytes):
 class Connection:
     """A session: the calls of `store_client.Connection` as coroutines. After `ConnectionLost` each call raises it."""
 
-    def __init__(self, session: Session, job: int, timeout: Optional[float]) -> None:
+    def __init__(self, session: Session, job: int, timeout: Optional[float], keeping: Keeping) -> None:
         """See `connect`."""
         #: the number of the job that speaks
         self.job = job
         self._session = session
         self._timeout = timeout
         self._requests = Requests(job)
-        self._ids = NewIds(job)
+        self._requests.keeping = keeping
+        self._ids = NewIds(job, keeping)
 
     async def close(self) -> None:
         """The session ends, and gives up its holds."""
+        self._requests.keeping.close(is_clean=self._session.lost is None)
         self._session.end("the connection is closed")
         await self._session.ended()
 
@@ -147,17 +155,38 @@ class Connection:
         """As `store_client.Connection.put_value`."""
         return await self._put_pieces(encode_value(value), id, timeout)
 
-    async def get_value(self, id: ObjectId, timeout: Optional[float] = None) -> Any:
+    @overload
+    async def get_value(
+        self, id: ObjectId, timeout: Optional[float] = None, trust: bool = False, limit: Optional[int] = None, expect: None = None
+    ) -> Any: ...
+
+    @overload
+    async def get_value(
+        self, id: ObjectId, timeout: Optional[float] = None, trust: bool = False, limit: Optional[int] = None, *, expect: Type[V]
+    ) -> V: ...
+
+    async def get_value(
+        self,
+        id: ObjectId,
+        timeout: Optional[float] = None,
+        trust: bool = False,
+        limit: Optional[int] = None,
+        expect: Optional[Type[Any]] = None,
+    ) -> Any:
         """As `store_client.Connection.get_value`: it runs what the pickle says."""
-        return decode_value(await self._get_whole(id, timeout), id.text(self.job))
+        check_trust(id, self.job, trust)
+        return expected(decode_value(await self._get_whole(id, timeout, limit), id.text(self.job)), expect, id.text(self.job))
 
     async def put_array(self, array: Any, id: Optional[ObjectId] = None, timeout: Optional[float] = None) -> ObjectId:
         """As `store_client.Connection.put_array`."""
         return await self._put_pieces(encode_array(array), id, timeout)
 
-    async def get_array(self, id: ObjectId, timeout: Optional[float] = None) -> Any:
+    async def get_array(
+        self, id: ObjectId, timeout: Optional[float] = None, limit: Optional[int] = None
+    ) -> numpy.ndarray[Any, numpy.dtype[Any]]:
         """As `store_client.Connection.get_array`."""
-        return decode_array(await self._get_whole(id, timeout), id.text(self.job))
+        array: numpy.ndarray[Any, numpy.dtype[Any]] = decode_array(await self._get_whole(id, timeout, limit), id.text(self.job))
+        return array
 
     async def delete_value(self, id: ObjectId) -> None:
         """As `store_client.Connection.delete_value`."""
@@ -265,10 +294,10 @@ class Connection:
         name = None if id is None else expect_id(id)
         return await self._run(parts.put_whole(self._requests, pieces, name, self.new_id, Deadline(timeout)), timeout)
 
-    async def _get_whole(self, id: ObjectId, timeout: Optional[float]) -> memoryview:
+    async def _get_whole(self, id: ObjectId, timeout: Optional[float], limit: Optional[int]) -> memoryview:
         timeout = seconds(timeout)
         deadline = None if timeout is None else Deadline(timeout)
-        return await self._run(parts.get_whole(self._requests, expect_id(id), deadline), timeout)
+        return await self._run(parts.get_whole(self._requests, expect_id(id), deadline, length_limit(limit)), timeout)
 
     async def _run(self, steps: Steps[T], timeout: Optional[float] = None) -> T:
         return await self._drive(steps, None if timeout is None else time.monotonic() + timeout)
@@ -292,7 +321,7 @@ class Connection:
         if isinstance(effect, Ask):
             return await self._session.exchange(effect.requests, answers_due(effect.requests, end, self._timeout))
         if isinstance(effect, Rest):
-            return await asyncio.sleep(effect.seconds)
+            return await _rest(effect)
         if isinstance(effect, Together):
             return await self._drive_all(effect.all, end)
         return await self._take_back(effect)
@@ -323,14 +352,33 @@ class Connection:
             await asyncio.gather(*running, return_exceptions=True)
 
 
-async def connect(path: PathLike, job: int, key: bytes, timeout: Optional[float] = None) -> Connection:
+async def _rest(rest: Rest) -> None:
+    if rest.bell is None:
+        return await asyncio.sleep(rest.seconds)
+    loop = asyncio.get_running_loop()
+    woken: asyncio.Future[None] = loop.create_future()
+
+    def wake() -> None:
+        if not woken.done():
+            woken.set_result(None)
+
+    rest.bell.wake = wake
+    timer = loop.call_later(0.0 if rest.bell.is_rung else rest.seconds, wake)
+    try:
+        await woken
+    finally:
+        timer.cancel()
+        rest.bell.is_rung = False
+
+
+async def connect(path: PathLike, job: int, key: bytes, timeout: Optional[float] = None, keeper: bool = True) -> Connection:
     """As `store_client.connect`: a session of the job at the node whose socket this is. `NotAdmitted`, `ConnectionLost`."""
     name, secret, number = socket_path(path), key_bytes(key), whole_number(job, "a job", 0, LAST_NUMBER)
     patience = seconds(timeout)
-    end = None if patience is None else time.monotonic() + patience
+    end = time.monotonic() + (OPENING if patience is None else patience)
     try:
         opening = asyncio.open_unix_connection(name, limit=_READ_LIMIT)
-        reader, writer = await asyncio.wait_for(opening, patience)
+        reader, writer = await asyncio.wait_for(opening, end - time.monotonic())
     except asyncio.TimeoutError:
         raise ServerSilent(f"{name}: the server took no connection in time") from None
     except (OSError, ValueError) as error:
@@ -342,4 +390,4 @@ async def connect(path: PathLike, job: int, key: bytes, timeout: Optional[float]
         session.end("the connection is closed")
         await session.ended()
         raise
-    return Connection(session, number, patience)
+    return Connection(session, number, patience, Keeping(name, number, secret, keeper))

@@ -72,9 +72,9 @@ class Calls(abc.ABC):
         `Kind.SECONDARY` offers a copy of what lies elsewhere: it is removed if its room is needed, and never written to the device.
 
         If the object can't be written whole it is deleted again, also if the call is interrupted, by another connection if this one
-        is lost by that. It stays unsealed if the process is killed, if the server doesn't answer any more, and, under an id that
-        was given, if the call is cut off before Create is answered; `list` shows it as `State.CREATED`. An interruption that comes when
-        the put has just been done leaves the object, sealed.
+        is lost by that. If the process is killed the keeper deletes it, within ten seconds. It stays unsealed if the server doesn't answer
+        any more, if there is no keeper, and, under an id that was given, if the call is cut off before Create is answered; `list` shows it
+        as `State.CREATED`. An interruption that comes when the put has just been done leaves the object, sealed.
         """
         timeout = seconds(timeout)
         with flat(data) as view:
@@ -131,9 +131,11 @@ class Calls(abc.ABC):
 
     # ---- the commands
 
-    def create(self, id: ObjectId, length: int, kind: Kind = Kind.PRIMARY, wait: bool = False) -> Placed:
-        """A copy of zeros to be written, of this length in bytes."""
-        return self._value(self._requests.create(id, length, kind, wait))
+    def create(
+        self, id: ObjectId, length: int, kind: Kind = Kind.PRIMARY, wait: bool = False, timeout: Optional[float] = None
+    ) -> Placed:
+        """A copy of zeros to be written, of this length in bytes. With `wait` and the timeout as `hold`."""
+        return self._value(self._requests.create(id, length, kind, wait), seconds(timeout))
 
     def write(self, id: ObjectId, offset: int, data: Buffer) -> None:
         """At most 65,536 bytes from the offset on, while the copy is being written."""
@@ -144,12 +146,13 @@ class Calls(abc.ABC):
         """The copy is immutable from now on."""
         self._value(self._requests.seal(id))
 
-    def hold(self, id: ObjectId, wait: bool = False) -> int:
+    def hold(self, id: ObjectId, wait: bool = False, timeout: Optional[float] = None) -> int:
         """One hold more of the session on the sealed copy, or what brings it here. Its length in bytes.
 
         `Pending` enters or drives on a fetch, which lies in the object's place until another call is told what came of it;
-        with `wait` the server answers once it isn't pending any more, whatever timeout the connection has."""
-        return self._value(self._requests.get(id, wait))
+        with `wait` the server answers once it isn't pending any more, whatever timeout the connection has. That may be never: after
+        the timeout of this call, but not before a second, the server is `ServerSilent`, and the connection lost."""
+        return self._value(self._requests.get(id, wait), seconds(timeout))
 
     def read(self, id: ObjectId, offset: int, length: int) -> bytes:
         """At most 65,536 bytes of an object that the session holds."""
@@ -205,6 +208,6 @@ class Calls(abc.ABC):
         """All holds of the session are given up. The session goes on."""
         self._value(self._requests.leave())
 
-    def _value(self, request: Request[T]) -> T:
-        return self._run(ask(request))
+    def _value(self, request: Request[T], timeout: Optional[float] = None) -> T:
+        return self._run(ask(request), timeout)
 

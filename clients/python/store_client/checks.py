@@ -30,6 +30,11 @@ def whole_number(value: Any, what: str, least: int, most: int) -> int:
     return number
 
 
+def length_limit(value: Any) -> Optional[int]:
+    """How many bytes a call may get at most, or None."""
+    return None if value is None else whole_number(value, "a limit, in bytes,", 0, 2**63 - 1)
+
+
 def seconds(value: Optional[float], what: str = "a timeout") -> Optional[float]:
     """A number of seconds from 0 on, or None."""
     if value is None:

@@ -13,7 +13,8 @@ from .checks import LAST_NUMBER, PathLike, key_bytes, seconds, socket_path, whol
 from .frames import Command
 from .held import Holder
 from .ids import ObjectId, Task
-from .refusals import ConnectionLost, ProtocolError, StoreError, TimedOut, of_another_process
+from .keeping import Keeping
+from .refusals import ConnectionLost, ProtocolError, ServerSilent, StoreError, TimedOut, of_another_process
 from .requests import Answer, Request, hello, value_of
 from .steps import GRACE, Ask, Effect, Over, Rest, Steps, TakeBack, Together, answers_due, fail, go_on
 from .stream import Stream
@@ -23,6 +24,8 @@ T = TypeVar("T")
 
 # how long the server has to do what it was sent before, and to delete what was left, once a put was cut off, in seconds
 _LAST_RESPECTS = 1.0
+# how long connecting takes at most, if no timeout is given, in seconds
+OPENING = 60.0
 # by which an object comes to be
 _MAKING = (Command.CREATE, Command.CREATE_WAIT, Command.WRITE, Command.SEAL)
 
@@ -30,10 +33,10 @@ _open: weakref.WeakSet[Connection] = weakref.WeakSet()
 
 
 class NewIds:
-    """Ids that no other process, thread or connection makes: of a random task of 20 bytes."""
+    """Ids that no other process, thread or connection makes: of a random task of 20 bytes, which the keeper is told of."""
 
-    def __init__(self, job: int) -> None:
-        self._job = job
+    def __init__(self, job: int, keeping: Keeping) -> None:
+        self._job, self._keeping = job, keeping
         self._lock = threading.Lock()
         self._task = Task(os.urandom(20))
         self._index = 0
@@ -42,6 +45,8 @@ class NewIds:
         with self._lock:
             if self._index == LAST_NUMBER:
                 self._task, self._index = Task(os.urandom(20)), 0
+            if not self._index:
+                self._keeping.task(self._task)
             self._index += 1
             return ObjectId(self._task, self._job, self._index)
 
@@ -53,7 +58,7 @@ class Connection(ValueCalls):
     the server's answer was due.
     """
 
-    def __init__(self, path: PathLike, job: int, key: bytes, timeout: Optional[float] = None) -> None:
+    def __init__(self, path: PathLike, job: int, key: bytes, timeout: Optional[float] = None, keeper: bool = True) -> None:
         """See `connect`."""
         self._path, self._key = socket_path(path), key_bytes(key)
         self._timeout = seconds(timeout)
@@ -67,10 +72,14 @@ class Connection(ValueCalls):
         self._is_settled = False
         # holds that were dropped while the connection was in use
         self._dropped: List[ObjectId] = []
-        self._ids = NewIds(self.job)
-        self._stream = Stream(self._path, answers_due([], None, self._timeout))
+        self._requests.keeping = Keeping(self._path, self.job, self._key, keeper)
+        self._ids = NewIds(self.job, self._requests.keeping)
+        due = answers_due([], None, OPENING if self._timeout is None else self._timeout)
+        self._stream = Stream(self._path, due)
         try:
-            value_of(self._exchange([hello(self.job, self._key)], answers_due([], None, self._timeout))[0])
+            value_of(self._exchange([hello(self.job, self._key)], due)[0])
+        except ServerSilent as error:
+            raise ServerSilent(f"{self._path}: {error}") from None
         except BaseException:
             self._stream.close()
             raise
@@ -79,11 +88,15 @@ class Connection(ValueCalls):
     def close(self) -> None:
         """The session ends, and gives up its holds. Nothing is sent any more; a call that waits in another thread is told that the
         connection is lost."""
+        self._end_keeping(is_clean=self.is_usable)
         self._lost = self._lost or "the connection is closed"
         if os.getpid() == self._process:
             self._stream.interrupt()
         with self._lock:
             self._stream.close()
+
+    def _end_keeping(self, is_clean: bool) -> None:
+        self._requests.keeping.close(is_clean)
 
     @property
     def is_usable(self) -> bool:
@@ -156,7 +169,7 @@ class Connection(ValueCalls):
         if isinstance(effect, Ask):
             return self._exchange(effect.requests, answers_due(effect.requests, end, self._timeout))
         if isinstance(effect, Rest):
-            return time.sleep(effect.seconds)
+            return _rest(effect)
         if isinstance(effect, Together):
             return self._drive_all(effect.all, end)
         return self._take_back(effect, end)
@@ -212,7 +225,7 @@ class Connection(ValueCalls):
             if self._lost is None:
                 self._exchange(deletes, answers_due(deletes, end, self._timeout))
             elif self._is_settled and os.getpid() == self._process:
-                with Connection(self._path, self.job, self._key, _LAST_RESPECTS) as other:
+                with Connection(self._path, self.job, self._key, _LAST_RESPECTS, keeper=False) as other:
                     other._exchange(deletes, time.monotonic() + _LAST_RESPECTS)
 
     def _check_process(self) -> None:
@@ -225,6 +238,16 @@ class Connection(ValueCalls):
         self._stream.close()
 
 
+def _rest(rest: Rest) -> None:
+    if rest.bell is None:
+        return time.sleep(rest.seconds)
+    woken = threading.Event()
+    rest.bell.wake = woken.set
+    if not rest.bell.is_rung:
+        woken.wait(rest.seconds)
+    rest.bell.is_rung = False
+
+
 def _forget_all() -> None:
     for connection in list(_open):
         connection._forget()
@@ -233,10 +256,12 @@ def _forget_all() -> None:
 os.register_at_fork(after_in_child=_forget_all)
 
 
-def connect(path: PathLike, job: int, key: bytes, timeout: Optional[float] = None) -> Connection:
+def connect(path: PathLike, job: int, key: bytes, timeout: Optional[float] = None, keeper: bool = True) -> Connection:
     """A session of the job at the node whose socket this is; the operator gave the key of 32 bytes. `NotAdmitted`, `ConnectionLost`.
 
     With a timeout, in seconds, the server has so long to answer: now, and to each call that has no timeout of its own.
-    A server that doesn't is `ServerSilent`, and the connection is lost. Without one it may take any time.
+    A server that doesn't is `ServerSilent`, and the connection is lost. Without one connecting takes a minute at most, and a call any time.
+
+    The first put starts the keeper, a small process that deletes what is left half put if this one is killed; without it that stays.
     """
-    return Connection(path, job, key, timeout)
+    return Connection(path, job, key, timeout, keeper)

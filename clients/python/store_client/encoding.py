@@ -26,13 +26,15 @@ from __future__ import annotations
 
 import io
 import pickle
+import re
 import struct
 import sys
 from dataclasses import dataclass
 from typing import Any, List, Optional, Tuple
 
+from .frames import LARGEST
 from .ids import ObjectId
-from .requests import LARGEST, Pieces
+from .requests import Pieces
 
 _VALUE = b"store\0v1"
 _MANIFEST = b"store\0m1"
@@ -40,6 +42,12 @@ _ARRAY = b"\x93NUMPY"
 _ALIGNMENT = 64
 # the length of what comes before a manifest's ids
 MANIFEST_HEAD = 20
+# the manifest and its parts are copies of a job at a node
+MOST_PARTS = 1023
+# in an array's header: texts, and what else may stand in it
+_TEXT = re.compile(r"'(?:[^'\\]|\\.)*'|\"(?:[^\"\\]|\\.)*\"")
+_BARE = re.compile(r"(?:[0-9L\s,:()\[\]{}]|True|False)*")
+_DEEPEST = 32
 
 
 # ---- values
@@ -120,9 +128,15 @@ def _padding(length: int) -> memoryview:
 
 
 def encode_array(array: Any) -> Pieces:
-    """An array of numpy, or what numpy makes one of, as a file of format .npy. `TypeError` if its items have pointers."""
+    """An array of numpy, or what numpy makes one of, as a file of format .npy. `TypeError` if its items have pointers, or its class
+    may have more than the items, as a mask."""
     numpy = _numpy()
     array = numpy.asanyarray(array)
+    if type(array) not in (numpy.ndarray, numpy.memmap):
+        raise TypeError(
+            f"a {type(array).__name__} would come back as a plain array, without its mask or what else it has: put_value stores it whole,"
+            " and numpy.asarray gives its items alone"
+        )
     if array.dtype.hasobject:
         raise TypeError(f"an array of {array.dtype} has pointers, which mean nothing to who gets them: put_value stores objects")
     items, order = _items_of(array)
@@ -142,17 +156,44 @@ def decode_array(whole: memoryview, what: str) -> Any:
     if bytes(whole[:6]) != _ARRAY:
         raise ValueError(f"{what} is no array: it wasn't put by put_array")
     numpy = _numpy()
-    # the header alone: a version, its length, and its text
-    file = io.BytesIO(bytes(whole[: min(len(whole), 1 << 20)]))
+    head = _header(whole, what)
+    file = io.BytesIO(head)
     version = numpy.lib.format.read_magic(file)
-    readers = {(1, 0): numpy.lib.format.read_array_header_1_0, (2, 0): numpy.lib.format.read_array_header_2_0}
-    if version not in readers:
-        raise ValueError(f"{what} is an array in version {version} of numpy's format")
-    shape, in_columns, dtype = readers[version](file)
-    items = whole[file.tell() :].toreadonly()
-    if dtype.hasobject or items.nbytes != dtype.itemsize * _product(shape):
-        raise ValueError(f"{what} is an array whose items aren't there")
-    return numpy.ndarray(shape, dtype, buffer=items, order="F" if in_columns else "C")
+    read = numpy.lib.format.read_array_header_1_0 if version == (1, 0) else numpy.lib.format.read_array_header_2_0
+    try:
+        shape, in_columns, dtype = read(file)
+        items = whole[len(head) :].toreadonly()
+        if dtype.hasobject or items.nbytes != dtype.itemsize * _product(shape):
+            raise ValueError("the items aren't there")
+        return numpy.ndarray(shape, dtype, buffer=items, order="F" if in_columns else "C")
+    except Exception as error:
+        # what numpy raises for anybody's bytes is of many kinds
+        raise ValueError(f"{what} is an array whose header can't be right: {error}") from error
+
+
+def _header(whole: memoryview, what: str) -> bytes:
+    """The header of an array, with a text that Python can read without harm: it has no operators, and isn't nested deeply."""
+    fields = {(1, 0): "<H", (2, 0): "<I"}.get((whole[6], whole[7])) if len(whole) > 7 else None
+    if fields is None:
+        raise ValueError(f"{what} is an array in a version of numpy's format that isn't 1.0 or 2.0")
+    try:
+        length = struct.unpack_from(fields, whole, 8)[0]
+    except struct.error:
+        raise ValueError(f"{what} is an array that was cut short") from None
+    head = bytes(whole[: 8 + struct.calcsize(fields) + length])
+    bare = _TEXT.sub("", head[8 + struct.calcsize(fields) :].decode("latin-1"))
+    if not _BARE.fullmatch(bare) or _depth(bare) > _DEEPEST:
+        raise ValueError(f"{what} is an array whose header can't be right: it isn't as numpy writes one")
+    return head
+
+
+def _depth(text: str) -> int:
+    """How many brackets are open at most."""
+    depth = deepest = 0
+    for letter in text:
+        depth += (letter in "([{") - (letter in ")]}")
+        deepest = max(deepest, depth)
+    return deepest
 
 
 def _numpy() -> Any:
@@ -190,6 +231,8 @@ class Manifest:
         """The manifest that is the object of this id; None if it is none. `ValueError` for one that can't be right."""
         if not is_manifest(whole):
             return None
+        if len(whole) > MANIFEST_HEAD + 28 * MOST_PARTS:
+            raise ValueError(f"{id} is a manifest of more than {MOST_PARTS} parts, and no job has so many copies")
         try:
             length, part = struct.unpack_from(">QI", whole, 8)
             ids = [ObjectId.from_bytes(whole[at : at + 28]) for at in range(MANIFEST_HEAD, len(whole), 28)]
@@ -198,12 +241,14 @@ class Manifest:
         # who grants a manifest can't have others read what is their own
         if not 1 <= part <= LARGEST or len(ids) != -(-length // part) or any(one.job != id.job for one in ids):
             raise ValueError(f"{id} is a manifest whose parts can't be right")
+        if len({id, *ids}) != 1 + len(ids):
+            raise ValueError(f"{id} is a manifest that can't be right: a part stands in it twice, or it itself")
         return cls(length, part, ids)
 
-    def places(self) -> List[Tuple[ObjectId, slice]]:
+    def places(self) -> List[Tuple[ObjectId, range]]:
         """Of each part its id, and where its bytes are in the whole."""
         starts = range(0, self.length, self.part)
-        return [(id, slice(start, min(start + self.part, self.length))) for id, start in zip(self.ids, starts)]
+        return [(id, range(start, min(start + self.part, self.length))) for id, start in zip(self.ids, starts)]
 
 
 def is_manifest(whole: memoryview) -> bool:

@@ -32,8 +32,9 @@ from __future__ import annotations
 import contextlib
 import enum
 import time
-from typing import Any, List, Optional, Sequence, Tuple
+from typing import Any, Dict, List, Optional, Sequence, Tuple
 
+from .board import FAR, Bell, is_there
 from .checks import seconds, whole_number
 from .ids import ObjectId, expect_id
 from .items import State
@@ -68,6 +69,9 @@ class Search:
         self._phase = _Phase.UNKNOWN
         self._reminder = _FIRST_REMINDER
         self._remind_at = 0.0
+        self.name = id.to_bytes()
+        #: until when a List tells whether to look here, by the monotonic clock: it says nothing of other nodes
+        self.listed_until = 0.0
         #: the object's length, once it is here and is this job's
         self.length: Optional[int] = None
         #: the last refusal
@@ -85,6 +89,17 @@ class Search:
     def is_urgent(self) -> bool:
         """Whether it is asked about again without a pause."""
         return self._phase is _Phase.ENTERED
+
+    @property
+    def is_moving(self) -> bool:
+        """Whether it is on its way."""
+        return self._phase is _Phase.UNDER_WAY
+
+    def is_due(self, names: Dict[bytes, int]) -> bool:
+        """Whether it is worth a look, now that this is listed."""
+        if self._phase is not _Phase.MISSING or is_there(self.name, names):
+            return True
+        return not self.is_foreign and time.monotonic() >= self.listed_until
 
     @property
     def holds(self) -> int:
@@ -147,12 +162,37 @@ def look(requests: Requests, searches: Sequence[Search]) -> Steps[None]:
 
 def find(requests: Requests, searches: Sequence[Search], count: int, deadline: Deadline) -> Steps[None]:
     """Looks until so many of the searches are over, or the time is."""
-    pauses = Pauses(deadline)
-    while True:
+    pauses, board, bell = Pauses(deadline), requests.board, Bell()
+    board.waits.update(dict.fromkeys(searches, bell))
+    moving = 0
+    try:
         yield from look(requests, searches)
-        if sum(search.is_over for search in searches) >= count or deadline.is_over:
-            return
-        yield pauses.next()
+        while sum(search.is_over for search in searches) < count and not deadline.is_over:
+            # a transfer takes as long as it does, however late it began
+            moving, before = sum(search.is_moving for search in searches), moving
+            if moving > before:
+                pauses.restart()
+            yield from look(requests, (yield from _await_next_look(requests, searches, pauses, bell)))
+    finally:
+        for search in searches:
+            board.waits.pop(search, None)
+        board.leave(bell)
+
+
+def _await_next_look(requests: Requests, searches: Sequence[Search], pauses: Pauses, bell: Bell) -> Steps[Sequence[Search]]:
+    """Pauses. Which of the searches are worth a look then."""
+    board = requests.board
+    leads = board.is_shared and board.leads(bell, pauses.length)
+    yield pauses.next(FAR if board.is_shared and not leads else 1, bell)
+    if not leads or pauses.is_over:
+        return searches
+    names = yield from ask(requests.names())
+    board.tell(names)
+    bell.is_rung = False
+    due = [search for search in searches if search.is_due(names)]
+    for search in due:
+        search.listed_until = time.monotonic() + FAR * pauses.length
+    return due
 
 
 def find_what_is_there(requests: Requests, search: Search) -> Steps[None]:

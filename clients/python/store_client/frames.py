@@ -4,6 +4,7 @@ from __future__ import annotations
 
 import enum
 import struct
+from typing import Dict
 
 from .ids import ObjectId
 from .items import GrantedItem, Kind, OwnItem, State, Usage
@@ -13,6 +14,9 @@ LONGEST_REPLY = 262_144
 
 # the most bytes that one Write or Read moves
 MOST_BYTES = 65_536
+
+# the most bytes of an object
+LARGEST = 16_777_216
 
 
 class Command(enum.IntEnum):
@@ -76,18 +80,33 @@ def read_list(body: bytes, prefix: bytes = b"") -> tuple[list[OwnItem], list[Gra
         # of a thousand copies hardly any may be wanted, and most of the time is taken by what is made of them
         if body.startswith(prefix, at):
             state, kind, length = struct.unpack_from(">BBI", body, at + 28)
-            own.append(OwnItem(ObjectId.from_bytes(body[at : at + 28]), State(state), Kind(kind), length))
+            own.append(OwnItem(ObjectId.from_bytes(body[at : at + 28]), State(state), Kind(kind), _length(length)))
         at += 34
     (count,) = struct.unpack_from(">I", body, at)
     at += 4
     granted = []
     for _ in range(count):
         length, depth = struct.unpack_from(">IB", body, at + 28)
-        granted.append(GrantedItem(ObjectId.from_bytes(body[at : at + 28]), length, depth))
+        granted.append(GrantedItem(ObjectId.from_bytes(body[at : at + 28]), _length(length), depth))
         at += 33
     if at != len(body):
         raise ValueError("bytes after the last item")
     return own, granted
+
+
+def read_names(body: bytes) -> Dict[bytes, int]:
+    """The same, as bytes of ids alone: of the job's own copies with their states, of others' with none."""
+    (count,) = struct.unpack_from(">I", body, 0)
+    granted = 4 + 34 * count
+    names = {body[at : at + 28]: body[at + 28] for at in range(4, granted, 34)}
+    names.update((body[at : at + 28], -1) for at in range(granted + 4, len(body), 33))
+    return names
+
+
+def _length(length: int) -> int:
+    if length > LARGEST:
+        raise ValueError(f"no object has {length} bytes")
+    return length
 
 
 def read_usage(body: bytes) -> Usage:

@@ -2,6 +2,7 @@
 
 from __future__ import annotations
 
+import sys
 import warnings
 from typing import Any, Optional, Protocol, Type
 
@@ -48,6 +49,11 @@ class ReadBytes:
 
     def __buffer__(self, flags: int) -> memoryview:
         return self.view
+
+    def __init_subclass__(cls) -> None:
+        if sys.version_info < (3, 12):
+            # no class can be a buffer, and who takes it for one is told its name
+            cls.__name__ = f"{cls.__name__}: take its .view"
 
     def __repr__(self) -> str:
         return f"<Held {self.id.text(self._job)}, {len(self.view)} bytes, {'held' if self._holder else 'not held'}>"

@@ -37,12 +37,15 @@ class Task:
         short = _SHORT_TASK.fullmatch(_text(text, "a task"))
         if short:
             return cls.numbered(int(short.group(1)))
-        return cls(_from_hex(text, 20, "task"))
+        return cls(_from_hex(text, 20, "task", "t1"))
 
     def __str__(self) -> str:
         if self.value.startswith(_NUMBERED):
             return f"t{int.from_bytes(self.value[12:], 'big')}"
         return self.value.hex()
+
+    def __repr__(self) -> str:
+        return f"<Task {self}>"
 
     def object(self, index: int, *, job: int) -> ObjectId:
         """The job's object of this index, from 1, in the task."""
@@ -83,7 +86,7 @@ class ObjectId:
             if owner is not None and int(owner) == job:
                 raise ValueError(f"{text!r} is no id: the job's own are written without its number")
             return cls(Task.numbered(int(number)), job if owner is None else int(owner), int(index))
-        return cls.from_bytes(_from_hex(text, 28, "id"))
+        return cls.from_bytes(_from_hex(text, 28, "id", f"t1.1, or {job + 1}/t1.1 of job {job + 1}"))
 
     def to_bytes(self) -> bytes:
         """Its 28 bytes."""
@@ -98,6 +101,9 @@ class ObjectId:
 
     def __str__(self) -> str:
         return self.text(0)
+
+    def __repr__(self) -> str:
+        return f"<ObjectId {self}>"
 
 
 def expect_id(value: Any) -> ObjectId:
@@ -124,7 +130,7 @@ def _text(value: Any, what: str) -> str:
     return value
 
 
-def _from_hex(text: str, length: int, what: str) -> bytes:
+def _from_hex(text: str, length: int, what: str, like: str) -> bytes:
     if not re.fullmatch(f"[0-9a-f]{{{2 * length}}}", text):
-        raise ValueError(f"{text!r} is no {what}")
+        raise ValueError(f"{text!r} is no {what}: one looks like {like}, or has {2 * length} lower-case hexadecimal digits")
     return bytes.fromhex(text)

@@ -8,19 +8,36 @@ that are there are deleted again. The parts' ids are of the manifest's task, so 
 from __future__ import annotations
 
 import random
-from typing import Callable, List, Optional
+from typing import Callable, Dict, List, Optional, TypeVar
 
-from .encoding import MANIFEST_HEAD, Manifest, is_manifest
+from .encoding import MANIFEST_HEAD, MOST_PARTS, Manifest, is_manifest
 from .finding import Search, let_go
+from .frames import LARGEST
 from .ids import ObjectId
+from .items import State
 from .memory import blank
-from .putting import NewCopy, fill, get, get_into, hold, put_named, put_new, reserve, take_back, write_and_seal
+from .putting import (
+    NewCopy,
+    Progress,
+    check_limit,
+    fill,
+    get,
+    get_into,
+    granted_lengths,
+    hold,
+    peek_into,
+    put_named,
+    put_new,
+    reserve,
+    take_back,
+    write_and_seal,
+)
 from .refusals import BadSize, StoreError
-from .requests import LARGEST, Pieces, Requests, value_of
+from .requests import Pieces, Requests, value_of
 from .steps import Deadline, Steps, TakeBack, Together, ask, ask_all, undoing
 
-# of a job at a node
-_MOST_COPIES = 1024
+T = TypeVar("T")
+
 # so many parts may be put at once, and have room beside each other in half of the window
 MOST_AT_ONCE = 8
 _PARTS_OF_A_WINDOW = 2 * MOST_AT_ONCE
@@ -28,30 +45,53 @@ _PARTS_OF_A_WINDOW = 2 * MOST_AT_ONCE
 _FIRST_INDEX = 1 << 31
 
 
+class _Moved:
+    """How many bytes of all were moved, which somebody is told as parts are done."""
+
+    def __init__(self, progress: Optional[Progress], whole: int) -> None:
+        self._progress, self._whole, self._moved = progress, whole, 0
+
+    def with_part(self, steps: Steps[T], length: int) -> Steps[T]:
+        """Does the steps, by which a part of this length is moved."""
+        result = yield from steps
+        self._moved += length
+        if self._progress:
+            self._progress(self._moved, self._whole)
+        return result
+
+
 def put_whole(
-    requests: Requests, pieces: Pieces, id: Optional[ObjectId], new_id: Callable[[], ObjectId], deadline: Deadline
+    requests: Requests,
+    pieces: Pieces,
+    id: Optional[ObjectId],
+    new_id: Callable[[], ObjectId],
+    deadline: Deadline,
+    progress: Optional[Progress] = None,
 ) -> Steps[ObjectId]:
-    """One object, or parts with a manifest if it is too long for one. Its id."""
+    """One object, or parts with a manifest if it is too long for one. Its id. The progress is that of parts."""
     name = id or new_id()
     if pieces.length <= LARGEST:
         try:
             yield from (put_named if id else put_new)(requests, pieces, name, deadline)
             return name
         except BadSize:
+            if not pieces.length:
+                raise
             # the window is smaller than that
-            pass
     window = (yield from ask(requests.usage())).window
     length = min(LARGEST, max(16, window // _PARTS_OF_A_WINDOW // 16 * 16))
     cut = pieces.cut(length)
-    if len(cut) >= _MOST_COPIES:
-        most = f"a window of {window} takes {_MOST_COPIES - 1} parts of {length}"
+    if len(cut) > MOST_PARTS:
+        most = f"a window of {window} takes {MOST_PARTS} parts of {length}"
         raise BadSize("create", name, requests.job, f"{pieces.length} bytes; {most}")
     ids = _beside(id, len(cut)) if id else [new_id() for _ in cut]
     whole = NewCopy(requests, name, is_secret=not id)
     # no other client gives the ids of parts
     copies = [NewCopy(requests, part, is_secret=True) for part in ids]
-    steps = _put_parts(requests, cut, copies, whole, Manifest(pieces.length, length, ids), deadline)
-    yield from undoing(steps, lambda: take_back([whole, *copies]))
+    moved = _Moved(progress, pieces.length)
+    steps = _put_parts(requests, cut, copies, whole, Manifest(pieces.length, length, ids), deadline, moved)
+    with requests.keeping.unfinished(name, ids):
+        yield from undoing(steps, lambda: take_back([whole, *copies]))
     return name
 
 
@@ -62,25 +102,58 @@ def _beside(id: ObjectId, count: int) -> List[ObjectId]:
 
 
 def _put_parts(
-    requests: Requests, cut: List[Pieces], copies: List[NewCopy], whole: NewCopy, manifest: Manifest, deadline: Deadline
+    requests: Requests,
+    cut: List[Pieces],
+    copies: List[NewCopy],
+    whole: NewCopy,
+    manifest: Manifest,
+    deadline: Deadline,
+    moved: _Moved,
 ) -> Steps[None]:
     pieces = Pieces([memoryview(manifest.encode())])
     yield from reserve(requests, whole, pieces.length, deadline)
-    yield Together([fill(requests, part, copy, deadline) for part, copy in zip(cut, copies)])
+    yield Together([moved.with_part(fill(requests, part, copy, deadline), part.length) for part, copy in zip(cut, copies)])
     yield from write_and_seal(requests, pieces, whole.id)
 
 
-def get_whole(requests: Requests, id: ObjectId, deadline: Optional[Deadline]) -> Steps[memoryview]:
-    """The bytes of an object, or of all parts if it is a manifest, in one buffer. No hold stays."""
-    whole = yield from get(requests, id, deadline, keep=False)
+def get_whole(
+    requests: Requests,
+    id: ObjectId,
+    deadline: Optional[Deadline],
+    limit: Optional[int] = None,
+    progress: Optional[Progress] = None,
+) -> Steps[memoryview]:
+    """The bytes of an object, or of all parts if it is a manifest, in one buffer. No hold stays. `TooLong` if they are more than the limit.
+
+    Memory is taken once it is known that the parts are there, as long as the manifest says. Of those of this job that are at
+    another node that isn't known before they come.
+    """
+    whole = yield from get(requests, id, deadline, keep=False, limit=limit)
     manifest = Manifest.decode(whole, id)
     if manifest is None:
         return whole
-    buffer = blank(manifest.length)
-    parts = [get_into(requests, part, buffer[place], deadline) for part, place in manifest.places()]
-    if not all((yield Together(parts))):
+    check_limit(requests, id, manifest.length, limit)
+    known = yield from _lengths_of_parts(requests, manifest.ids, deadline)
+    fits = all(known.get(part, len(place)) == len(place) for part, place in manifest.places())
+    if fits:
+        buffer, moved = blank(manifest.length), _Moved(progress, manifest.length)
+        places = [(part, buffer[place.start : place.stop]) for part, place in manifest.places()]
+        if id.job == requests.job:
+            parts = [moved.with_part(get_into(requests, part, place, deadline), len(place)) for part, place in places]
+            fits = all((yield Together(parts)))
+        else:
+            yield Together([moved.with_part(peek_into(requests, part, place), len(place)) for part, place in places])
+    if not fits:
         raise ValueError(f"{id.text(requests.job)} is a manifest, and a part has another length than it says")
     return buffer.toreadonly()
+
+
+def _lengths_of_parts(requests: Requests, ids: List[ObjectId], deadline: Optional[Deadline]) -> Steps[Dict[ObjectId, int]]:
+    """The lengths of parts of another job, once all are granted; of this job, of those that are at this node."""
+    if ids and ids[0].job != requests.job:
+        return dict(zip(ids, (yield from granted_lengths(requests, ids, deadline))))
+    own, _ = yield from ask(requests.list())
+    return {item.id: item.length for item in own if item.state is not State.FETCHING}
 
 
 def parts_of(requests: Requests, id: ObjectId) -> Steps[List[ObjectId]]:

@@ -8,10 +8,12 @@ import threading
 import weakref
 from typing import Any, List, Optional, Sequence, TypeVar
 
+from .board import Board
 from .checks import LAST_NUMBER, PathLike, key_bytes, seconds, socket_path, whole_number
-from .connection import Connection
+from .connection import Connection, NewIds
 from .held import Holder
 from .ids import ObjectId
+from .keeping import Keeping
 from .parts import MOST_AT_ONCE
 from .refusals import ConnectionLost
 from .steps import Steps
@@ -30,10 +32,14 @@ class Pool(ValueCalls):
     pool can be pickled, for a process that is to open its own: the pickle has the job's key.
     """
 
-    def __init__(self, path: PathLike, job: int, key: bytes, timeout: Optional[float] = None, connections: int = 4) -> None:
+    def __init__(
+        self, path: PathLike, job: int, key: bytes, timeout: Optional[float] = None, connections: int = 4, keeper: bool = True
+    ) -> None:
         """As `connect`; nothing is opened yet."""
         super().__init__(whole_number(job, "a job", 0, LAST_NUMBER))
         self._words = socket_path(path), self.job, key_bytes(key), seconds(timeout)
+        self._has_keeper = keeper
+        self._requests.keeping = Keeping(*self._words[:3], keeper)
         self._connections = whole_number(connections, "how many connections there are for parts", 1, MOST_AT_ONCE)
         self._is_closed = False
         self._begin()
@@ -44,6 +50,8 @@ class Pool(ValueCalls):
         self._lock = threading.Lock()
         self._local = threading.local()
         self._members: weakref.WeakSet[_Member] = weakref.WeakSet()
+        self._requests.board = Board()
+        self._ids = NewIds(self.job, self._requests.keeping)
         self._workers: Optional[concurrent.futures.ThreadPoolExecutor] = None
 
     def connection(self) -> Connection:
@@ -65,6 +73,7 @@ class Pool(ValueCalls):
             members = list(self._members)
         if workers:
             workers.shutdown()
+        self._requests.keeping.close(is_clean=all(member.is_usable for member in members))
         for member in members:
             member.close()
 
@@ -78,7 +87,7 @@ class Pool(ValueCalls):
         return f"<Pool of job {self.job} at {self._words[0]}{', closed' if self._is_closed else ''}>"
 
     def __reduce__(self) -> Any:
-        return Pool, (*self._words, self._connections)
+        return Pool, (*self._words, self._connections, self._has_keeper)
 
     def new_id(self) -> ObjectId:
         return self.connection().new_id()
@@ -114,11 +123,15 @@ class _Member(Connection):
 
     def __init__(self, pool: Pool, path: str, job: int, key: bytes, timeout: Optional[float]) -> None:
         self._pool = weakref.ref(pool)
-        super().__init__(path, job, key, timeout)
+        super().__init__(path, job, key, timeout, keeper=False)
+        self._requests.keeping, self._ids = pool._requests.keeping, pool._ids
 
     def _drive_all(self, all: Sequence[Steps[Any]], end: Optional[float]) -> List[Any]:
         pool = self._pool()
         return pool.drive_all(all, end) if pool else super()._drive_all(all, end)
+
+    def _end_keeping(self, is_clean: bool) -> None:
+        """The pool does that."""
 
     def __del__(self) -> None:
         stream = getattr(self, "_stream", None)

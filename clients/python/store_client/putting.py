@@ -15,12 +15,12 @@ from __future__ import annotations
 from typing import Any, Callable, List, Optional, Sequence
 
 from .finding import Search, find, find_what_is_there, let_go, state_of
-from .frames import MOST_BYTES
+from .frames import LARGEST, MOST_BYTES
 from .ids import ObjectId
 from .items import Kind, Placed, State
 from .memory import blank
-from .refusals import Absent, BadSize, Busy, Exists, NotGranted, Pending, Refused
-from .requests import LARGEST, Answer, Pieces, Request, Requests, count_done, first_refusal
+from .refusals import Absent, BadSize, Busy, Exists, NotGranted, Pending, Refused, TooLong
+from .requests import Answer, Pieces, Request, Requests, count_done, first_refusal
 from .steps import Deadline, Pauses, Steps, TakeBack, ask, ask_all, undoing
 
 # called with the bytes moved so far and the bytes in all
@@ -96,7 +96,8 @@ def put_named(
     """A sealed object under an id that others may know. If it can't be written whole it is deleted again, unless the call is cut
     off before it is known whose copy it is."""
     copy = NewCopy(requests, id, is_secret=False, kind=kind)
-    yield from undoing(fill(requests, pieces, copy, deadline, progress), lambda: take_back([copy]))
+    with requests.keeping.unfinished(id):
+        yield from undoing(fill(requests, pieces, copy, deadline, progress), lambda: take_back([copy]))
 
 
 def fill(requests: Requests, pieces: Pieces, copy: NewCopy, deadline: Deadline, progress: Optional[Progress] = None) -> Steps[None]:
@@ -159,35 +160,56 @@ def hold(requests: Requests, search: Search, deadline: Optional[Deadline]) -> St
     return search.length
 
 
-def granted_length(requests: Requests, id: ObjectId, deadline: Optional[Deadline]) -> Steps[int]:
-    """The length of an object that another job granted. With a deadline the grant is waited for."""
+def granted_lengths(requests: Requests, ids: Sequence[ObjectId], deadline: Optional[Deadline]) -> Steps[List[int]]:
+    """The lengths of objects that another job granted. With a deadline the grants are waited for."""
     pauses = Pauses(deadline or Deadline(0))
     while True:
         _, granted = yield from ask(requests.list())
-        length: Optional[int] = next((item.length for item in granted if item.id == id), None)
-        if length is not None:
-            return length
+        lengths = {item.id: item.length for item in granted}
+        missing = next((id for id in ids if id not in lengths), None)
+        if missing is None:
+            return [lengths[id] for id in ids]
         if deadline is None or deadline.is_over:
-            raise NotGranted("peek", id, requests.job)
+            raise NotGranted("peek", missing, requests.job)
         yield pauses.next()
 
 
+def check_limit(requests: Requests, id: ObjectId, length: int, limit: Optional[int]) -> None:
+    """`TooLong` before memory is taken."""
+    if limit is not None and length > limit:
+        raise TooLong(f"{id.text(requests.job)} has {length} bytes, and the limit is {limit}")
+
+
 def get(
-    requests: Requests, id: ObjectId, deadline: Optional[Deadline], keep: bool, progress: Optional[Progress] = None
+    requests: Requests,
+    id: ObjectId,
+    deadline: Optional[Deadline],
+    keep: bool,
+    progress: Optional[Progress] = None,
+    limit: Optional[int] = None,
 ) -> Steps[memoryview]:
     """An object's bytes. The hold of an object of this job stays if `keep` says so; one that was granted is never held."""
     if id.job != requests.job:
-        buffer = blank((yield from granted_length(requests, id, deadline)))
-        yield from _one_by_one_or_all(requests.peeks(id, buffer), [], len(buffer), progress)
+        (length,) = yield from granted_lengths(requests, [id], deadline)
+        check_limit(requests, id, length, limit)
+        buffer = blank(length)
+        yield from peek_into(requests, id, buffer, progress)
         return buffer.toreadonly()
     search = Search(requests, id)
-    return (yield from undoing(_get_own(requests, search, deadline, keep, progress), lambda: let_go([search])))
+    return (yield from undoing(_get_own(requests, search, deadline, keep, progress, limit), lambda: let_go([search])))
+
+
+def peek_into(requests: Requests, id: ObjectId, into: memoryview, progress: Optional[Progress] = None) -> Steps[None]:
+    """The bytes of an object that another job granted, into a buffer of its length."""
+    yield from _one_by_one_or_all(requests.peeks(id, into), [], len(into), progress)
 
 
 def _get_own(
-    requests: Requests, search: Search, deadline: Optional[Deadline], keep: bool, progress: Optional[Progress]
+    requests: Requests, search: Search, deadline: Optional[Deadline], keep: bool, progress: Optional[Progress], limit: Optional[int]
 ) -> Steps[memoryview]:
-    buffer = blank((yield from hold(requests, search, deadline)))
+    length = yield from hold(requests, search, deadline)
+    check_limit(requests, search.id, length, limit)
+    buffer = blank(length)
     last = [] if keep else [search.release()]
     yield from _one_by_one_or_all(requests.reads(search.id, buffer), last, len(buffer), progress)
     return buffer.toreadonly()
@@ -196,10 +218,10 @@ def _get_own(
 def get_into(requests: Requests, id: ObjectId, into: memoryview, deadline: Optional[Deadline]) -> Steps[bool]:
     """The same into a buffer of the object's length; `False` if it has another length. No hold stays."""
     if id.job != requests.job:
-        if (yield from granted_length(requests, id, deadline)) != len(into):
-            return False
-        yield from _one_by_one_or_all(requests.peeks(id, into), [], len(into), None)
-        return True
+        fits = (yield from granted_lengths(requests, [id], deadline)) == [len(into)]
+        if fits:
+            yield from peek_into(requests, id, into)
+        return fits
     search = Search(requests, id)
     return (yield from undoing(_get_own_into(requests, search, into, deadline), lambda: let_go([search])))
 

@@ -31,6 +31,14 @@ class ServerSilent(ConnectionLost, TimedOut):
     """The server didn't answer in the time that the call was given. The connection can't be used any more."""
 
 
+class NotStarted(StoreError):
+    """A server of one's own couldn't be started. There is no program, or it didn't come up; the text says why."""
+
+
+class TooLong(StoreError):
+    """What is to be got is longer than the limit that the call was given. Nothing of it was read."""
+
+
 class ProtocolError(StoreError):
     """The server sent what is no reply to the command. The connection can't be used any more."""
 

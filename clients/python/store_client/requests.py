@@ -5,19 +5,18 @@ from __future__ import annotations
 import functools
 import struct
 from dataclasses import dataclass
-from typing import Any, Callable, Generic, List, Optional, Sequence, Tuple, TypeVar, Union
+from typing import Any, Callable, Dict, Generic, List, Optional, Sequence, Tuple, TypeVar, Union
 
 from . import frames
+from .board import Board
 from .checks import LAST_NUMBER, whole_number
-from .frames import MOST_BYTES, Command, Reply, head, numbers
+from .frames import LARGEST, MOST_BYTES, Command, Reply, head, numbers
 from .ids import ObjectId, Task, expect_id, expect_task
 from .items import GrantedItem, Kind, OwnItem, Placed, Usage
+from .keeping import NOBODY
 from .refusals import BY_NUMBER, BadSize, ProtocolError, Refused
 
 T = TypeVar("T")
-
-# the most bytes of an object
-LARGEST = 16_777_216
 
 # the commands' names, as a schedule has them, if they aren't the frames' in lower case
 _NAMES = {
@@ -116,6 +115,9 @@ class Requests:
 
     def __init__(self, job: int) -> None:
         self.job = job
+        #: whom who puts tells so, and what those who wait share
+        self.keeping = NOBODY
+        self.board = Board()
 
     def create(
         self, id: ObjectId, length: int, kind: Kind = Kind.PRIMARY, wait: bool = False, heard: Optional[List[Any]] = None
@@ -195,6 +197,10 @@ class Requests:
         """Of the job's own copies those whose ids begin so."""
         return Request(Command.LIST, _frame(Command.LIST), Reply.LIST, functools.partial(frames.read_list, prefix=prefix), job=self.job)
 
+    def names(self) -> Request[Dict[bytes, int]]:
+        """What a List tells, in a form that is read quickly."""
+        return Request(Command.LIST, _frame(Command.LIST), Reply.LIST, frames.read_names, job=self.job)
+
     def usage(self) -> Request[Usage]:
         return Request(Command.USAGE, _frame(Command.USAGE), Reply.USAGE, frames.read_usage, job=self.job)
 
@@ -213,7 +219,10 @@ class Requests:
         count = whole_number(count, "a number of bytes", 0, LAST_NUMBER)
         sent = _frame(command, expect_id(id).to_bytes() + numbers(offset, count))
         limit = _most(command.name.capitalize())
-        return Request(command, sent, Reply.BYTES, lambda body: body, id, self.job, _stretch(offset, count), limit, into)
+        # what comes into a buffer of the caller's is as long as that
+        due = count if into is None else None
+        read = functools.partial(_read_bytes, due)
+        return Request(command, sent, Reply.BYTES, read, id, self.job, _stretch(offset, count), limit, into)
 
 
 class Pieces:
@@ -263,5 +272,14 @@ def _read_placed(body: bytes) -> Placed:
     return Placed(*struct.unpack(">2I", body))
 
 
+def _read_bytes(due: Optional[int], body: bytes) -> bytes:
+    if due is not None and len(body) != due:
+        raise ValueError(f"{len(body)} bytes, and {due} were asked for")
+    return body
+
+
 def _read_length(body: bytes) -> int:
-    return int(struct.unpack(">I", body)[0])
+    length = int(struct.unpack(">I", body)[0])
+    if not 1 <= length <= LARGEST:
+        raise ValueError(f"no object has {length} bytes")
+    return length

@@ -9,6 +9,7 @@ import time
 from dataclasses import dataclass
 from typing import Any, Callable, Generator, List, Optional, Sequence, TypeVar, Union
 
+from .board import Bell
 from .ids import ObjectId
 from .requests import Answer, Request, value_of
 
@@ -27,9 +28,10 @@ class Ask:
 
 @dataclass(frozen=True)
 class Rest:
-    """A pause, in seconds."""
+    """A pause, in seconds, which a bell may end."""
 
     seconds: float
+    bell: Optional[Bell] = None
 
 
 @dataclass(frozen=True)
@@ -89,18 +91,32 @@ class Deadline:
 
 
 class Pauses:
-    """Growing pauses between tries, in seconds."""
+    """Pauses between tries, in seconds. Each is a small part of the time that was waited already: so what comes soon is seen soon, and who
+    waits for long asks seldom."""
 
-    FIRST, LONGEST = 0.001, 0.05
+    FIRST, LONGEST, PART = 0.001, 0.05, 32
 
     def __init__(self, deadline: Deadline) -> None:
         self._deadline = deadline
-        self._next = self.FIRST
+        self.restart()
 
-    def next(self) -> Rest:
-        pause = self._next
-        self._next = min(2 * pause, self.LONGEST)
-        return Rest(self._deadline.within(pause))
+    def restart(self) -> None:
+        """Something else is waited for from now on."""
+        self._began = time.monotonic()
+
+    @property
+    def length(self) -> float:
+        """How long a pause is now."""
+        return min(self.LONGEST, max(self.FIRST, (time.monotonic() - self._began) / self.PART))
+
+    @property
+    def is_over(self) -> bool:
+        """Whether there is no time left."""
+        return self._deadline.is_over
+
+    def next(self, times: int = 1, bell: Optional[Bell] = None) -> Rest:
+        """The next one, so many times as long."""
+        return Rest(self._deadline.within(times * self.length), bell)
 
 
 def answers_due(requests: Sequence[Request[Any]], end: Optional[float], patience: Optional[float]) -> Optional[float]:

@@ -4,21 +4,27 @@
 and are got as read-only views of one buffer, without another copy. `put_array` stores an array without a pickle.
 
 **Who unpickles trusts who pickled.** `get_value` runs what the pickle says, and that may be any code, with all that this process
-may do. Get values of your own job, or of one that you would let run code here. From any other job get bytes (`get`) or
-arrays (`get_array`): these are only read.
+may do. Get values of your own job, or with `trust=True` of one that you would let run code here. From any other job get bytes (`get`)
+or arrays (`get_array`): these are only read.
 """
 
 from __future__ import annotations
 
-from typing import Any, Optional
+from typing import TYPE_CHECKING, Any, Optional, Type, TypeVar, overload
 
 from . import parts
 from .calls import Calls
-from .checks import seconds
+from .checks import length_limit, seconds
 from .encoding import decode_array, decode_value, encode_array, encode_value
 from .ids import ObjectId, expect_id
+from .putting import Progress
 from .requests import Pieces
 from .steps import Deadline
+
+if TYPE_CHECKING:
+    import numpy
+
+V = TypeVar("V")
 
 
 class ValueCalls(Calls):
@@ -32,23 +38,50 @@ class ValueCalls(Calls):
         """
         return self._put_pieces(encode_value(value), id, timeout)
 
-    def get_value(self, id: ObjectId, timeout: Optional[float] = None) -> Any:
+    @overload
+    def get_value(
+        self, id: ObjectId, timeout: Optional[float] = None, trust: bool = False, limit: Optional[int] = None, expect: None = None
+    ) -> Any: ...
+
+    @overload
+    def get_value(
+        self, id: ObjectId, timeout: Optional[float] = None, trust: bool = False, limit: Optional[int] = None, *, expect: Type[V]
+    ) -> V: ...
+
+    def get_value(
+        self,
+        id: ObjectId,
+        timeout: Optional[float] = None,
+        trust: bool = False,
+        limit: Optional[int] = None,
+        expect: Optional[Type[Any]] = None,
+    ) -> Any:
         """The Python object that `put_value` stored; arrays in it are read-only. Waits and is refused as `get`. No hold stays.
 
-        This runs what the pickle says, which may be any code: the job whose object it is has to be trusted. `ValueError` if it is no
-        value.
+        This runs what the pickle says, which may be any code. So another job's value is got with `trust=True` alone, by who would let
+        that job run code here. `ValueError` without it, and if the object is no value. The limit is that of `get_array`.
+
+        What is expected is the value's type, which a type checker then knows; `TypeError` if it is of another.
         """
-        return decode_value(self._get_whole(id, timeout), id.text(self.job))
+        check_trust(id, self.job, trust)
+        return expected(decode_value(self._get_whole(id, timeout, limit), id.text(self.job)), expect, id.text(self.job))
 
     def put_array(self, array: Any, id: Optional[ObjectId] = None, timeout: Optional[float] = None) -> ObjectId:
         """Stores an array of numpy in numpy's own format .npy, without a pickle: of any type of items that has no pointers, any
-        order and gaps, any length. Waits and is refused as `put`."""
+        order and gaps, any length. Waits and is refused as `put`. `TypeError` for a masked array and others of a class of their own."""
         return self._put_pieces(encode_array(array), id, timeout)
 
-    def get_array(self, id: ObjectId, timeout: Optional[float] = None) -> Any:
+    def get_array(
+        self, id: ObjectId, timeout: Optional[float] = None, limit: Optional[int] = None
+    ) -> numpy.ndarray[Any, numpy.dtype[Any]]:
         """The array that `put_array` stored, read-only. Nothing is unpickled, so it may be another job's, if that granted it.
-        Waits and is refused as `get`. No hold stays. `ValueError` if it is no array."""
-        return decode_array(self._get_whole(id, timeout), id.text(self.job))
+        Waits and is refused as `get`. No hold stays. `ValueError` if it is no array.
+
+        `TooLong` if it has more bytes than the limit, with its header. Without one the limits of jobs bound it: of another job it has at
+        most 63 parts of 16 MiB, since a job has at most 64 grants that stand; of this one 1,023. Memory is taken once all are there.
+        """
+        array: numpy.ndarray[Any, numpy.dtype[Any]] = decode_array(self._get_whole(id, timeout, limit), id.text(self.job))
+        return array
 
     def delete_value(self, id: ObjectId) -> None:
         """Removes what `put_value` or `put_array` stored, with its parts."""
@@ -63,12 +96,32 @@ class ValueCalls(Calls):
         """Ends the grants of what `put_value` or `put_array` stored."""
         self._run(parts.withdraw_whole(self._requests, expect_id(id), job))
 
-    def _put_pieces(self, pieces: Pieces, id: Optional[ObjectId], timeout: Optional[float]) -> ObjectId:
+    def _put_pieces(
+        self, pieces: Pieces, id: Optional[ObjectId], timeout: Optional[float], progress: Optional[Progress] = None
+    ) -> ObjectId:
         timeout = seconds(timeout)
         name = None if id is None else expect_id(id)
-        return self._run(parts.put_whole(self._requests, pieces, name, self.new_id, Deadline(timeout)), timeout)
+        return self._run(parts.put_whole(self._requests, pieces, name, self.new_id, Deadline(timeout), progress), timeout)
 
-    def _get_whole(self, id: ObjectId, timeout: Optional[float]) -> memoryview:
+    def _get_whole(
+        self, id: ObjectId, timeout: Optional[float], limit: Optional[int], progress: Optional[Progress] = None
+    ) -> memoryview:
         timeout = seconds(timeout)
         deadline = None if timeout is None else Deadline(timeout)
-        return self._run(parts.get_whole(self._requests, expect_id(id), deadline), timeout)
+        return self._run(parts.get_whole(self._requests, expect_id(id), deadline, length_limit(limit), progress), timeout)
+
+
+def expected(value: Any, expect: Optional[Type[Any]], what: str) -> Any:
+    """The value, which is of this type."""
+    if expect is not None and not isinstance(value, expect):
+        raise TypeError(f"{what} is a value of type {type(value).__name__}, and {expect.__name__} was expected")
+    return value
+
+
+def check_trust(id: ObjectId, job: int, trust: bool) -> None:
+    """`ValueError` if the value is another job's and that isn't trusted."""
+    if expect_id(id).job != job and not trust:
+        raise ValueError(
+            f"{id.text(job)} is of job {id.job}, and get_value runs what its pickle says: get_array runs nothing, and trust=True lets job"
+            f" {id.job} run code here"
+        )

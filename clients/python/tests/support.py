@@ -18,16 +18,17 @@ from typing import Any, Iterator, Optional
 from unittest import mock
 
 ROOT = Path(__file__).resolve().parents[3]
-sys.path.insert(0, str(ROOT / "clients/python"))
+sys.path[:0] = [str(ROOT / "clients/python"), str(ROOT / "operate")]
 
 import store_client  # noqa: E402
 from store_client import ObjectId, Task, steps  # noqa: E402
+from store_release.program import program_or_end  # noqa: E402
 
 VECTORS = ROOT / "docs/rules/frames.vectors"
 REFUSALS = ROOT / "docs/rules/refusals.md"
 # seconds that a process may take, on a machine that does much else
 PATIENCE = int(os.environ.get("STORE_PATIENCE", "120"))
-PROGRAM = os.environ.get("STORE_PROGRAM", str(ROOT / "crates/store_server/out/store_server"))
+PROGRAM = program_or_end()
 # for tests of silence: how long a server may be silent beyond a timeout. All others are patient with theirs
 own_grace = mock.patch.object(steps, "GRACE", steps.GRACE)
 steps.GRACE = PATIENCE

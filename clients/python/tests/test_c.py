@@ -5,6 +5,7 @@ from __future__ import annotations
 import shutil
 import subprocess
 import tempfile
+import time
 import unittest
 from pathlib import Path
 
@@ -36,10 +37,10 @@ class C(unittest.TestCase):
         self.addCleanup(server.close)
         self.run_it(server.path)
 
-    def tells(self, reply: bytes, result: str) -> None:
-        script = Script([OK, reply])
+    def tells(self, reply: bytes, result: str, *more: str, hang: bool = False) -> None:
+        script = Script([OK, reply], hang)
         self.addCleanup(script.close)
-        self.run_it(script.path, result)
+        self.run_it(script.path, result, *more)
 
     def test_each_refusal(self) -> None:
         refusals = documented_refusals()
@@ -50,6 +51,18 @@ class C(unittest.TestCase):
     def test_what_is_no_reply(self) -> None:
         for digits in ("0000000080", "ffffffff80", "0000000181", "0000000280", "000000028f00", "000000028f19", "000000018f"):
             self.tells(bytes.fromhex(digits), "what came is no reply")
+
+    def test_a_length_that_no_object_has(self) -> None:
+        """It is no reason to take 4 GiB, nor to read without end."""
+        for digits in ("00000000", "01000001", "ffff0001", "ffffffff"):
+            self.tells(bytes.fromhex("0000000582" + digits), "what came is no reply", "get")
+
+    def test_a_silent_server(self) -> None:
+        """It says nothing, or only so much that more is due."""
+        for digits in ("", "0000", "00000005820000"):
+            began = time.monotonic()
+            self.tells(bytes.fromhex(digits), "the server is silent", "get", hang=True)
+            self.assertLess(time.monotonic() - began, PATIENCE / 2)
 
     def test_a_server_that_goes_away(self) -> None:
         for digits in ("", "000000", "000000028f"):

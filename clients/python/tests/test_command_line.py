@@ -8,10 +8,13 @@ import signal
 import subprocess
 import sys
 import tempfile
+import time
 import unittest
 from typing import Optional
 
 from support import PATIENCE, ROOT, Server, key
+
+import store_client
 
 
 class CommandLine(unittest.TestCase):
@@ -36,15 +39,57 @@ class CommandLine(unittest.TestCase):
             watch.send_signal(signal.SIGINT)
             self.assertEqual((watch.wait(PATIENCE), watch.stdout.read()), (130, ""))
 
-    def test_a_terminal_is_told_how_far_it_is(self) -> None:
-        words, place = self.command_line()
+    def at_a_terminal(self, server: Server, *words: str, data: bytes = b"") -> tuple[bytes, str]:
+        """What job 9's command gives, and what a terminal is told meanwhile."""
+        place = {**os.environ, "PYTHONPATH": str(ROOT / "clients/python")}
+        place.update(STORE_SOCKET=server.path, STORE_JOB="9", STORE_KEY=key(9).hex())
         ours, theirs = pty.openpty()
         with open(ours, "rb", buffering=0) as ours, open(theirs, "wb", buffering=0) as theirs:
-            data = bytes(2**18)
-            done = subprocess.run(words + ["put", "-", "--id", "t1.1"], input=data, stdout=subprocess.PIPE, stderr=theirs,
+            done = subprocess.run([sys.executable, "-m", "store_client", *words], input=data, stdout=subprocess.PIPE, stderr=theirs,
                                   env=place, check=False, timeout=PATIENCE)
-            self.assertEqual((done.returncode, done.stdout), (0, b"t1.1\n"))
-            self.assertEqual(ours.read(1000).decode().split(), "put: 25 % put: 50 % put: 75 % put: 100 %".split())
+            self.assertEqual(done.returncode, 0)
+            theirs.write(b".")
+            return done.stdout, ours.read(10_000).decode()
+
+    def test_a_long_file_goes_in_parts_and_a_terminal_is_told_how_far_it_is(self) -> None:
+        server = Server(memory=2**28)
+        self.addCleanup(server.close)
+        server.admit(0, 9, 2**27)
+        data = os.urandom(2**20) * 64
+        told, seen = self.at_a_terminal(server, "put", "-", "--id", "t1.1", data=data)
+        self.assertEqual(told, b"t1.1\n")
+        self.assertIn(f"\rput: [{'#' * 40}] 100 % of 64 MiB", seen)
+        self.assertIn(f"\rput: [{'#' * 20}{' ' * 20}] 50 % of 64 MiB", seen)
+        told, seen = self.at_a_terminal(server, "get", "t1.1")
+        self.assertEqual(told == data, True)
+        self.assertIn(f"\rget: [{'#' * 40}] 100 % of 64 MiB", seen)
+        with server.connect(9) as store:
+            self.assertEqual(len(store.list()[0]), 9)
+            self.at_a_terminal(server, "delete", "t1.1")
+            self.assertEqual(store.list()[0], [])
+        self.assertEqual(self.at_a_terminal(server, "put", "-", "--id", "t1.2", data=bytes(2**20)), (b"t1.2\n", "."))
+
+    def test_parts_are_granted_together(self) -> None:
+        server = Server(memory=2**27)
+        self.addCleanup(server.close)
+        place, value = {"STORE_SOCKET": server.path}, bytes(2**24)
+        server.admit(0, 9, 2**25)
+        with server.connect(9) as store, server.connect(1) as other:
+            id = store.put_value(value, store.task(1).object(1))
+            self.assertEqual(self.run_as(9, "grant", "t1.1", "1", place=place).returncode, 0)
+            self.assertEqual(len(other.list()[1]), 10)
+            self.assertEqual(other.get_value(id, trust=True) == value, True)
+            self.assertEqual(self.run_as(9, "withdraw", "t1.1", "1", place=place).returncode, 0)
+            self.assertEqual(other.list()[1], [])
+
+    def test_what_can_t_be_read_is_deleted_all_the_same(self) -> None:
+        self.store.create(self.one, 4)
+        self.assertEqual(self.run_as(1, "delete", "t1.1").returncode, 0)
+        self.assertEqual(self.store.list()[0], [])
+
+    def test_the_version_names_the_client(self) -> None:
+        done = self.run_as(1, "--version")
+        self.assertEqual(done.stdout.decode(), f"store-client {store_client.__version__}\n")
 
     def test_the_command_line(self) -> None:
         words, place = self.command_line()
@@ -61,7 +106,7 @@ class CommandLine(unittest.TestCase):
         run("delete", "t1.1")
         failed = subprocess.run(words + ["delete", "t1.1"], capture_output=True, env=place, check=False, timeout=PATIENCE)
         self.assertEqual(failed.returncode, 1)
-        self.assertTrue(failed.stderr.startswith(b"store_client: 4 Absent"))
+        self.assertTrue(failed.stderr.startswith(b"store-client: 4 Absent"))
 
     def run_as(self, job: int, *more: str, place: Optional[dict[str, str]] = None) -> subprocess.CompletedProcess[bytes]:
         """A command of this job, whose key and socket stand in the environment."""
@@ -85,7 +130,7 @@ class CommandLine(unittest.TestCase):
             done = self.run_as(job, *words.split())
             self.assertEqual((done.returncode, done.stdout, done.stderr), (0, told, b""), words)
         done = self.run_as(2, "get", "1/t1.1", "--timeout", "0.1")
-        self.assertEqual((done.returncode, done.stderr[:27]), (1, b"store_client: 13 NotGranted"))
+        self.assertEqual((done.returncode, done.stderr[:27]), (1, b"store-client: 13 NotGranted"))
 
     def test_what_is_left_unsealed_can_be_listed(self) -> None:
         self.store.put(b"Hello", self.one)
@@ -112,18 +157,19 @@ class CommandLine(unittest.TestCase):
             done = self.run_as(1, *words.split())
             self.assertEqual(done.returncode, 2, words)
             self.assertIn(told, done.stderr.decode().splitlines()[-1], words)
-        for words, told in [("get t1", "'t1' is no id"), ("put /nowhere", "No such file"), ("end-task 1", "'1' is no task")]:
+        for words, told in [
+            ("get t1", "'t1' is no id: one looks like t1.1, or 2/t1.1 of job 2, or has 56"),
+            ("put /nowhere", "No such file"),
+            ("end-task 1", "'1' is no task: one looks like t1, or has 40"),
+        ]:
             done = self.run_as(1, *words.split())
             self.assertEqual((done.returncode, done.stderr.count(b"\n")), (1, 1), words)
             self.assertIn(told, done.stderr.decode())
 
     def test_a_length_that_no_object_has_is_told_with_the_limit(self) -> None:
-        with tempfile.NamedTemporaryFile() as file:
-            file.truncate(2**24 + 1)
-            for path, length in (("/dev/null", 0), (file.name, 2**24 + 1)):
-                done = self.run_as(1, "put", path, "--id", "t1.1")
-                told = f"store_client: 7 BadSize: A length outside its range. (create t1.1, {length} bytes; an object has 1 to 16777216"
-                self.assertEqual((done.returncode, done.stderr.decode()[: len(told)]), (1, told))
+        done = self.run_as(1, "put", "/dev/null", "--id", "t1.1")
+        told = "store-client: 7 BadSize: A length outside its range. (create t1.1, 0 bytes; an object has 1 to 16777216"
+        self.assertEqual((done.returncode, done.stderr.decode()[: len(told)]), (1, told))
 
     def test_a_reader_that_goes_away_is_no_traceback(self) -> None:
         words, place = self.command_line()
@@ -134,7 +180,18 @@ class CommandLine(unittest.TestCase):
                 os.read(client.stdout.fileno(), 1)
                 client.stdout.close()
                 told = client.stderr.read()
-                self.assertEqual((client.wait(PATIENCE), told), (1, b"store_client: [Errno 32] Broken pipe\n"))
+                self.assertEqual((client.wait(PATIENCE), told), (1, b"store-client: [Errno 32] Broken pipe\n"))
+
+    def test_a_server_that_stands_still_is_told(self) -> None:
+        """Within the time that the command has, at least a second."""
+        self.server.program.send_signal(signal.SIGSTOP)
+        self.addCleanup(self.server.program.send_signal, signal.SIGCONT)
+        for words in ("get t1.1 --timeout 1", "put /dev/null --timeout 0.1"):
+            began = time.monotonic()
+            done = self.run_as(1, *words.split())
+            told = f"store-client: {self.server.path}: the connection was lost: the server didn't answer in time\n"
+            self.assertEqual((done.returncode, done.stderr.decode()), (1, told))
+            self.assertLess(time.monotonic() - began, PATIENCE / 4)
 
     def test_what_is_missing_is_named(self) -> None:
         done = subprocess.run([sys.executable, "-m", "store_client", "usage"], capture_output=True, check=False, timeout=PATIENCE,

@@ -198,6 +198,17 @@ class Holds(WithServer):
         held.release()
         self.assertIn("not held", repr(held))
 
+    @unittest.skipIf(numpy is None, "numpy isn't there")
+    def test_numpy_reads_it_or_says_how(self) -> None:
+        held = self.store.get(self.id())
+        self.addCleanup(held.release)
+        self.assertEqual(bytes(numpy.frombuffer(held.view, "u1")), b"abcd")
+        if sys.version_info >= (3, 12):
+            self.assertEqual(bytes(numpy.frombuffer(held, "u1")), b"abcd")
+        else:
+            with self.assertRaisesRegex(TypeError, "Held: take its .view"):
+                numpy.frombuffer(held, "u1")
+
     @unittest.skipIf(sys.version_info < (3, 12), "no class can be a buffer before Python 3.12")
     def test_it_is_a_buffer(self) -> None:
         with self.assertWarns(ResourceWarning):

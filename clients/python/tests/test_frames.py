@@ -13,7 +13,7 @@ from store_client import ObjectId, Task, frames, stream
 from store_client.requests import Requests
 
 # for each reply a call that may get it
-ASKED_BY = {"ok": "seal t1.1", "refused": "seal t1.1", "placed": "create t1.1 20", "got": "get t1.1", "bytes": "read t1.1 0 5"}
+ASKED_BY = {"ok": "seal t1.1", "refused": "seal t1.1", "placed": "create t1.1 20", "got": "get t1.1"}
 
 
 class Frames(unittest.TestCase):
@@ -41,7 +41,8 @@ class Frames(unittest.TestCase):
         for frame, said in self.commands:
             if not said.startswith("hello"):
                 due = CALLS[said.split(" ")[0]][2]
-                self.assertEqual(self.ask(said, self.frame_of[due])[0].hex(), frame.hex(), said)
+                reply = frames.frame(frames.Reply.BYTES, bytes(int(said.split(" ")[3]))) if due == "bytes" else self.frame_of[due]
+                self.assertEqual(self.ask(said, reply)[0].hex(), frame.hex(), said)
 
     def test_hello(self) -> None:
         frame, said = self.commands[0]
@@ -54,7 +55,8 @@ class Frames(unittest.TestCase):
     def test_replies(self) -> None:
         for frame, said in self.replies:
             word = said.split(" ")[0]
-            self.assertEqual(spelled(self.ask(ASKED_BY.get(word, word), frame)[1], 1), said)
+            asked = f"read t1.1 0 {len(frame) - 5}" if word == "bytes" else ASKED_BY.get(word, word)
+            self.assertEqual(spelled(self.ask(asked, frame)[1], 1), said)
 
     def test_what_is_no_reply(self) -> None:
         kinds = ("00000001" "99", "00000002" "8f00", "00000002" "8f19", "00000001" "8f", "00000003" "8f0909")
@@ -64,6 +66,20 @@ class Frames(unittest.TestCase):
         for digits in ("00000005" "84" "00000001", "0000000a" "84" "0000000000000000" "00"):
             with self.assertRaises(store_client.ProtocolError, msg=digits):
                 self.ask("list", bytes.fromhex(digits))
+        # another number of bytes than was asked for, and lengths that no object has
+        item = "00" * 19 + "01" "00000001" "00000001"
+        for said, digits in [
+            ("read t1.1 0 4", "00000003" "83" "6162"),
+            ("peek t1.1 0 4", "00000009" "83" "6162636465666768"),
+            ("read t1.1 0 0", "00000002" "83" "61"),
+            ("get t1.1", "00000005" "82" "ffffffff"),
+            ("get t1.1", "00000005" "82" "01000001"),
+            ("get t1.1", "00000005" "82" "00000000"),
+            ("list", "0000002b" "84" "00000001" + item + "0100" "01000001" "00000000"),
+            ("list", "0000002a" "84" "00000000" "00000001" + item + "ffffffff" "01"),
+        ]:
+            with self.assertRaises(store_client.ProtocolError, msg=said):
+                self.ask(said, bytes.fromhex(digits))
         with self.assertRaises(store_client.ConnectionLost):
             self.ask("list", bytes.fromhex("00000009" "84" "000000"))
 
@@ -146,6 +162,9 @@ class Texts(unittest.TestCase):
         self.assertEqual((one.text(1), one.text(2)), ("t1.1", "1/t1.1"))
         random = ObjectId(Task(b"\x01" * 20), 1, 7)
         self.assertEqual((ObjectId.parse(random.text(1), 1), len(random.text(1))), (random, 56))
+
+    def test_they_are_readable(self) -> None:
+        self.assertEqual(repr([Task.numbered(1).object(2, job=3), Task.numbered(4)]), "[<ObjectId 3/t1.2>, <Task t4>]")
 
     def test_what_is_no_id(self) -> None:
         no_index = "0000000000000000000000000000000000000001" "00000001" "00000000"

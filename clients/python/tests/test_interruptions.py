@@ -11,11 +11,12 @@ import threading
 import time
 import unittest
 from typing import Any, List
+from unittest import mock
 
 from support import PATIENCE, Script, WithServer, device_at_rest, in_child, in_use, key, own_grace
 
 import store_client
-from store_client import ConnectionLost, ServerSilent, Task
+from store_client import ConnectionLost, ServerSilent, Task, connection
 
 OK = bytes.fromhex("0000000180")
 
@@ -155,9 +156,13 @@ class Interruptions(WithServer):
         self.interrupt(0.3)
         with self.assertRaises(KeyboardInterrupt):
             self.store.wait([self.id(1), self.id(2)], 2, PATIENCE)
-        before = self.store.usage().copies
-        self.store.delete(self.id(1))
-        self.assertEqual(self.store.usage().copies, before - 1)
+        # the session goes on, or is lost if an answer was due, and its holds end a little later
+        with self.server.connect() as other:
+            other.delete(self.id(1))
+            end = time.monotonic() + PATIENCE
+            while self.id(1) in [item.id for item in other.list()[0]] and time.monotonic() < end:
+                time.sleep(0.01)
+            self.assertNotIn(self.id(1), [item.id for item in other.list()[0]])
 
     def test_a_get_that_waits_can_be_interrupted(self) -> None:
         self.interrupt(0.2)
@@ -207,6 +212,16 @@ class Silence(unittest.TestCase):
             self.silent(lambda: call(store))
             with self.assertRaisesRegex(ConnectionLost, "didn't answer in time"):
                 store.usage()
+
+    def test_connecting_has_an_end_without_a_timeout(self) -> None:
+        with mock.patch.object(connection, "OPENING", 0.1):
+            path = self.script().path
+            self.silent(lambda: store_client.connect(path, 1, key(1)))
+
+    def test_what_waits_in_the_server_has_a_timeout(self) -> None:
+        one = Task.numbered(1).object(1, job=1)
+        for call in (lambda store: store.hold(one, wait=True, timeout=0.1), lambda store: store.create(one, 5, wait=True, timeout=0.1)):
+            self.silent(lambda: call(store_client.connect(self.script(OK).path, 1, key(1))))
 
     def test_the_connection_s_own_timeout(self) -> None:
         store = store_client.connect(self.script(OK).path, 1, key(1), timeout=0.1)

@@ -2,7 +2,9 @@
 
 from __future__ import annotations
 
+import importlib
 import importlib.util
+import io
 import os
 import re
 import shutil
@@ -10,13 +12,21 @@ import subprocess
 import sys
 import tempfile
 import unittest
+import zipfile
 from pathlib import Path
+from typing import List
 
 from support import PATIENCE, ROOT
 
 import store_client
 
 FOLDER = ROOT / "clients/python"
+sys.path += [str(FOLDER / "backend"), str(ROOT / "operate")]
+
+import store_build  # noqa: E402
+from store_build.client import client_files, client_wheel, source_archive  # noqa: E402
+from store_build.project import ProjectFault, read_project, read_tables  # noqa: E402
+from store_release.wheel import wheel  # noqa: E402
 
 
 def has(*modules: str) -> bool:
@@ -52,18 +62,111 @@ class Package(unittest.TestCase):
             told = run("mypy", "--strict", "store_client", cwd=FOLDER, env={**os.environ, "MYPY_CACHE_DIR": cache})
         self.assertIn("Success", told)
 
-    @unittest.skipUnless(has("pip", "setuptools", "wheel"), "pip, setuptools or wheel isn't there")
-    def test_a_wheel_is_built_offline_and_installed(self) -> None:
-        with tempfile.TemporaryDirectory() as folder:
-            sources, place = Path(folder, "sources"), Path(folder, "place")
-            shutil.copytree(FOLDER, sources, ignore=shutil.ignore_patterns("__pycache__", "tests"))
-            pip = (sys.executable, "-m", "pip", "--disable-pip-version-check")
-            run(*pip, "wheel", "--no-build-isolation", "--no-deps", "--no-index", "-w", folder, str(sources))
-            (wheel,) = Path(folder).glob("*.whl")
-            self.assertTrue(wheel.name.startswith(f"store_client-{store_client.__version__}-py3-none-any"))
-            # neither a package's own rules for where things go, nor Debian's, matter to what is in it
-            around = {**os.environ, "PIP_BREAK_SYSTEM_PACKAGES": "1"}
-            run(*pip, "install", "--no-index", "--no-deps", "--target", str(place), str(wheel), env=around)
-            self.assertTrue((place / "store_client/py.typed").exists())
-            told = run(sys.executable, str(place / "bin/store-client"), "--version", env={**os.environ, "PYTHONPATH": str(place)})
-            self.assertEqual(told.strip(), store_client.__version__)
+    def test_the_licence_is_the_repository_s(self) -> None:
+        self.assertEqual((FOLDER / "LICENSE").read_bytes(), (ROOT / "LICENSE").read_bytes())
+
+    @unittest.skipUnless(has("tomllib"), "tomllib isn't there before Python 3.11")
+    def test_pyproject_is_read_as_python_reads_it(self) -> None:
+        text = (FOLDER / "pyproject.toml").read_text(encoding="utf-8")
+        expected = importlib.import_module("tomllib").loads(text)["project"]
+        tables = read_tables(text)
+        for name in ("optional-dependencies", "scripts"):
+            self.assertEqual(tables.pop(f"project.{name}"), expected.pop(name))
+        self.assertEqual(tables, {"project": expected})
+
+    def test_what_isn_t_read_of_a_project_is_a_fault(self) -> None:
+        for line in ("license = { text = 'MIT' }", "version.attr = 1", 'classifiers = [\n"one",\n]'):
+            with self.assertRaisesRegex(ProjectFault, re.escape(line.splitlines()[0])):
+                read_tables(f'[project]\nname = "x"\n{line}\n[tool.y]\nz = 1\n')
+        with self.assertRaisesRegex(ProjectFault, "^readme is missing$"):
+            read_project({**client_files(FOLDER), "pyproject.toml": without("readme")})
+
+    def test_the_same_files_give_the_same_bytes(self) -> None:
+        files = client_files(FOLDER)
+        backwards = dict(reversed(list(files.items())))
+        for made in (client_wheel, source_archive):
+            self.assertEqual(made(files), made(backwards))
+
+    def test_the_wheel_of_a_release_is_the_same(self) -> None:
+        package = {path.relative_to(FOLDER).as_posix(): path.read_bytes() for path in (FOLDER / "store_client").rglob("*.py")}
+        package["store_client/py.typed"] = b""
+        texts = ((FOLDER / name).read_bytes() for name in ("pyproject.toml", "README.md", "LICENSE"))
+        self.assertEqual(wheel(next(texts), package, *texts), client_wheel(client_files(FOLDER)))
+
+
+def without(field: str) -> bytes:
+    """The text of pyproject.toml without a field of one line."""
+    text = (FOLDER / "pyproject.toml").read_text(encoding="utf-8")
+    return re.sub(rf"^{field} = .*\n", "", text, flags=re.MULTILINE).encode()
+
+
+class Installed(unittest.TestCase):
+    """By pip, with no network, no cache and no other package, in a new environment of each Python from 3.9 on that is here."""
+
+    def setUp(self) -> None:
+        folder = tempfile.TemporaryDirectory()
+        self.addCleanup(folder.cleanup)
+        self.folder = Path(folder.name)
+        self.sources = self.folder / "sources"
+        shutil.copytree(FOLDER, self.sources, ignore=shutil.ignore_patterns("__pycache__"))
+
+    def installed(self, python: str, *words: str) -> Path:
+        """A new environment, into which this was installed."""
+        there = self.folder / os.urandom(8).hex()
+        self.run_alone(python, "-m", "venv", "--without-pip", str(there))
+        pip = (python, "-m", "pip", "--isolated", "--python", str(there / "bin/python"))
+        self.run_alone(*pip, "install", "-q", "--no-index", "--no-cache-dir", *words)
+        return there
+
+    def run_alone(self, *words: str) -> str:
+        """As `run`, with nothing of this process's environment."""
+        return run(*words, cwd="/", env={"PATH": os.defpath, "HOME": str(self.folder), "PIP_DISABLE_PIP_VERSION_CHECK": "1"})
+
+    def look_at(self, there: Path) -> Path:
+        """Where the package is, which can be imported and says its version, as its program does."""
+        code = "import store_client; print(store_client.__file__, store_client.__version__)"
+        place, version = self.run_alone(str(there / "bin/python"), "-c", code).split()
+        self.assertEqual(version, store_client.__version__)
+        self.assertEqual(self.run_alone(str(there / "bin/store-client"), "--version").strip(), f"store-client {version}")
+        return Path(place).parent
+
+    def compare(self, package: Path) -> None:
+        """What is installed is what the wheel has, and in the list of the installed files."""
+        with zipfile.ZipFile(io.BytesIO(client_wheel(client_files(FOLDER))[1])) as archive:
+            expected = {name: archive.read(name) for name in archive.namelist() if not name.endswith("/RECORD")}
+        for name, data in expected.items():
+            self.assertEqual((package.parent / name).read_bytes(), data, name)
+        there = {path.relative_to(package.parent).as_posix() for path in package.rglob("*") if path.is_file() and path.suffix != ".pyc"}
+        self.assertEqual(there, {name for name in expected if name.startswith("store_client/")})
+
+    def test_the_folder_and_its_archive(self) -> None:
+        """As README says, and by an archive of the sources."""
+        self.assertIn("\n    $ pip install clients/python\n", (FOLDER / "README.md").read_text(encoding="utf-8"))
+        archive = store_build.build_sdist(str(self.folder))
+        for python in each_python(self):
+            for given in (self.sources, self.folder / archive):
+                with self.subTest(python=python, given=given.name):
+                    self.compare(self.look_at(self.installed(python, str(given))))
+
+    def test_editable(self) -> None:
+        for python in each_python(self):
+            with self.subTest(python=python):
+                self.assertEqual(self.look_at(self.installed(python, "-e", str(self.sources))), self.sources / "store_client")
+
+
+def each_python(case: unittest.TestCase) -> List[str]:
+    """The Pythons that are here. Which are missing is said, and if all are the test is left out."""
+    folders = [*(str(path) for path in Path.home().glob(".pyenv/versions/*/bin")), os.environ.get("PATH", os.defpath)]
+    found = {version: shutil.which(f"python3.{version}", path=os.pathsep.join(folders)) for version in range(9, 14)}
+    usable = {version: path for version, path in found.items() if path and can_install(path)}
+    for version in sorted(set(found) - set(usable)):
+        print(f"test_package: LEFT OUT: there is no Python 3.{version} with venv and pip 22.3")
+    if not usable:
+        case.skipTest("there is no Python with venv and pip 22.3")
+    return list(usable.values())
+
+
+def can_install(python: str) -> bool:
+    """Whether it has venv, and a pip that installs into other environments."""
+    words = [python, "-c", "import venv, pip; assert tuple(map(int, pip.__version__.split('.')[:2])) >= (22, 3)"]
+    return subprocess.run(words, capture_output=True, check=False).returncode == 0

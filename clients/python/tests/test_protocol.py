@@ -6,11 +6,13 @@ import re
 import socket
 import subprocess
 import sys
+import threading
+import time
 from typing import List, Tuple
 
-from support import PATIENCE, ROOT, ServerOfAll, key
+from support import PATIENCE, ROOT, Server, ServerOfAll, key
 
-from store_client import ObjectId
+from store_client import Absent, Busy, Connection, NotSealed, ObjectId, Pending, Refused
 from store_client.frames import read_usage
 from store_client.requests import Requests, hello
 
@@ -31,6 +33,36 @@ class Protocol(ServerOfAll):
             program = program.replace(written, here)
         done = subprocess.run([sys.executable, "-c", program], capture_output=True, text=True, check=True, timeout=PATIENCE)
         self.assertEqual(done.stdout.split(), printed)
+
+    def waited_for(self, store: Connection, one: ObjectId) -> int:
+        """The length of an object, by the page's recipe. A hold of it is left."""
+        requests, began, moving, answer = store._requests, time.monotonic(), False, None
+        while time.monotonic() < began + PATIENCE:
+            if moving and isinstance(store._exchange([requests.read(one, 0, 0)], None)[0], NotSealed):
+                time.sleep(0.001)
+                continue
+            first, answer = store._exchange([requests.get(one), requests.get(one)], None)
+            if not isinstance(first, Refused):
+                store.release(one)
+            if not isinstance(answer, Refused):
+                return answer
+            self.assertIsInstance(answer, (Absent, NotSealed, Busy, Pending))
+            moving = isinstance(first, Pending) and isinstance(answer, Pending)
+            time.sleep(min(0.05, max(0.001, (time.monotonic() - began) / 32)))
+        raise AssertionError(f"it didn't come: {answer}")
+
+    def test_the_recipe_of_waiting(self) -> None:
+        """At the producer's node and at another one, and the consumer first."""
+        server = Server(nodes=2)
+        self.addCleanup(server.close)
+        with server.connect() as near, server.connect(node=1) as far, server.connect() as consumer:
+            for index, producer in enumerate((near, far), 1):
+                one = ObjectId.parse(f"t20.{index}", 1)
+                thread = threading.Timer(0.05, lambda: producer.put(bytes(100_000), one))
+                thread.start()
+                self.assertEqual(self.waited_for(consumer, one), 100_000)
+                thread.join()
+                consumer.release(one)
 
     def test_the_layout_of_an_id(self) -> None:
         digits = re.search(r"^    (0{24} [0-9a-f]{16} [0-9a-f]{8} [0-9a-f]{8})$", PAGE.read_text(encoding="ascii"), re.MULTILINE).group(1)

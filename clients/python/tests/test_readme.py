@@ -1,4 +1,5 @@
-"""What README.md shows, as it stands there: the server that it starts, the array between two jobs, the program, the command line."""
+"""What README.md shows, as it stands there: servers of its own, the server that it starts, the array between two jobs, the program, the
+command line. What it installs with is in test_package."""
 
 from __future__ import annotations
 
@@ -10,9 +11,11 @@ import os
 import re
 import shlex
 import subprocess
+import sys
 import tempfile
 import textwrap
 import unittest
+from pathlib import Path
 from typing import Any, Dict, List
 
 from support import PATIENCE, PROGRAM, ROOT
@@ -25,6 +28,41 @@ def shown(after: str) -> str:
     return textwrap.dedent(re.search(re.escape(after) + r".*?\n\n((?:    [^\n]*\n|\n)+)", TEXT, re.DOTALL).group(1)).strip() + "\n"
 
 
+def typed(lines: List[str]) -> List[str]:
+    """What is printed by the lines after a dollar, which a shell in the top folder is given. No line may fail or complain."""
+    words = ["bash", "-e", "-O", "expand_aliases", "-c", "".join(f"{line[2:]}\n" for line in lines if line.startswith("$ "))]
+    place = {"PATH": os.environ["PATH"], "STORE_PROGRAM": PROGRAM}
+    done = subprocess.run(words, cwd=ROOT, capture_output=True, text=True, check=False, timeout=PATIENCE, env=place)
+    if done.returncode or done.stderr:
+        raise AssertionError(f"status {done.returncode}: {done.stderr}")
+    return done.stdout.splitlines()
+
+
+class OfItsOwn(unittest.TestCase):
+    """What the page shows with a server of its own."""
+
+    def printed(self, text: str) -> List[str]:
+        """What a script of this text prints."""
+        with tempfile.TemporaryDirectory() as folder:
+            script = Path(folder, "script.py")
+            script.write_text(text, encoding="utf-8")
+            place = {**os.environ, "STORE_PROGRAM": PROGRAM, "PYTHONPATH": str(ROOT / "clients/python")}
+            words = [sys.executable, "-B", str(script)]
+            done = subprocess.run(words, capture_output=True, text=True, check=False, timeout=PATIENCE, env=place)
+        self.assertEqual((done.returncode, done.stderr), (0, ""))
+        return done.stdout.splitlines()
+
+    def test_the_first_program(self) -> None:
+        self.assertEqual(self.printed(shown("## A store of your own")), ["b'Hello'", "{'a': [1, 2]}"])
+
+    def test_processes(self) -> None:
+        self.assertEqual(self.printed(shown("Other processes use the same server")), [str([0, 2, 4, 6, 8, 10, 12, 14])])
+
+    def test_a_command(self) -> None:
+        lines = shown("For a shell or a command").splitlines()
+        self.assertEqual(typed(lines), [line for line in lines if not line.startswith("$ ")])
+
+
 class Readme(unittest.TestCase):
     """At the server that the page starts, in a folder in the place of /tmp."""
 
@@ -33,7 +71,7 @@ class Readme(unittest.TestCase):
         self.addCleanup(folder.cleanup)
         self.tmp = f"{folder.name}/"
         command, *lines = self.here(shown("An array between two jobs")).splitlines()
-        words = shlex.split(command.replace("$ crates/store_server/out/store_server", shlex.quote(PROGRAM)))
+        words = shlex.split(command.replace("$ $(operate/program)", shlex.quote(PROGRAM)))
         self.server = subprocess.Popen(words, stdin=subprocess.PIPE, stdout=subprocess.PIPE, stderr=subprocess.DEVNULL, text=True)
         self.addCleanup(self.end)
         for asked, answer in zip(lines[::2], lines[1::2]):
@@ -73,13 +111,9 @@ class Readme(unittest.TestCase):
         with contextlib.redirect_stdout(printed):
             exec(self.here(shown("## In a program")), {})
         told = printed.getvalue().splitlines()
-        self.assertEqual(told[:2], ["b'Hello'", "{'a': [1, 2]}"])
-        self.assertRegex(told[2], "^7 create .*1000000000 bytes; an object has 1 to 16777216")
+        self.assertEqual(told[0], "b'Hello'")
+        self.assertRegex(told[1], "^7 create .*1000000000 bytes; an object has 1 to 16777216")
 
     def test_the_command_line(self) -> None:
         lines = self.here(shown("## On the command line")).splitlines()
-        typed = "".join(f"{line[2:]}\n" for line in lines if line.startswith("$ "))
-        words = ["bash", "-e", "-O", "expand_aliases", "-c", typed]
-        done = subprocess.run(words, cwd=ROOT, capture_output=True, text=True, check=False, timeout=PATIENCE, env={"PATH": os.environ["PATH"]})
-        self.assertEqual((done.returncode, done.stderr), (0, ""))
-        self.assertEqual(done.stdout.splitlines(), [line for line in lines if not line.startswith("$ ")])
+        self.assertEqual(typed(lines), [line for line in lines if not line.startswith("$ ")])

@@ -8,6 +8,7 @@ import pickle
 import struct
 import subprocess
 import sys
+import tempfile
 import threading
 import unittest
 from typing import Any, List
@@ -145,6 +146,22 @@ class Arrays(unittest.TestCase):
         with self.assertRaisesRegex(TypeError, "has pointers"):
             encode_array(put)
 
+    def test_a_mask_and_a_subclass_are_kept_or_refused(self) -> None:
+        """An array of a class that is more than its items comes back as it was by `put_value`; `put_array` would lose the rest."""
+        masked = numpy.ma.masked_array([1, 2, 3], mask=[0, 1, 0])
+        table = numpy.zeros(3, dtype=[("a", "<i4")])
+        for put in (masked, numpy.matrix([[1, 2]]), table.view(numpy.recarray)):
+            with self.assertRaisesRegex(TypeError, f"{type(put).__name__} .* put_value"):
+                encode_array(put)
+            got = decode_value(whole(encode_value(put)), "it")
+            self.assertIs(type(got), type(put))
+            self.assertEqual(got.tolist(), put.tolist())
+        self.assertEqual(int(decode_value(whole(encode_value(masked)), "it").sum()), 4)
+        with tempfile.NamedTemporaryFile() as file:
+            mapped = numpy.memmap(file.name, "<i4", "w+", shape=(3,))
+            mapped[:] = [1, 2, 3]
+            self.same(decode_array(whole(encode_array(mapped)), "it"), numpy.array([1, 2, 3], dtype="<i4"))
+
     def test_what_is_no_array(self) -> None:
         laid = bytes(whole(encode_array(numpy.arange(5))))
         pickled = laid.replace(b"'<i8'", b"'|O' ")
@@ -178,6 +195,9 @@ class Stored(ServerOfAll):
         named = Task(os.urandom(20)).object(1, job=1)
         self.assertEqual(store.put_value("text", named), named)
         self.assertEqual(store.get_value(named, timeout=1.0), "text")
+        self.assertEqual(store.get_value(named, expect=str), "text")
+        with self.assertRaisesRegex(TypeError, "is a value of type str, and dict was expected"):
+            store.get_value(named, expect=dict)
         with self.assertRaisesRegex(ValueError, "is no value"):
             store.get_value(store.put(b"abcd", Task.numbered(7).object(1, job=1)))
         store.delete(Task.numbered(7).object(1, job=1))

@@ -2,17 +2,20 @@
 
 from __future__ import annotations
 
+import contextlib
 import os
 import threading
 import time
 import unittest
 from typing import Any, Callable, List
+from unittest import mock
 
-from support import PATIENCE, Server
+from support import PATIENCE, Server, key
 
 import store_client
-from store_client import Absent, Exists, NotGranted, NotSealed, ObjectId, Pending, State, Task
+from store_client import Absent, Exists, NotGranted, NotSealed, ObjectId, Pending, State, Task, steps
 from store_client.frames import Command
+from store_client.stream import Stream
 
 
 class Waiting(unittest.TestCase):
@@ -242,6 +245,97 @@ class Several(Waiting):
         self.store.hold(self.id())
         self.assertTrue(self.store.contains(self.id()))
         self.assertEqual((self.copies(self.store), self.copies(self.far)), (1, 0))
+
+
+class Many(Waiting):
+    """Of many that wait in one process one asks for all."""
+
+    def waiting(self, pool: store_client.Pool, ids: List[ObjectId], seen: List[ObjectId], timeout: float) -> List[threading.Thread]:
+        def consume(id: ObjectId) -> None:
+            with contextlib.suppress(Absent):
+                pool.get(id, timeout).release()
+                seen.append(id)
+
+        threads = [threading.Thread(target=consume, args=(id,)) for id in ids]
+        for thread in threads:
+            thread.start()
+            self.addCleanup(thread.join)
+        return threads
+
+    def pool(self) -> store_client.Pool:
+        pool = store_client.Pool(self.server.path, 1, key(1))
+        self.addCleanup(pool.close)
+        return pool
+
+    def test_they_ask_seldom_and_a_list_tells_them(self) -> None:
+        asked: List[Command] = []
+        exchange = Stream.exchange
+
+        def counted(stream: Stream, requests: Any, end: Any) -> Any:
+            asked.extend(request.command for request in requests)
+            return exchange(stream, requests, end)
+
+        pool, seen = self.pool(), []
+        threads = self.waiting(pool, [self.id(index) for index in range(1, 31)], seen, PATIENCE)
+        time.sleep(3)
+        with mock.patch.object(Stream, "exchange", counted):
+            time.sleep(2)
+        # each by itself would ask 40 times, by two Gets
+        self.assertLess(asked.count(Command.GET), 30 * 40)
+        self.assertGreater(asked.count(Command.LIST), 4)
+        for index in range(1, 31):
+            self.other.put(b"abcd", self.id(index))
+        for thread in threads:
+            thread.join(PATIENCE)
+        self.assertEqual(len(seen), 30)
+        self.assertEqual((len(pool._requests.board.waits), pool._requests.board._leader), (0, None))
+
+    def test_who_leads_hands_that_on(self) -> None:
+        """The one that began last is served first, then the others, also what is at another node or granted."""
+        pool, seen = self.pool(), []
+        ids = [self.id(index) for index in range(1, 8)]
+        foreign = self.task.object(1, job=2)
+        with self.connect(2) as other:
+            other.put(b"abcd", foreign)
+            threads = self.waiting(pool, [foreign, *ids], seen, PATIENCE)
+            time.sleep(0.1)
+            for id in (*reversed(ids[3:]), *ids[:2]):
+                self.other.put(b"abcd", id)
+                self.assertTrue(self.comes_to(lambda: id in seen))
+            self.far.put(b"abcd", ids[2])
+            self.assertTrue(self.comes_to(lambda: ids[2] in seen))
+            other.grant(foreign, 1)
+            self.assertTrue(self.comes_to(lambda: foreign in seen))
+            other.end_task(self.task)
+        for thread in threads:
+            thread.join(PATIENCE)
+
+    def comes_to(self, look: Callable[[], bool]) -> bool:
+        end = time.monotonic() + PATIENCE
+        while not look() and time.monotonic() < end:
+            time.sleep(0.001)
+        return look()
+
+    def test_the_time_of_each_is_over(self) -> None:
+        pool, seen = self.pool(), []
+        began = time.monotonic()
+        for thread in self.waiting(pool, [self.id(index) for index in range(1, 21)], seen, 0.5):
+            thread.join(PATIENCE)
+        self.assertGreaterEqual(time.monotonic() - began, 0.5)
+        self.assertEqual((seen, self.copies(self.store)), ([], 0))
+
+
+class Pause(unittest.TestCase):
+    def test_it_is_a_small_part_of_what_was_waited(self) -> None:
+        now = 100.0
+        with mock.patch.object(steps.time, "monotonic", lambda: now):
+            pauses = steps.Pauses(steps.Deadline(None))
+            lengths = []
+            for now in (100.0, 100.01, 100.32, 101.0, 110.0):
+                lengths.append(round(pauses.length, 3))
+            pauses.restart()
+            self.assertEqual((lengths, pauses.length), ([0.001, 0.001, 0.01, 0.031, 0.05], 0.001))
+            self.assertAlmostEqual(steps.Pauses(steps.Deadline(0.0005)).next().seconds, 0.0005)
 
 
 class GrantedObjects(Waiting):

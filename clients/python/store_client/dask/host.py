@@ -11,12 +11,13 @@ import contextlib
 import time
 from typing import Callable, Dict, Iterable, Iterator, List, Sequence, Tuple, Type, TypeVar
 
+from ..frames import LARGEST
 from ..ids import ObjectId
 from ..items import Kind, State, Usage
 from ..pool import Pool
 from ..putting import write_and_seal
 from ..refusals import Absent, Busy, ConnectionLost, Full, Granted, NotHeld, Pending, Refused, ServerSilent, StoreError, TooMany
-from ..requests import LARGEST, Pieces
+from ..requests import Pieces
 from ..steps import Deadline, Pauses, ask
 from .names import Name, is_primary, prefix_of
 
@@ -105,7 +106,7 @@ class HostStore:
     def grant(self, id: ObjectId, job: int) -> None:
         """Lets another job read the object, which is brought into memory for that and stays there."""
         pool = self._pool(id)
-        patiently(lambda: reconnected(lambda: pool.hold(id, wait=True)), Deadline(_SILENCE))
+        patiently(lambda: reconnected(lambda: pool.hold(id, wait=True, timeout=_SILENCE)), Deadline(_SILENCE))
         try:
             pool.grant(id, job)
         finally:

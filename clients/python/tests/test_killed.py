@@ -1,0 +1,286 @@
+"""Processes that are killed in the midst of a put: after ten seconds nothing of it takes room, and what was finished is there."""
+
+from __future__ import annotations
+
+import contextlib
+import hashlib
+import os
+import pickle
+import signal
+import tempfile
+import threading
+import time
+import traceback
+import unittest
+from pathlib import Path
+from typing import Any, Callable, List
+from unittest import mock
+
+from support import PATIENCE, Server, ServerOfAll, key
+
+import store_client
+from store_client import Absent, Connection, ObjectId, Pool, State, Task, keeping, parts, putting
+from store_client.stream import Stream
+
+try:
+    import numpy
+except ImportError:
+    numpy = None  # type: ignore[assignment]
+
+# until nothing is left, in seconds: ten, on a machine that does nothing else
+SOON = max(10.0, PATIENCE / 12)
+# a window that is smaller than a value of the tests
+WINDOW, LONG, SHORT = 2**18, 300_000, 100
+# of the exchanges of a put in parts some are tried
+STEP = int(os.environ.get("STORE_KILLS", "7"))
+
+
+def keepers(path: str) -> List[int]:
+    """The processes that keep the store at this socket."""
+    found = []
+    for folder in Path("/proc").glob("[0-9]*"):
+        try:
+            words = (folder / "cmdline").read_bytes().split(b"\0")
+        except OSError:
+            continue
+        if any(word.endswith(b"/keeper.py") for word in words) and os.fsencode(path) in words:
+            found.append(int(folder.name))
+    return found
+
+
+class Killed(ServerOfAll):
+    job = 7
+
+    @classmethod
+    def setUpClass(cls) -> None:
+        super().setUpClass()
+        cls.server.admit(0, 7, WINDOW, 2**26)
+        cls.path = os.path.realpath(cls.server.path)
+
+    def setUp(self) -> None:
+        self.store = self.connect()
+        self.addCleanup(self.store.close)
+        self.task = Task(os.urandom(20))
+        self.addCleanup(self.clear)
+
+    def connect(self) -> Connection:
+        return self.server.connect(self.job)
+
+    def clear(self) -> None:
+        for item in self.store.list()[0]:
+            self.store.delete(item.id)
+
+    def id(self, index: int) -> ObjectId:
+        return self.task.object(index, job=self.job)
+
+    def comes_to(self, look: Callable[[], bool]) -> None:
+        end = time.monotonic() + SOON
+        while not look() and time.monotonic() < end:
+            time.sleep(0.05)
+        self.assertTrue(look())
+
+    def killed(self, work: Callable[[], Any]) -> bool:
+        """Does the work in a process that is forked off. Whether it was killed."""
+        child = os.fork()
+        if not child:
+            try:
+                work()
+                os._exit(0)
+            except BaseException:
+                traceback.print_exc()
+                os._exit(1)
+        status = os.waitpid(child, 0)[1]
+        self.assertIn(status, (0, signal.SIGKILL))
+        return status == signal.SIGKILL
+
+    def killed_at(self, number: int, how: str, put: Callable[[Any], Any], store: Any) -> None:
+        """Puts, and is killed at the exchange of this number, from 1: before it is sent, when half of it was, or once it was answered."""
+        exchange, left = Stream.exchange, [number]
+
+        def cut(stream: Stream, requests: Any, end: Any) -> Any:
+            # a thread of a pool says first who it is
+            left[0] -= requests[0].name != "hello"
+            if not left[0]:
+                if how != "before":
+                    exchange(stream, requests if how == "after" else requests[: len(requests) // 2], end)
+                os.kill(os.getpid(), signal.SIGKILL)
+            return exchange(stream, requests, end)
+
+        with mock.patch.object(Stream, "exchange", cut):
+            put(store)
+
+    def kill_everywhere(self, put: Callable[[Any], Any], step: int = 1, is_pool: bool = False) -> None:
+        """Kills a process at each of its exchanges, until one has no more. Each has finished something before. At the end all that was
+        finished is there, and of what was not nothing."""
+        finished: List[ObjectId] = []
+        number, was_killed = 1, True
+
+        def work() -> None:
+            store = Pool(self.server.path, self.job, key(self.job)) if is_pool else self.connect()
+            store.put(b"finished", finished[-1])
+            self.killed_at(number, how, put, store)
+
+        while was_killed:
+            for how in ("before", "half", "after"):
+                finished.append(self.id(len(finished) + 1))
+                was_killed = self.killed(work)
+                # the next one has to find room
+                self.comes_to(lambda: sum(item.state is State.CREATED for item in self.store.list()[0]) < 8)
+            number += step
+        self.assertGreater(len(finished), 3)
+        self.comes_to(lambda: not self.unfinished())
+        for id in finished:
+            with self.store.get(id) as view:
+                self.assertEqual(view, b"finished")
+
+    def unfinished(self) -> List[ObjectId]:
+        """What isn't sealed, and what is neither a whole of the tests' length nor a manifest nor one of its parts."""
+        items = self.store.list()[0]
+        wholes = [item.id for item in items if item.length in (SHORT, len(b"finished")) and item.state is not State.CREATED]
+        for item in items:
+            if item.state is not State.CREATED and item.id not in wholes:
+                named = self.parts_of(item.id)
+                wholes += [item.id, *named] if named else []
+        return [item.id for item in items if item.id not in wholes]
+
+    def parts_of(self, id: ObjectId) -> List[ObjectId]:
+        try:
+            return self.store._run(parts.parts_of(self.store._requests, id))
+        except Absent:
+            # it has just been deleted
+            return []
+
+    def test_a_put_under_a_new_id(self) -> None:
+        self.kill_everywhere(lambda store: store.put(bytes(SHORT)))
+
+    def test_a_put_under_a_new_id_that_is_not_sent_in_one_burst(self) -> None:
+        with mock.patch.object(putting, "_BURST", 10):
+            self.kill_everywhere(lambda store: store.put(bytes(SHORT)))
+
+    def test_a_put_under_an_id_that_was_given(self) -> None:
+        self.kill_everywhere(lambda store: store.put(bytes(SHORT), Task(os.urandom(20)).object(1, job=self.job)))
+
+    def test_a_value_in_parts(self) -> None:
+        self.kill_everywhere(lambda store: store.put_value(bytes(LONG)), STEP)
+
+    def test_a_value_in_parts_under_an_id_that_was_given(self) -> None:
+        self.kill_everywhere(lambda store: store.put_value(bytes(LONG), Task(os.urandom(20)).object(1, job=self.job)), STEP)
+
+    def test_a_value_in_parts_by_a_pool(self) -> None:
+        self.kill_everywhere(lambda store: store.put_value(bytes(LONG)), STEP, is_pool=True)
+
+    @unittest.skipIf(numpy is None, "numpy isn't there")
+    def test_an_array_in_parts(self) -> None:
+        self.kill_everywhere(lambda store: store.put_array(numpy.zeros(LONG // 8)), STEP)
+
+    def test_what_lives_is_left_alone(self) -> None:
+        """Also if its id was made by a process that is dead, and what a session that was closed has left, or one that told nothing."""
+        by_hand, left = self.id(1), self.store.new_id()
+        self.store.create(by_hand, 4)
+        with self.connect() as closed:
+            of_closed = closed.new_id()
+            closed.create(of_closed, 4)
+        reading, writing = os.pipe()
+
+        def make() -> None:
+            store = self.connect()
+            made = [store.new_id() for _ in range(2)]
+            store.create(made[1], 4)
+            os.write(writing, b"".join(id.to_bytes() for id in made))
+            os.kill(os.getpid(), signal.SIGKILL)
+
+        self.killed(make)
+        given, gone = (ObjectId.from_bytes(os.read(reading, 28)) for _ in range(2))
+        os.close(reading)
+        os.close(writing)
+        with self.store._requests.keeping.unfinished(given):
+            self.store.create(given, 4)
+            self.store.create(left, 4)
+            self.comes_to(lambda: gone not in [item.id for item in self.store.list()[0]])
+            # and once more
+            time.sleep(1.5)
+            self.assertEqual({item.id for item in self.store.list()[0]}, {by_hand, of_closed, given, left})
+
+    def test_a_keeper_that_was_killed_is_started_anew(self) -> None:
+        def put() -> None:
+            store = self.connect()
+            store.new_id()
+            # one that has just been started has a shell before it
+            while running := keepers(self.path):
+                for keeper in running:
+                    with contextlib.suppress(ProcessLookupError):
+                        os.kill(keeper, signal.SIGKILL)
+                time.sleep(0.01)
+            self.killed_at(2, "before", lambda store: store.put(bytes(SHORT), self.id(1)), store)
+
+        self.assertTrue(self.killed(put))
+        self.comes_to(lambda: not self.unfinished())
+
+    def test_without_a_keeper_all_goes_on(self) -> None:
+        refused = mock.Mock(side_effect=PermissionError("no folder"))
+        with mock.patch.object(keeping, "_folder", refused), self.connect() as store:
+            for id in (None, None, self.id(1)):
+                self.assertTrue(store.contains(store.put(b"abcd", id)))
+            self.assertEqual(store.get_value(store.put_value(bytes(LONG))), bytes(LONG))
+        # it isn't tried again and again
+        self.assertLessEqual(refused.call_count, 2)
+        with mock.patch.object(keeping, "_connected", refused):
+            refused.reset_mock()
+            store_client.connect(self.server.path, 7, key(7), keeper=False).put(b"abcd")
+            with Pool(self.server.path, 7, key(7), keeper=False) as pool, pickle.loads(pickle.dumps(pool)) as other:
+                other.put_value(bytes(LONG), self.id(2))
+            refused.assert_not_called()
+
+    def test_a_folder_that_others_can_look_into_is_not_used(self) -> None:
+        with tempfile.TemporaryDirectory() as place, mock.patch.object(tempfile, "gettempdir", lambda: place):
+            self.assertEqual(os.stat(keeping._folder()).st_mode & 0o777, 0o700)
+            os.chmod(keeping._folder(), 0o755)
+            with self.assertRaises(PermissionError):
+                keeping._folder()
+
+    def test_a_put_tells_its_keeper_once(self) -> None:
+        with self.connect() as store:
+            told: List[bytes] = []
+            with mock.patch.object(keeping.Keeping, "_tell", lambda _, message: told.append(message[:1])):
+                for _ in range(3):
+                    store.put(b"abcd")
+                self.assertEqual(told, [keeping.TASK])
+                told.clear()
+                for index in range(1, 4):
+                    store.put(b"abcd", self.id(index))
+                self.assertEqual(told, [keeping.BEGIN] * 3)
+                told.clear()
+                store.put_value(bytes(LONG))
+                self.assertEqual(told, [keeping.BEGIN, keeping.END])
+
+
+class Alone(ServerOfAll):
+    def test_there_is_one_keeper_and_it_ends_by_itself(self) -> None:
+        stores = [self.server.connect() for _ in range(4)]
+        threads = [threading.Thread(target=store.put, args=(b"abcd",)) for store in stores]
+        for thread in threads:
+            thread.start()
+        for thread in threads:
+            thread.join()
+        (keeper,) = keepers(os.path.realpath(self.server.path))
+        for store in stores:
+            store.close()
+        end = time.monotonic() + PATIENCE
+        while os.path.exists(f"/proc/{keeper}") and time.monotonic() < end:
+            time.sleep(0.05)
+        self.assertFalse(os.path.exists(f"/proc/{keeper}"))
+        name = hashlib.sha256(f"1 {os.path.realpath(self.server.path)}".encode()).hexdigest()[:16]
+        self.assertEqual(list(Path(keeping._folder()).glob(f"{name}.*")), [])
+
+    def test_the_keeper_of_a_store_that_is_gone_ends_with_its_folder(self) -> None:
+        with tempfile.TemporaryDirectory() as place, mock.patch.object(tempfile, "gettempdir", lambda: place):
+            server = Server()
+            store = server.connect()
+            store.put(b"abcd")
+            self.assertIn(f"store-keepers-{os.getuid()}", os.listdir(place))
+            store.close()
+            server.close()
+            end = time.monotonic() + SOON
+            while os.listdir(place) and time.monotonic() < end:
+                time.sleep(0.05)
+            self.assertEqual(os.listdir(place), [])
