@@ -1,9 +1,11 @@
-"""What scripts that draw share: a picture of lines, boxes and texts as SVG, a table as bars, and round numbers for axes."""
+"""What scripts that draw share: a picture of lines, arrows, boxes and texts as SVG, a table as bars, words in lines, and round numbers for
+axes."""
 
 from __future__ import annotations
 
+import math
 from pathlib import Path
-from typing import Iterable, List, NamedTuple, Sequence, Tuple
+from typing import Iterable, List, NamedTuple, Sequence, Tuple, Union
 from xml.sax.saxutils import escape, quoteattr
 
 INK = "#222222"
@@ -13,6 +15,8 @@ GRID = "#dddddd"
 COLOURS = ("#4477aa", "#ee7733", "#228833", "#aa3377")
 # roughly how wide a letter is, as a part of its height
 LETTER = 0.56
+# of an arrow's head, in pixels
+HEAD_LENGTH, HEAD_WIDTH = 7, 8
 # of a table as bars, in pixels
 BARS_WIDTH, BARS_LEFT, BARS_RIGHT, BARS_TOP, BAR_HEIGHT = 760, 230, 150, 44, 26
 
@@ -35,6 +39,16 @@ class Drawing:
     def line(self, points: Sequence[Point], colour: str = INK, width: float = 1) -> None:
         self._add("polyline", points=_places(points), fill="none", stroke=colour, stroke_width=width)
 
+    def arrow(self, points: Sequence[Point], colour: str = INK, width: float = 1.5) -> None:
+        """A line with a head at its end."""
+        (before_x, before_y), (x, y) = points[-2], points[-1]
+        length = math.hypot(x - before_x, y - before_y)
+        along_x, along_y = (x - before_x) / length, (y - before_y) / length
+        base_x, base_y = x - HEAD_LENGTH * along_x, y - HEAD_LENGTH * along_y
+        self.line([*points[:-1], (base_x, base_y)], colour, width)
+        aside_x, aside_y = along_y * HEAD_WIDTH / 2, -along_x * HEAD_WIDTH / 2
+        self.area([(x, y), (base_x + aside_x, base_y + aside_y), (base_x - aside_x, base_y - aside_y)], colour)
+
     def area(self, points: Sequence[Point], fill: str, edge: str = "none") -> None:
         self._add("polygon", points=_places(points), fill=fill, stroke=edge)
 
@@ -42,10 +56,12 @@ class Drawing:
         """Words whose line stands at this height, and which start, have their middle or end there."""
         self._add("text", escape(words), x=x, y=y, font_size=size, text_anchor=anchor, fill=colour)
 
-    def text_upwards(self, x: float, y: float, words: str, size: float = 12) -> None:
-        """Words that are read from below, with their middle there."""
+    def text_upwards(
+        self, x: float, y: float, words: str, size: float = 12, anchor: str = "middle", colour: str = INK
+    ) -> None:
+        """Words that are read from below, and which start, have their middle or end there."""
         place = f"rotate(-90 {_number(x)} {_number(y)})"
-        self._add("text", escape(words), x=x, y=y, font_size=size, text_anchor="middle", fill=INK, transform=place)
+        self._add("text", escape(words), x=x, y=y, font_size=size, text_anchor=anchor, fill=colour, transform=place)
 
     def save(self, path: Path) -> None:
         path.write_text(self.svg(), encoding="utf-8")
@@ -59,13 +75,13 @@ class Drawing:
         ground = f'<rect width="{width}" height="{height}" fill="white"/>'
         return "\n".join([head, f"<title>{escape(self.title)}</title>", ground, *self.parts, "</svg>", ""])
 
-    def _add(self, name: str, content: str = "", **marks: object) -> None:
+    def _add(self, name: str, content: str = "", **marks: Union[str, float]) -> None:
         """An element. What goes without saying isn't said."""
         said = []
         for mark, value in marks.items():
-            value = value if isinstance(value, str) else _number(value)
-            if (mark, value) not in (("stroke", "none"), ("fill_opacity", "1")):
-                said.append(f"{mark.replace('_', '-')}={quoteattr(value)}")
+            text = value if isinstance(value, str) else _number(value)
+            if (mark, text) not in (("stroke", "none"), ("fill_opacity", "1")):
+                said.append(f"{mark.replace('_', '-')}={quoteattr(text)}")
         self.parts.append(f"<{name} {' '.join(said)}>{content}</{name}>" if content else f"<{name} {' '.join(said)}/>")
 
 
@@ -100,6 +116,17 @@ def draw_bars(title: str, unit: str, bars: Sequence[Bar]) -> Drawing:
 def text_width(words: str, size: float = 12) -> float:
     """Roughly how wide the words are."""
     return LETTER * size * len(words)
+
+
+def wrapped(words: str, width: float, size: float = 12) -> List[str]:
+    """The words in lines that are roughly no wider."""
+    lines: List[str] = []
+    for word in words.split():
+        if lines and text_width(f"{lines[-1]} {word}", size) <= width:
+            lines[-1] += f" {word}"
+        else:
+            lines.append(word)
+    return lines
 
 
 def _places(points: Sequence[Point]) -> str:
