@@ -9,12 +9,12 @@ import threading
 import time
 from typing import Callable, Dict, Iterator, List, NamedTuple, Sequence
 
-from findings import Check, compared, given_back
+from findings import ALLOCATORS_SHARE, Check, compared, given_back
 from host import PATIENCE, Host, attacked, close_all, raw_streams
 
 import store_client
 from served import Supervised
-from serving import frame, key, receive
+from serving import ask, frame, key, receive
 from store_client import ObjectId, Task
 
 # the numbers of jobs; the third one's window is as large as one of its objects
@@ -29,6 +29,10 @@ MOST_MILLISECONDS = 15.0
 # milliseconds that a large object's seal takes at least, if there is one so large
 LARGE_ENOUGH = 60.0
 OK = frame(0x80)
+# bytes of the answer to a Usage
+USAGE = len(frame(0x85, bytes(48)))
+# what a session takes, with its thread's stack and an allocator's arena
+SESSION = 512 * KIB
 
 
 class Scale(NamedTuple):
@@ -238,7 +242,12 @@ def seals_of_4_sessions(scale: Scale) -> List[Check]:
     return _seals(scale, 4)
 
 
-def _seals(scale: Scale, sessions: int) -> List[Check]:
+def seals_beside_a_writer(scale: Scale) -> List[Check]:
+    """Does a session that seals large objects slow another job's calls, if a second one writes to what is being sealed?"""
+    return _seals(scale, 1, writers=1)
+
+
+def _seals(scale: Scale, sessions: int, writers: int = 0) -> List[Check]:
     with hosts(scale, 2, memory=5 * LARGEST) as (host, other):
         for place in (host, other):
             place.admit(ATTACKER, 4 * LARGEST)
@@ -247,21 +256,77 @@ def _seals(scale: Scale, sessions: int) -> List[Check]:
 
         def seal(place: Host, number: int, is_over: Callable[[], bool]) -> None:
             with place.session(ATTACKER) as session:
-                index = 0
+                one = session.task(1 + number % sessions).object(1)
                 while not is_over():
-                    index += 1
-                    one = session.task(number + 1).object(index)
-                    session.create(one, length)
-                    session.seal(one)
-                    session.delete(one)
+                    if number < sessions:
+                        session.create(one, length)
+                        session.seal(one)
+                        session.delete(one)
+                    else:
+                        _whatever(session.write, one, 0, b"x")
+
+        attackers = sessions + writers
+        with host.session(VICTIM) as session:
+            call = gets_of(session)
+            with attacked(host, seal, attackers):
+                time.sleep(scale.seconds)
+            before = host.figures()
+            checks = compared(call, host, other, seal, attackers, scale.rounds, scale.seconds)
+            return [Check("KiB that are sealed", length / KIB), *checks, *given_back(host, before, journals=2)]
+
+
+def _whatever(call: Callable[..., object], *words: object) -> None:
+    """The call is made, and may be refused."""
+    with contextlib.suppress(store_client.Refused):
+        call(*words)
+
+
+def versions_of_a_copy(scale: Scale, sessions: int = 48) -> List[Check]:
+    """How much memory do 48 sessions take that seal one large copy, with a Write of a byte before each Seal?"""
+    with hosts(scale, 1, memory=2 * LARGEST) as (host,):
+        host.admit(ATTACKER, LARGEST)
+        length = large(host, ATTACKER)
+
+        def seal(place: Host, number: int, is_over: Callable[[], bool]) -> None:
+            with place.session(ATTACKER) as session:
+                one = session.task(1).object(1)
+                while not is_over():
+                    _whatever(session.create, one, length)
+                    _whatever(session.write, one, number, b"x")
+                    _whatever(session.seal, one)
+                    if number == 0:
+                        _whatever(session.delete, one)
+
+        before = most = host.figures().resident
+        with attacked(host, seal, sessions):
+            end = time.monotonic() + 3 * scale.seconds
+            while time.monotonic() < end:
+                most = max(most, host.figures().resident)
+                time.sleep(0.02)
+        # the window, and what sessions may have beside it, of which those of one job are one at a time
+        beside = before + LARGEST + 2 * length + sessions * SESSION + ALLOCATORS_SHARE
+        return [Check(f"MiB of memory at most, {before / MIB:.1f} before", most / MIB, beside / MIB)]
+
+
+def floods_of_32_sessions(scale: Scale) -> List[Check]:
+    """Do 32 sessions of one job slow another job's calls, each with 16 small commands on their way?"""
+    with hosts(scale, 2) as (host, other):
+        for place in (host, other):
+            place.admit(ATTACKER, 64 * KIB)
+            place.admit(VICTIM, 64 * KIB)
+
+        def flood(place: Host, _: int, is_over: Callable[[], bool]) -> None:
+            (stream,) = raw_streams(place.path(), 1)
+            stream.setblocking(True)
+            with stream:
+                ask(stream, frame(0x01, ATTACKER.to_bytes(4, "big") + key(ATTACKER)), OK)
+                while not is_over():
+                    stream.sendall(16 * frame(0x11))
+                    receive(stream, 16 * USAGE)
 
         with host.session(VICTIM) as session:
             call = gets_of(session)
-            with attacked(host, seal, sessions):
-                time.sleep(scale.seconds)
-            before = host.figures()
-            checks = compared(call, host, other, seal, sessions, scale.rounds, scale.seconds)
-            return [Check("KiB that are sealed", length / KIB), *checks, *given_back(host, before, journals=2)]
+            return compared(call, host, other, flood, 32, scale.rounds, scale.seconds)
 
 
 def restores_of_1_session(scale: Scale) -> List[Check]:
@@ -446,7 +511,7 @@ def a_close_by_the_daemon(scale: Scale) -> List[Check]:
 
 _TRIALS: Sequence[Trial] = (
     grants_to_nobody, never_read_without_key, never_read_with_key, waiters_that_went_away, waiters_100, waiters_400,
-    waiters_at_another_node, seals_of_1_session, seals_of_4_sessions, restores_of_1_session, fetches_of_1_session,
-    fetches_of_4_sessions, ends_of_large_jobs, connections_without_key, a_close_by_the_daemon,
+    waiters_at_another_node, seals_of_1_session, seals_of_4_sessions, seals_beside_a_writer, versions_of_a_copy, floods_of_32_sessions,
+    restores_of_1_session, fetches_of_1_session, fetches_of_4_sessions, ends_of_large_jobs, connections_without_key, a_close_by_the_daemon,
 )
 ALL: Dict[str, Trial] = {getattr(trial, "__name__"): trial for trial in _TRIALS}

@@ -6,7 +6,8 @@ use obj_id::{Command, JobKey, JobNo, Kind, ObjectId, Quota, Refusal, Reply, Task
 use private_store::StepAnswer;
 use schedule_text::answer_text;
 use session_engine::Gate;
-use session_threads::{Cluster, Session, SharedNode};
+use session_threads::{Cluster, Session};
+use shared_nodes::SharedNode;
 use std::alloc::{AllocError, Global};
 use std::process::Abort;
 use std::sync::Wait;

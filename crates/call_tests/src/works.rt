@@ -2,8 +2,10 @@
 use crate::calls::{JOB, admit_with, answered, object};
 use assertions::{holds, same};
 use bytes::Bytes;
+use node_housekeeping::WorkDone;
 use obj_id::{Command, Kind, ObjectId, Quota, Refusal, Reply};
-use session_threads::{Cluster, SharedNode, WorkDone};
+use session_threads::Cluster;
+use shared_nodes::SharedNode;
 use spill_device::{FaultyDevice, MemoryDevice, SpillDevice};
 use std::alloc::Global;
 use std::process::Abort;

@@ -1,3 +1,4 @@
 mod Attends
+mod Carrying
 mod Handled
 mod Serves

@@ -24,7 +24,7 @@ module _ (nodes number : ℕ) (a r b w : Option (List ℕ)) (so_far : Serving no
         record {
           lines = obeys.obeyed ∷ so_far.lines;
           counted = ap suc counted ∙ (omega arith);
-          obeyed = (obeys.spelled, so_far.obeyed);
+          obeyed = (obeys.spelled, obeys.carried, so_far.obeyed);
           consumed = Consumes-then a r r1 (orders_of so_far.lines) (with_line_feed obeys.obeyed.text) so_far.consumed (subst (Consumes r r1) obeys.is_text read);
           written = Appends-then b w w1 (answers_of so_far.lines) _ so_far.written obeys.written;
         }

@@ -9,6 +9,8 @@ use Rattle.schedule_text.specs.declared.prefixes.Prefix.TheVariants.{Operator}
 use Rattle.schedule_text.specs.Printing.{line_text}
 use Rattle.schedule_text.specs.Reading.{is_skipped}
 use Rattle.session_threads.specs.declared.cluster.Report.{Report}
+use Rattle.node_steps.specs.Witnesses.{Witness}
+use Rattle.program_lines.specs.declared.operator.Change.{Change}
 use Rattle.operator_service.specs.declared.attending.TheConstants.{ORDERS}
 use Rattle.program_lines.specs.declared.taking.TheConstants.{LONGEST_LINE}
 use Rattle.program_lines.specs.declared.control_lines.ControlLine.{ControlLine}
@@ -22,7 +24,7 @@ use Rattle.program_lines.specs.declared.taking.LineTaken.TheVariants.{Line, TooL
 use Rattle.program_lines.specs.ControlLines.{IsControlLine, IsAskedWithin}
 use Rattle.schedule_text.specs.Lines.{with_line_feed}
 use Rattle.operator_service.specs.Looks.{IsLookText}
-use Rattle.operator_service.specs.Servings.{IsWritten, report_line}
+use Rattle.operator_service.specs.Servings.{IsCarriedOut, IsWritten, report_line}
 use Rattle.program_lines.specs.TakenLines.{IsUnbroken}
 
 -- ---- answers
@@ -31,9 +33,11 @@ use Rattle.program_lines.specs.TakenLines.{IsUnbroken}
 abbrev pub no_order_line : ℕ → List ℕ
 no_order_line number = with_line_feed (codes "line " ++ decimal number ++ codes ": not an order: the orders are " ++ ORDERS.now)
 
--- to a line that asks for a change: the node's, with a reply
-pub record IsChangeLine (node : ℕ) (line : List ℕ) : Type 0 where
+-- to a line that asks for a change: the node's, with the reply to this very change
+pub record IsChangeLine (node : ℕ) (what : Change) (line : List ℕ) : Type 0 where
   pub response : Reply (List ℕ)
+  pub witness : Option Witness
+  pub carried : IsCarriedOut what response witness
   pub is : line ≡ line_text (Operator node) (Response response)
 
 -- to one that lets the server close: its report, or that a fault ended it
@@ -46,7 +50,7 @@ pub record IsClosingLine (line : List ℕ) : Type 0 where
   pub is : line ≡ closing_line report
 
 abbrev pub IsAnswer : ControlLine → List ℕ → Type 0
-IsAnswer (asked.Order (order.Change node c)) line = IsChangeLine node line
+IsAnswer (asked.Order (order.Change node c)) line = IsChangeLine node c line
 IsAnswer (asked.Order order.Close) line = IsClosingLine line
 IsAnswer asked.CloseNow line = IsClosingLine line
 IsAnswer (asked.Look node what) line = IsLookText node what line

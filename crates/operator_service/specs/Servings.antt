@@ -1,15 +1,21 @@
 -- The operator's lines that were carried out, and what was printed for them.
-use Rattle.std.specs.Prelude.{◌≡◌, ℕ, suc, false, true, Bool, List, [], ◌∷◌, ◌++◌, length, Option, IfSome, Result, Ok, Err, codes, decimal, ⊤}
+use Rattle.std.specs.Prelude.{◌≡◌, ℕ, suc, false, true, Bool, List, [], ◌∷◌, ◌++◌, length, Option, IfSome, MatchOption, Result, Ok, Err, codes, decimal, ⊤}
 use Rattle.std.specs.Io.KnownBytes.{Appends, Consumes, Keeps}
 use Rattle.std.specs.Str.{IsUtf8}
 use Rattle.obj_id.specs.declared.commands.Reply.{Reply}
+use Rattle.obj_id.specs.declared.commands.Reply.TheVariants as reply
+use Rattle.obj_id.specs.declared.refusals.Refusal.TheVariants as refusal
+use Rattle.private_store.specs.declared.schedules.Event.{Event}
+use Rattle.private_store.specs.declared.schedules.Event.TheVariants as event
 use Rattle.private_store.specs.declared.schedules.StepAnswer.TheVariants.{Response}
 use Rattle.schedule_text.specs.declared.prefixes.Prefix.TheVariants.{Operator}
 use Rattle.schedule_text.specs.Printing.{line_text}
 use Rattle.session_threads.specs.declared.cluster.Report.{Report}
+use Rattle.node_steps.specs.Witnesses.{Witness, IsReceiptOf}
 use Rattle.program_lines.specs.declared.fault.Fault.{Fault}
 use Rattle.program_lines.specs.declared.fault.Fault.TheVariants.{NotAStep, Input, Output, Socket, Folded, NoMemory}
 use Rattle.program_lines.specs.declared.operator.Change.{Change}
+use Rattle.program_lines.specs.declared.operator.Change.TheVariants as change
 use Rattle.program_lines.specs.declared.operator.Order.{Order}
 use Rattle.program_lines.specs.declared.operator.Order.TheVariants as order
 use Rattle.operator_service.specs.declared.serving.LastLine.{LastLine}
@@ -17,21 +23,32 @@ use Rattle.operator_service.specs.declared.serving.LastLine.TheVariants.{Close, 
 use Rattle.schedule_text.specs.Lines.{with_line_feed, IsNextLine}
 use Rattle.program_lines.specs.Orders.{IsOrder, IsWithin}
 
--- a line, without its line feed, and the answer to it
+-- the event that a change is
+abbrev pub event_of_change : Change → Event
+event_of_change (change.Admit job quota key) = event.Admit job quota key
+event_of_change (change.Requota job quota) = event.Requota job quota
+event_of_change (change.End job) = event.JobEnd job
+
+-- the reply is that of a step of this very change, of which the receipt tells; without memory there was no step
+abbrev pub IsCarriedOut : Change → Reply (List ℕ) → Option Witness → Type 0
+IsCarriedOut asked response witness = MatchOption witness (response ≡ reply.Refused refusal.NoMemory) (IsReceiptOf (event_of_change asked) response)
+
+-- a line, without its line feed, and the answer to it, with what the receipt of its step tells
 pub record Obeyed : Type 0 where
   pub text : List ℕ
   pub node : ℕ
   pub change : Change
   pub reply : Reply (List ℕ)
+  pub witness : Option Witness
 
 -- the bytes of a line that was answered
 abbrev pub order_answer_text : Obeyed → List ℕ
 order_answer_text o = line_text (Operator o.node) (Response o.reply)
 
--- of lines that stand newest first: each spells its change
+-- of lines that stand newest first: each spells its change, which was carried out
 abbrev pub AreObeyed : ℕ → List Obeyed → Type 0
 AreObeyed nodes [] = ⊤
-AreObeyed nodes (o ∷ lines) = IsOrder nodes o.text (order.Change o.node o.change) × AreObeyed nodes lines
+AreObeyed nodes (o ∷ lines) = IsOrder nodes o.text (order.Change o.node o.change) × IsCarriedOut o.change o.reply o.witness × AreObeyed nodes lines
 
 -- the bytes that were read
 abbrev pub orders_of : List Obeyed → List ℕ
@@ -43,9 +60,11 @@ abbrev pub answers_of : List Obeyed → List ℕ
 answers_of [] = []
 answers_of (o ∷ lines) = answers_of lines ++ order_answer_text o
 
--- an answer is written
-pub record Replies (node : ℕ) (written_old written_new : Option (List ℕ)) : Type 0 where
+-- a change is carried out, and its answer written
+pub record Replies (node : ℕ) (asked : Change) (written_old written_new : Option (List ℕ)) : Type 0 where
   pub reply : Reply (List ℕ)
+  pub witness : Option Witness
+  pub carried : IsCarriedOut asked reply witness
   pub written : Appends written_old written_new (line_text (Operator node) (Response reply))
 
 -- a line is carried out, and its answer written
@@ -53,6 +72,7 @@ pub record CarriesOut (nodes : ℕ) (bytes : List ℕ) (written_old written_new 
   pub obeyed : Obeyed
   pub is_text : bytes ≡ with_line_feed obeyed.text
   pub spelled : IsOrder nodes obeyed.text (order.Change obeyed.node obeyed.change)
+  pub carried : IsCarriedOut obeyed.change obeyed.reply obeyed.witness
   pub written : Appends written_old written_new (order_answer_text obeyed)
 
 -- the bytes of `close`

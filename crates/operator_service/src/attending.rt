@@ -10,12 +10,13 @@ ghost use Rattle.operator_service.specs.Servings.{StopsReply};
 
 use crate::looks::look_text;
 use crate::serving::{carry_out, node_at, report_line, write_out};
-use bytes::Bytes;
-use obj_id::Reply;
 use private_store::StepAnswer;
-use program_lines::{ControlLine, Fault, LineTaken, Look, Order, read_control_line, take_line};
+use program_lines::{
+    Change, ControlLine, Fault, LineTaken, Look, Order, read_control_line, take_line,
+};
 use schedule_text::{Prefix, answer_line, is_skipped};
-use session_threads::{Report, SharedNode};
+use session_threads::Report;
+use shared_nodes::SharedNode;
 use std::alloc::{AllocError, Global};
 use std::io::{Read, Write};
 use std::str;
@@ -170,7 +171,7 @@ fn answer_asked<L: Ledger, R: Wait, C: Closing>(
         ControlLine::Order(Order::Close) => last_answer(alloc, closing.close(rt, false)),
         ControlLine::CloseNow => last_answer(alloc, closing.close(rt, true)),
         ControlLine::Order(Order::Change(node, change)) => match node_at(nodes, node) {
-            Some(shared) => change_answer(alloc, node, carry_out(rt, shared, change)),
+            Some(shared) => change_answer(rt, alloc, shared, node, change),
             None => no_order(alloc, number),
         },
         ControlLine::Look(node, look) => match node_at(nodes, node) {
@@ -197,10 +198,17 @@ fn no_order_line(alloc: Global, number: u64) -> Result<String, AllocError>
     format!(in alloc; "line {number}: not an order: the orders are {ORDERS}\n")
 }
 
-/// The answer to a change, to which the node replied so.
-fn change_answer(alloc: Global, node: u32, reply: Reply<Bytes>) -> Result<Answer, AllocError>
-    ensures { IfOk result (λ answer. IsChangeLine node (string_bytes answer.line) × (answer.is_last ≡ false)) }
+/// Makes a change at the node of this number, and answers.
+fn change_answer<L: Ledger, R: Wait>(
+    rt: &R,
+    alloc: Global,
+    shared: &SharedNode<L>,
+    node: u32,
+    change: Change,
+) -> Result<Answer, AllocError>
+    ensures { IfOk result (λ answer. IsChangeLine node change (string_bytes answer.line) × (answer.is_last ≡ false)) }
 {
+    let (reply, _looked_for) = carry_out(rt, shared, change);
     Ok(Answer {
         line: answer_line(alloc, Prefix::Operator(node), &StepAnswer::Response(reply))?,
         is_last: false,

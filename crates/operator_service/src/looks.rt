@@ -4,11 +4,12 @@ ghost use Rattle.std.specs.String.{string_bytes};
 ghost use Rattle.operator_service.specs.Looks.{IsLookText, IsUsageReply, job_text as job_text_lem, jobs_text as jobs_text_lem, jobs_line as jobs_line_lem, sessions_line as sessions_line_lem};
 
 use bytes::Bytes;
+use node_steps::LiveJob;
 use obj_id::{JobNo, Reply};
 use private_store::StepAnswer;
 use program_lines::Look;
 use schedule_text::{Prefix, answer_line};
-use session_threads::{LiveJob, SharedNode};
+use shared_nodes::SharedNode;
 use std::alloc::{AllocError, Global};
 use std::sync::Wait;
 use std::sync::ledger::Ledger;

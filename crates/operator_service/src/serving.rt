@@ -1,5 +1,6 @@
 //! Nodes that serve, as their operator has them on standard input.
-ghost use Rattle.std.specs.Prelude.{◌≡◌, ◌↔◌, ◌<◌, IfOk, OnOk, IfErr, IfSome, IsSome, length};
+ghost use Rattle.std.specs.Prelude.{◌≡◌, ◌↔◌, ◌<◌, IfOk, OnOk, IfErr, IfSome, IsSome, length, option_map, slice_get};
+ghost use Rattle.std.specs.Arc.{arc_value};
 ghost use Rattle.std.specs.Io.KnownBytes.{Appends};
 ghost use Rattle.std.specs.Str.{IsUtf8};
 ghost use Rattle.private_store.specs.declared.schedules.StepAnswer.TheVariants.{Response};
@@ -9,14 +10,16 @@ ghost use Rattle.schedule_text.specs.Printing.{line_text};
 ghost use Rattle.program_lines.specs.declared.fault.Fault.TheVariants.{Output};
 ghost use Rattle.program_lines.specs.Orders.{IsOrder};
 ghost use Rattle.std.specs.String.{string_bytes};
-ghost use Rattle.operator_service.specs.Servings.{report_line, ServedText, ServesLine, StopsOrder, Replies, StopsReply};
+ghost use Rattle.operator_service.specs.Servings.{report_line, IsCarriedOut, ServedText, ServesLine, StopsOrder, Replies, StopsReply};
 
 use bytes::Bytes;
+use node_journal::Receipt;
 use obj_id::Reply;
 use private_store::StepAnswer;
 use program_lines::{Change, Fault, Order, next_line, read_order};
 use schedule_text::{Prefix, answer_line};
-use session_threads::{Report, SharedNode};
+use session_threads::Report;
+use shared_nodes::SharedNode;
 use std::alloc::{AllocError, Global};
 use std::io::{BufRead, Write};
 use std::str;
@@ -117,24 +120,27 @@ fn answer_change<L: Ledger, R: Wait, O: Write>(
     change: Change,
     writer: &mut O,
 ) -> Result<(), Fault>
-    ensures ok { OnOk result (Replies node (O.contents writer.old) (O.contents writer.new)) }
+    ensures ok { OnOk result (Replies node change (O.contents writer.old) (O.contents writer.new)) }
     ensures err { IfErr result (StopsReply (O.contents writer.old) (O.contents writer.new)) }
 {
-    write_answer(alloc, node, carry_out(rt, shared, change), writer)
+    let (reply, _looked_for) = carry_out(rt, shared, change);
+    write_answer(alloc, node, reply, writer)
 }
 
-/// Makes a change at the node, and gives its reply.
+/// Makes a change at the node, and gives its reply, with the receipt of its entry, which was looked for. There is none exactly if the
+/// reply is `NoMemory`.
 pub(crate) fn carry_out<L: Ledger, R: Wait>(
     rt: &R,
     shared: &SharedNode<L>,
     change: Change,
-) -> Reply<Bytes> {
-    let (reply, _receipt) = match change {
+) -> (Reply<Bytes>, Option<Receipt<L>>)
+    ensures { IsCarriedOut change result.0 (option_map (λ r. record { job = r.job; entry = r.entry; asked = r.asked.value; whole = r.whole.value }) result.1) }
+{
+    match change {
         Change::Admit { job, quota, key } => shared.admit(rt, job, quota, key),
         Change::Requota(job, quota) => shared.requota(rt, job, quota),
         Change::End(job) => shared.end_job(rt, job),
-    };
-    reply
+    }
 }
 
 /// The node of this number, if there is one.
@@ -142,7 +148,8 @@ pub(crate) fn node_at<L: Ledger>(
     nodes: &[Arc<SharedNode<L>>],
     number: u32,
 ) -> Option<&SharedNode<L>>
-    ensures { IsSome result ↔ (number < length nodes.now) }
+    ensures there { IsSome result ↔ (number < length nodes.now) }
+    ensures which { result ≡ option_map arc_value (slice_get nodes.now number) }
 {
     match nodes.get(number as usize) {
         Some(shared) => Some(&**shared),

@@ -1,6 +1,1 @@
-mod Answering
-mod Calls
-pub mod Crossing
-mod Erasing
-mod Rounds
 mod SmallLists

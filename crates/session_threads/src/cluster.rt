@@ -2,13 +2,12 @@
 ghost use Rattle.std.specs.Prelude.{◌≡◌, ◌↔◌, ◌≤◌, ◌<◌, vec_len, IfOk, IsSome};
 ghost use Rattle.job_admission.specs.Admissions.{largest_memory};
 
-use crate::pausing::{NoPause, Pause};
-use crate::posting::{Inbox, Outbox, receive};
-use crate::tally::Tally;
-use crate::waiting::Waiting;
-use crate::{SharedNode, Working};
+use crate::Working;
+use crate::receiving::receive;
+use node_housekeeping::{NoPause, Pause, Tally, Waiting};
 use node_journal::nothing_beside;
 use owner_directory::Directory;
+use shared_nodes::{Inbox, Outbox, SharedNode};
 use std::alloc::{AllocError, Global};
 use std::sync::ledger::{Ledger, Share};
 use std::sync::{Arc, Mutex, Wait};
@@ -148,7 +147,7 @@ impl<L: Ledger, P: Pause> Cluster<L, P> {
     /// Closes the links, and waits for what was accepted to be received. What is sent from then on is lost.
     fn disconnect<R: Threads + Wait>(&mut self, rt: &R) {
         for node in &self.nodes {
-            node.outbox.close(rt);
+            node.close_ways(rt);
         }
         for thread in mem::replace(&mut self.receiving, Vec::new(self.alloc)) {
             thread.join(rt);
@@ -203,7 +202,7 @@ impl<L: Ledger, P: Pause> Cluster<L, P> {
     fn report<R: Wait>(&self, rt: &R) -> Report {
         let mut report = Report::new();
         for node in &self.nodes {
-            report.count(node.entries(rt), node.housekeeping.counted(rt));
+            report.count(node.entries(rt), node.housekeeping().counted(rt));
         }
         report
     }

@@ -1,7 +1,8 @@
 //! Listeners, and the sessions of the streams that they accept.
-use crate::pausing::Pause;
-use crate::{Session, SharedNode};
+use crate::Session;
+use node_housekeeping::Pause;
 use session_engine::serve;
+use shared_nodes::SharedNode;
 use std::alloc::{AllocError, Global};
 use std::io::BufWriter;
 use std::net::Shutdown;
@@ -16,10 +17,6 @@ use std::{io, thread};
 /// How long a listener rests after it failed to accept, in milliseconds: while no descriptor is left it would fail again at
 /// once.
 const REST: u64 = 10;
-
-/// How many descriptors are left to the workers' devices: two for each of the most nodes that there may be. A stream that would take one of
-/// them isn't served.
-const SPARE: usize = 16;
 
 /// A listener that accepts streams in a thread.
 #[derive(Drop)]
@@ -66,7 +63,7 @@ fn accept_all<
     P: Pause + Send + Sync + 'static,
 >(rt: R, alloc: Global, node: &Arc<SharedNode<L, P>>, listener: &UnixListener) {
     for stream in listener.incoming() {
-        if node.housekeeping.waiting.is_shut() {
+        if node.housekeeping().waiting.is_shut() {
             return;
         }
         match stream {
@@ -90,30 +87,15 @@ fn start_session<
     stream: UnixStream,
 ) -> Result<(), AllocError> {
     let theirs = Arc::try_clone(node)?;
-    if !has_spare(alloc, &stream) || !node.housekeeping.sessions.begin(&rt) {
+    let upkeep = node.housekeeping();
+    if !upkeep.streams.have_spare(&stream) || !upkeep.sessions.begin(&rt) {
         return Ok(());
     }
     let job = move || serve_stream(&rt, alloc, &*theirs, stream);
     if thread::spawn(&rt, job).is_err() {
-        node.housekeeping.sessions.end(&rt);
+        node.housekeeping().sessions.end(&rt);
     }
     Ok(())
-}
-
-/// Whether the process has descriptors to spare beside the stream: so many can be had at once, and are given back.
-fn has_spare(alloc: Global, stream: &UnixStream) -> bool {
-    let Ok(mut spare) = Vec::with_capacity(alloc, SPARE) else {
-        return false;
-    };
-    for _ in 0..SPARE {
-        match stream.try_clone() {
-            Ok(one) => {
-                let _ = spare.push(one);
-            }
-            Err(_) => return false,
-        }
-    }
-    true
 }
 
 /// Serves a session over the stream, to its end.
@@ -124,11 +106,11 @@ fn serve_stream<L: Ledger, P: Pause, R: Wait + Clock>(
     stream: UnixStream,
 ) {
     // without memory for its place among the open ones it is closed
-    if let Ok(stream) = node.housekeeping.streams.open(rt, alloc, stream) {
+    if let Ok(stream) = node.housekeeping().streams.open(rt, alloc, stream) {
         serve_open(rt, alloc, node, &*stream);
-        node.housekeeping.streams.close(rt, &*stream);
+        node.housekeeping().streams.close(rt, &*stream);
     }
-    node.housekeeping.sessions.end(rt);
+    node.housekeeping().sessions.end(rt);
 }
 
 /// The same of a stream that has its place among the open ones.

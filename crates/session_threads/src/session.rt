@@ -1,15 +1,13 @@
 //! A session at a node.
 
-use crate::SharedNode;
 use crate::frames::framed;
-use crate::pausing::{NoPause, Pause};
-use crate::receipt_buffer::ReceiptBuffer;
-use crate::refusing::out_of_memory;
 use bytes::Bytes;
+use node_housekeeping::{NoPause, Pause};
 use node_journal::Entered;
 use obj_id::{Command, JobKey, JobNo, Refusal, Reply};
 use private_store::Awaited;
 use session_engine::Gate;
+use shared_nodes::{ReceiptBuffer, SharedNode, out_of_memory};
 use std::os::unix::net::UnixStream;
 use std::sync::Wait;
 use std::sync::ledger::Ledger;
@@ -33,7 +31,7 @@ impl<'a, L: Ledger, R: Wait + Clock, P: Pause> Session<'a, L, R, P> {
         Session {
             rt,
             node,
-            receipts: ReceiptBuffer::new(node.housekeeping.alloc),
+            receipts: ReceiptBuffer::new(node.housekeeping().alloc),
             entered: None,
             client: None,
         }
@@ -48,7 +46,7 @@ impl<'a, L: Ledger, R: Wait + Clock, P: Pause> Session<'a, L, R, P> {
         Session {
             rt,
             node,
-            receipts: ReceiptBuffer::new(node.housekeeping.alloc),
+            receipts: ReceiptBuffer::new(node.housekeeping().alloc),
             entered: None,
             client: Some(client),
         }
@@ -64,7 +62,7 @@ impl<'a, L: Ledger, R: Wait + Clock, P: Pause> Session<'a, L, R, P> {
 /// left, the last receipt is of its Leave, or the same as before.
 impl<'a, L: Ledger, R: Wait + Clock, P: Pause> Gate for Session<'a, L, R, P> {
     ghost use Rattle.std.specs.Prelude.{option_map};
-    ghost use Rattle.session_threads.specs.Witnesses.{IsWitnessed, IsLetIn};
+    ghost use Rattle.session_threads.specs.Gates.{IsWitnessed, IsLetIn};
 
     ghost gives = { λ before asked response after. IsWitnessed asked response (option_map (λ r. record { job = r.job; entry = r.entry; asked = r.asked.value; whole = r.whole.value }) before.receipts.last)
         (option_map (λ r. record { job = r.job; entry = r.entry; asked = r.asked.value; whole = r.whole.value }) after.receipts.last) × IsLetIn asked response (option_map (λ e. record { job = e.job; key = e.key; session = e.session }) after.entered) };

@@ -12,10 +12,10 @@ use Rattle.std.specs.contracts.impls.GlobalAllocator.TheImpl.{ghosts}
 use Rattle.std.specs.contracts.sync.Arc as Arc
 use Rattle.std.specs.declared.sync.ledger.Ledger.{Ghosts}
 use Rattle.std.proofs.Crossing.{crosses, send, Arc-send, Arc-sync, Vec-send, Vec-sync}
-use Rattle.session_threads.specs.contracts.pausing.NoPause as NoPause
-use Rattle.session_threads.specs.contracts.shared.SharedNode as Shared
-use Rattle.session_threads.proofs.Crossing.{shared_send, shared_sync}
-use Rattle.session_threads.proofs.pausing.NoPause.TheSendSync.{the_send as pause_send, the_sync as pause_sync}
+use Rattle.node_housekeeping.specs.contracts.pausing.NoPause as NoPause
+use Rattle.shared_nodes.specs.contracts.shared.SharedNode as Shared
+use Rattle.shared_nodes.proofs.Crossing.{shared_send, shared_sync}
+use Rattle.node_housekeeping.proofs.pausing.NoPause.TheSendSync.{the_send as pause_send, the_sync as pause_sync}
 use Rattle.store_server.specs.contracts.control.Control as Control
 
 module _ (L : RattleType) (g : Ghosts L.Denot) where

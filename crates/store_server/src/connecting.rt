@@ -7,7 +7,7 @@ use crate::serve_fault::ServeFault;
 use crate::sockets::{SocketFile, bind_alone};
 use operator_service::{LastLine, attend, serve_text};
 use program_lines::Fault;
-use session_threads::SharedNode;
+use shared_nodes::SharedNode;
 use std::alloc::{AllocError, Global};
 use std::fs::Files;
 use std::io::{BufReader, Read};

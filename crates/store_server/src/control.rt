@@ -1,7 +1,8 @@
 //! The control socket of nodes that serve: what its connections share, and when the server closes.
 use operator_service::Closing;
 use program_lines::Fault;
-use session_threads::{Report, SharedNode};
+use session_threads::Report;
+use shared_nodes::SharedNode;
 use std::alloc::{AllocError, Global};
 use std::net::Shutdown;
 use std::os::fd::AsRawFd;

@@ -3,7 +3,7 @@ ghost use Rattle.std.specs.Prelude.{◌≡◌, true};
 ghost use Rattle.world_core.specs.Worlds.{is_shape};
 
 use crate::connecting::{Connecting, connect_control, take_input};
-use crate::machine::machine_memory;
+use crate::machine::{machine_memory, most_descriptors};
 use crate::patient::Patient;
 use crate::serve_fault::{PrintedFault, ServeFault};
 use crate::sockets::{SocketFile, bind};
@@ -11,7 +11,8 @@ use crate::telling::{Telling, TellingDevice};
 use operator_service::{serve_text, write_report};
 use program_lines::Fault;
 use schedule_runs::Serving;
-use session_threads::{Cluster, Listening, NoPause, Report, SharedNode, Working, listen, work};
+use session_threads::{Cluster, Listening, Report, Working, listen, work};
+use shared_nodes::SharedNode;
 use spill_device::SpillFolder;
 use std::alloc::{AllocError, Global};
 use std::fs::Files;
@@ -243,10 +244,14 @@ fn open_nodes<
     served.workers.reserve(serving.shape.nodes as usize)?;
     served.listeners.reserve(serving.shape.nodes as usize)?;
     let telling = Telling::new(host.alloc())?;
+    let most = most_descriptors(&host);
     for number in 0..serving.shape.nodes {
         let Some(node) = cluster.node(number) else {
             return Err(ServeFault::Fault(Fault::Socket))
         };
+        if let Some(most) = most {
+            node.housekeeping().streams.bound(most);
+        }
         let folder = format!(in host.alloc(); "{}/{number}", serving.spill)?;
         let _ = served
             .folders

@@ -4,7 +4,7 @@ use crate::trials::{Trial, try_out};
 use assertions::{holds, same};
 use obj_id::{Command, JobNo, Quota, Refusal, Reply};
 use private_store::Awaited;
-use session_threads::SharedNode;
+use shared_nodes::SharedNode;
 use std::alloc::{AllocError, Global};
 use std::process::Abort;
 use std::sync::Wait;

@@ -1,8 +1,9 @@
 //! Jobs and their objects at a node, called as a direct caller does.
 use assertions::holds;
 use bytes::Bytes;
+use node_housekeeping::Pause;
 use obj_id::{Command, JobKey, JobNo, Kind, ObjectId, Quota, Reply, TaskNo};
-use session_threads::{Pause, SharedNode};
+use shared_nodes::SharedNode;
 use std::alloc::{AllocError, Global};
 use std::process::Abort;
 use std::sync::Wait;

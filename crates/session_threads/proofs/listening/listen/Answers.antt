@@ -3,7 +3,7 @@ use denote.Param.{param}
 use denote.Param.Send.{param_send, arg_send}
 use Rattle.std.specs.contracts.net.unix.UnixListener as UnixListener
 use Rattle.std.proofs.net.unix.UnixListener.TheSendSync.{the_send as listener_send}
-use Rattle.session_threads.proofs.Crossing.{captures_send}
+use Rattle.shared_nodes.proofs.Crossing.{captures_send}
 use Rattle.session_threads.proofs.listening.listen.Goals as goal
 
 pub spawn-requires-send-F : goal.spawn-requires-send-F

@@ -3,7 +3,7 @@ use denote.Param.{param}
 use denote.Param.Send.{param_send, arg_send}
 use Rattle.std.specs.contracts.net.unix.UnixStream as UnixStream
 use Rattle.std.proofs.net.unix.UnixStream.TheSendSync.{the_send as stream_send}
-use Rattle.session_threads.proofs.Crossing.{captures_send}
+use Rattle.shared_nodes.proofs.Crossing.{captures_send}
 use Rattle.session_threads.proofs.listening.start_session.Goals as goal
 
 pub spawn-requires-send-F : goal.spawn-requires-send-F

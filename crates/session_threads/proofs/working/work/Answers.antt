@@ -1,7 +1,7 @@
 use denote.Exit.{no}
 use denote.Param.{param}
 use denote.Param.Send.{param_send, arg_send}
-use Rattle.session_threads.proofs.Crossing.{worker_send}
+use Rattle.shared_nodes.proofs.Crossing.{worker_send}
 use Rattle.session_threads.proofs.working.work.Goals as goal
 
 pub spawn-requires-send-F : goal.spawn-requires-send-F

@@ -1,9 +1,9 @@
 use denote.Exit.{no}
 use denote.Param.{param}
 use denote.Param.Send.{param_send, arg_send}
-use Rattle.session_threads.specs.contracts.pausing.NoPause as NoPause
-use Rattle.session_threads.proofs.Crossing.{worker_send}
-use Rattle.session_threads.proofs.pausing.NoPause.TheSendSync.{the_send as pause_send, the_sync as pause_sync}
+use Rattle.node_housekeeping.specs.contracts.pausing.NoPause as NoPause
+use Rattle.shared_nodes.proofs.Crossing.{worker_send}
+use Rattle.node_housekeeping.proofs.pausing.NoPause.TheSendSync.{the_send as pause_send, the_sync as pause_sync}
 use Rattle.thread_tests.proofs.kept_calls.start_round.Goals as goal
 
 pub spawn-requires-send-F : goal.spawn-requires-send-F

@@ -2,7 +2,7 @@ use denote.Exit.{no}
 use denote.Param.{param}
 use denote.Param.Send.{param_send, arg_send}
 use Rattle.obj_id.proofs.ids.JobNo.TheSendSync.{the_send as job_send}
-use Rattle.session_threads.proofs.Crossing.{worker_send}
+use Rattle.shared_nodes.proofs.Crossing.{worker_send}
 use Rattle.thread_tests.proofs.kept_steps.start_usage.Goals as goal
 
 pub spawn-requires-send-F : goal.spawn-requires-send-F

@@ -1,0 +1,36 @@
+//! What the steps of a node leave to be done beside the node itself: counts, sessions and streams that are open, keys that wait to be
+//! erased, calls that wait, and what a worker asks of its device. Nothing here names a node; what many threads share has a lock of its
+//! own, under which no other is taken.
+#![tactic(auto)]
+
+mod client;
+mod device_calls;
+mod housekeeping;
+mod job_locks;
+mod open_sessions;
+mod open_streams;
+mod pausing;
+mod pending_answer;
+mod seals;
+mod tally;
+mod turns;
+mod waiting;
+mod waiting_keys;
+mod work_done;
+mod worker_bell;
+
+pub use client::is_gone;
+pub use device_calls::{Finishing, call_device};
+pub use housekeeping::Housekeeping;
+pub use job_locks::JobLocks;
+pub use open_sessions::{LeaveMark, MOST_SESSIONS, OpenSessions};
+pub use open_streams::OpenStreams;
+pub use pausing::{NoPause, Pause};
+pub use pending_answer::{AnswerSlot, PendingAnswer};
+pub use seals::Seals;
+pub use tally::{Tallies, Tally};
+pub use turns::{LANES, Turn, Turns, lane_of};
+pub use waiting::{Versions, Waiting, WakeScope, wake_scope_of};
+pub use waiting_keys::WaitingKeys;
+pub use work_done::WorkDone;
+pub use worker_bell::WorkerBell;

@@ -1,0 +1,119 @@
+//! The sessions of a node that are open, and those that are to be left later.
+use obj_id::JobNo;
+use std::alloc::Global;
+use std::sync::atomic::{AtomicBool, Ordering};
+use std::sync::{Condvar, Mutex, Wait};
+
+/// The sessions that a node has at most, open and marked ones together.
+pub const MOST_SESSIONS: usize = 1_024;
+
+/// A session that is to be left.
+#[derive(Clone, Copy)]
+pub struct LeaveMark {
+    pub job: JobNo,
+    pub session: u32,
+}
+
+/// Sessions that were opened.
+#[derive(Drop)]
+struct Sessions {
+    /// Those that haven't ended.
+    open: usize,
+    /// Those that found no memory to be left, in order. There is room for all that are open.
+    marked: Vec<LeaveMark>,
+}
+
+impl Sessions {
+    /// Opens a session, and makes the room for its mark: whether it could.
+    fn open(&mut self) -> bool {
+        let open = self.open;
+        if open >= MOST_SESSIONS - self.marked.len().min(MOST_SESSIONS) {
+            return false;
+        }
+        if self.marked.reserve(open + 1).is_err() {
+            return false;
+        }
+        self.open = open + 1;
+        true
+    }
+}
+
+/// The sessions of a node, and who waits for their end.
+#[derive(Drop)]
+pub struct OpenSessions {
+    sessions: Mutex<Sessions>,
+    // whether some are marked, so that each command doesn't lock them to see that none is
+    are_marked: AtomicBool,
+    ended: Condvar,
+}
+
+impl OpenSessions {
+    /// None is open.
+    pub fn new(alloc: Global) -> OpenSessions {
+        OpenSessions {
+            sessions: Mutex::new(Sessions {
+                open: 0,
+                marked: Vec::new(alloc),
+            }),
+            are_marked: AtomicBool::new(false),
+            ended: Condvar::new(),
+        }
+    }
+
+    /// A session begins, unless there are as many as may be or there is no memory for its mark: whether it does.
+    pub fn begin<R: Wait>(&self, rt: &R) -> bool {
+        self.sessions.lock(rt).open()
+    }
+
+    /// A session has ended.
+    pub fn end<R: Wait>(&self, rt: &R) {
+        let mut sessions = self.sessions.lock(rt);
+        sessions.open = sessions.open.saturating_sub(1);
+        drop(sessions);
+        self.ended.notify_all();
+    }
+
+    /// How many are open.
+    pub fn count<R: Wait>(&self, rt: &R) -> usize {
+        self.sessions.lock(rt).open
+    }
+
+    /// Waits for the open sessions to end.
+    pub fn wait_for_all<R: Wait>(&self, rt: &R) {
+        let sessions = self
+            .ended
+            .wait_while(rt, self.sessions.lock(rt), |sessions| sessions.open > 0);
+        drop(sessions);
+    }
+
+    /// Marks a session: it is to be left later. One that wasn't opened may find no room, and is then never left.
+    pub fn mark<R: Wait>(&self, rt: &R, job: JobNo, session: u32) {
+        let mut sessions = self.sessions.lock(rt);
+        let _ = sessions.marked.push(LeaveMark { job, session });
+        self.tell_marked(&sessions.marked);
+    }
+
+    /// Whether some are marked. Takes no lock.
+    pub fn are_marked(&self) -> bool {
+        self.are_marked.load(Ordering::SeqCst)
+    }
+
+    /// The session that was marked first.
+    pub fn first_marked<R: Wait>(&self, rt: &R) -> Option<LeaveMark> {
+        self.sessions.lock(rt).marked.first().copied()
+    }
+
+    /// The session that was marked first is left, and no longer marked.
+    pub fn unmark<R: Wait>(&self, rt: &R) {
+        let mut sessions = self.sessions.lock(rt);
+        if !sessions.marked.is_empty() {
+            sessions.marked.remove(0);
+        }
+        self.tell_marked(&sessions.marked);
+    }
+
+    /// Tells whether some are marked, while the sessions are locked.
+    fn tell_marked(&self, marked: &[LeaveMark]) {
+        self.are_marked.store(!marked.is_empty(), Ordering::SeqCst);
+    }
+}

@@ -1,0 +1,4 @@
+pub mod Auditing
+pub mod Looking
+pub mod Stepping
+pub mod Witnesses

@@ -1,0 +1,16 @@
+//! The steps of a node that is locked: each function is lent a node with its journal, and makes one step with it and no more, or leaves
+//! it as it is. What a step leaves to be done beside the node is handed to its housekeeping.
+#![tactic(auto)]
+
+mod auditing;
+mod journal_sweeping;
+mod looking;
+mod stepping;
+
+pub use auditing::audit;
+pub use journal_sweeping::{may_reach_others, sweep_after};
+pub use looking::{LiveJob, live_jobs_of};
+pub use stepping::{
+    Stepped, step_arrival, step_call, step_call_after, step_end, step_event, step_located,
+    step_mark, step_order, step_take,
+};

@@ -1,0 +1,41 @@
+//! What the operator is shown of a node's live jobs.
+ghost use Rattle.std.specs.Prelude.{◌≡◌, ◌++◌, ◌∷◌, [], All, IfOk, OnOk, filter, map};
+ghost use Rattle.node_steps.specs.Looking.{AreLive, IsUsageShown, is_live_now};
+ghost use Rattle.node_steps.specs.declared.looking.LiveJob.{LiveJob};
+
+use node_core::Node;
+use node_journal::Kept;
+use obj_id::{JobNo, Usage};
+use std::alloc::{AllocError, Global};
+use std::sync::ledger::Ledger;
+
+/// A live job of a node, with its quotas and what is used of them.
+#[derive(Clone, Copy, Debug, PartialEq, Eq)]
+pub struct LiveJob {
+    pub job: JobNo,
+    pub usage: Usage,
+}
+
+/// The live jobs among those that the journal has, by rising number. The error is out of memory.
+pub fn live_jobs_of<L: Ledger>(alloc: Global, kept: &Kept<L>) -> Result<Vec<LiveJob>, AllocError>
+    ensures { IfOk result (λ live. AreLive kept.now.node kept.now.logs live.items) }
+{
+    let jobs = kept.jobs()?;
+    let mut live = Vec::new(alloc);
+    for job in jobs.as_slice() {
+        add_live(kept.node(), *job, &mut live)?;
+    }
+    Ok(live)
+}
+
+/// Adds the job, if it is live. The error is out of memory.
+fn add_live(node: &Node, job: JobNo, live: &mut Vec<LiveJob>) -> Result<(), AllocError>
+    ensures listed { OnOk result (map (λ (l : LiveJob). l.job) live.new.items ≡ map (λ (l : LiveJob). l.job) live.old.items ++ filter (is_live_now node.now) (job ∷ [])) }
+    ensures used { OnOk result (All (IsUsageShown node.now) live.old.items → All (IsUsageShown node.now) live.new.items) }
+{
+    let Ok(usage) = node.usage(job) else {
+        return Ok(());
+    };
+    live.push(LiveJob { job, usage })?;
+    Ok(())
+}

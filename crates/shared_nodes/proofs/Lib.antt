@@ -1,0 +1,3 @@
+mod Answering
+pub mod Crossing
+mod Rounds

@@ -1,0 +1,58 @@
+//! How a session is left at its end: now, or, if there is no memory for it, by a later step of its node.
+ghost use Rattle.std.specs.Prelude.{IfSome};
+ghost use Rattle.node_steps.specs.Witnesses.{IsLast};
+
+use crate::SharedNode;
+use node_housekeeping::{MOST_SESSIONS, Pause};
+use node_journal::{Mail, Receipt};
+use node_steps::step_mark;
+use obj_id::{Command, JobNo};
+use std::sync::Wait;
+use std::sync::ledger::Ledger;
+
+impl<L: Ledger, P: Pause> SharedNode<L, P> {
+    /// Leaves a session, with the receipt of the entry. If there is no memory for that, the session is marked.
+    pub fn leave<R: Wait>(&self, rt: &R, job: JobNo, session: u32) -> Option<Receipt<L>>
+        ensures { IfSome result (λ r. IsLast job session (record { job = r.job; entry = r.entry; asked = r.asked.value; whole = r.whole.value })) }
+    {
+        let (_, receipt) = self.call(rt, job, session, Command::Leave);
+        if receipt.is_none() {
+            self.leave_later(rt, job, session);
+        }
+        receipt
+    }
+
+    /// Marks a session: it is left by a later step.
+    pub fn leave_later<R: Wait>(&self, rt: &R, job: JobNo, session: u32) {
+        self.housekeeping.sessions.mark(rt, job, session);
+    }
+
+    /// Leaves the sessions that are marked, in order, until one finds no memory.
+    pub(crate) fn leave_marked<R: Wait>(&self, rt: &R) {
+        for _ in 0..MOST_SESSIONS {
+            if !self.housekeeping.sessions.are_marked() {
+                return;
+            }
+            let Some(mail) = self.leave_first(rt) else {
+                return;
+            };
+            self.post(rt, mail);
+        }
+    }
+
+    /// Leaves the session that was marked first: what that sends. None if no session is marked, or there is no memory for it.
+    fn leave_first<R: Wait>(&self, rt: &R) -> Option<Mail<L>> {
+        let mut kept = self.kept.lock(rt);
+        let sessions = &self.housekeeping.sessions;
+        let mark = sessions.first_marked(rt)?;
+        let mail = step_mark(rt, &mut *kept, &self.housekeeping, mark)?;
+        sessions.unmark(rt);
+        Some(mail)
+    }
+
+    /// Waits for the open sessions to end, and leaves those that are marked then.
+    pub fn end_sessions<R: Wait>(&self, rt: &R) {
+        self.housekeeping.sessions.wait_for_all(rt);
+        self.leave_marked(rt);
+    }
+}

@@ -1,0 +1,17 @@
+//! Nodes that many threads step: each with its journal behind a lock, with its ways to the others and to the directory. A call of a node
+//! makes its steps by `node_steps`, and hands over what they send once the lock is left.
+#![tactic(auto)]
+
+mod leaving;
+mod looking;
+mod posting;
+mod preparing;
+mod receipt_buffer;
+mod refusing;
+mod shared;
+mod working;
+
+pub use posting::{Inbox, Outbox};
+pub use receipt_buffer::ReceiptBuffer;
+pub use refusing::out_of_memory;
+pub use shared::SharedNode;

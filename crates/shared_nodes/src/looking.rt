@@ -1,0 +1,42 @@
+//! What the operator is shown of a node that serves, and how its sessions are ended. None of it makes an entry or changes a job's store.
+ghost use Rattle.std.specs.Prelude.{◌≡◌, IfErr};
+ghost use Rattle.obj_id.specs.declared.refusals.Refusal.TheVariants.{NotAdmitted};
+
+use crate::SharedNode;
+use node_housekeeping::Pause;
+use node_steps::{LiveJob, live_jobs_of};
+use obj_id::{JobNo, Refusal, Usage};
+use std::alloc::AllocError;
+use std::net::Shutdown;
+use std::sync::Wait;
+use std::sync::ledger::Ledger;
+
+impl<L: Ledger, P: Pause> SharedNode<L, P> {
+    /// A job's quotas and what is used of them. `NotAdmitted` if the job isn't live. Takes no memory.
+    pub fn usage<R: Wait>(&self, rt: &R, job: JobNo) -> Result<Usage, Refusal>
+        ensures { IfErr result (λ refusal. refusal ≡ NotAdmitted) }
+    {
+        self.kept.lock(rt).node().usage(job)
+    }
+
+    /// The live jobs, by rising number. The error is out of memory.
+    pub fn live_jobs<R: Wait>(&self, rt: &R) -> Result<Vec<LiveJob>, AllocError> {
+        live_jobs_of(self.housekeeping.alloc, &*self.kept.lock(rt))
+    }
+
+    /// How many sessions are open.
+    pub fn open_sessions<R: Wait>(&self, rt: &R) -> usize {
+        self.housekeeping.sessions.count(rt)
+    }
+
+    /// Waits for the open sessions to end.
+    pub fn await_sessions<R: Wait>(&self, rt: &R) {
+        self.housekeeping.sessions.wait_for_all(rt);
+    }
+
+    /// Shuts down the streams of all open sessions, and of those that are opened later. Of one that is shut down for reading, what was
+    /// sent before is still answered, and then its session ends.
+    pub fn shut_sessions<R: Wait>(&self, rt: &R, how: Shutdown) {
+        self.housekeeping.streams.shut(rt, how);
+    }
+}

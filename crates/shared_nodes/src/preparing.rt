@@ -1,0 +1,217 @@
+//! What takes long is done before a node is locked for the step that wants it, or after it: zeros are made, bytes are hashed, and
+//! memory is given back. Whatever becomes of them meanwhile, the step is the same.
+ghost use Rattle.std.specs.Prelude.{◌≡◌};
+
+use crate::SharedNode;
+use bytes::Bytes;
+use hashed_bytes::Hashed;
+use job_region::Zeros;
+use node_core::Prepared;
+use node_housekeeping::Pause;
+use node_journal::{Kept, Posted};
+use obj_id::limits::{CHUNK_SIZE, LONGEST_OBJECT, UNIT};
+use obj_id::{
+    ChunkIndex, Command, DeviceAnswer, Endpoint, FetchNo, JobNo, Message, NodeNo, ObjectId,
+    PeerMessage,
+};
+use private_store::Event;
+use std::alloc::Global;
+use std::sync::Wait;
+use std::sync::ledger::Ledger;
+
+/// A chunk that arrives.
+#[derive(Clone, Copy)]
+struct Chunk<'a> {
+    from: NodeNo,
+    id: &'a ObjectId,
+    number: FetchNo,
+    index: ChunkIndex,
+    bytes: &'a Bytes,
+}
+
+impl<L: Ledger, P: Pause> SharedNode<L, P> {
+    /// What a command wants: a Seal that its copy has a digest, which is known then, and one that may place a long extent zeros. The job's
+    /// place among the makers is the caller's.
+    pub(crate) fn prepare<R: Wait>(
+        &self,
+        rt: &R,
+        job: JobNo,
+        command: &Command<Bytes>,
+    ) -> Prepared {
+        if let Command::Seal(id) = command {
+            self.prepare_seal(rt, job, id);
+            return Prepared::nothing();
+        }
+        let zeros = self.zeros_for(rt, job, command);
+        Prepared {
+            zeros,
+            ..Prepared::nothing()
+        }
+    }
+
+    /// Has the copy know its digest: once its bytes were compared with those that were hashed, a part at a time, between which others may
+    /// lock the node.
+    fn prepare_seal<R: Wait>(&self, rt: &R, job: JobNo, id: &ObjectId) {
+        let Some(hashed) = self.hash_copy(rt, job, id) else {
+            return;
+        };
+        self.kept.lock(rt).expect(job, id, hashed);
+        for _ in 0..LONGEST_OBJECT {
+            if !self.kept.lock(rt).compare(job, id) {
+                return;
+            }
+        }
+    }
+
+    /// The bytes of a copy with their digest, which is computed while the node isn't locked. Until the Seal is made no Write changes the
+    /// copy.
+    fn hash_copy<R: Wait>(&self, rt: &R, job: JobNo, id: &ObjectId) -> Option<Hashed> {
+        let mut kept = self.kept.lock(rt);
+        let bytes = kept.share_copy(job, id)?;
+        self.housekeeping.seals.begin(rt, job, id);
+        drop(kept);
+        Some(Hashed::new(bytes))
+    }
+
+    /// Zeros for the extent that the command may place.
+    fn zeros_for<R: Wait>(&self, rt: &R, job: JobNo, command: &Command<Bytes>) -> Option<Zeros> {
+        let len = self.kept.lock(rt).node().extent_wanted(job, command)?;
+        Zeros::for_object(self.housekeeping.alloc, len).ok()
+    }
+
+    /// What a message that arrives wants: the last chunk of an object the digest of all its bytes.
+    pub(crate) fn prepare_arrival<R: Wait>(&self, rt: &R, posted: &Posted<L>) -> Prepared {
+        match chunk_of(posted) {
+            Some(chunk) => hashed_first(self.hash_with_last(rt, posted.job(), &chunk)),
+            None => Prepared::nothing(),
+        }
+    }
+
+    /// The bytes of the object of which no chunk but this one is missing, with their digest.
+    fn hash_with_last<R: Wait>(&self, rt: &R, job: JobNo, chunk: &Chunk<'_>) -> Option<Hashed> {
+        let len = self.kept.lock(rt).node().length_with_last(
+            job,
+            chunk.from,
+            chunk.id,
+            chunk.number,
+            chunk.index,
+            chunk.bytes.len(),
+        )?;
+        let mut whole = Vec::with_capacity(self.housekeeping.alloc, len as usize).ok()?;
+        for index in 0..len.div_ceil(CHUNK_SIZE) {
+            let part = if index == chunk.index.0 {
+                chunk.bytes.clone().ok()?
+            } else {
+                self.part_of_copy(rt, job, chunk.id, index)?
+            };
+            whole.extend_from_slice(part.as_slice()).ok()?;
+        }
+        Some(Hashed::new(Bytes::from_vec(whole).ok()?))
+    }
+
+    /// The bytes of the chunk of this index. The node is locked for these alone.
+    fn part_of_copy<R: Wait>(
+        &self,
+        rt: &R,
+        job: JobNo,
+        id: &ObjectId,
+        index: u32,
+    ) -> Option<Bytes> {
+        let offset = index.saturating_mul(CHUNK_SIZE);
+        self.kept
+            .lock(rt)
+            .node()
+            .copy_part(job, id, offset, CHUNK_SIZE)
+    }
+}
+
+/// What the Finish of a read wants, which are the digest of the bytes that were read, and they as they fill an extent; and the job
+/// whose it is.
+pub(crate) fn prepare_finish(alloc: Global, event: &Event) -> (JobNo, Prepared) {
+    let Event::Finish {
+        job,
+        answer: DeviceAnswer::Bytes(bytes),
+        ..
+    } = event
+    else {
+        return (JobNo(0), Prepared::nothing());
+    };
+    let prepared = Prepared {
+        hashed: bytes.clone().ok().map(Hashed::new),
+        filled: filled(alloc, bytes),
+        ..Prepared::nothing()
+    };
+    (*job, prepared)
+}
+
+/// The bytes with zeros up to the end of an extent, if they don't fill one by themselves.
+fn filled(alloc: Global, bytes: &Bytes) -> Option<Bytes> {
+    let len = bytes.len().next_multiple_of(UNIT as usize);
+    if len == bytes.len() {
+        return None;
+    }
+    let mut filled = Vec::with_capacity(alloc, len).ok()?;
+    filled.extend_from_slice(bytes.as_slice()).ok()?;
+    filled.resize(len, 0).ok()?;
+    Bytes::from_vec(filled).ok()
+}
+
+/// Whether a step of the command may take copies out of the job's window.
+pub(crate) fn may_remove(command: &Command<Bytes>) -> bool {
+    !matches!(
+        command,
+        Command::Write { .. }
+            | Command::Seal(_)
+            | Command::Read { .. }
+            | Command::Borrow(..)
+            | Command::Grant(..)
+            | Command::Peek { .. }
+            | Command::List
+            | Command::Usage
+    )
+}
+
+/// The memory of copies that a step of the job took out, if it may have: to be let go once the node isn't locked. No step, so
+/// nothing else changes.
+pub(crate) fn spent_by<L: Ledger>(kept: &mut Kept<L>, job: JobNo, removes: bool) -> Option<Prepared>
+    ensures { (kept.new.node ≡ kept.old.node) × (kept.new.count ≡ kept.old.count) × (kept.new.number ≡ kept.old.number) }
+{
+    if removes {
+        Some(kept.prepare(job, Prepared::nothing()))
+    } else {
+        None
+    }
+}
+
+/// The digest alone.
+fn hashed_first(hashed: Option<Hashed>) -> Prepared {
+    Prepared {
+        hashed,
+        ..Prepared::nothing()
+    }
+}
+
+/// The chunk that the message is, if it is one.
+fn chunk_of<L: Ledger>(posted: &Posted<L>) -> Option<Chunk<'_>> {
+    let Endpoint::Node(from) = posted.from() else {
+        return None;
+    };
+    let Message::ToPeer(
+        PeerMessage::Chunk {
+            id,
+            number,
+            index,
+            bytes,
+        },
+    ) = posted.message()
+    else {
+        return None;
+    };
+    Some(Chunk {
+        from: NodeNo(from),
+        id,
+        number: FetchNo(*number),
+        index: ChunkIndex(*index),
+        bytes,
+    })
+}

@@ -1,0 +1,15 @@
+//! What is answered if memory ran out.
+ghost use Rattle.std.specs.Prelude.{◌≡◌};
+ghost use Rattle.obj_id.specs.declared.commands.Reply.TheVariants as reply;
+ghost use Rattle.obj_id.specs.declared.refusals.Refusal.TheVariants.{NoMemory};
+
+use bytes::Bytes;
+use obj_id::{Refusal, Reply};
+use std::alloc::AllocError;
+
+/// The answer to what found no memory. Nothing else of these threads makes one.
+pub fn out_of_memory(error: AllocError) -> Reply<Bytes>
+    ensures { result ≡ reply.Refused NoMemory }
+{
+    Reply::Refused(Refusal::from(error))
+}

@@ -1,0 +1,559 @@
+//! A node with its journal behind a lock.
+ghost use Rattle.std.specs.Prelude.{◌≡◌, ◌⊎◌, ◌<◌, ◌≤◌, true, false, Some, None, MatchOption, MatchResult, IfSome, IfOk, IfErr};
+ghost use Rattle.obj_id.specs.declared.commands.Reply.TheVariants as reply;
+ghost use Rattle.obj_id.specs.declared.refusals.Refusal.TheVariants.{NoMemory, Stale};
+ghost use Rattle.private_store.specs.laws.Answers.{wants_memory, is_small_reply};
+ghost use Rattle.job_admission.specs.Admissions.{largest_memory};
+ghost use Rattle.private_store.specs.declared.schedules.Event.TheVariants as event;
+ghost use Rattle.session_engine.specs.Calls.{IsEntryRefusal};
+ghost use Rattle.obj_id.specs.declared.messages.Arrival.{Arrival};
+ghost use Rattle.private_store.specs.rules.Cluster.{arrival_of};
+ghost use Rattle.shared_nodes.specs.Rounds.{IsHandedIn, IsWorkTaken};
+ghost use Rattle.shared_nodes.specs.Gathering.{receipts_in_order};
+ghost use Rattle.node_steps.specs.Witnesses.{IsCalled, IsArrived, IsReceiptOf, witness_of};
+ghost use Rattle.private_store.specs.rules.Frames.{tried};
+
+use crate::posting::Outbox;
+use crate::preparing::{may_remove, prepare_finish, spent_by};
+use crate::receipt_buffer::ReceiptBuffer;
+use crate::refusing::out_of_memory;
+use bytes::Bytes;
+use node_core::Prepared;
+use node_housekeeping::{Housekeeping, NoPause, Pause, Versions, Waiting, is_gone};
+use node_journal::{Access, Entered, Keeper, Kept, Posted, Receipt};
+use node_steps::{
+    Stepped, audit, may_reach_others, step_arrival, step_call, step_call_after, step_end,
+    step_event, step_located, step_order, step_take, sweep_after,
+};
+use obj_id::{Command, JobKey, JobNo, Quota, Refusal, Reply};
+use private_store::{Awaited, Event};
+use std::alloc::{AllocError, Global};
+use std::hint::spin_loop;
+use std::os::unix::net::UnixStream;
+use std::slice;
+use std::sync::ledger::{Ledger, Share};
+use std::sync::{Arc, Mutex, MutexGuard, Wait};
+use std::time::Clock;
+
+/// How often a session looks whether the node is locked, before it sleeps until it isn't.
+const LOOKS: u32 = 100;
+
+/// How many pauses there are between two looks, of some six nanoseconds each.
+const PAUSES: u32 = 16;
+
+/// A node with its journal, which many threads step.
+//
+// Locks are taken in this order: a maker's place, a queue, the node, and under it at most one of the others, which are let go at once. No
+// device is called under any, and nothing is hashed or made under a queue's.
+#[derive(Drop)]
+pub struct SharedNode<L: Ledger, P = NoPause> {
+    pub(crate) kept: Mutex<Kept<L>>,
+    pub(crate) outbox: Outbox<L>,
+    pub(crate) housekeeping: Housekeeping<P>,
+}
+
+impl<L: Ledger, P: Pause> Keeper<L> for SharedNode<L, P> {
+    fn kept(&self, _access: Access) -> &Mutex<Kept<L>> {
+        &self.kept
+    }
+}
+
+impl<L: Ledger, P: Pause> SharedNode<L, P> {
+    /// A node of this number, with so many bytes of memory and no job, on one part of the name, with these ways out. This pauses
+    /// its steps.
+    pub fn new(
+        alloc: Global,
+        number: u32,
+        memory: u64,
+        seat: Share<L>,
+        outbox: Outbox<L>,
+        waiting: Arc<Waiting>,
+        pause: P,
+    ) -> SharedNode<L, P>
+        requires memory { memory ≤ largest_memory }
+        requires seat { (seat.parts ≡ 1) × (seat.amount ≡ 0) }
+    {
+        SharedNode {
+            kept: Mutex::new(Kept::new(alloc, number, memory, seat)),
+            outbox,
+            housekeeping: Housekeeping::new(alloc, waiting, pause),
+        }
+    }
+
+    /// A command of a session, with the receipt of its entry. There is none exactly if the reply is `NoMemory`. Sessions that are
+    /// marked are left first, as before each step of a session.
+    pub fn call<R: Wait>(
+        &self,
+        rt: &R,
+        job: JobNo,
+        session: u32,
+        command: Command<Bytes>,
+    ) -> (Reply<Bytes>, Option<Receipt<L>>)
+        ensures called { MatchOption result.1 (result.0 ≡ reply.Refused NoMemory) (λ r. (wants_memory result.0 ≡ false) × IsCalled job session command result.0 (witness_of r)) }
+        ensures small { is_small_reply result.0 ≡ true }
+    {
+        self.leave_marked(rt);
+        let stepped = self.step_command(rt, job, session, command);
+        self.answer(rt, stepped)
+    }
+
+    /// The step of a command, for which something may be prepared before the node is locked.
+    fn step_command<R: Wait>(
+        &self,
+        rt: &R,
+        job: JobNo,
+        session: u32,
+        command: Command<Bytes>,
+    ) -> Result<Stepped<L>, AllocError>
+        ensures called { IfOk result (λ s. (wants_memory s.reply ≡ false) × IsCalled job session command s.reply (witness_of s.receipt)) }
+        ensures small { IfOk result (λ s. is_small_reply s.reply ≡ true) }
+    {
+        let queued = self.housekeeping.queues.of(job).lock(rt);
+        let mut kept = self.lock(rt);
+        if self.is_prepared(rt, &*kept, job, &command) {
+            drop(kept);
+            drop(queued);
+            return self.step_prepared(rt, job, session, command);
+        }
+        let (reaches_others, removes) = (may_reach_others(&command), may_remove(&command));
+        let stepped = step_call(rt, &mut *kept, &self.housekeeping, job, session, command);
+        sweep_after(&mut *kept, job, reaches_others, &stepped);
+        let spent = spent_by(&mut *kept, job, removes);
+        drop(kept);
+        drop(queued);
+        drop(spent);
+        stepped
+    }
+
+    /// Locks the node, for which a session of each queue waits at most. A thread that sleeps is woken late, and most holds are over after a
+    /// microsecond, so it looks for some ten of them first.
+    fn lock<R: Wait>(&self, rt: &R) -> MutexGuard<'_, Kept<L>> {
+        for _ in 0..LOOKS {
+            if let Some(kept) = self.kept.try_lock() {
+                return kept;
+            }
+            for _ in 0..PAUSES {
+                spin_loop();
+            }
+        }
+        self.kept.lock(rt)
+    }
+
+    /// Whether something is to be prepared for the command, or waited for, while the node isn't locked.
+    fn is_prepared<R: Wait>(
+        &self,
+        rt: &R,
+        kept: &Kept<L>,
+        job: JobNo,
+        command: &Command<Bytes>,
+    ) -> bool {
+        kept.node().wants(job, command) || self.housekeeping.seals.are_met(rt, job, command)
+    }
+
+    /// The step of a command for which something is prepared before the node is locked, or which waits for a Seal of its copy. The job's
+    /// place among the makers is taken until the step is made.
+    fn step_prepared<R: Wait>(
+        &self,
+        rt: &R,
+        job: JobNo,
+        session: u32,
+        command: Command<Bytes>,
+    ) -> Result<Stepped<L>, AllocError>
+        ensures called { IfOk result (λ s. (wants_memory s.reply ≡ false) × IsCalled job session command s.reply (witness_of s.receipt)) }
+        ensures small { IfOk result (λ s. is_small_reply s.reply ≡ true) }
+    {
+        let making = self.housekeeping.makers.of(job).lock(rt);
+        let prepared = self.prepare(rt, job, &command);
+        let stepped = self.step_with(rt, prepared, job, session, command);
+        self.housekeeping.seals.end(rt, job);
+        drop(making);
+        stepped
+    }
+
+    /// The step of a command with what was prepared for it. What is left of that is let go once the node isn't locked.
+    fn step_with<R: Wait>(
+        &self,
+        rt: &R,
+        prepared: Prepared,
+        job: JobNo,
+        session: u32,
+        command: Command<Bytes>,
+    ) -> Result<Stepped<L>, AllocError>
+        ensures called { IfOk result (λ s. (wants_memory s.reply ≡ false) × IsCalled job session command s.reply (witness_of s.receipt)) }
+        ensures small { IfOk result (λ s. is_small_reply s.reply ≡ true) }
+    {
+        let queued = self.housekeeping.queues.of(job).lock(rt);
+        let mut kept = self.lock(rt);
+        let before = kept.prepare(job, prepared);
+        let stepped = step_call(rt, &mut *kept, &self.housekeeping, job, session, command);
+        let rest = kept.prepare(job, before);
+        drop(kept);
+        drop(queued);
+        drop(rest);
+        stepped
+    }
+
+    /// The same, if the journal has the entry of a receipt or folded it; the new receipt then is of the same node, and has a
+    /// greater number. There is none if the reply is `NoMemory`, or `Stale`, since the journal says No of the receipt: then
+    /// nothing was stepped.
+    pub fn call_after<R: Wait>(
+        &self,
+        rt: &R,
+        receipt: &Receipt<L>,
+        job: JobNo,
+        session: u32,
+        command: Command<Bytes>,
+    ) -> (Reply<Bytes>, Option<Receipt<L>>)
+        ensures called { MatchOption result.1 ((result.0 ≡ reply.Refused NoMemory) ⊎ (result.0 ≡ reply.Refused Stale)) (λ r. (wants_memory result.0 ≡ false) × IsCalled job session command result.0 (witness_of r)) }
+        ensures later { IfSome result.1 (λ r. (r.node ≡ receipt.now.node) × (receipt.now.entry.number < r.entry.number)) }
+        ensures small { is_small_reply result.0 ≡ true }
+    {
+        self.leave_marked(rt);
+        let queued = self.housekeeping.queues.of(job).lock(rt);
+        let mut kept = self.lock(rt);
+        let (reaches_others, removes) = (may_reach_others(&command), may_remove(&command));
+        let stepped = step_call_after(
+            rt,
+            &mut *kept,
+            &self.housekeeping,
+            receipt,
+            job,
+            session,
+            command,
+        );
+        sweep_after(&mut *kept, job, reaches_others, &stepped);
+        let spent = spent_by(&mut *kept, job, removes);
+        drop(kept);
+        drop(queued);
+        drop(spent);
+        match stepped {
+            Ok(stepped) => self.hand_out(rt, stepped),
+            Err(refusal) => (Reply::Refused(refusal), None),
+        }
+    }
+
+    /// The same as `call`, tried again while the answer is Pending and the node isn't shut, each time that something may have
+    /// moved for the job, or chunks that were asked for don't come for two seconds. Each try is an entry; the answer and the
+    /// receipt are those of the last, and the entries of the others are looked for before the next try.
+    pub fn call_wait<R: Wait + Clock>(
+        &self,
+        rt: &R,
+        job: JobNo,
+        session: u32,
+        awaited: Awaited,
+    ) -> (Reply<Bytes>, Option<Receipt<L>>)
+        ensures called { MatchOption result.1 (result.0 ≡ reply.Refused NoMemory) (λ r. (wants_memory result.0 ≡ false) × IsCalled job session (tried awaited) result.0 (witness_of r)) }
+        ensures small { is_small_reply result.0 ≡ true }
+    {
+        self.call_wait_of(rt, job, session, awaited, None)
+    }
+
+    /// The same of a client's stream: it isn't tried again if its other end was closed, which is looked at after each wait and every
+    /// two seconds of it.
+    pub fn call_wait_of<R: Wait + Clock>(
+        &self,
+        rt: &R,
+        job: JobNo,
+        session: u32,
+        awaited: Awaited,
+        client: Option<&UnixStream>,
+    ) -> (Reply<Bytes>, Option<Receipt<L>>)
+        ensures called { MatchOption result.1 (result.0 ≡ reply.Refused NoMemory) (λ r. (wants_memory result.0 ≡ false) × IsCalled job session (tried awaited) result.0 (witness_of r)) }
+        ensures small { is_small_reply result.0 ≡ true }
+    {
+        for _ in rt.forever() {
+            let (reply, receipt, is_over) = self.try_once(rt, job, session, &awaited, client);
+            if is_over {
+                return (reply, receipt);
+            }
+        }
+        unreachable!()
+    }
+
+    /// One try of a call that waits, and whether it is the last. After another one something may have moved for the job.
+    fn try_once<R: Wait + Clock>(
+        &self,
+        rt: &R,
+        job: JobNo,
+        session: u32,
+        awaited: &Awaited,
+        client: Option<&UnixStream>,
+    ) -> (Reply<Bytes>, Option<Receipt<L>>, bool)
+        ensures called { MatchOption result.1 (result.0 ≡ reply.Refused NoMemory) (λ r. (wants_memory result.0 ≡ false) × IsCalled job session (tried awaited.now) result.0 (witness_of r)) }
+        ensures small { is_small_reply result.0 ≡ true }
+    {
+        let (stepped, seen) = self.step_awaited(rt, job, session, awaited);
+        match stepped {
+            Ok(
+                Stepped {
+                    reply,
+                    receipt,
+                    mail,
+                },
+            ) => {
+                let is_pulling = self.post(rt, mail);
+                let is_pending = matches!(&reply, Reply::Refused(Refusal::Pending));
+                if !is_pending || self.housekeeping.waiting.is_shut() {
+                    return (reply, Some(receipt), true);
+                }
+                let waiting = &self.housekeeping.waiting;
+                waiting.await_next(rt, job, seen, is_pulling, client);
+                if is_gone(client) {
+                    return (reply, Some(receipt), true);
+                }
+                self.check(rt, &receipt);
+                (reply, Some(receipt), false)
+            }
+            Err(error) => (out_of_memory(error), None, true),
+        }
+    }
+
+    /// The step of a try, and what had moved for the job by then: what moves from there on comes after the try.
+    fn step_awaited<R: Wait>(
+        &self,
+        rt: &R,
+        job: JobNo,
+        session: u32,
+        awaited: &Awaited,
+    ) -> (Result<Stepped<L>, AllocError>, Versions)
+        ensures called { IfOk result.0 (λ s. (wants_memory s.reply ≡ false) × IsCalled job session (tried awaited.now) s.reply (record { job = s.receipt.job; entry = s.receipt.entry; asked = s.receipt.asked.value; whole = s.receipt.whole.value })) }
+        ensures small { IfOk result.0 (λ s. is_small_reply s.reply ≡ true) }
+    {
+        self.leave_marked(rt);
+        let command = command_of(awaited);
+        let queued = self.housekeeping.queues.of(job).lock(rt);
+        let mut kept = self.lock(rt);
+        if kept.node().wants(job, &command) {
+            drop(kept);
+            drop(queued);
+            let seen = self.housekeeping.waiting.seen(rt, job);
+            return (self.step_prepared(rt, job, session, command), seen);
+        }
+        let stepped = step_call(rt, &mut *kept, &self.housekeeping, job, session, command);
+        sweep_after(&mut *kept, job, false, &stepped);
+        let seen = self.housekeeping.waiting.seen(rt, job);
+        let spent = spent_by(&mut *kept, job, true);
+        drop(kept);
+        drop(queued);
+        drop(spent);
+        (stepped, seen)
+    }
+
+    /// The operator admits a job, with the receipt of the entry, which was looked for. There is none exactly if the reply is
+    /// `NoMemory`.
+    pub fn admit<R: Wait>(
+        &self,
+        rt: &R,
+        job: JobNo,
+        quota: Quota,
+        key: JobKey,
+    ) -> (Reply<Bytes>, Option<Receipt<L>>)
+        ensures { MatchOption result.1 (result.0 ≡ reply.Refused NoMemory) (λ r. IsReceiptOf (event.Admit job quota key) result.0 (witness_of r)) }
+    {
+        self.order(rt, &Event::Admit { job, quota, key })
+    }
+
+    /// The operator changes a job's quotas, with the receipt of the entry, which was looked for. There is none exactly if the reply
+    /// is `NoMemory`.
+    pub fn requota<R: Wait>(
+        &self,
+        rt: &R,
+        job: JobNo,
+        quota: Quota,
+    ) -> (Reply<Bytes>, Option<Receipt<L>>)
+        ensures { MatchOption result.1 (result.0 ≡ reply.Refused NoMemory) (λ r. IsReceiptOf (event.Requota job quota) result.0 (witness_of r)) }
+    {
+        self.order(rt, &Event::Requota(job, quota))
+    }
+
+    /// The operator ends a job, with the receipt of the entry, which was looked for. There is none exactly if the reply is
+    /// `NoMemory`. If the end isn't refused, the job's journal is folded at once, unless there is no memory for that.
+    pub fn end_job<R: Wait>(&self, rt: &R, job: JobNo) -> (Reply<Bytes>, Option<Receipt<L>>)
+        ensures { MatchOption result.1 (result.0 ≡ reply.Refused NoMemory) (λ r. IsReceiptOf (event.JobEnd job) result.0 (witness_of r)) }
+    {
+        let mut kept = self.kept.lock(rt);
+        let stepped = step_end(rt, &mut *kept, &self.housekeeping, job);
+        let gone = kept.take_gone();
+        drop(kept);
+        drop(gone);
+        self.answer(rt, stepped)
+    }
+
+    /// An event of the operator's, with the receipt of its entry, which was looked for.
+    fn order<R: Wait>(&self, rt: &R, event: &Event) -> (Reply<Bytes>, Option<Receipt<L>>)
+        ensures { MatchOption result.1 (result.0 ≡ reply.Refused NoMemory) (λ r. IsReceiptOf event.now result.0 (witness_of r)) }
+    {
+        let mut kept = self.kept.lock(rt);
+        let stepped = step_order(rt, &mut *kept, &self.housekeeping, event);
+        drop(kept);
+        self.answer(rt, stepped)
+    }
+
+    /// An event of a worker, with the receipt of its entry.
+    pub(crate) fn operate<R: Wait>(
+        &self,
+        rt: &R,
+        event: &Event,
+    ) -> (Reply<Bytes>, Option<Receipt<L>>)
+        ensures { MatchOption result.1 (result.0 ≡ reply.Refused NoMemory) (λ r. IsReceiptOf event.now result.0 (witness_of r)) }
+    {
+        let (job, prepared) = prepare_finish(self.housekeeping.alloc, event);
+        let mut kept = self.kept.lock(rt);
+        let before = kept.prepare(job, prepared);
+        let stepped = step_event(rt, &mut *kept, &self.housekeeping, event);
+        let rest = kept.prepare(job, before);
+        drop(kept);
+        drop(rest);
+        self.answer(rt, stepped)
+    }
+
+    /// An event of a worker, whose receipt is gathered, if there is one.
+    pub(crate) fn operate_gathering<R: Wait>(
+        &self,
+        rt: &R,
+        event: &Event,
+        receipts: &mut ReceiptBuffer<L>,
+    ) -> Reply<Bytes>
+        ensures { IsHandedIn event.now result receipts.old.last (receipts_in_order receipts.new.earlier.items receipts.new.last) }
+    {
+        if let Err(error) = receipts.make_room(rt, self) {
+            return out_of_memory(error);
+        }
+        let (reply, receipt) = self.operate(rt, event);
+        if let Some(receipt) = receipt {
+            receipts.add(receipt);
+        }
+        reply
+    }
+
+    /// A worker takes a work, if one waits that nobody has taken. The receipt is gathered.
+    pub(crate) fn take_gathering<R: Wait>(
+        &self,
+        rt: &R,
+        receipts: &mut ReceiptBuffer<L>,
+    ) -> Reply<Bytes>
+        ensures { IsWorkTaken result receipts.new.last }
+    {
+        if let Err(error) = receipts.make_room(rt, self) {
+            return out_of_memory(error);
+        }
+        let (reply, receipt) = self.take(rt);
+        if let Some(receipt) = receipt {
+            receipts.add(receipt);
+        }
+        reply
+    }
+
+    /// A worker takes a work, if one waits that nobody has taken: otherwise, and without memory, there is no receipt.
+    fn take<R: Wait>(&self, rt: &R) -> (Reply<Bytes>, Option<Receipt<L>>)
+        ensures { MatchOption result.1 ((result.0 ≡ reply.NoWork) ⊎ (result.0 ≡ reply.Refused NoMemory)) (λ r. IsReceiptOf event.Take result.0 (witness_of r)) }
+    {
+        let mut kept = self.kept.lock(rt);
+        let stepped = step_take(rt, &mut *kept, &self.housekeeping);
+        drop(kept);
+        match stepped {
+            None => (Reply::NoWork, None),
+            Some(stepped) => self.answer(rt, stepped),
+        }
+    }
+
+    /// Lets a session into the job, whose key it shows: its number is the one that a node of the cluster gave.
+    pub fn enter<R: Wait>(&self, rt: &R, job: JobNo, key: &JobKey) -> Result<Entered<L>, Refusal>
+        ensures entered { IfOk result (λ e. (e.job ≡ job) × (e.key ≡ key.now)) }
+        ensures refused { IfErr result IsEntryRefusal }
+    {
+        self.kept.lock(rt).enter(job, key)
+    }
+
+    /// A message that was posted to the node arrives, what the step sends is handed over, and the receipt is of the message's entry.
+    /// `Stale` if it was posted to another place, or isn't made for a node; and `NoMemory`. Then it is lost.
+    pub fn arrive<R: Wait>(&self, rt: &R, posted: Posted<L>) -> Result<Receipt<L>, Refusal>
+        ensures arrived { IfOk result (λ r. (a : Arrival) → arrival_of posted.from posted.message ≡ Some a → IsArrived posted.job a (witness_of r)) }
+        ensures refused { IfErr result (λ r. (r ≡ NoMemory) ⊎ (r ≡ Stale)) }
+    {
+        let job = posted.job();
+        let prepared = self.prepare_arrival(rt, &posted);
+        let mut kept = self.kept.lock(rt);
+        let before = kept.prepare(job, prepared);
+        let stepped = step_arrival(rt, &mut *kept, &self.housekeeping, posted);
+        let rest = kept.prepare(job, before);
+        drop(kept);
+        drop(rest);
+        let Stepped { receipt, mail, .. } = stepped?;
+        self.post(rt, mail);
+        Ok(receipt)
+    }
+
+    /// What the directory answered to a message of the node arrives: whether it isn't lost.
+    pub(crate) fn arrive_located<R: Wait>(&self, rt: &R, located: Posted<L>) -> bool {
+        step_located(rt, &mut *self.kept.lock(rt), &self.housekeeping, located)
+    }
+
+    /// Hands over what a step has sent, and gives its answer and its receipt. There is none if there was no memory for the step.
+    fn answer<R: Wait>(
+        &self,
+        rt: &R,
+        stepped: Result<Stepped<L>, AllocError>,
+    ) -> (Reply<Bytes>, Option<Receipt<L>>)
+        ensures { MatchResult stepped (λ s. (result.0 ≡ s.reply) × (result.1 ≡ Some s.receipt)) (λ _. (result.0 ≡ reply.Refused NoMemory) × (result.1 ≡ None)) }
+    {
+        match stepped {
+            Ok(stepped) => self.hand_out(rt, stepped),
+            Err(error) => (out_of_memory(error), None),
+        }
+    }
+
+    /// The same of a step that was made.
+    fn hand_out<R: Wait>(&self, rt: &R, stepped: Stepped<L>) -> (Reply<Bytes>, Option<Receipt<L>>)
+        ensures { (result.0 ≡ stepped.reply) × (result.1 ≡ Some stepped.receipt) }
+    {
+        let Stepped {
+            reply,
+            receipt,
+            mail,
+        } = stepped;
+        self.post(rt, mail);
+        (reply, Some(receipt))
+    }
+
+    /// Looks for the entry of a receipt that was given by this node, and counts it if the journal says that it isn't there. One
+    /// that was folded isn't counted.
+    pub fn check<R: Wait>(&self, rt: &R, receipt: &Receipt<L>) {
+        let receipts = slice::from_ref(receipt);
+        audit(
+            rt,
+            &*self.kept.lock(rt),
+            &self.housekeeping.tallies,
+            receipts,
+        );
+    }
+
+    /// How many entries the journal has.
+    pub fn entries<R: Wait>(&self, rt: &R) -> u64 {
+        self.kept.lock(rt).entries()
+    }
+
+    /// What its steps leave to be done.
+    pub fn housekeeping(&self) -> &Housekeeping<P> {
+        &self.housekeeping
+    }
+
+    /// Closes the ways out to other nodes: what was accepted is still received.
+    pub fn close_ways<R: Wait>(&self, rt: &R) {
+        self.outbox.close(rt);
+    }
+}
+
+/// The command that is tried again.
+fn command_of(awaited: &Awaited) -> Command<Bytes>
+    ensures { result ≡ tried awaited.now }
+{
+    match awaited {
+        Awaited::Get(id) => Command::Get(*id),
+        Awaited::Create { id, kind, length } => Command::Create {
+            id: *id,
+            kind: *kind,
+            length: *length,
+        },
+    }
+}
