@@ -11,10 +11,19 @@ use std::sync::ledger::Ledger;
 use std::sync::{Arc, Mutex, Wait};
 
 /// The directory of the cluster, and a way to each other node, by number.
-#[derive(Drop)]
 pub struct Outbox<L: Ledger> {
     directory: Arc<Mutex<Directory>>,
     nodes: Vec<Option<OutLanes<L>>>,
+}
+
+// By hand, so that it is proved here and not in each crate above; so is that of an inbox.
+impl<L: Ledger> Drop for Outbox<L> {
+    fn drop(self) {
+        let Outbox {
+            directory: _directory,
+            nodes: _nodes,
+        } = self;
+    }
 }
 
 /// The links to another node, by lane: a job that sends more than a link holds loses its own messages alone, and those of other lanes
@@ -36,10 +45,18 @@ pub(crate) struct InLanes<L: Ledger> {
 }
 
 /// All by which messages come to a node.
-#[derive(Drop)]
 pub struct Inbox<L: Ledger> {
     turns: Arc<Turns>,
     ways: Vec<InLanes<L>>,
+}
+
+impl<L: Ledger> Drop for Inbox<L> {
+    fn drop(self) {
+        let Inbox {
+            turns: _turns,
+            ways: _ways,
+        } = self;
+    }
 }
 
 impl<L: Ledger> OutLanes<L> {

@@ -45,11 +45,21 @@ const PAUSES: u32 = 16;
 //
 // Locks are taken in this order: a maker's place, a queue, the node, and under it at most one of the others, which are let go at once. No
 // device is called under any, and nothing is hashed or made under a queue's.
-#[derive(Drop)]
 pub struct SharedNode<L: Ledger, P = NoPause> {
     pub(crate) kept: Mutex<Kept<L>>,
     pub(crate) outbox: Outbox<L>,
     pub(crate) housekeeping: Housekeeping<P>,
+}
+
+// By hand, so that it is proved here and not in each crate above.
+impl<L: Ledger, P: Drop> Drop for SharedNode<L, P> {
+    fn drop(self) {
+        let SharedNode {
+            kept: _kept,
+            outbox: _outbox,
+            housekeeping: _housekeeping,
+        } = self;
+    }
 }
 
 impl<L: Ledger, P: Pause> Keeper<L> for SharedNode<L, P> {
