@@ -1,4 +1,3 @@
 mod Attends
-mod Carrying
 mod Handled
 mod Serves

@@ -149,7 +149,7 @@ pub(crate) fn node_at<L: Ledger>(
     number: u32,
 ) -> Option<&SharedNode<L>>
     ensures there { IsSome result ↔ (number < length nodes.now) }
-    ensures which { result ≡ option_map arc_value (slice_get nodes.now number) }
+    ensures which { option_map (λ shared. shared.now) result ≡ option_map arc_value (slice_get nodes.now number) }
 {
     match nodes.get(number as usize) {
         Some(shared) => Some(&**shared),
