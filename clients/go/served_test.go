@@ -303,47 +303,49 @@ func putAndGet(store *Session, data []byte) error {
 	return nil
 }
 
+// lentCount is how many sessions are lent, and how many were at once.
+type lentCount struct {
+	mutex     sync.Mutex
+	now, most int
+}
+
+func (c *lentCount) add(more int) {
+	c.mutex.Lock()
+	defer c.mutex.Unlock()
+	if c.now += more; c.now > c.most {
+		c.most = c.now
+	}
+}
+
 func TestManyGoroutinesUseFewSessionsOfAPool(t *testing.T) {
 	const most, rounds = 3, 20
 	pool := must(NewPool(firstAccess(t), most))
 	defer pool.Close()
 	var all, firstRound sync.WaitGroup
-	var counting sync.Mutex
-	var lent, mostLent int
-	count := func(more int) {
-		counting.Lock()
-		defer counting.Unlock()
-		if lent += more; lent > mostLent {
-			mostLent = lent
-		}
-	}
-	// in its first round each of the first ones waits for the others, so that all sessions are lent at once
+	var lent lentCount
+	// in their first round the first ones wait for one another, so that all sessions are lent at once
 	firstRound.Add(most)
 	work := func(number int) {
 		defer all.Done()
 		for round := 0; round < rounds; round++ {
-			lease, err := pool.Session(within(t, slack))
-			if err != nil {
-				t.Error(err)
-				return
-			}
-			count(1)
+			lease := must(pool.Session(within(t, slack)))
+			lent.add(1)
 			if number < most && round == 0 {
 				firstRound.Done()
 				firstRound.Wait()
 			}
 			expectNil(t, putAndGet(lease.Session, drawn(1+997*round, int64(number))))
-			count(-1)
+			lent.add(-1)
 			lease.Close()
 		}
 	}
-	all.Add(4 * most)
 	for number := 0; number < 4*most; number++ {
+		all.Add(1)
 		go work(number)
 	}
 	all.Wait()
-	if idle := pool.IdleSessions(); mostLent != most || idle != most {
-		t.Errorf("%d were lent at once, %d came back", mostLent, idle)
+	if idle := pool.IdleSessions(); lent.most != most || idle != most {
+		t.Errorf("%d were lent at once, %d came back", lent.most, idle)
 	}
 }
 
