@@ -25,7 +25,7 @@ func (s *Session) Write(ctx context.Context, id ObjectID, offset uint32, data []
 	if err != nil {
 		return err
 	}
-	return s.askAll(ctx, requests...)
+	return s.ask(ctx, requests...)
 }
 
 // Seal makes the copy immutable, and others see it. [Absent], [AlreadySealed].
@@ -65,7 +65,7 @@ func (s *Session) readAll(ctx context.Context, kind byte, id ObjectID, offset ui
 	if err != nil {
 		return err
 	}
-	return s.askAll(ctx, requests...)
+	return s.ask(ctx, requests...)
 }
 
 // Release is one hold of the session less. [NotHeld].

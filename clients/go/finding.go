@@ -124,11 +124,7 @@ func fits(length int, into []byte) error {
 
 // stateOf is the state of this job's copy at the node, if there is one.
 func (s *Session) stateOf(ctx context.Context, id ObjectID) (State, bool, error) {
-	var listing Listing
-	answers, err := s.exchange(ctx, []request{list(&listing)})
-	if err == nil {
-		err = firstRefusal(answers)
-	}
+	listing, err := s.listing(ctx)
 	for _, item := range listing.Own {
 		if item.ID == id {
 			return item.State, true, err
@@ -137,11 +133,24 @@ func (s *Session) stateOf(ctx context.Context, id ObjectID) (State, bool, error)
 	return 0, false, err
 }
 
+// listing is a List that is sent though the context has ended.
+func (s *Session) listing(ctx context.Context) (Listing, error) {
+	var listing Listing
+	answers, err := s.exchange(ctx, []request{list(&listing)})
+	if err != nil {
+		return Listing{}, err
+	}
+	return listing, firstRefusal(answers)
+}
+
 // grantedLength is the length of an object that another job granted.
 func (s *Session) grantedLength(ctx context.Context, id ObjectID, waits bool) (int, error) {
+	if err := notBegun(ctx); err != nil {
+		return 0, err
+	}
 	pauses := newPauses()
 	for {
-		listing, err := s.List(ctx)
+		listing, err := s.listing(ctx)
 		if err != nil {
 			return 0, err
 		}

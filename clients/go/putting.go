@@ -90,7 +90,7 @@ func (c *newCopy) fillNew(ctx context.Context, data []byte) error {
 	if err != nil {
 		return err
 	}
-	return c.session.askAll(ctx, append(requests, onObject(kindSeal, c.id))...)
+	return c.session.ask(ctx, append(requests, onObject(kindSeal, c.id))...)
 }
 
 // fillInOneBurst finds room at once, or is refused; by a refusal for now if the copy has to be waited for.

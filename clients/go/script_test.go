@@ -13,6 +13,8 @@ import (
 
 const (
 	shortTime = 200 * time.Millisecond
+	// what a call may take to begin, on a machine that does much else
+	fewSeconds = 3 * time.Second
 	// beyond what a call may take, on a machine that does much else
 	slack = 60 * time.Second
 )
@@ -25,6 +27,8 @@ type script struct {
 	t      *testing.T
 	path   string
 	frames chan []byte
+	// that a session has ended
+	ended chan struct{}
 }
 
 // said is the answer to a command.
@@ -41,7 +45,7 @@ type said struct {
 // newScript has one session for each list of answers.
 func newScript(t *testing.T, sessions ...[]said) *script {
 	t.Helper()
-	s := &script{t, filepath.Join(t.TempDir(), "socket"), make(chan []byte, 1000)}
+	s := &script{t, filepath.Join(t.TempDir(), "socket"), make(chan []byte, 1000), make(chan struct{}, 10)}
 	listener := must(net.Listen("unix", s.path))
 	t.Cleanup(func() { listener.Close() })
 	go func() {
@@ -63,7 +67,10 @@ func afterHello(t *testing.T, answers ...said) *script {
 }
 
 func (s *script) serve(stream net.Conn, answers []said) {
-	defer stream.Close()
+	defer func() {
+		_ = stream.Close()
+		s.ended <- struct{}{}
+	}()
 	for {
 		frame := make([]byte, 4)
 		if _, err := io.ReadFull(stream, frame); err != nil {

@@ -300,18 +300,16 @@ func TestAPutAtAServerThatStandsStillEndsInTime(t *testing.T) {
 }
 
 func TestAPutWaitsForRoom(t *testing.T) {
-	script := afterHello(t, refused(Pending), refused(Busy), placedReply(), ok(), ok(), refused(Pending))
+	ctx, cancel := context.WithCancel(background)
+	script := afterHello(t, refused(Pending), refused(Busy), placedReply(), ok(), ok(), before(cancel, refused(Pending)), ok())
 	store := script.connect(slack)
 	expectNil(t, store.PutAs(background, anyID(), []byte("Hello")))
 	script.expect(kindHello, kindCreate, kindCreate, kindCreate, kindWrite, kindSeal)
-	ctx, cancel := context.WithCancel(background)
-	go func() {
-		script.expect(kindCreate)
-		cancel()
-	}()
 	err := store.PutAs(ctx, anyID(), []byte("Hello"))
 	expectIs(t, err, Pending)
 	expectIs(t, err, context.Canceled)
+	script.expect(kindCreate)
+	script.expectNoMore(store)
 }
 
 func TestABurstThatFindsNoRoomIsSentAgainOnceThereIsSome(t *testing.T) {
@@ -447,19 +445,19 @@ func TestAPoolKeepsNoSessionWithRepliesThatNobodyAskedFor(t *testing.T) {
 
 func TestAPoolNoticesASessionThatWasClosedWhileNobodyHadIt(t *testing.T) {
 	script := newScript(t, []said{ok(), closing(ok())}, []said{ok(), ok()})
-	leaveTwice(t, script, func() { time.Sleep(shortTime) })
+	leaveTwice(t, script, func() { <-script.ended })
 }
 
 // leaveTwice says that the second time another session is lent.
-func leaveTwice(t *testing.T, script *script, between func()) {
+func leaveTwice(t *testing.T, script *script, afterFirst func()) {
 	t.Helper()
 	pool := must(NewPool(script.access(slack), 1))
 	defer pool.Close()
-	for range [2]struct{}{} {
+	for _, after := range []func(){afterFirst, func() {}} {
 		lease := must(pool.Session(background))
 		expectNil(t, lease.Leave(background))
 		lease.Close()
-		between()
+		after()
 	}
 	script.expect(kindHello, kindLeave, kindHello, kindLeave)
 }

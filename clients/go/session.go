@@ -58,7 +58,7 @@ func Connect(ctx context.Context, access Access) (*Session, error) {
 		return nil, fmt.Errorf("the session can't be opened: %w", err)
 	}
 	session := &Session{access: access, turn: make(chan struct{}, 1), stream: newStream(socket)}
-	if err := session.askAll(ctx, hello(access.Job, access.Key)); err != nil {
+	if err := session.ask(ctx, hello(access.Job, access.Key)); err != nil {
 		session.Close()
 		return nil, err
 	}
@@ -95,11 +95,8 @@ func (s *Session) String() string {
 
 // ---- how
 
-// ask sends a command; its refusal is the error.
-func (s *Session) ask(ctx context.Context, request request) error { return s.askAll(ctx, request) }
-
-// askAll sends the requests unless the context has ended. All of them are answered; the first refusal is the error.
-func (s *Session) askAll(ctx context.Context, requests ...request) error {
+// ask sends the requests unless the context has ended. All of them are answered; the first refusal is the error.
+func (s *Session) ask(ctx context.Context, requests ...request) error {
 	if err := notBegun(ctx); err != nil {
 		return err
 	}
