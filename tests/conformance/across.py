@@ -76,9 +76,12 @@ def _object(stream: socket.socket, name: bytes) -> bytes:
 
 def _ask(stream: socket.socket, command: bytes) -> bytes:
     """The body of the reply. `Fault` if it is a refusal."""
-    stream.sendall(command)
-    length = int.from_bytes(receive(stream, 4), "big")
-    reply = receive(stream, length)
+    try:
+        stream.sendall(command)
+        length = int.from_bytes(receive(stream, 4), "big")
+        reply = receive(stream, length)
+    except OSError as error:
+        raise Fault(f"to {command[:40].hex()} the server answered nothing: {error}") from None
     if reply[:1] == b"\x8f" or len(reply) != length or not reply:
         raise Fault(f"to {command[:40].hex()} the server answered {reply.hex()}")
     return reply[1:]

@@ -12,7 +12,7 @@ from typing import Dict, Iterator, List
 
 sys.path.insert(0, str(Path(__file__).resolve().parent.parent))
 
-from serving import PATIENCE, READY, receive, start, tell  # noqa: E402
+from serving import PATIENCE, READY, receive, report_of, start, tell  # noqa: E402
 
 from dialogue import Act, Dialogue, Fault, Job, Step, key_of  # noqa: E402
 
@@ -23,7 +23,10 @@ _MEMORY = 1 << 22
 def served(words: List[str], jobs: List[Job]) -> Iterator[str]:
     """The socket of a server that has these jobs. At the end it has to say that its journal is right."""
     with tempfile.TemporaryDirectory() as folder:
-        program = start(words, folder, nodes=1, memory=_MEMORY, errors=subprocess.PIPE)
+        try:
+            program = start(words, folder, nodes=1, memory=_MEMORY, errors=subprocess.PIPE)
+        except OSError as error:
+            raise Fault(f"the server can't be started: {error}") from None
         try:
             assert program.stderr
             ready = program.stderr.readline()
@@ -33,8 +36,11 @@ def served(words: List[str], jobs: List[Job]) -> Iterator[str]:
                 tell(program, f"admit 0 {job.number} {job.window} {job.device} {key_of(job.number).hex()}", "n0 op ok")
             yield f"{folder}/store.0"
             out, err = program.communicate("close\n", timeout=PATIENCE)
-            if program.returncode or err or not out.startswith("report "):
-                raise Fault(f"the server ended with {program.returncode}, {out!r}, {err!r}")
+            if program.returncode or err:
+                raise Fault(f"the server ended with {program.returncode}, and said {err!r}")
+            report_of(out)
+        except (AssertionError, subprocess.TimeoutExpired) as error:
+            raise Fault(f"the server: {error}") from None
         finally:
             program.kill()
             program.wait()
@@ -71,6 +77,8 @@ def play(dialogue: Dialogue, words: List[str]) -> None:
                 _expect_no_more(dialogue, stream)
         except socket.timeout:
             raise Fault(f"{dialogue.name}: the server was silent for {PATIENCE} seconds") from None
+        except OSError as error:
+            raise Fault(f"{dialogue.name}: {error}") from None
         finally:
             sessions.close()
 

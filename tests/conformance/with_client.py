@@ -127,6 +127,8 @@ def run_driver(words: List[str], path: str, job: int, asked: List[str]) -> List[
         done = subprocess.run(command, input=told, capture_output=True, text=True, timeout=PATIENCE, check=False)
     except subprocess.TimeoutExpired:
         raise Fault(f"the driver hadn't ended after {PATIENCE} seconds") from None
+    except OSError as error:
+        raise Fault(f"the driver can't be started: {error}") from None
     if done.returncode or done.stderr:
         raise Fault(f"the driver ended with {done.returncode}, and said {done.stderr!r}")
     return done.stdout.splitlines()
