@@ -139,7 +139,7 @@ type request struct {
 // ---- commands
 
 func hello(job uint32, key Key) request {
-	return request{kind: kindHello, fields: append(number(nil, job), key[:]...), due: kindOK}
+	return request{kind: kindHello, fields: append(addNumber(nil, job), key[:]...), due: kindOK}
 }
 
 func create(wait bool, id ObjectID, kind CopyKind, length uint32, placed *Placed) request {
@@ -147,13 +147,13 @@ func create(wait bool, id ObjectID, kind CopyKind, length uint32, placed *Placed
 	if wait {
 		command = kindCreateWait
 	}
-	fields := number(append(idBytes(id), byte(kind)), length)
+	fields := addNumber(append(idBytes(id), byte(kind)), length)
 	take := func(body *body) { *placed = Placed{body.number(), body.number()} }
 	return request{kind: command, fields: fields, due: kindPlaced, least: 8, most: 8, take: take}
 }
 
 func write(id ObjectID, offset uint32, data []byte) request {
-	return request{kind: kindWrite, fields: number(idBytes(id), offset), tail: data, due: kindOK}
+	return request{kind: kindWrite, fields: addNumber(idBytes(id), offset), tail: data, due: kindOK}
 }
 
 // get is a Get or a GetWait; the length is that of an object, or the reply is none.
@@ -168,7 +168,7 @@ func get(kind byte, id ObjectID, length *int) request {
 
 // read is a Read or a Peek that fills the buffer, of at most 65,536 bytes.
 func read(kind byte, id ObjectID, offset uint32, into []byte) request {
-	fields := number(number(idBytes(id), offset), uint32(len(into)))
+	fields := addNumber(addNumber(idBytes(id), offset), uint32(len(into)))
 	return request{kind: kind, fields: fields, due: kindBytes, least: len(into), most: len(into), into: into}
 }
 
@@ -182,7 +182,7 @@ func onTask(kind byte, id ObjectID, task Task) request {
 }
 
 func onJob(kind byte, id ObjectID, job uint32) request {
-	return request{kind: kind, fields: number(idBytes(id), job), due: kindOK}
+	return request{kind: kind, fields: addNumber(idBytes(id), job), due: kindOK}
 }
 
 func endTask(task Task) request {
@@ -214,10 +214,10 @@ func (r *request) makes() bool {
 // head is the frame without its tail. A tail has at most 65,536 bytes, so the frame isn't too long.
 func (r *request) head() []byte {
 	length := 1 + len(r.fields) + len(r.tail)
-	return append(append(number(nil, uint32(length)), r.kind), r.fields...)
+	return append(append(addNumber(nil, uint32(length)), r.kind), r.fields...)
 }
 
-func number(to []byte, number uint32) []byte { return binary.BigEndian.AppendUint32(to, number) }
+func addNumber(to []byte, number uint32) []byte { return binary.BigEndian.AppendUint32(to, number) }
 
 func idBytes(id ObjectID) []byte {
 	all := id.Bytes()

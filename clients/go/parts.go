@@ -159,9 +159,9 @@ func (c *newCopy) makeWhole(ctx context.Context, data []byte, part func(number i
 	}
 	err = fillParts(ctx, copies, parts, data)
 	var ours []ObjectID
-	for _, copy := range copies {
-		if copy.isOurs() {
-			ours = append(ours, copy.id)
+	for _, one := range copies {
+		if one.isOurs() {
+			ours = append(ours, one.id)
 		}
 	}
 	if err != nil && len(ours) > 0 {
@@ -197,10 +197,10 @@ func fillParts(ctx context.Context, copies []*newCopy, parts *manifest, data []b
 	if err := whole.reserve(ctx, len(encoded)); err != nil {
 		return err
 	}
-	for number, copy := range copies[1:] {
+	for number, part := range copies[1:] {
 		piece := data[:parts.lengthOf(number)]
 		data = data[len(piece):]
-		if err := copy.fillNamed(ctx, piece); err != nil {
+		if err := part.fillNamed(ctx, piece); err != nil {
 			return err
 		}
 	}

@@ -27,8 +27,8 @@ func (s *Session) Put(ctx context.Context, data []byte) (ObjectID, error) {
 	if err != nil {
 		return ObjectID{}, err
 	}
-	copy := newCopy{session: s, id: id, isSecret: true}
-	if err := copy.make(ctx, data); err != nil {
+	made := newCopy{session: s, id: id, isSecret: true}
+	if err := made.make(ctx, data); err != nil {
 		return ObjectID{}, err
 	}
 	return id, nil
@@ -39,8 +39,8 @@ func (s *Session) Put(ctx context.Context, data []byte) (ObjectID, error) {
 //
 // An object that can't be written whole stays unsealed, too, if the session is lost before it is known whose copy it is.
 func (s *Session) PutAs(ctx context.Context, id ObjectID, data []byte) error {
-	copy := newCopy{session: s, id: id}
-	return copy.make(ctx, data)
+	made := newCopy{session: s, id: id}
+	return made.make(ctx, data)
 }
 
 // newCopy is a copy that is to be created. Whether there is one to be taken back is known at any time, also after a fault.

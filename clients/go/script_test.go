@@ -141,13 +141,13 @@ func (s *script) expectNoMore(session *Session) {
 }
 
 func reply(kind byte, body ...byte) said {
-	return raw(append(number(nil, uint32(1+len(body))), append([]byte{kind}, body...)...)...)
+	return raw(append(addNumber(nil, uint32(1+len(body))), append([]byte{kind}, body...)...)...)
 }
 
 func ok() said                     { return reply(kindOK) }
 func refused(refusal Refusal) said { return reply(kindRefused, byte(refusal)) }
 func placedReply() said            { return reply(kindPlaced, 0, 0, 0, 0, 0, 0, 0, 16) }
-func gotReply(length uint32) said  { return reply(kindGot, number(nil, length)...) }
+func gotReply(length uint32) said  { return reply(kindGot, addNumber(nil, length)...) }
 func bytesReply(text string) said  { return reply(kindBytes, []byte(text)...) }
 func closing(answer said) said     { return said{bytes: answer.bytes, closes: true} }
 func unlessGet(answer said) said   { return said{bytes: answer.bytes, unlessGet: true} }
@@ -167,11 +167,11 @@ func together(answers ...said) said {
 }
 
 func listed(states ...State) said {
-	body := number(nil, uint32(len(states)))
+	body := addNumber(nil, uint32(len(states)))
 	for _, state := range states {
-		body = number(append(append(body, idBytes(anyID())...), byte(state), byte(Secondary)), 0)
+		body = addNumber(append(append(body, idBytes(anyID())...), byte(state), byte(Secondary)), 0)
 	}
-	return reply(kindListed, number(body, 0)...)
+	return reply(kindListed, addNumber(body, 0)...)
 }
 
 func anyID() ObjectID { return must(NumberedTask(1).Object(1, 1)) }

@@ -272,10 +272,10 @@ func TestAPutThatIsCancelledIsDeletedAgain(t *testing.T) {
 	script := afterHello(t, placedReply(), ok(), ok(), ok())
 	store := script.connect(slack)
 	ctx, cancel := context.WithCancel(background)
-	copy := newCopy{session: store, id: anyID()}
-	expectNil(t, copy.reserve(ctx, 5))
+	made := newCopy{session: store, id: anyID()}
+	expectNil(t, made.reserve(ctx, 5))
 	cancel()
-	err := copy.make(ctx, []byte("Hello"))
+	err := made.make(ctx, []byte("Hello"))
 	expectIs(t, err, context.Canceled)
 	script.expect(kindHello, kindCreate, kindDelete)
 	script.expectNoMore(store)

@@ -249,7 +249,7 @@ func TestRepliesThatAreCutOrLongerAreRefused(t *testing.T) {
 		}
 		var protocol *ProtocolError
 		for _, frame := range wrong {
-			copy(frame, number(nil, uint32(len(frame)-4)))
+			copy(frame, addNumber(nil, uint32(len(frame)-4)))
 			if _, err := told(frame); !errors.As(err, &protocol) {
 				t.Errorf("%s, of %d bytes: %v", one.said, len(frame), err)
 			}
