@@ -69,7 +69,7 @@ def put(store: Connection, words: argparse.Namespace) -> None:
 
 
 def get(store: Connection, words: argparse.Namespace) -> None:
-    _write(store._get_whole(_id(store, words), words.timeout, None, _progress("get")))
+    _write(store._get_whole(_id(store, words), words.timeout, None, progress=_progress("get")))
 
 
 def peek(store: Connection, words: argparse.Namespace) -> None:

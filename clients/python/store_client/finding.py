@@ -195,12 +195,12 @@ def _await_next_look(requests: Requests, searches: Sequence[Search], pauses: Pau
     return due
 
 
-def find_what_is_there(requests: Requests, search: Search) -> Steps[None]:
-    """Looks until the object is here, or nobody has it sealed."""
-    pauses = Pauses(Deadline(None))
+def find_what_is_there(requests: Requests, search: Search, deadline: Deadline) -> Steps[None]:
+    """Looks until the object is here, or nobody has it sealed, or the time is over."""
+    pauses = Pauses(deadline)
     while True:
         yield from look(requests, [search])
-        if not isinstance(search.refusal, Pending):
+        if not isinstance(search.refusal, Pending) or deadline.is_over:
             return
         yield pauses.next()
 

@@ -150,8 +150,8 @@ def _take_fetch_away(requests: Requests, copy: NewCopy, length: int, exists: Exi
 
 def hold(requests: Requests, search: Search, deadline: Optional[Deadline]) -> Steps[int]:
     """One hold of an object of this job, and its length. With a deadline it is waited for."""
-    if deadline is None:
-        yield from find_what_is_there(requests, search)
+    if deadline is None or not deadline.awaits_puts:
+        yield from find_what_is_there(requests, search, deadline or Deadline(None))
     else:
         yield from find(requests, [search], 1, deadline)
     if search.length is None:
@@ -169,7 +169,7 @@ def granted_lengths(requests: Requests, ids: Sequence[ObjectId], deadline: Optio
         missing = next((id for id in ids if id not in lengths), None)
         if missing is None:
             return [lengths[id] for id in ids]
-        if deadline is None or deadline.is_over:
+        if deadline is None or deadline.is_over or not deadline.awaits_puts:
             raise NotGranted("peek", missing, requests.job)
         yield pauses.next()
 

@@ -32,12 +32,23 @@ def main(program: str, place: str, memory: str) -> None:
     except OSError as error:
         return _tell(f"{place}: {error.strerror}")
     try:
+        _write_epoch(f"{folder}/store.epoch")
+    except OSError as error:
+        shutil.rmtree(folder, ignore_errors=True)
+        return _tell(f"{folder}: {error.strerror}")
+    try:
         _keep([program, "serve", "--nodes", "1", "--memory", memory], folder, order)
     finally:
         # it has to be removed, whatever comes
         for number in _SIGNALS:
             signal.signal(number, signal.SIG_IGN)
         shutil.rmtree(folder, ignore_errors=True)
+
+
+def _write_epoch(path: str) -> None:
+    """What tells this server from others, as epochs.py says. Nobody else can get into the folder, and nobody connects yet."""
+    with open(os.open(path, os.O_WRONLY | os.O_CREAT | os.O_EXCL | os.O_CLOEXEC, 0o600), "w", encoding="ascii") as file:
+        file.write(f"{os.urandom(16).hex()}\n")
 
 
 def _leave(*_: object) -> NoReturn:

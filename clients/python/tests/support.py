@@ -7,6 +7,7 @@ import ctypes
 import os
 import re
 import resource
+import shutil
 import socket
 import subprocess
 import sys
@@ -44,15 +45,31 @@ class Server:
     def __init__(self, nodes: int = 1, memory: int = 2**26) -> None:
         self.folder = tempfile.TemporaryDirectory()
         self.path = f"{self.folder.name}/store.0"
-        words = [PROGRAM, "serve", "--socket", f"{self.folder.name}/store", "--nodes", str(nodes)]
-        words += ["--memory", str(memory), "--spill", f"{self.folder.name}/spill"]
+        self.nodes = nodes
+        self.words = [PROGRAM, "serve", "--socket", f"{self.folder.name}/store", "--nodes", str(nodes)]
+        self.words += ["--memory", str(memory), "--spill", f"{self.folder.name}/spill"]
         self.spill = Path(self.folder.name, "spill/0")
         self.complaints = tempfile.TemporaryFile("w+", encoding="utf-8")
-        self.program = subprocess.Popen(words, stdin=subprocess.PIPE, stdout=subprocess.PIPE, stderr=self.complaints, text=True)
-        for node in range(nodes):
+        self.start()
+
+    def start(self) -> None:
+        self.program = subprocess.Popen(self.words, stdin=subprocess.PIPE, stdout=subprocess.PIPE, stderr=self.complaints, text=True)
+        for node in range(self.nodes):
             self.admit(node, 1, 2**25)
             self.admit(node, 2, 64)
             self.admit(node, 3, 144, 1024)
+
+    def kill(self) -> None:
+        """What it leaves is removed, as the daemon does it; so it can be started again."""
+        self.program.kill()
+        self.program.communicate()
+        for left in Path(self.folder.name).glob("store*"):
+            left.unlink()
+        shutil.rmtree(self.spill.parent)
+
+    def write_epoch(self, text: str) -> None:
+        """As the daemon does it before sessions find the sockets."""
+        Path(self.folder.name, "store.epoch").write_text(f"{text}\n", encoding="ascii")
 
     def admit(self, node: int, job: int, window: int, device: int = 0) -> None:
         self.tell(f"admit {node} {job} {window} {device} {key(job).hex()}", node)
