@@ -24,7 +24,7 @@ class EpochFile:
         self._own: Optional[sockets.Identity] = None
 
     def renew(self) -> None:
-        """Another run begins. This comes before sessions find its sockets: who is connected to it never reads the number of an earlier one."""
+        """Another run begins. This comes before sessions find its sockets, so none of them reads the number of an earlier one."""
         try:
             write_new(self._path, f"{secrets.token_hex(_BYTES)}\n", self._mode, self._group)
         except OSError as error:

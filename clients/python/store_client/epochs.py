@@ -62,7 +62,12 @@ def checked_epoch(value: Any) -> Optional[str]:
 
 
 def getting(
-    get: Callable[[Optional[Deadline]], Steps[T]], id: ObjectId, job: int, timeout: Optional[float], since: Optional[str], epoch: Optional[str]
+    get: Callable[[Optional[Deadline]], Steps[T]],
+    id: ObjectId,
+    job: int,
+    timeout: Optional[float],
+    since: Optional[str],
+    epoch: Optional[str],
 ) -> Steps[T]:
     """The steps that get an object by this deadline. If it was put in another epoch, and isn't here, it isn't waited for any more:
     `LostAtRestart`."""

@@ -46,29 +46,38 @@ class Server:
         self.folder = tempfile.TemporaryDirectory()
         self.path = f"{self.folder.name}/store.0"
         self.nodes = nodes
-        self.words = [PROGRAM, "serve", "--socket", f"{self.folder.name}/store", "--nodes", str(nodes)]
-        self.words += ["--memory", str(memory), "--spill", f"{self.folder.name}/spill"]
+        self.words = ["--nodes", str(nodes), "--memory", str(memory), "--spill", f"{self.folder.name}/spill"]
         self.spill = Path(self.folder.name, "spill/0")
         self.complaints = tempfile.TemporaryFile("w+", encoding="utf-8")
-        self.start()
+        self.start("store")
 
-    def start(self) -> None:
-        self.program = subprocess.Popen(self.words, stdin=subprocess.PIPE, stdout=subprocess.PIPE, stderr=self.complaints, text=True)
+    def start(self, name: str) -> None:
+        """Its sockets have this name at first."""
+        words, pipe = [PROGRAM, "serve", "--socket", f"{self.folder.name}/{name}", *self.words], subprocess.PIPE
+        self.program = subprocess.Popen(words, stdin=pipe, stdout=pipe, stderr=self.complaints, text=True)
         for node in range(self.nodes):
             self.admit(node, 1, 2**25)
             self.admit(node, 2, 64)
             self.admit(node, 3, 144, 1024)
 
     def kill(self) -> None:
-        """What it leaves is removed, as the daemon does it; so it can be started again."""
+        """What it leaves is removed, as the daemon does it."""
         self.program.kill()
         self.program.communicate()
-        for left in Path(self.folder.name).glob("store*"):
+        for left in Path(self.folder.name).glob("store.*"):
             left.unlink()
         shutil.rmtree(self.spill.parent)
 
+    def start_again(self, epoch: Optional[str]) -> None:
+        """As the daemon does it after a crash: sessions find the sockets once the jobs are admitted, and the epoch is there before."""
+        self.start("store.new")
+        if epoch:
+            self.write_epoch(epoch)
+        for node in range(self.nodes):
+            os.rename(f"{self.folder.name}/store.new.{node}", f"{self.folder.name}/store.{node}")
+
     def write_epoch(self, text: str) -> None:
-        """As the daemon does it before sessions find the sockets."""
+        """That of the server that runs."""
         Path(self.folder.name, "store.epoch").write_text(f"{text}\n", encoding="ascii")
 
     def admit(self, node: int, job: int, window: int, device: int = 0) -> None:

@@ -88,8 +88,8 @@ class Names(unittest.TestCase):
             dask.put(1)
 
     def test_a_plugin_can_be_pickled(self) -> None:
-        plugin = pickle.loads(pickle.dumps(dask.StoreWorkers("/run/store", 2, "/key", nodes=3, part=64, small=32, lease=1.5)))
-        self.assertEqual(plugin.__reduce__()[1], ("/run/store", 2, "/key", 3, 64, 32, 1.5))
+        plugin = pickle.loads(pickle.dumps(dask.StoreWorkers("/run/store", 2, "/key", nodes=3, part=64, small=32, lease=1.5, patience=7)))
+        self.assertEqual(plugin.__reduce__()[1], ("/run/store", 2, "/key", 3, 64, 32, 1.5, 7))
 
     def test_pauses_between_tries_grow_to_a_bound(self) -> None:
         now = 100.0

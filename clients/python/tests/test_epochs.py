@@ -41,8 +41,7 @@ class Restarted(unittest.TestCase):
             cls.lost = store.put(b"Hello")
             assert store.epoch == FIRST
         cls.server.kill()
-        cls.server.start()
-        cls.server.write_epoch(SECOND)
+        cls.server.start_again(SECOND)
 
     def connect(self, job: int = 1, node: int = 0) -> store_client.Connection:
         store = self.server.connect(job, node)
@@ -64,8 +63,9 @@ class Restarted(unittest.TestCase):
                 with self.assertRaises(LostAtRestart) as told:
                     get(self.lost, since=FIRST)
                 self.assertIsInstance(told.exception, Absent)
-                text = f"4 LostAtRestart: It was lost: the store was restarted since it was put. (get {self.lost.text(1)}, put in epoch {FIRST}"
-                self.assertEqual(str(told.exception), f"{text}, and now it is {SECOND})")
+                about = f"get {self.lost.text(1)}, put in epoch {FIRST}, and now it is {SECOND}"
+                text = f"4 LostAtRestart: It was lost: the store was restarted since it was put. ({about})"
+                self.assertEqual(str(told.exception), text)
                 self.assertEqual(str(pickle.loads(pickle.dumps(told.exception))), str(told.exception))
 
     def test_it_isn_t_waited_for(self) -> None:
@@ -138,8 +138,7 @@ class Connected(unittest.TestCase):
         with Pool(server.path, 1, key(1)) as pool, server.connect() as store:
             id, epoch = pool.put(b"Hello"), pool.epoch
             server.kill()
-            server.start()
-            server.write_epoch(SECOND)
+            server.start_again(SECOND)
             with self.assertRaises(store_client.ConnectionLost):
                 pool.get(id, since=epoch)
             with self.assertRaises(LostAtRestart):
@@ -176,8 +175,8 @@ class Files(unittest.TestCase):
         self.file = self.folder / "store.epoch"
 
     def test_it_lies_beside_the_socket(self) -> None:
-        for path, file in (("/a/store.0", "/a/store.epoch"), ("/a/store.7", "/a/store.epoch"), ("/a/b.c", "/a/b.c.epoch"), ("/a.0/b", "/a.0/b.epoch")):
-            self.assertEqual(epoch_file(path), file)
+        for path, file in (("/a/store.0", "store"), ("/a/store.7", "store"), ("/a/b.c", "b.c"), ("/a.0/b", "../a.0/b")):
+            self.assertEqual(epoch_file(path), os.path.normpath(f"/a/{file}.epoch"))
 
     def test_by_a_link_to_the_socket(self) -> None:
         self.server.write_epoch(FIRST)
