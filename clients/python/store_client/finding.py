@@ -62,9 +62,11 @@ class _Phase(enum.Enum):
 class Search:
     """What is known of one object that is waited for."""
 
-    def __init__(self, requests: Requests, id: ObjectId) -> None:
+    def __init__(self, requests: Requests, id: ObjectId, awaits_put: bool = True) -> None:
+        """`awaits_put` says whether it is waited for if nobody has put it."""
         self._requests = requests
         self.id = id
+        self._awaits_put = awaits_put
         self.is_foreign = id.job != requests.job
         self._phase = _Phase.UNKNOWN
         self._reminder = _FIRST_REMINDER
@@ -137,7 +139,8 @@ class Search:
     def _phase_after(self, refusal: Refused) -> _Phase:
         if not isinstance(refusal, Pending):
             self._reminder = _FIRST_REMINDER
-            return _Phase.MISSING if isinstance(refusal, NOT_YET) else _Phase.OVER
+            is_awaited = isinstance(refusal, NOT_YET) and (self._awaits_put or not isinstance(refusal, Absent))
+            return _Phase.MISSING if is_awaited else _Phase.OVER
         # this Get may have entered the fetch
         if not isinstance(self.refusal, Pending):
             return _Phase.ENTERED
@@ -195,12 +198,12 @@ def _await_next_look(requests: Requests, searches: Sequence[Search], pauses: Pau
     return due
 
 
-def find_what_is_there(requests: Requests, search: Search, deadline: Deadline) -> Steps[None]:
-    """Looks until the object is here, or nobody has it sealed, or the time is over."""
-    pauses = Pauses(deadline)
+def find_what_is_there(requests: Requests, search: Search) -> Steps[None]:
+    """Looks until the object is here, or nobody has it sealed."""
+    pauses = Pauses(Deadline(None))
     while True:
         yield from look(requests, [search])
-        if not isinstance(search.refusal, Pending) or deadline.is_over:
+        if not isinstance(search.refusal, Pending):
             return
         yield pauses.next()
 

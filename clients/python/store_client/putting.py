@@ -150,8 +150,8 @@ def _take_fetch_away(requests: Requests, copy: NewCopy, length: int, exists: Exi
 
 def hold(requests: Requests, search: Search, deadline: Optional[Deadline]) -> Steps[int]:
     """One hold of an object of this job, and its length. With a deadline it is waited for."""
-    if deadline is None or not deadline.awaits_puts:
-        yield from find_what_is_there(requests, search, deadline or Deadline(None))
+    if deadline is None:
+        yield from find_what_is_there(requests, search)
     else:
         yield from find(requests, [search], 1, deadline)
     if search.length is None:
@@ -195,7 +195,7 @@ def get(
         buffer = blank(length)
         yield from peek_into(requests, id, buffer, progress)
         return buffer.toreadonly()
-    search = Search(requests, id)
+    search = Search(requests, id, deadline is None or deadline.awaits_puts)
     return (yield from undoing(_get_own(requests, search, deadline, keep, progress, limit), lambda: let_go([search])))
 
 
@@ -222,7 +222,7 @@ def get_into(requests: Requests, id: ObjectId, into: memoryview, deadline: Optio
         if fits:
             yield from peek_into(requests, id, into)
         return fits
-    search = Search(requests, id)
+    search = Search(requests, id, deadline is None or deadline.awaits_puts)
     return (yield from undoing(_get_own_into(requests, search, into, deadline), lambda: let_go([search])))
 
 

@@ -79,7 +79,7 @@ class Deadline:
     """When the time of a call is over; never, if it is given none."""
 
     def __init__(self, timeout: Optional[float], awaits_puts: bool = True) -> None:
-        """`awaits_puts` says whether a get waits for what nobody has put; it waits for a transfer in any case."""
+        """`awaits_puts` says whether a get waits for what nobody has put. What is being put or on its way it waits for in any case."""
         self.end = None if timeout is None else time.monotonic() + timeout
         self.awaits_puts = awaits_puts
 

@@ -5,6 +5,7 @@ from __future__ import annotations
 import asyncio
 import os
 import pickle
+import threading
 import time
 import unittest
 from pathlib import Path
@@ -91,6 +92,26 @@ class Restarted(unittest.TestCase):
                     self.assertEqual(bytes(view), b"again")
         near.delete(id)
 
+    def test_what_is_being_put_again_is_waited_for(self) -> None:
+        id = Task(os.urandom(20)).object(1, job=1)
+        store, producer = self.connect(), self.connect()
+        producer.create(id, 5)
+        with self.assertRaises(store_client.NotSealed):
+            store.get(id, timeout=0.2, since=FIRST)
+        timer = threading.Timer(0.2, lambda: (producer.write(id, 0, b"again"), producer.seal(id)))
+        timer.start()
+        self.addCleanup(timer.join)
+        with store.get(id, timeout=PATIENCE, since=FIRST) as view:
+            self.assertEqual(bytes(view), b"again")
+        store.delete(id)
+
+    def test_a_look_leaves_nothing(self) -> None:
+        for store in (self.connect(), self.connect(node=1)):
+            before = store.usage()
+            for timeout in (None, PATIENCE, 0):
+                self.assertRaises(LostAtRestart, store.get, self.lost, timeout, since=FIRST)
+            self.assertEqual(store.usage(), before)
+
     def test_a_part_that_is_missing_wasn_t_lost_by_it(self) -> None:
         store = self.connect()
         id, part = (Task(os.urandom(20)).object(index, job=1) for index in (1, 2))
@@ -98,6 +119,7 @@ class Restarted(unittest.TestCase):
         with self.assertRaises(Absent) as told:
             store.get_value(id, since=FIRST)
         self.assertEqual((type(told.exception), told.exception.id), (Absent, part))
+        store.delete(id)
 
     def test_what_another_job_had_granted(self) -> None:
         store = self.connect(2)

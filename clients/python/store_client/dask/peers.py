@@ -87,7 +87,7 @@ class Peers:
                     return data
                 why = f"{address} sent other bytes"
             elif answer["status"] == "absent":
-                at_restart = at_restart or (address in route.own and ref.is_older_than(answer["epoch"]))
+                at_restart = at_restart or (address in route.own and ref.is_older_than(answer.get("epoch")))
                 why = f"it was removed there, {address} says"
             elif isinstance(answer["error"], GONE):
                 is_away = is_away or (address in route.own and is_store_away(answer["error"]))
