@@ -2,7 +2,6 @@
 
 from __future__ import annotations
 
-import threading
 import time
 from typing import Callable, Optional, Tuple, Type, TypeVar
 
@@ -16,7 +15,7 @@ _PAUSE = 0.2
 
 
 class Absence:
-    """How long a store has been away, as all threads of one call have met it."""
+    """How long a store has been away, as one call has met it."""
 
     def __init__(self, patience: float, deadline: Deadline, away: Tuple[Type[StoreError], ...] = (ConnectionLost,)) -> None:
         """It is waited for so many seconds from when it is missed first, and no longer than the call may take. `away` are the errors by
@@ -24,7 +23,6 @@ class Absence:
         self._patience = patience
         self._deadline = deadline
         self._away = away
-        self._lock = threading.Lock()
         # of the absence that goes on
         self._end: Optional[Deadline] = None
 
@@ -39,12 +37,10 @@ class Absence:
                 if self._is_too_long():
                     raise
             else:
-                with self._lock:
-                    self._end = None
+                self._end = None
                 return given
             time.sleep(self._deadline.within(_PAUSE))
 
     def _is_too_long(self) -> bool:
-        with self._lock:
-            self._end = self._end or Deadline(self._patience)
-            return self._end.is_over or self._deadline.is_over
+        self._end = self._end or Deadline(self._patience)
+        return self._end.is_over or self._deadline.is_over

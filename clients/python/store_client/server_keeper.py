@@ -32,11 +32,6 @@ def main(program: str, place: str, memory: str) -> None:
     except OSError as error:
         return _tell(f"{place}: {error.strerror}")
     try:
-        _write_epoch(f"{folder}/store.epoch")
-    except OSError as error:
-        shutil.rmtree(folder, ignore_errors=True)
-        return _tell(f"{folder}: {error.strerror}")
-    try:
         _keep([program, "serve", "--nodes", "1", "--memory", memory], folder, order)
     finally:
         # it has to be removed, whatever comes
@@ -59,6 +54,10 @@ def _keep(words: List[str], folder: str, order: bytes) -> None:
     """Until the input ends. The server and what it has started, if it is a script, are a group of processes, and end together."""
     pipe = subprocess.PIPE
     words = [*words, "--socket", f"{folder}/store", "--spill", f"{folder}/spill"]
+    try:
+        _write_epoch(f"{folder}/store.epoch")
+    except OSError as error:
+        return _tell(f"{folder}: {error.strerror}")
     try:
         server = subprocess.Popen(words, stdin=pipe, stdout=pipe, stderr=pipe, bufsize=0, start_new_session=True)
     except OSError as error:

@@ -49,8 +49,8 @@ class Waiting(unittest.TestCase):
             self.assertGreater(self.tries, 1)
         self.server.start_again(None)
 
-    def test_all_threads_of_a_call_wait_once(self) -> None:
-        """The first that misses the store begins the time, and who comes after it is over tries once."""
+    def test_a_call_waits_once(self) -> None:
+        """The time begins when the store is missed first, and what comes after it is over is tried once."""
         self.server.kill()
         waits = Absence(0.3, Deadline(None))
         self.assertRaises(ConnectionLost, waits.outlast, self.put)

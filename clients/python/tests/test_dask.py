@@ -332,8 +332,8 @@ class Away(unittest.IsolatedAsyncioTestCase):
         answer = await self.plugins[address]._answer_part(**given)
         return {name: getattr(value, "data", value) for name, value in answer.items()}
 
-    async def meanwhile(self, work: Any) -> Any:
-        """What the work gives, done by a task while the store is away; it comes back once the task has missed it twice."""
+    async def meanwhile(self, work: Any, plugin: dask.StoreWorkers) -> Any:
+        """What the work gives, done by a task of this worker while the store is away; it comes back once the task has missed it twice."""
         missed, loop = threading.Semaphore(0), asyncio.get_running_loop()
         self.server.kill()
         with mock.patch.object(absence, "time", SimpleNamespace(sleep=lambda seconds: (missed.release(), time.sleep(seconds)))):
@@ -341,6 +341,8 @@ class Away(unittest.IsolatedAsyncioTestCase):
             for _ in range(2):
                 self.assertTrue(await loop.run_in_executor(None, missed.acquire, True, PATIENCE))
             self.assertFalse(working.done())
+            # who waits keeps no thread that moves parts
+            self.assertEqual(await loop.run_in_executor(None, plugin._threads.submit(int).result, PATIENCE), 0)
             await loop.run_in_executor(None, self.server.start_again, SECOND)
             return await working
 
@@ -349,7 +351,7 @@ class Away(unittest.IsolatedAsyncioTestCase):
 
     async def test_a_put_waits(self) -> None:
         plugin = await self.plugin("a1", 4 * PATIENCE)
-        ref = await self.meanwhile(lambda: plugin.put(self.value, True, 8 * PATIENCE))
+        ref = await self.meanwhile(lambda: plugin.put(self.value, True, 8 * PATIENCE), plugin)
         self.assertEqual((ref.store_epoch, len(ref.digests)), (SECOND, 5))
         self.assertEqual(await self.in_task(lambda: plugin.load(ref, PATIENCE)), self.value)
 
@@ -358,7 +360,7 @@ class Away(unittest.IsolatedAsyncioTestCase):
         home, reader = await self.plugin("a1", 4 * PATIENCE), await self.plugin(address, 4 * PATIENCE)
         ref = await self.in_task(lambda: home.put(self.value, True, PATIENCE))
         with self.assertRaises(dask.ValueLost) as told:
-            await self.meanwhile(lambda: reader.load(ref, 8 * PATIENCE))
+            await self.meanwhile(lambda: reader.load(ref, 8 * PATIENCE), reader)
         self.assertEqual(str(told.exception), "bytes of host A is lost: its store was restarted since it was put")
         self.assertEqual((told.exception.at_restart, self.lost), (True, [ref.name.prefix]))
 

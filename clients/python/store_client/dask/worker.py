@@ -189,25 +189,28 @@ class StoreWorkers(WorkerPlugin):  # type: ignore[misc]
         """Of each part the digest; and the epoch of the store in which all of them lie."""
         cut, deadline = pieces.cut(self._store.part), Deadline(timeout)
         ids, absence = [name.primary(part, self._job) for part in range(len(cut))], Absence(self._patience, deadline)
+        digests: List[bytes] = []
+        # of the parts that are put
+        epochs: Dict[int, Optional[str]] = {}
 
-        def put_part(part: int) -> Optional[str]:
-            return absence.outlast(lambda: self._store.put(ids[part], cut[part], Kind.PRIMARY, deadline))
+        def put_part(part: int) -> None:
+            epochs[part] = self._store.put(ids[part], cut[part], Kind.PRIMARY, deadline)
 
-        def is_there(part: int) -> bool:
-            return absence.outlast(lambda: self._store.has(ids[part]))
+        def put_missing() -> None:
+            with all_under_way(self._threads, put_part, [part for part in range(len(cut)) if part not in epochs]):
+                # this thread has nothing else to do
+                digests.extend(digest_of(*part.views) for part in cut[len(digests) :])
 
         try:
-            with all_under_way(self._threads, put_part, range(len(cut))) as putting:
-                # this thread has nothing else to do
-                digests = [digest_of(*part.views) for part in cut]
-            epochs = [put.result() for put in putting]
-            while len(set(epochs)) > 1:
+            absence.outlast(put_missing)
+            while len(set(epochs.values())) > 1:
                 # a restart came between two of them, and lost the first
-                missing = [part for part in range(len(cut)) if not is_there(part)]
-                if not missing:
+                gone = absence.outlast(lambda: [part for part in epochs if not self._store.has(ids[part])])
+                if not gone:
                     break
-                for part, epoch in zip(missing, all_of(self._threads, put_part, missing)):
-                    epochs[part] = epoch
+                for part in gone:
+                    del epochs[part]
+                absence.outlast(put_missing)
             return digests, epochs[0]
         except BaseException:
             self._store.delete(ids)
@@ -223,14 +226,16 @@ class StoreWorkers(WorkerPlugin):  # type: ignore[misc]
         route = _Once(lambda: self._ask(self._peers.route(ref)))
         # workers of a host that begin at the same time begin at different parts
         first = 0 if ref.host == self.host else random.randrange(len(ref.parts))
-        order = [*ref.parts[first:], *ref.parts[:first]]
+        missing = dict.fromkeys([*ref.parts[first:], *ref.parts[:first]])
 
         def load_part(part: int) -> None:
-            absence.outlast(lambda: self._load_part(ref, part, body[ref.place(part)], route, deadline))
+            self._load_part(ref, part, body[ref.place(part)], route, deadline)
+            del missing[part]
 
         try:
             with self._working_on(ref.name):
-                all_of(self._threads, load_part, order)
+                # it waits in the task's own thread: others have use for those that move parts
+                absence.outlast(lambda: all_of(self._threads, load_part, list(missing)))
         except StoreAway as away:
             self._tell_lost(ref, ValueLost(away.host, away.about, f"{away.why}; the store wasn't there again in time"))
         except ValueLost as lost:
