@@ -56,7 +56,7 @@ class HostStore:
         return [reconnected(pool.usage) for pool in self._pools]
 
     def put(self, id: ObjectId, pieces: Pieces, kind: Kind, deadline: Deadline) -> Optional[str]:
-        """A sealed object, under an id that nobody else makes. Room is waited for until the deadline. The epoch of the store that has it."""
+        """A sealed object, under an id that nobody else makes. Room is waited for until the deadline. The epoch of its store."""
         pool = self._pool(id)
         patiently(lambda: self.create(id, pieces.length, kind), deadline)
         try:
