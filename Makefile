@@ -79,6 +79,14 @@ client-test:
 rust-client-test:
 	tests/rust_client
 
+# The client in Go, if there is go.
+go-client-test:
+	tests/go_client
+
+# Dialogues at the server and with the clients, byte by byte.
+conformance:
+	tests/conformance/run
+
 # All of the clients' tests, with numpy, mypy, gcc and whatever else they can use; what is missing is
 # said. It takes some minutes.
 client-check:
@@ -147,5 +155,6 @@ picture:
 proof-picture:
 	tests/proof_picture -o docs/pictures/proof.svg
 
-.PHONY: test gate check build run edits sessions attack soak soak-service client-test rust-client-test client-check daemon-test serve dist \
-	deb dist-check hostile show-guarantee pipeline cluster-demo cluster-test model faults growths bench picture proof-picture
+.PHONY: test gate check build run edits sessions attack soak soak-service client-test rust-client-test go-client-test conformance \
+	client-check daemon-test serve dist deb dist-check hostile show-guarantee pipeline cluster-demo cluster-test model faults growths \
+	bench picture proof-picture

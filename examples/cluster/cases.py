@@ -21,6 +21,8 @@ from store_client import dask as store
 UNIT = int(os.environ.get("STORE_CLUSTER_UNIT", 2**20))
 # long enough for a part on a machine that does much else, in seconds
 LEASE = 10.0
+# how long a store that is away is waited for
+AWAY = 5.0
 # that one answer may take, in seconds
 PATIENCE = 150
 
@@ -47,7 +49,7 @@ class OfCluster(unittest.TestCase):
     def setUpClass(cls) -> None:
         # the second job's window is full after a few values, and so is its device
         jobs = {1: Job(16 * UNIT, 256 * UNIT, 2), 2: Job(8 * UNIT, 8 * UNIT, 1)}
-        cls.hosts = Hosts(cls.folder, "ABC", jobs, part=UNIT, small=UNIT // 8, lease=LEASE)
+        cls.hosts = Hosts(cls.folder, "ABC", jobs, part=UNIT, small=UNIT // 8, lease=LEASE, patience=AWAY)
         cls.hosts.__enter__()
         cls.addClassCleanup(cls.hosts.__exit__)
         cls.one, cls.two = cls.hosts.clients[1], cls.hosts.clients[2]
@@ -271,6 +273,20 @@ class Losses(OfCluster):
         wait_until(is_put, "a store", PATIENCE)
         # the others know that the worker is there
         self.assertEqual(self.on("A1.0", faults.total, put[0]).result(PATIENCE), expected(2, 19))
+
+    def test_1_a_store_that_comes_back_in_time(self) -> None:
+        future = self.on("B1.0", faults.put_numbers, count(3), 27)
+        future.result(PATIENCE)
+        self.hosts.kill_store("B")
+        loads = [self.on(worker, faults.patiently, faults.total, future) for worker in ("A1.0", "B1.1")]
+        # as store-daemon starts it again
+        self.hosts.serve(self.hosts.hosts["B"])
+        for load in loads:
+            self.assertEqual(load.result(PATIENCE), expected(3, 27))
+        self.hosts.kill_store("B")
+        put = self.on("B1.0", faults.patiently, faults.put_numbers, count(3), 28)
+        self.hosts.serve(self.hosts.hosts["B"])
+        self.assertEqual(self.on("C1.0", faults.total, put).result(PATIENCE), expected(3, 28))
 
     def test_1_a_store_that_is_killed(self) -> None:
         future = self.on("B1.0", faults.put_numbers, count(3), 20)

@@ -5,7 +5,7 @@ from __future__ import annotations
 import os
 import time
 from pathlib import Path
-from typing import Any, Dict, List, Tuple
+from typing import Any, Callable, Dict, List, Tuple
 
 import numpy
 from distributed import get_worker
@@ -13,6 +13,9 @@ from distributed import get_worker
 from store_client import Kind
 from store_client import dask as store
 from store_client.dask.reference import digest_of
+
+# how long a store that is away is waited for, if it is to come back, in seconds
+LONG = 300.0
 
 
 def numbers(count: int, seed: int) -> Any:
@@ -34,6 +37,16 @@ def put_mixed(count: int) -> store.StoreRef:
 def total(ref: store.StoreRef, timeout: float = 60.0) -> float:
     """The sum of an array."""
     return float(ref.load(timeout).sum())
+
+
+def patiently(work: Callable[..., Any], *words: Any) -> Any:
+    """What the work gives, done by a worker that waits long for a store that is away."""
+    plugin = _plugin()
+    usual, plugin._patience = plugin._patience, LONG
+    try:
+        return work(*words)
+    finally:
+        plugin._patience = usual
 
 
 def look(ref: store.StoreRef) -> Tuple[float, Any, str, bytes, bool]:

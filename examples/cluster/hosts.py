@@ -160,7 +160,7 @@ class Hosts:
             left.unlink()
         memory = sum(job.window for job in self.jobs.values())
         # which was found before
-        words = [os.environ["STORE_PROGRAM"], "serve", "--socket", str(self._folder / host.name), "--nodes", str(self._nodes)]
+        words = [os.environ["STORE_PROGRAM"], "serve", "--socket", str(self._folder / f"{host.name}.new"), "--nodes", str(self._nodes)]
         words += ["--memory", str(memory), "--spill", str(self._folder / f"spill{host.name}")]
         host.store = subprocess.Popen(words, stdin=subprocess.PIPE, stdout=subprocess.PIPE, text=True)
         for number, job in self.jobs.items():
@@ -169,6 +169,9 @@ class Hosts:
                 host.store.stdin.flush()
                 if host.store.stdout.readline() != f"n{node} op ok\n":
                     raise SystemExit(f"the store of host {host.name} admits no job {number}")
+        # only now sessions find it
+        for node in range(self._nodes):
+            os.rename(self._folder / f"{host.name}.new.{node}", self._folder / f"{host.name}.{node}")
 
     def _schedule(self, job: int) -> None:
         host, port = self._scheduler_address(job)[6:].split(":")

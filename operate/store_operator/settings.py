@@ -79,6 +79,10 @@ class Settings:
         """The nodes' sockets, in order."""
         return tuple(Path(f"{self.socket}.{node}") for node in range(self.nodes))
 
+    def epoch(self) -> Path:
+        """The file by which clients tell one run of the server from the next."""
+        return Path(f"{self.socket}.epoch")
+
     def starting(self) -> Path:
         """What the server is told to listen on: sessions find its sockets only once its jobs are admitted."""
         return Path(f"{self.socket}.new")

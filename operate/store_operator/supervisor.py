@@ -13,6 +13,7 @@ from typing import Any, Dict, List, Optional
 
 from . import sockets
 from .counters import Counters
+from .epoch import EpochFile
 from .inspection import count_sessions
 from .jobs import LiveJobs, Over
 from .limits import raise_limit
@@ -72,6 +73,7 @@ class Supervisor:
         self.watcher = Watcher(settings, log)
         self.counters = Counters()
         self._own: Dict[Path, Optional[sockets.Identity]] = {}
+        self._epoch = EpochFile(settings.epoch(), settings.socket_mode, settings.socket_group)
         self._complaint = ""
         self._lock = -1
         self._pause = _FIRST_PAUSE
@@ -191,6 +193,7 @@ class Supervisor:
     def _open(self, server: Server) -> None:
         """Sessions may come: no job is refused that a restart didn't admit yet."""
         settings = self.settings
+        self._epoch.renew()
         sockets.move(settings.starting_sockets(), settings.sockets(), settings.socket_group)
         self._own = {path: sockets.identity(path) for path in settings.sockets()}
         if settings.ready:
@@ -304,6 +307,7 @@ class Supervisor:
     def _clean_up(self) -> None:
         """The server has ended: its sockets and its spilled objects go."""
         self._remove_own()
+        self._epoch.remove()
         sockets.remove(self.settings.starting_sockets())
         try:
             if self.settings.ready:

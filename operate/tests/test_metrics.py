@@ -78,12 +78,18 @@ class Counted(unittest.TestCase):
         with place.control() as daemon:
             return read(daemon.metrics())
 
+    def of_one_session(self, place: Place) -> Dict[str, float]:
+        """Those in which the daemon's own looks have no session open any more, and none of them was too late; nothing otherwise."""
+        found = self.samples(place)
+        sessions = [found[f'store_sessions{{node="{node}"}}'] for node in (0, 1)]
+        return found if sessions == [0, 1] and not found["store_usage_faults"] else {}
+
     def test_jobs_and_nodes(self) -> None:
         with Place(2, (1, 2)) as place:
             place.start_ready()
             with place.session(2, 1) as session:
                 session.put(bytes(1_000))
-                found = self.samples(place)
+                found = until(lambda: self.of_one_session(place), "one session, and a look in which all was told")
             due = {
                 'store_window_bytes{node="1",job="2"}': 65536, 'store_window_used_bytes{node="1",job="2"}': 1008,
                 'store_window_used_bytes{node="0",job="2"}': 0, 'store_device_bytes{node="0",job="1"}': 1 << 20,

@@ -31,6 +31,7 @@ from .refusals import (
     Full,
     Gone,
     Granted,
+    LostAtRestart,
     Malformed,
     NoMemory,
     NoRoom,
@@ -53,7 +54,7 @@ from .refusals import (
     TooMany,
 )
 
-__version__ = "0.4.0"
+__version__ = "0.5.0"
 
 __all__ = [
     "Absent",
@@ -75,6 +76,7 @@ __all__ = [
     "JobTask",
     "Kind",
     "LocalStore",
+    "LostAtRestart",
     "Malformed",
     "NoMemory",
     "NoRoom",

@@ -10,6 +10,7 @@ from typing import Callable, Optional, Sequence, Union
 
 from . import Connection, ObjectId, Refused, State, StoreError, Task, Usage, __version__, connect
 from .checks import LAST_NUMBER, key_bytes, seconds, whole_number
+from .encoding import decode_array
 from .putting import Progress
 from .requests import Pieces
 from .steps import GRACE
@@ -64,12 +65,17 @@ def put(store: Connection, words: argparse.Namespace) -> None:
     else:
         with open(words.file, "rb") as file:
             data = file.read()
+    if words.array:
+        decode_array(memoryview(data), words.file)
     id = _id(store, words) if words.id else None
     print(store._put_pieces(Pieces([memoryview(data)]), id, words.timeout, _progress("put")).text(store.job))
 
 
 def get(store: Connection, words: argparse.Namespace) -> None:
-    _write(store._get_whole(_id(store, words), words.timeout, None, _progress("get")))
+    data = store._get_whole(_id(store, words), words.timeout, None, progress=_progress("get"))
+    if words.array:
+        decode_array(data, words.id)
+    _write(data)
 
 
 def peek(store: Connection, words: argparse.Namespace) -> None:
@@ -195,11 +201,13 @@ def _add_objects(command: _Adding) -> None:
     added.add_argument("file", help="the file's path; - reads the standard input")
     added.add_argument("--id", help="tN.I as t1.1, or 56 hexadecimal digits; a new one otherwise")
     added.add_argument("--timeout", type=_seconds, help="waits at most so many seconds for room; without end otherwise")
+    added.add_argument("--array", action="store_true", help="only if it is an array in numpy's format .npy, without Python objects")
     added = command("get", get, "writes an object's bytes, with those of its parts, to the standard output; also of one that was granted")
     added.add_argument("id", help="tN.I as t1.1, or J/tN.I as 2/t1.1 for an object of job J")
     added.add_argument(
         "--timeout", type=_seconds, help="waits at most so many seconds until somebody has put the object; otherwise it has to be there"
     )
+    added.add_argument("--array", action="store_true", help="only if it is an array, which is written in numpy's format .npy")
     added = command("delete", delete, "removes an object, with its parts, once nobody holds it")
     added.add_argument("id", help="tN.I as t1.1, or 56 hexadecimal digits")
     added = command("end-task", end_task, "removes all objects of a task once nobody holds them")
@@ -244,7 +252,7 @@ def main(words: Optional[Sequence[str]] = None) -> int:
     try:
         with connect(chosen.socket, chosen.job, key, _patience(chosen)) as store:
             chosen.run(store, chosen)
-    except (StoreError, OSError, ValueError) as error:
+    except (StoreError, OSError, ValueError, ImportError) as error:
         print(f"store-client: {error}", file=sys.stderr)
         return 1
     except KeyboardInterrupt:

@@ -15,7 +15,7 @@ from __future__ import annotations
 import asyncio
 import contextlib
 import time
-from typing import TYPE_CHECKING, Any, List, Optional, Sequence, Tuple, Type, TypeVar, Union, overload
+from typing import TYPE_CHECKING, Any, Callable, List, Optional, Sequence, Tuple, Type, TypeVar, Union, overload
 
 from . import finding, parts, putting
 from .aio_session import Session
@@ -23,6 +23,7 @@ from .calls import JobTask
 from .checks import LAST_NUMBER, Buffer, PathLike, flat, key_bytes, length_limit, seconds, socket_path, whole_number, writable
 from .connection import OPENING, NewIds
 from .encoding import decode_array, decode_value, encode_array, encode_value
+from .epochs import checked_epoch, getting, read_epoch
 from .held import ReadBytes
 from .ids import ObjectId, Task, expect_id
 from .items import GrantedItem, Kind, OwnItem, Placed, Usage
@@ -72,10 +73,12 @@ class Held(ReadBytes):
 class Connection:
     """A session: the calls of `store_client.Connection` as coroutines. After `ConnectionLost` each call raises it."""
 
-    def __init__(self, session: Session, job: int, timeout: Optional[float], keeping: Keeping) -> None:
+    def __init__(self, session: Session, job: int, timeout: Optional[float], keeping: Keeping, epoch: Optional[str]) -> None:
         """See `connect`."""
         #: the number of the job that speaks
         self.job = job
+        #: as `store_client.Connection.epoch`
+        self.epoch = epoch
         self._session = session
         self._timeout = timeout
         self._requests = Requests(job)
@@ -124,19 +127,19 @@ class Connection:
                 await self._run(putting.put_named(self._requests, pieces, expect_id(id), deadline, progress, kind), timeout)
         return id
 
-    async def get(self, id: ObjectId, timeout: Optional[float] = None, progress: Optional[Progress] = None) -> Held:
+    async def get(
+        self, id: ObjectId, timeout: Optional[float] = None, progress: Optional[Progress] = None, since: Optional[str] = None
+    ) -> Held:
         """As `store_client.Connection.get`, for `async with await store.get(id) as view`."""
-        timeout = seconds(timeout)
-        deadline = None if timeout is None else Deadline(timeout)
-        view = await self._run(putting.get(self._requests, expect_id(id), deadline, True, progress), timeout)
+        expect_id(id)
+        view = await self._get(lambda deadline: putting.get(self._requests, id, deadline, True, progress), id, timeout, since)
         return Held(self if id.job == self.job else None, id, view, self.job)
 
-    async def get_into(self, id: ObjectId, buffer: Buffer, timeout: Optional[float] = None) -> None:
+    async def get_into(self, id: ObjectId, buffer: Buffer, timeout: Optional[float] = None, since: Optional[str] = None) -> None:
         """As `store_client.Connection.get_into`."""
-        timeout = seconds(timeout)
-        deadline = None if timeout is None else Deadline(timeout)
+        expect_id(id)
         with writable(buffer) as view:
-            if not await self._run(putting.get_into(self._requests, expect_id(id), view, deadline), timeout):
+            if not await self._get(lambda deadline: putting.get_into(self._requests, id, view, deadline), id, timeout, since):
                 raise ValueError(f"{id.text(self.job)} has another length than the buffer, which takes {len(view)} bytes")
 
     async def wait(
@@ -157,12 +160,25 @@ class Connection:
 
     @overload
     async def get_value(
-        self, id: ObjectId, timeout: Optional[float] = None, trust: bool = False, limit: Optional[int] = None, expect: None = None
+        self,
+        id: ObjectId,
+        timeout: Optional[float] = None,
+        trust: bool = False,
+        limit: Optional[int] = None,
+        expect: None = None,
+        since: Optional[str] = None,
     ) -> Any: ...
 
     @overload
     async def get_value(
-        self, id: ObjectId, timeout: Optional[float] = None, trust: bool = False, limit: Optional[int] = None, *, expect: Type[V]
+        self,
+        id: ObjectId,
+        timeout: Optional[float] = None,
+        trust: bool = False,
+        limit: Optional[int] = None,
+        *,
+        expect: Type[V],
+        since: Optional[str] = None,
     ) -> V: ...
 
     async def get_value(
@@ -172,20 +188,22 @@ class Connection:
         trust: bool = False,
         limit: Optional[int] = None,
         expect: Optional[Type[Any]] = None,
+        since: Optional[str] = None,
     ) -> Any:
         """As `store_client.Connection.get_value`: it runs what the pickle says."""
         check_trust(id, self.job, trust)
-        return expected(decode_value(await self._get_whole(id, timeout, limit), id.text(self.job)), expect, id.text(self.job))
+        return expected(decode_value(await self._get_whole(id, timeout, limit, since), id.text(self.job)), expect, id.text(self.job))
 
     async def put_array(self, array: Any, id: Optional[ObjectId] = None, timeout: Optional[float] = None) -> ObjectId:
         """As `store_client.Connection.put_array`."""
         return await self._put_pieces(encode_array(array), id, timeout)
 
     async def get_array(
-        self, id: ObjectId, timeout: Optional[float] = None, limit: Optional[int] = None
+        self, id: ObjectId, timeout: Optional[float] = None, limit: Optional[int] = None, since: Optional[str] = None
     ) -> numpy.ndarray[Any, numpy.dtype[Any]]:
         """As `store_client.Connection.get_array`."""
-        array: numpy.ndarray[Any, numpy.dtype[Any]] = decode_array(await self._get_whole(id, timeout, limit), id.text(self.job))
+        whole = await self._get_whole(id, timeout, limit, since)
+        array: numpy.ndarray[Any, numpy.dtype[Any]] = decode_array(whole, id.text(self.job))
         return array
 
     async def delete_value(self, id: ObjectId) -> None:
@@ -294,10 +312,17 @@ class Connection:
         name = None if id is None else expect_id(id)
         return await self._run(parts.put_whole(self._requests, pieces, name, self.new_id, Deadline(timeout)), timeout)
 
-    async def _get_whole(self, id: ObjectId, timeout: Optional[float], limit: Optional[int]) -> memoryview:
-        timeout = seconds(timeout)
-        deadline = None if timeout is None else Deadline(timeout)
-        return await self._run(parts.get_whole(self._requests, expect_id(id), deadline, length_limit(limit)), timeout)
+    async def _get_whole(self, id: ObjectId, timeout: Optional[float], limit: Optional[int], since: Optional[str]) -> memoryview:
+        expect_id(id)
+        most = length_limit(limit)
+        return await self._get(lambda deadline: parts.get_whole(self._requests, id, deadline, most), id, timeout, since)
+
+    async def _get(
+        self, get: Callable[[Optional[Deadline]], Steps[T]], id: ObjectId, timeout: Optional[float], since: Optional[str]
+    ) -> T:
+        """Runs the steps that get an object by a deadline."""
+        timeout, since = seconds(timeout), checked_epoch(since)
+        return await self._run(getting(get, id, self.job, timeout, since, self.epoch), timeout)
 
     async def _run(self, steps: Steps[T], timeout: Optional[float] = None) -> T:
         return await self._drive(steps, None if timeout is None else time.monotonic() + timeout)
@@ -390,4 +415,4 @@ async def connect(path: PathLike, job: int, key: bytes, timeout: Optional[float]
         session.end("the connection is closed")
         await session.ended()
         raise
-    return Connection(session, number, patience, Keeping(name, number, secret, keeper))
+    return Connection(session, number, patience, Keeping(name, number, secret, keeper), read_epoch(name))

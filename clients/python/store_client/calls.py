@@ -3,10 +3,11 @@
 from __future__ import annotations
 
 import abc
-from typing import List, Optional, Sequence, Tuple, TypeVar
+from typing import Callable, List, Optional, Sequence, Tuple, TypeVar
 
 from . import finding, putting
 from .checks import Buffer, flat, seconds, writable
+from .epochs import checked_epoch, getting
 from .held import Held, Holder
 from .ids import ObjectId, Task, expect_id
 from .items import GrantedItem, Kind, OwnItem, Placed, Usage
@@ -49,6 +50,17 @@ class Calls(abc.ABC):
     def new_id(self) -> ObjectId:
         """An id that nobody else makes: of a random task, with the next index."""
 
+    @property
+    @abc.abstractmethod
+    def epoch(self) -> Optional[str]:
+        """What tells this run of the store from every other: 32 hexadecimal digits that were drawn by lot at its start. None if nobody
+        keeps that, as at a server that was started by hand; `store-daemon` does, and `local`.
+
+        Objects end with the store. Note the epoch before a put, and give it to a later get as `since`: if the object is gone then, and the
+        store was restarted meanwhile, that is told as `LostAtRestart`. Of a connection the epoch never changes. A pool has that of this
+        thread's connection, which is opened if need be: another one once the pool has connected to a restarted store.
+        """
+
     # ---- objects, whole
 
     def task(self, number: int) -> JobTask:
@@ -86,7 +98,9 @@ class Calls(abc.ABC):
                 self._run(putting.put_named(self._requests, pieces, expect_id(id), deadline, progress, kind), timeout)
         return id
 
-    def get(self, id: ObjectId, timeout: Optional[float] = None, progress: Optional[Progress] = None) -> Held:
+    def get(
+        self, id: ObjectId, timeout: Optional[float] = None, progress: Optional[Progress] = None, since: Optional[str] = None
+    ) -> Held:
         """The object's bytes, held until `release` or the end of a `with`.
 
         Without a timeout, the object is got if it is sealed at this node or another one, and brought here if need be;
@@ -95,22 +109,33 @@ class Calls(abc.ABC):
         end. A server that doesn't answer is `ServerSilent`, at the end of that time but not before a second.
 
         An object of another job is got if it is granted, and otherwise is `NotGranted`.
+
+        `since` is the `epoch` in which the object was put, or None. If the store was restarted since then, the object is lost unless
+        somebody has put it again. So it isn't waited for, and what was `Absent` or `NotGranted` is `LostAtRestart`, which is an `Absent`.
         """
-        timeout = seconds(timeout)
-        deadline = None if timeout is None else Deadline(timeout)
-        return self._run(self._get_held(expect_id(id), deadline, progress), timeout)
+
+        def get(deadline: Optional[Deadline]) -> Steps[Held]:
+            return self._get_held(id, deadline, progress)
+
+        return self._get(get, expect_id(id), timeout, since)
+
+    def _get(
+        self, get: Callable[[Optional[Deadline]], Steps[T]], id: ObjectId, timeout: Optional[float], since: Optional[str]
+    ) -> T:
+        """Runs the steps that get an object by a deadline."""
+        timeout, since = seconds(timeout), checked_epoch(since)
+        return self._run(getting(get, id, self.job, timeout, since, self.epoch if since else None), timeout)
 
     def _get_held(self, id: ObjectId, deadline: Optional[Deadline], progress: Optional[Progress]) -> Steps[Held]:
         view = yield from putting.get(self._requests, id, deadline, True, progress)
         return Held(self._holder() if id.job == self.job else None, id, view, self.job)
 
-    def get_into(self, id: ObjectId, buffer: Buffer, timeout: Optional[float] = None) -> None:
+    def get_into(self, id: ObjectId, buffer: Buffer, timeout: Optional[float] = None, since: Optional[str] = None) -> None:
         """Fills a writable buffer with the object's bytes, which are as many, with several Reads in flight; no hold stays. Waits and
         is refused as `get`. `ValueError` if the object has another length: the buffer is as it was then."""
-        timeout = seconds(timeout)
-        deadline = None if timeout is None else Deadline(timeout)
+        expect_id(id)
         with writable(buffer) as view:
-            if not self._run(putting.get_into(self._requests, expect_id(id), view, deadline), timeout):
+            if not self._get(lambda deadline: putting.get_into(self._requests, id, view, deadline), id, timeout, since):
                 raise ValueError(f"{id.text(self.job)} has another length than the buffer, which takes {len(view)} bytes")
 
     def wait(

@@ -10,6 +10,7 @@ import weakref
 from typing import Any, List, Optional, Sequence, TypeVar, Union
 
 from .checks import LAST_NUMBER, PathLike, key_bytes, seconds, socket_path, whole_number
+from .epochs import read_epoch
 from .frames import Command
 from .held import Holder
 from .ids import ObjectId, Task
@@ -83,6 +84,7 @@ class Connection(ValueCalls):
         except BaseException:
             self._stream.close()
             raise
+        self._epoch = read_epoch(self._path)
         _open.add(self)
 
     def close(self) -> None:
@@ -114,6 +116,10 @@ class Connection(ValueCalls):
 
     def __reduce__(self) -> Any:
         raise TypeError("a connection isn't pickled: each process opens its own, or uses a Pool, which can be pickled")
+
+    @property
+    def epoch(self) -> Optional[str]:
+        return self._epoch
 
     def new_id(self) -> ObjectId:
         self._check_process()

@@ -48,6 +48,8 @@ MOST_PARTS = 1023
 _TEXT = re.compile(r"'(?:[^'\\]|\\.)*'|\"(?:[^\"\\]|\\.)*\"")
 _BARE = re.compile(r"(?:[0-9L\s,:()\[\]{}]|True|False)*")
 _DEEPEST = 32
+# what numpy asks of what isn't an array yet
+_NUMPY_ASKS = ("__array__", "__array_interface__", "__array_struct__")
 
 
 # ---- values
@@ -131,7 +133,7 @@ def encode_array(array: Any) -> Pieces:
     """An array of numpy, or what numpy makes one of, as a file of format .npy. `TypeError` if its items have pointers, or its class
     may have more than the items, as a mask."""
     numpy = _numpy()
-    array = numpy.asanyarray(array)
+    array = _as_array(numpy, array)
     if type(array) not in (numpy.ndarray, numpy.memmap):
         raise TypeError(
             f"a {type(array).__name__} would come back as a plain array, without its mask or what else it has: put_value stores it whole,"
@@ -151,10 +153,23 @@ def encode_array(array: Any) -> Pieces:
     return Pieces([memoryview(head.getvalue()), items])
 
 
+def _as_array(numpy: Any, given: Any) -> Any:
+    """What numpy makes of it: if it tells where its bytes are, an array over these. By itself numpy doesn't ask for DLPack."""
+    if not hasattr(given, "__dlpack__") or any(hasattr(given, name) for name in _NUMPY_ASKS):
+        return numpy.asanyarray(given)
+    name = type(given).__name__
+    if not hasattr(numpy, "from_dlpack"):
+        raise TypeError(f"a {name} is an array by DLPack alone, which numpy has from 1.22 on, and this is {numpy.__version__}")
+    try:
+        return numpy.from_dlpack(given)
+    except (BufferError, RuntimeError, TypeError, ValueError) as error:
+        raise TypeError(f"a {name} can't be read by numpy, as one that isn't in this machine's memory: {error}") from error
+
+
 def decode_array(whole: memoryview, what: str) -> Any:
     """The array, a read-only view of the whole. `ValueError` for what is none. Nothing is run that the bytes say."""
     if bytes(whole[:6]) != _ARRAY:
-        raise ValueError(f"{what} is no array: it wasn't put by put_array")
+        raise ValueError(f"{what} is no array: it isn't in numpy's format .npy, as put_array stores it")
     numpy = _numpy()
     head = _header(whole, what)
     file = io.BytesIO(head)
@@ -163,8 +178,10 @@ def decode_array(whole: memoryview, what: str) -> Any:
     try:
         shape, in_columns, dtype = read(file)
         items = whole[len(head) :].toreadonly()
-        if dtype.hasobject or items.nbytes != dtype.itemsize * _product(shape):
-            raise ValueError("the items aren't there")
+        if dtype.hasobject:
+            raise ValueError("its items are Python objects, which would have to be unpickled")
+        if items.nbytes != dtype.itemsize * _product(shape):
+            raise ValueError(f"{items.nbytes} bytes follow, and the items would have {dtype.itemsize * _product(shape)}")
         return numpy.ndarray(shape, dtype, buffer=items, order="F" if in_columns else "C")
     except Exception as error:
         # what numpy raises for anybody's bytes is of many kinds

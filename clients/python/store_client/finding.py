@@ -62,9 +62,11 @@ class _Phase(enum.Enum):
 class Search:
     """What is known of one object that is waited for."""
 
-    def __init__(self, requests: Requests, id: ObjectId) -> None:
+    def __init__(self, requests: Requests, id: ObjectId, awaits_put: bool = True) -> None:
+        """`awaits_put` says whether it is waited for if nobody has put it."""
         self._requests = requests
         self.id = id
+        self._awaits_put = awaits_put
         self.is_foreign = id.job != requests.job
         self._phase = _Phase.UNKNOWN
         self._reminder = _FIRST_REMINDER
@@ -137,7 +139,8 @@ class Search:
     def _phase_after(self, refusal: Refused) -> _Phase:
         if not isinstance(refusal, Pending):
             self._reminder = _FIRST_REMINDER
-            return _Phase.MISSING if isinstance(refusal, NOT_YET) else _Phase.OVER
+            is_awaited = isinstance(refusal, NOT_YET) and (self._awaits_put or not isinstance(refusal, Absent))
+            return _Phase.MISSING if is_awaited else _Phase.OVER
         # this Get may have entered the fetch
         if not isinstance(self.refusal, Pending):
             return _Phase.ENTERED

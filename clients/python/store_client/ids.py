@@ -45,7 +45,7 @@ class Task:
         return self.value.hex()
 
     def __repr__(self) -> str:
-        return f"<Task {self}>"
+        return f"Task.parse({str(self)!r})"
 
     def object(self, index: int, *, job: int) -> ObjectId:
         """The job's object of this index, from 1, in the task."""
@@ -78,11 +78,14 @@ class ObjectId:
         return cls(Task(bytes(value[:20])), job, index)
 
     @classmethod
-    def parse(cls, text: str, job: int) -> ObjectId:
-        """The object of a text, spoken by this job: `tN.I`, `J/tN.I`, or 56 lower-case hexadecimal digits."""
+    def parse(cls, text: str, job: int = 0) -> ObjectId:
+        """The object of a text, spoken by this job: `tN.I`, `J/tN.I`, or 56 lower-case hexadecimal digits. Without a job the text has to
+        name its own, as `repr` and `str` do."""
         short = _SHORT_OBJECT.fullmatch(_text(text, "an id"))
         if short:
             owner, number, index = short.groups()
+            if owner is None and job == 0:
+                raise ValueError(f"{text!r} doesn't say of which job it is: say which job speaks, or write it like 1/{text}")
             if owner is not None and int(owner) == job:
                 raise ValueError(f"{text!r} is no id: the job's own are written without its number")
             return cls(Task.numbered(int(number)), job if owner is None else int(owner), int(index))
@@ -103,7 +106,7 @@ class ObjectId:
         return self.text(0)
 
     def __repr__(self) -> str:
-        return f"<ObjectId {self}>"
+        return f"ObjectId.parse({str(self)!r})"
 
 
 def expect_id(value: Any) -> ObjectId:

@@ -28,8 +28,9 @@ HELLO, TASK, BEGIN, END, LEAVE = b"H", b"T", b"B", b"E", b"L"
 _FLAGS = socket.MSG_DONTWAIT | socket.MSG_NOSIGNAL
 # a socket's path has at most 107 bytes, and what follows the folder for temporary files in it has 47
 _LONGEST_PLACE = 60
-# how long another process that is starting the keeper is waited for, in seconds; how often this one tries; and the pause between
-_PATIENCE, _STARTS, _PAUSE = 1.0, 2, 0.01
+# how long another process that is starting the keeper is waited for, in seconds; how often this one tries; and the pause between. A start
+# takes 20 ms, and seconds on a machine that does much else
+_PATIENCE, _STARTS, _PAUSE = 5.0, 2, 0.01
 # so many ends of puts one message tells
 _MOST_ENDED = 255
 
@@ -157,7 +158,8 @@ def _connected(path: str, job: int) -> socket.socket:
             # there is none, or it is about to end
             stream.close()
         if _start(name, path, job):
-            starts += 1
+            # it listens now, however long that took
+            starts, end = starts + 1, time.monotonic() + _PATIENCE
         else:
             time.sleep(_PAUSE)
     raise TimeoutError("there is no keeper")

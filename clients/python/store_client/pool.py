@@ -89,6 +89,10 @@ class Pool(ValueCalls):
     def __reduce__(self) -> Any:
         return Pool, (*self._words, self._connections, self._has_keeper)
 
+    @property
+    def epoch(self) -> Optional[str]:
+        return self.connection().epoch
+
     def new_id(self) -> ObjectId:
         return self.connection().new_id()
 

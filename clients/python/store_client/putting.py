@@ -169,7 +169,7 @@ def granted_lengths(requests: Requests, ids: Sequence[ObjectId], deadline: Optio
         missing = next((id for id in ids if id not in lengths), None)
         if missing is None:
             return [lengths[id] for id in ids]
-        if deadline is None or deadline.is_over:
+        if deadline is None or deadline.is_over or not deadline.awaits_puts:
             raise NotGranted("peek", missing, requests.job)
         yield pauses.next()
 
@@ -195,7 +195,7 @@ def get(
         buffer = blank(length)
         yield from peek_into(requests, id, buffer, progress)
         return buffer.toreadonly()
-    search = Search(requests, id)
+    search = Search(requests, id, deadline is None or deadline.awaits_puts)
     return (yield from undoing(_get_own(requests, search, deadline, keep, progress, limit), lambda: let_go([search])))
 
 
@@ -222,7 +222,7 @@ def get_into(requests: Requests, id: ObjectId, into: memoryview, deadline: Optio
         if fits:
             yield from peek_into(requests, id, into)
         return fits
-    search = Search(requests, id)
+    search = Search(requests, id, deadline is None or deadline.awaits_puts)
     return (yield from undoing(_get_own_into(requests, search, into, deadline), lambda: let_go([search])))
 
 

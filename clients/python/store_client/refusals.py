@@ -98,6 +98,16 @@ class Absent(Refused):
     meanings = {"get": "No node has it sealed.", "giveup": "There is no copy of it here, or the task doesn't borrow it."}
 
 
+class LostAtRestart(Absent):
+    """It was lost: the store was restarted since it was put.
+
+    A call that was given the epoch in which the object was put raises this instead of `Absent` or `NotGranted`. The object isn't there, and
+    nobody has put it again under its id.
+    """
+
+    meanings = {}
+
+
 class NotSealed(Refused):
     """The copy is still being written or fetched."""
 

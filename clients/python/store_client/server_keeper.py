@@ -40,6 +40,12 @@ def main(program: str, place: str, memory: str) -> None:
         shutil.rmtree(folder, ignore_errors=True)
 
 
+def _write_epoch(path: str) -> None:
+    """What tells this server from others, as epochs.py says. Nobody else can get into the folder, and nobody connects yet."""
+    with open(os.open(path, os.O_WRONLY | os.O_CREAT | os.O_EXCL | os.O_CLOEXEC, 0o600), "w", encoding="ascii") as file:
+        file.write(f"{os.urandom(16).hex()}\n")
+
+
 def _leave(*_: object) -> NoReturn:
     sys.exit(1)
 
@@ -48,6 +54,10 @@ def _keep(words: List[str], folder: str, order: bytes) -> None:
     """Until the input ends. The server and what it has started, if it is a script, are a group of processes, and end together."""
     pipe = subprocess.PIPE
     words = [*words, "--socket", f"{folder}/store", "--spill", f"{folder}/spill"]
+    try:
+        _write_epoch(f"{folder}/store.epoch")
+    except OSError as error:
+        return _tell(f"{folder}: {error.strerror}")
     try:
         server = subprocess.Popen(words, stdin=pipe, stdout=pipe, stderr=pipe, bufsize=0, start_new_session=True)
     except OSError as error:

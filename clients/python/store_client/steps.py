@@ -78,8 +78,10 @@ def fail(steps: Steps[Any], error: BaseException) -> Union[Effect, Over]:
 class Deadline:
     """When the time of a call is over; never, if it is given none."""
 
-    def __init__(self, timeout: Optional[float]) -> None:
+    def __init__(self, timeout: Optional[float], awaits_puts: bool = True) -> None:
+        """`awaits_puts` says whether a get waits for what nobody has put. What is being put or on its way it waits for in any case."""
         self.end = None if timeout is None else time.monotonic() + timeout
+        self.awaits_puts = awaits_puts
 
     @property
     def is_over(self) -> bool:

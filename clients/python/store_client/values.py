@@ -19,7 +19,7 @@ from .encoding import decode_array, decode_value, encode_array, encode_value
 from .ids import ObjectId, expect_id
 from .putting import Progress
 from .requests import Pieces
-from .steps import Deadline
+from .steps import Deadline, Steps
 
 if TYPE_CHECKING:
     import numpy
@@ -40,12 +40,25 @@ class ValueCalls(Calls):
 
     @overload
     def get_value(
-        self, id: ObjectId, timeout: Optional[float] = None, trust: bool = False, limit: Optional[int] = None, expect: None = None
+        self,
+        id: ObjectId,
+        timeout: Optional[float] = None,
+        trust: bool = False,
+        limit: Optional[int] = None,
+        expect: None = None,
+        since: Optional[str] = None,
     ) -> Any: ...
 
     @overload
     def get_value(
-        self, id: ObjectId, timeout: Optional[float] = None, trust: bool = False, limit: Optional[int] = None, *, expect: Type[V]
+        self,
+        id: ObjectId,
+        timeout: Optional[float] = None,
+        trust: bool = False,
+        limit: Optional[int] = None,
+        *,
+        expect: Type[V],
+        since: Optional[str] = None,
     ) -> V: ...
 
     def get_value(
@@ -55,6 +68,7 @@ class ValueCalls(Calls):
         trust: bool = False,
         limit: Optional[int] = None,
         expect: Optional[Type[Any]] = None,
+        since: Optional[str] = None,
     ) -> Any:
         """The Python object that `put_value` stored; arrays in it are read-only. Waits and is refused as `get`. No hold stays.
 
@@ -64,15 +78,18 @@ class ValueCalls(Calls):
         What is expected is the value's type, which a type checker then knows; `TypeError` if it is of another.
         """
         check_trust(id, self.job, trust)
-        return expected(decode_value(self._get_whole(id, timeout, limit), id.text(self.job)), expect, id.text(self.job))
+        return expected(decode_value(self._get_whole(id, timeout, limit, since), id.text(self.job)), expect, id.text(self.job))
 
     def put_array(self, array: Any, id: Optional[ObjectId] = None, timeout: Optional[float] = None) -> ObjectId:
         """Stores an array of numpy in numpy's own format .npy, without a pickle: of any type of items that has no pointers, any
-        order and gaps, any length. Waits and is refused as `put`. `TypeError` for a masked array and others of a class of their own."""
+        order and gaps, any length. Waits and is refused as `put`. `TypeError` for a masked array and others of a class of their own.
+
+        What numpy makes an array of is stored as that. What has `__array_interface__` or `__dlpack__`, as a tensor on the CPU, isn't
+        copied for that."""
         return self._put_pieces(encode_array(array), id, timeout)
 
     def get_array(
-        self, id: ObjectId, timeout: Optional[float] = None, limit: Optional[int] = None
+        self, id: ObjectId, timeout: Optional[float] = None, limit: Optional[int] = None, since: Optional[str] = None
     ) -> numpy.ndarray[Any, numpy.dtype[Any]]:
         """The array that `put_array` stored, read-only. Nothing is unpickled, so it may be another job's, if that granted it.
         Waits and is refused as `get`. No hold stays. `ValueError` if it is no array.
@@ -80,7 +97,7 @@ class ValueCalls(Calls):
         `TooLong` if it has more bytes than the limit, with its header. Without one the limits of jobs bound it: of another job it has at
         most 63 parts of 16 MiB, since a job has at most 64 grants that stand; of this one 1,023. Memory is taken once all are there.
         """
-        array: numpy.ndarray[Any, numpy.dtype[Any]] = decode_array(self._get_whole(id, timeout, limit), id.text(self.job))
+        array: numpy.ndarray[Any, numpy.dtype[Any]] = decode_array(self._get_whole(id, timeout, limit, since), id.text(self.job))
         return array
 
     def delete_value(self, id: ObjectId) -> None:
@@ -104,11 +121,19 @@ class ValueCalls(Calls):
         return self._run(parts.put_whole(self._requests, pieces, name, self.new_id, Deadline(timeout), progress), timeout)
 
     def _get_whole(
-        self, id: ObjectId, timeout: Optional[float], limit: Optional[int], progress: Optional[Progress] = None
+        self,
+        id: ObjectId,
+        timeout: Optional[float],
+        limit: Optional[int],
+        since: Optional[str] = None,
+        progress: Optional[Progress] = None,
     ) -> memoryview:
-        timeout = seconds(timeout)
-        deadline = None if timeout is None else Deadline(timeout)
-        return self._run(parts.get_whole(self._requests, expect_id(id), deadline, length_limit(limit), progress), timeout)
+        most = length_limit(limit)
+
+        def get(deadline: Optional[Deadline]) -> Steps[memoryview]:
+            return parts.get_whole(self._requests, id, deadline, most, progress)
+
+        return self._get(get, expect_id(id), timeout, since)
 
 
 def expected(value: Any, expect: Optional[Type[Any]], what: str) -> Any:

@@ -7,6 +7,7 @@ import ctypes
 import os
 import re
 import resource
+import shutil
 import socket
 import subprocess
 import sys
@@ -44,15 +45,40 @@ class Server:
     def __init__(self, nodes: int = 1, memory: int = 2**26) -> None:
         self.folder = tempfile.TemporaryDirectory()
         self.path = f"{self.folder.name}/store.0"
-        words = [PROGRAM, "serve", "--socket", f"{self.folder.name}/store", "--nodes", str(nodes)]
-        words += ["--memory", str(memory), "--spill", f"{self.folder.name}/spill"]
+        self.nodes = nodes
+        self.words = ["--nodes", str(nodes), "--memory", str(memory), "--spill", f"{self.folder.name}/spill"]
         self.spill = Path(self.folder.name, "spill/0")
         self.complaints = tempfile.TemporaryFile("w+", encoding="utf-8")
-        self.program = subprocess.Popen(words, stdin=subprocess.PIPE, stdout=subprocess.PIPE, stderr=self.complaints, text=True)
-        for node in range(nodes):
+        self.start("store")
+
+    def start(self, name: str) -> None:
+        """Its sockets have this name at first."""
+        words, pipe = [PROGRAM, "serve", "--socket", f"{self.folder.name}/{name}", *self.words], subprocess.PIPE
+        self.program = subprocess.Popen(words, stdin=pipe, stdout=pipe, stderr=self.complaints, text=True)
+        for node in range(self.nodes):
             self.admit(node, 1, 2**25)
             self.admit(node, 2, 64)
             self.admit(node, 3, 144, 1024)
+
+    def kill(self) -> None:
+        """What it leaves is removed, as the daemon does it."""
+        self.program.kill()
+        self.program.communicate()
+        for left in Path(self.folder.name).glob("store.*"):
+            left.unlink()
+        shutil.rmtree(self.spill.parent)
+
+    def start_again(self, epoch: Optional[str]) -> None:
+        """As the daemon does it after a crash: sessions find the sockets once the jobs are admitted, and the epoch is there before."""
+        self.start("store.new")
+        if epoch:
+            self.write_epoch(epoch)
+        for node in range(self.nodes):
+            os.rename(f"{self.folder.name}/store.new.{node}", f"{self.folder.name}/store.{node}")
+
+    def write_epoch(self, text: str) -> None:
+        """That of the server that runs."""
+        Path(self.folder.name, "store.epoch").write_text(f"{text}\n", encoding="ascii")
 
     def admit(self, node: int, job: int, window: int, device: int = 0) -> None:
         self.tell(f"admit {node} {job} {window} {device} {key(job).hex()}", node)

@@ -14,7 +14,7 @@ import unittest
 from pathlib import Path
 
 # seconds that all tests together may take
-PATIENCE_FOR_ALL = int(os.environ.get("STORE_PATIENCE_FOR_ALL", "580"))
+PATIENCE_FOR_ALL = int(os.environ.get("STORE_PATIENCE_FOR_ALL", "1700"))
 
 
 def main() -> int:

@@ -2,6 +2,7 @@
 
 from __future__ import annotations
 
+import io
 import os
 import pty
 import signal
@@ -10,11 +11,17 @@ import sys
 import tempfile
 import time
 import unittest
+from pathlib import Path
 from typing import Optional
 
 from support import PATIENCE, ROOT, Server, key
 
 import store_client
+
+try:
+    import numpy
+except ImportError:
+    numpy = None  # type: ignore[assignment]
 
 
 class CommandLine(unittest.TestCase):
@@ -68,6 +75,38 @@ class CommandLine(unittest.TestCase):
             self.at_a_terminal(server, "delete", "t1.1")
             self.assertEqual(store.list()[0], [])
         self.assertEqual(self.at_a_terminal(server, "put", "-", "--id", "t1.2", data=bytes(2**20)), (b"t1.2\n", "."))
+
+    @unittest.skipIf(numpy is None, "numpy isn't there")
+    def test_files_of_numpy(self) -> None:
+        with tempfile.TemporaryDirectory() as folder:
+            file, objects = f"{folder}/numbers.npy", f"{folder}/objects.npy"
+            numbers = numpy.asfortranarray(numpy.arange(12.0).reshape(3, 4))
+            numpy.save(file, numbers)
+            numpy.save(objects, numpy.array([{}], dtype=object), allow_pickle=True)
+            self.assertEqual(self.run_as(1, "put", file, "--array", "--id", "t1.1").stdout, b"t1.1\n")
+            self.assertEqual(self.store.get_array(self.one).tolist(), numbers.tolist())
+            self.store.put_array(numbers * 2, self.store.task(1).object(2))
+            got = self.run_as(1, "get", "t1.2", "--array")
+            self.assertEqual(numpy.load(io.BytesIO(got.stdout)).tolist(), (numbers * 2).tolist())
+            self.store.put(b"Hello", self.store.task(1).object(3))
+            none = "is no array: it isn't in numpy's format .npy, as put_array stores it"
+            for words, told in (
+                (("put", "/dev/null", "--array"), f"/dev/null {none}"), (("get", "t1.3", "--array"), f"t1.3 {none}"),
+                (("put", objects, "--array"), "its items are Python objects, which would have to be unpickled"),
+            ):
+                done = self.run_as(1, *words)
+                self.assertEqual((done.returncode, done.stdout, done.stderr.count(b"\n")), (1, b"", 1))
+                self.assertIn(told, done.stderr.decode())
+            self.assertEqual(len(self.store.list()[0]), 3)
+
+    def test_files_of_numpy_where_there_is_no_numpy(self) -> None:
+        with tempfile.TemporaryDirectory() as folder:
+            Path(folder, "numpy.py").write_text("raise ImportError\n", encoding="ascii")
+            Path(folder, "file").write_bytes(b"\x93NUMPY")
+            place = {"PYTHONPATH": f"{folder}:{ROOT / 'clients/python'}"}
+            done = self.run_as(1, "put", f"{folder}/file", "--array", place=place)
+            self.assertEqual((done.returncode, done.stderr.count(b"\n")), (1, 1))
+            self.assertIn(b"store-client: put_array and get_array need numpy", done.stderr)
 
     def test_parts_are_granted_together(self) -> None:
         server = Server(memory=2**27)

@@ -16,12 +16,12 @@ import time
 import unittest
 from pathlib import Path
 from types import SimpleNamespace
-from typing import Any, List
+from typing import Any, Dict, List
 from unittest import mock
 
 from support import PATIENCE, Server, key
 
-from store_client import Absent, Kind, ObjectId, State
+from store_client import Absent, ConnectionLost, Kind, ObjectId, State, absence
 from store_client.requests import Pieces
 from store_client.steps import Deadline
 
@@ -31,6 +31,7 @@ if HAS_DASK:
     from store_client.dask import again, host, names, reference, scheduler, sharing
 
 LEASE = 1.0
+FIRST, SECOND = "0123456789abcdef" * 2, "fedcba9876543210" * 2
 
 
 @unittest.skipUnless(HAS_DASK, "distributed isn't there")
@@ -71,7 +72,8 @@ class Names(unittest.TestCase):
         for error in (dask.ValueLost("A", "an array", "gone"), dask.HostUnknown("Z", "an array"), dask.KeyReleased("k")):
             again = pickle.loads(pickle.dumps(error))
             self.assertEqual((type(again), str(again), vars(again)), (type(error), str(error), vars(error)))
-        self.assertEqual(str(dask.ValueLost("A", "an array", "gone")), "an array of host A is lost: gone")
+        lost = pickle.loads(pickle.dumps(dask.ValueLost("A", "an array", "gone", at_restart=True)))
+        self.assertEqual((str(lost), lost.at_restart), ("an array of host A is lost: gone", True))
 
     def test_in_a_worker_whose_store_isn_t_there(self) -> None:
         plugin = dask.StoreWorkers("/nowhere/store", key_file="/nowhere/key")
@@ -88,8 +90,8 @@ class Names(unittest.TestCase):
             dask.put(1)
 
     def test_a_plugin_can_be_pickled(self) -> None:
-        plugin = pickle.loads(pickle.dumps(dask.StoreWorkers("/run/store", 2, "/key", nodes=3, part=64, small=32, lease=1.5)))
-        self.assertEqual(plugin.__reduce__()[1], ("/run/store", 2, "/key", 3, 64, 32, 1.5))
+        plugin = pickle.loads(pickle.dumps(dask.StoreWorkers("/run/store", 2, "/key", nodes=3, part=64, small=32, lease=1.5, patience=7)))
+        self.assertEqual(plugin.__reduce__()[1], ("/run/store", 2, "/key", 3, 64, 32, 1.5, 7))
 
     def test_pauses_between_tries_grow_to_a_bound(self) -> None:
         now = 100.0
@@ -283,6 +285,178 @@ class Shared(unittest.TestCase):
 
     def tearDown(self) -> None:
         self.store.forget([self.name.prefix])
+
+
+@unittest.skipUnless(HAS_DASK, "distributed isn't there")
+class Away(unittest.IsolatedAsyncioTestCase):
+    """The store of host A is killed, and started again or not. Workers of A and B ask it; the scheduler is this test's."""
+
+    async def asyncSetUp(self) -> None:
+        self.server = Server(nodes=2)
+        self.addCleanup(self.server.close)
+        self.server.write_epoch(FIRST)
+        self.epochs = 0
+        self.lost: List[bytes] = []
+        self.plugins: Dict[str, dask.StoreWorkers] = {}
+        self.value = bytes(range(256)) * 16
+
+    async def store_join(self, worker: str, host: str) -> None:
+        """As the scheduler's."""
+
+    async def store_begin(self, key: str, worker: str, with_key: bool) -> int:
+        self.epochs += 1
+        return self.epochs
+
+    async def store_hosts(self, host: str, mine: str) -> Any:
+        return {"own": ["a1"], "others": [], "known": True}
+
+    async def store_lost(self, name: bytes, asker: str) -> bool:
+        self.lost.append(name)
+        return False
+
+    async def plugin(self, address: str, patience: float) -> dask.StoreWorkers:
+        """That of a worker whose host is the first letter of its address. All use one store, but B only asks A for values."""
+        plugin = dask.StoreWorkers(f"{self.server.folder.name}/store", 1, nodes=2, part=1024, small=16, patience=patience)
+        loop = SimpleNamespace(asyncio_loop=asyncio.get_running_loop())
+        worker = SimpleNamespace(handlers={}, address=address, loop=loop, scheduler=self, active_threads={}, get_current_task=lambda: "key")
+        with mock.patch.dict(os.environ, {"STORE_KEY": key(1).hex(), "STORE_HOST": address[0].upper()}):
+            await plugin.setup(worker)
+        self.addCleanup(plugin._store.close)
+        plugin._peers._send = self.send
+        self.plugins[address] = plugin
+        return plugin
+
+    async def send(self, address: str, words: Any, seconds: float) -> Any:
+        """What Dask's connections carry."""
+        given = {name: value for name, value in words.items() if name != "op"}
+        answer = await self.plugins[address]._answer_part(**given)
+        return {name: getattr(value, "data", value) for name, value in answer.items()}
+
+    async def meanwhile(self, work: Any, plugin: dask.StoreWorkers) -> Any:
+        """What the work gives, done by a task of this worker while the store is away; it comes back once the task has missed it twice."""
+        missed, loop = threading.Semaphore(0), asyncio.get_running_loop()
+        self.server.kill()
+        with mock.patch.object(absence, "time", SimpleNamespace(sleep=lambda seconds: (missed.release(), time.sleep(seconds)))):
+            working = loop.run_in_executor(None, work)
+            for _ in range(2):
+                self.assertTrue(await loop.run_in_executor(None, missed.acquire, True, PATIENCE))
+            self.assertFalse(working.done())
+            # who waits keeps no thread that moves parts
+            self.assertEqual(await loop.run_in_executor(None, plugin._threads.submit(int).result, PATIENCE), 0)
+            await loop.run_in_executor(None, self.server.start_again, SECOND)
+            return await working
+
+    async def in_task(self, work: Any) -> Any:
+        return await asyncio.get_running_loop().run_in_executor(None, work)
+
+    async def test_a_put_waits(self) -> None:
+        plugin = await self.plugin("a1", 4 * PATIENCE)
+        ref = await self.meanwhile(lambda: plugin.put(self.value, True, 8 * PATIENCE), plugin)
+        self.assertEqual((ref.store_epoch, len(ref.digests)), (SECOND, 5))
+        self.assertEqual(await self.in_task(lambda: plugin.load(ref, PATIENCE)), self.value)
+
+    async def load_waits(self, address: str) -> None:
+        """At this worker, before the value counts as lost."""
+        home, reader = await self.plugin("a1", 4 * PATIENCE), await self.plugin(address, 4 * PATIENCE)
+        ref = await self.in_task(lambda: home.put(self.value, True, PATIENCE))
+        with self.assertRaises(dask.ValueLost) as told:
+            await self.meanwhile(lambda: reader.load(ref, 8 * PATIENCE), reader)
+        self.assertEqual(str(told.exception), "bytes of host A is lost: its store was restarted since it was put")
+        self.assertEqual((told.exception.at_restart, self.lost), (True, [ref.name.prefix]))
+
+    async def test_a_load_on_the_value_s_host_waits(self) -> None:
+        await self.load_waits("a2")
+
+    async def test_a_load_on_another_host_waits(self) -> None:
+        await self.load_waits("b1")
+
+    async def test_a_store_that_doesn_t_come_back(self) -> None:
+        home, far = await self.plugin("a1", 0.5), await self.plugin("b1", 0.5)
+        ref = await self.in_task(lambda: home.put(self.value, True, PATIENCE))
+        self.server.kill()
+        for plugin in (home, far):
+            began = time.monotonic()
+            with self.assertRaisesRegex(dask.ValueLost, "the store wasn't there again in time") as told:
+                await self.in_task(lambda: plugin.load(ref, PATIENCE))
+            self.assertFalse(told.exception.at_restart)
+            self.assertGreaterEqual(time.monotonic() - began, 0.5)
+        with self.assertRaises(ConnectionLost):
+            await self.in_task(lambda: home.put(self.value, True, PATIENCE))
+        self.server.start_again(SECOND)
+
+    async def test_a_restart_in_the_midst_of_a_put(self) -> None:
+        """What an earlier server had of it is put again."""
+        plugin = await self.plugin("a1", 4 * PATIENCE)
+        put, count = plugin._store.put, 0
+
+        def put_and_restart(*words: Any) -> Any:
+            nonlocal count
+            with lock:
+                count += 1
+                if count == 3:
+                    self.server.kill()
+                    self.server.start_again(SECOND)
+                return put(*words)
+
+        lock = threading.Lock()
+        with mock.patch.object(plugin._store, "put", put_and_restart):
+            ref = await self.in_task(lambda: plugin.put(self.value, True, 8 * PATIENCE))
+        self.assertEqual(ref.store_epoch, SECOND)
+        self.assertEqual(await self.in_task(lambda: plugin.load(ref, PATIENCE)), self.value)
+        self.assertEqual(sum(usage.copies for usage in plugin.usage()), 5)
+
+    async def test_what_was_removed_wasn_t_lost_at_a_restart(self) -> None:
+        home, far = await self.plugin("a1", PATIENCE), await self.plugin("b1", PATIENCE)
+        ref = await self.in_task(lambda: home.put(self.value, True, PATIENCE))
+        home._store.forget([ref.name.prefix])
+        for plugin in (home, far):
+            with self.assertRaisesRegex(dask.ValueLost, "it was removed there|no worker of A is left") as told:
+                await self.in_task(lambda: plugin.load(ref, PATIENCE))
+            self.assertFalse(told.exception.at_restart)
+
+
+@unittest.skipUnless(HAS_DASK, "distributed isn't there")
+class OfCluster(unittest.TestCase):
+    """At a cluster of Dask's own, in this process."""
+
+    def test_a_key_is_computed_again_once_the_store_is_back(self) -> None:
+        from distributed import Client, LocalCluster
+
+        server = Server()
+        self.addCleanup(server.close)
+        # the worker has no end of its own, so its sessions are still open
+        self.addCleanup(lambda: server.program.kill())
+        server.write_epoch(FIRST)
+        words = {"n_workers": 1, "threads_per_worker": 2, "processes": False, "dashboard_address": None}
+        with LocalCluster(**words) as cluster, Client(cluster, timeout=PATIENCE) as client:
+            with mock.patch.dict(os.environ, STORE_KEY=key(1).hex()):
+                dask.attach(client, f"{server.folder.name}/store", 1, small=16, patience=4 * PATIENCE)
+            future = client.submit(dask.put, list(range(100)), key="put")
+            before = future.result(PATIENCE)
+            server.kill()
+            missed = threading.Semaphore(0)
+            with mock.patch.object(absence, "time", SimpleNamespace(sleep=lambda seconds: (missed.release(), time.sleep(seconds)))):
+                total = client.submit(lambda ref: sum(ref.load(8 * PATIENCE)), future, pure=False)
+                by_hand = client.submit(load_in_words, [before.name.prefix, before], pure=False)
+                for _ in range(2):
+                    self.assertTrue(missed.acquire(timeout=PATIENCE))
+                server.start_again(SECOND)
+                self.assertEqual(total.result(2 * PATIENCE), 4950)
+            self.assertEqual(by_hand.result(2 * PATIENCE), "its store was restarted since it was put")
+            self.assertEqual((before.store_epoch, future.result(PATIENCE).store_epoch), (FIRST, SECOND))
+            del future, total, by_hand
+            plugin, end = cluster.scheduler.plugins["store"], time.monotonic() + PATIENCE
+            while (plugin._names or plugin._telling) and time.monotonic() < end:
+                time.sleep(0.01)
+            self.assertEqual((plugin._names, plugin._telling), ({}, set()))
+
+
+def load_in_words(words: List[Any]) -> str:
+    """Why a value is lost that was given otherwise than as a task's result."""
+    try:
+        return str(words[1].load(8 * PATIENCE))
+    except dask.ValueLost as lost:
+        return lost.why
 
 
 class Task:

@@ -164,7 +164,12 @@ class Texts(unittest.TestCase):
         self.assertEqual((ObjectId.parse(random.text(1), 1), len(random.text(1))), (random, 56))
 
     def test_they_are_readable(self) -> None:
-        self.assertEqual(repr([Task.numbered(1).object(2, job=3), Task.numbered(4)]), "[<ObjectId 3/t1.2>, <Task t4>]")
+        ids = [Task.numbered(1).object(2, job=3), Task.numbered(4), ObjectId(Task(b"\x01" * 20), 1, 7), Task(b"\x01" * 20)]
+        self.assertEqual(repr(ids[:2]), "[ObjectId.parse('3/t1.2'), Task.parse('t4')]")
+        self.assertEqual(eval(repr(ids)), ids)
+        self.assertEqual(ObjectId.parse(str(ids[0])), ids[0])
+        with self.assertRaisesRegex(ValueError, "'t1.2' doesn't say of which job it is: .* like 1/t1.2"):
+            ObjectId.parse("t1.2")
 
     def test_what_is_no_id(self) -> None:
         no_index = "0000000000000000000000000000000000000001" "00000001" "00000000"

@@ -28,7 +28,7 @@ except ImportError:
     numpy = None  # type: ignore[assignment]
 
 # until nothing is left, in seconds: ten, on a machine that does nothing else
-SOON = max(10.0, PATIENCE / 12)
+SOON = PATIENCE / 3
 # a window that is smaller than a value of the tests
 WINDOW, LONG, SHORT = 2**18, 300_000, 100
 # of the exchanges of a put in parts some are tried
@@ -262,7 +262,11 @@ class Alone(ServerOfAll):
             thread.start()
         for thread in threads:
             thread.join()
-        (keeper,) = keepers(os.path.realpath(self.server.path))
+        # a process that is just replacing another has no words for a moment
+        end = time.monotonic() + PATIENCE
+        while not (found := keepers(os.path.realpath(self.server.path))) and time.monotonic() < end:
+            time.sleep(0.01)
+        (keeper,) = found
         for store in stores:
             store.close()
         end = time.monotonic() + PATIENCE
@@ -271,6 +275,20 @@ class Alone(ServerOfAll):
         self.assertFalse(os.path.exists(f"/proc/{keeper}"))
         name = hashlib.sha256(f"1 {os.path.realpath(self.server.path)}".encode()).hexdigest()[:16]
         self.assertEqual(list(Path(keeping._folder()).glob(f"{name}.*")), [])
+
+    def test_a_keeper_that_is_long_in_starting_is_used_all_the_same(self) -> None:
+        start = keeping._start
+
+        def slowly(name: str, path: str, job: int) -> bool:
+            has_started = start(name, path, job)
+            time.sleep(0.3)
+            return has_started
+
+        tells = keeping.Keeping(self.server.path, 1, key(1))
+        with mock.patch.object(keeping, "_start", slowly), mock.patch.object(keeping, "_PATIENCE", 0.2):
+            tells.task(Task(os.urandom(20)))
+        self.assertTrue(tells._is_known)
+        tells.close(is_clean=True)
 
     def test_the_keeper_of_a_store_that_is_gone_ends_with_its_folder(self) -> None:
         with tempfile.TemporaryDirectory() as place, mock.patch.object(tempfile, "gettempdir", lambda: place):

@@ -62,6 +62,28 @@ class Package(unittest.TestCase):
             told = run("mypy", "--strict", "store_client", cwd=FOLDER, env={**os.environ, "MYPY_CACHE_DIR": cache})
         self.assertIn("Success", told)
 
+    @unittest.skipUnless(shutil.which("mypy"), "mypy isn't there")
+    def test_what_is_expected_is_what_a_type_checker_knows(self) -> None:
+        """Each line that is marked is an error, and no other one."""
+        lines = [
+            "from store_client import Connection, ObjectId, Pool, aio",
+            "async def look(id: ObjectId, one: Connection, two: Pool, far: aio.Connection) -> None:",
+            "    a: int = one.get_value(id, expect=int, since=one.epoch)",
+            "    b: str = two.get_value(id, expect=int)  # wrong",
+            "    c: str = await far.get_value(id, 1.0, expect=int, since=far.epoch)  # wrong",
+            "    d: str = one.get_value(id, 1.0, True)",
+            "    e: bytes = two.get_array(id, since=two.epoch)  # wrong",
+            "    one.get(id, since=1)  # wrong",
+        ]
+        with tempfile.TemporaryDirectory() as folder:
+            script = Path(folder, "script.py")
+            script.write_text("\n".join([*lines, ""]), encoding="ascii")
+            place = {**os.environ, "MYPY_CACHE_DIR": f"{folder}/cache", "MYPYPATH": str(FOLDER)}
+            words = ["mypy", "--strict", "--ignore-missing-imports", str(script)]
+            done = subprocess.run(words, capture_output=True, text=True, check=False, timeout=3 * PATIENCE, env=place, cwd=folder)
+        told = [int(number) for number in re.findall(r"^script\.py:(\d+): error", done.stdout, re.MULTILINE)]
+        self.assertEqual(told, [number for number, line in enumerate(lines, 1) if line.endswith("# wrong")], done.stdout)
+
     def test_the_licence_is_the_repository_s(self) -> None:
         self.assertEqual((FOLDER / "LICENSE").read_bytes(), (ROOT / "LICENSE").read_bytes())
 

@@ -58,6 +58,10 @@ class OfItsOwn(unittest.TestCase):
     def test_processes(self) -> None:
         self.assertEqual(self.printed(shown("Other processes use the same server")), [str([0, 2, 4, 6, 8, 10, 12, 14])])
 
+    def test_after_a_restart(self) -> None:
+        (told,) = self.printed(shown("## After a restart"))
+        self.assertTrue(told.startswith("4 LostAtRestart: It was lost: the store was restarted since it was put. (get "), told)
+
     def test_a_command(self) -> None:
         lines = shown("For a shell or a command").splitlines()
         self.assertEqual(typed(lines), [line for line in lines if not line.startswith("$ ")])

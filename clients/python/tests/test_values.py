@@ -17,7 +17,7 @@ from unittest import mock
 from support import PATIENCE, ROOT, Server, ServerOfAll, key
 
 import store_client
-from store_client import Full, ObjectId, Pool, Task
+from store_client import Full, ObjectId, Pool, Task, encoding
 from store_client.encoding import Manifest, decode_array, decode_value, encode_array, encode_value
 from store_client.requests import Pieces
 
@@ -162,12 +162,64 @@ class Arrays(unittest.TestCase):
             mapped[:] = [1, 2, 3]
             self.same(decode_array(whole(encode_array(mapped)), "it"), numpy.array([1, 2, 3], dtype="<i4"))
 
+    def test_what_tells_where_its_bytes_are_is_stored_without_a_copy(self) -> None:
+        """By each of numpy's ways, and by DLPack alone, as libraries of tensors have it."""
+        for put in (numpy.arange(1000.0), numpy.asfortranarray(numpy.arange(600, dtype="i4").reshape(20, 30)), numpy.zeros(0)):
+            for given in (Interface(put), Exporter(put)):
+                pieces = encode_array(given)
+                self.same(decode_array(whole(pieces), "it"), put)
+                self.assertTrue(not put.nbytes or any(numpy.shares_memory(put, numpy.frombuffer(view, "u1")) for view in pieces.views))
+
+    def test_what_dlpack_can_t_bring_is_told(self) -> None:
+        for error in (BufferError("on another device"), RuntimeError("on another device"), ValueError("on another device")):
+            with self.assertRaisesRegex(TypeError, "a Failing can't be read by numpy, .*: on another device"):
+                encode_array(Failing(error))
+        old = mock.Mock(spec=["asanyarray", "__version__"], __version__="1.19.5")
+        with mock.patch.object(encoding, "_numpy", lambda: old), self.assertRaisesRegex(TypeError, "from 1.22 on, and this is 1.19.5"):
+            encode_array(Exporter(numpy.arange(3)))
+
     def test_what_is_no_array(self) -> None:
         laid = bytes(whole(encode_array(numpy.arange(5))))
         pickled = laid.replace(b"'<i8'", b"'|O' ")
-        for wrong in (b"", b"abc", laid[:-1], laid[:20], laid + b"x", pickled):
-            with self.assertRaises(ValueError):
+        for wrong, said in (
+            (b"", "it isn't in numpy's format"), (b"abc", "it isn't in numpy's format"), (laid[:-1], "39 bytes follow, and .* have 40"),
+            (laid[:20], ""), (laid + b"x", "41 bytes follow"), (pickled, "items are Python objects"),
+        ):
+            with self.assertRaisesRegex(ValueError, said):
                 decode_array(memoryview(wrong), "it")
+
+
+class Interface:
+    """What tells where its bytes are as arrays of numpy do."""
+
+    def __init__(self, array: Any) -> None:
+        self.kept, self.__array_interface__ = array, array.__array_interface__
+
+
+class Exporter:
+    """What is an array by DLPack alone."""
+
+    def __init__(self, array: Any) -> None:
+        self._array = array
+
+    def __dlpack__(self, **words: Any) -> Any:
+        return self._array.__dlpack__(**words)
+
+    def __dlpack_device__(self) -> Any:
+        return self._array.__dlpack_device__()
+
+
+class Failing:
+    """What would be one, but isn't in memory."""
+
+    def __init__(self, error: Exception) -> None:
+        self._error = error
+
+    def __dlpack__(self, **_: Any) -> Any:
+        raise self._error
+
+    def __dlpack_device__(self) -> Any:
+        raise self._error
 
 
 class Stored(ServerOfAll):

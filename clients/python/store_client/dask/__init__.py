@@ -19,7 +19,7 @@ from .errors import HostUnknown, KeyReleased, ValueLost
 from .names import Name
 from .reference import PLUGIN, StoreRef, put
 from .scheduler import StoreScheduler
-from .worker import MOVES, PART, SMALL, StoreWorkers
+from .worker import MOVES, PART, RETURN, SMALL, StoreWorkers
 
 __all__ = [
     "HostUnknown",
@@ -45,6 +45,7 @@ def attach(
     part: int = PART,
     small: int = SMALL,
     lease: float = 5.0,
+    patience: float = RETURN,
 ) -> None:
     """Gives all workers of the client's scheduler a store, those that join later too.
 
@@ -55,13 +56,16 @@ def attach(
     Values of more than `small` bytes are stored, in parts of at most `part` bytes, the others lie in their references. A worker that
     fetches something, and shows no progress for `lease` seconds, is taken for dead by the others of its host.
 
+    A store may be away for a while, as `store-daemon` starts it again after a crash. A task that puts, or that loads what nobody else has,
+    waits for it for `patience` seconds. Only then a put is `ConnectionLost`, and a value lost.
+
     Raises what a worker meets: `ConnectionLost` if its host has no store, `NotAdmitted` if the job isn't live
     there or the key isn't its own, `ValueError` or `OSError` if the key file isn't right there. A worker that meets it stays, also one
     that joins later. A task of it that puts or loads looks for the store again, after a pause that grows from half a second to 30 seconds;
     otherwise it raises `RuntimeError`, which says why there is none.
     """
     client.register_scheduler_plugin(StoreScheduler(), idempotent=True)
-    client.register_worker_plugin(StoreWorkers(socket, job, key_file, nodes, part, small, lease))
+    client.register_worker_plugin(StoreWorkers(socket, job, key_file, nodes, part, small, lease, patience))
 
 
 def counts(client: Any) -> Dict[str, Dict[str, int]]:

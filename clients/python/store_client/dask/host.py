@@ -9,7 +9,7 @@ from __future__ import annotations
 import concurrent.futures
 import contextlib
 import time
-from typing import Callable, Dict, Iterable, Iterator, List, Sequence, Tuple, Type, TypeVar
+from typing import Callable, Dict, Iterable, Iterator, List, Optional, Sequence, Tuple, Type, TypeVar
 
 from ..frames import LARGEST
 from ..ids import ObjectId
@@ -55,8 +55,8 @@ class HostStore:
         """What the job uses, of each node."""
         return [reconnected(pool.usage) for pool in self._pools]
 
-    def put(self, id: ObjectId, pieces: Pieces, kind: Kind, deadline: Deadline) -> None:
-        """A sealed object, under an id that nobody else makes. Room is waited for until the deadline."""
+    def put(self, id: ObjectId, pieces: Pieces, kind: Kind, deadline: Deadline) -> Optional[str]:
+        """A sealed object, under an id that nobody else makes. Room is waited for until the deadline. The epoch of its store."""
         pool = self._pool(id)
         patiently(lambda: self.create(id, pieces.length, kind), deadline)
         try:
@@ -64,6 +64,16 @@ class HostStore:
         except BaseException:
             self.delete([id])
             raise
+        return pool.epoch
+
+    def has(self, id: ObjectId) -> bool:
+        """Whether the object is here, sealed."""
+        return reconnected(lambda: self._pool(id).contains(id))
+
+    def epoch(self, id: ObjectId) -> Optional[str]:
+        """The epoch of the store that is here now, by the node of this object."""
+        self.has(id)
+        return self._pool(id).epoch
 
     def read_into(self, id: ObjectId, into: memoryview, deadline: Deadline) -> bool:
         """Whether the object is here, sealed; its bytes are in the buffer then."""

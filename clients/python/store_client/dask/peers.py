@@ -11,15 +11,17 @@ from distributed.protocol import to_serialize
 
 from ..ids import ObjectId
 from ..memory import blank
-from ..refusals import ConnectionLost, Damaged, DeviceFailed, StoreError, TimedOut
+from ..refusals import ConnectionLost, Damaged, DeviceFailed, ServerSilent, StoreError, TimedOut
 from ..steps import Deadline
-from .errors import HostUnknown, ValueLost
+from .errors import HostUnknown, StoreAway, ValueLost
 from .host import HostStore
 from .names import Name
 from .reference import StoreRef, digest_of
 
 # a store that is lost or can't give these bytes back: another host may
 GONE = (ConnectionLost, Damaged, DeviceFailed)
+# why a value is lost
+RESTARTED = "its store was restarted since it was put"
 # how long a worker has to take a connection, and to answer before it is asked whether it lives, in seconds
 _CONNECT, _ANSWER = 3.0, 10.0
 # how long a part is looked for in the host's own store
@@ -48,9 +50,14 @@ def answer_part(store: HostStore, name: Name, part: int, id: ObjectId, length: i
         here = store.read_into(id, into, deadline)
         if not here:
             here = any(store.read_into(copy, into, deadline) for copy in store.sealed_copies_of(name, part))
+        return {"status": "OK", "data": to_serialize(into)} if here else {"status": "absent", "epoch": store.epoch(id)}
     except StoreError as error:
         return {"status": "error", "error": to_serialize(error)}
-    return {"status": "OK", "data": to_serialize(into)} if here else {"status": "absent"}
+
+
+def is_store_away(error: Exception) -> bool:
+    """Whether this says that a store isn't there just now. One that is silent is there."""
+    return isinstance(error, ConnectionLost) and not isinstance(error, ServerSilent)
 
 
 class Peers:
@@ -67,8 +74,8 @@ class Peers:
         return Route(own, list(told["others"]), told["known"], set())
 
     async def part(self, route: Route, ref: StoreRef, part: int, deadline: Deadline) -> memoryview:
-        """The part's bytes, of the digest that the reference has. `ValueLost`, `HostUnknown`, `TimedOut`."""
-        why = f"no worker of {ref.host} is left"
+        """The part's bytes, of the digest that the reference has. `ValueLost`, `StoreAway`, `HostUnknown`, `TimedOut`."""
+        why, is_away, at_restart = f"no worker of {ref.host} is left", False, False
         async for address, answer in self._answers(route, ref, part, deadline):
             if answer is None:
                 why = f"{address} doesn't answer"
@@ -80,14 +87,18 @@ class Peers:
                     return data
                 why = f"{address} sent other bytes"
             elif answer["status"] == "absent":
+                at_restart = at_restart or (address in route.own and ref.is_older_than(answer.get("epoch")))
                 why = f"it was removed there, {address} says"
             elif isinstance(answer["error"], GONE):
+                is_away = is_away or (address in route.own and is_store_away(answer["error"]))
                 why = f"{address} says: {answer['error']}"
             else:
                 raise answer["error"]
         if not route.is_known:
             raise HostUnknown(ref.host, ref.about)
-        raise ValueLost(ref.host, ref.about, why)
+        if at_restart:
+            raise ValueLost(ref.host, ref.about, RESTARTED, at_restart)
+        raise (StoreAway if is_away else ValueLost)(ref.host, ref.about, why)
 
     async def _answers(self, route: Route, ref: StoreRef, part: int, deadline: Deadline) -> AsyncIterator[Any]:
         for address in route.addresses(part):

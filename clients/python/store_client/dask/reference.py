@@ -5,7 +5,7 @@ from __future__ import annotations
 import hashlib
 import sys
 from dataclasses import dataclass, field
-from typing import Any, Tuple
+from typing import Any, Optional, Tuple
 
 from distributed import default_client, get_worker
 
@@ -40,6 +40,8 @@ class StoreRef:
     is_pickled: bool = field(repr=False)
     # all of it, if it is small
     inline: bytes = field(default=b"", repr=False)
+    # the epoch of the store in which it was put, if the store has one
+    store_epoch: Optional[str] = field(default=None, repr=False)
 
     def load(self, timeout: float = 60.0) -> Any:
         """The value; arrays in it are read-only views of one buffer. In a task, on any host; elsewhere by a task that is run for it.
@@ -95,6 +97,10 @@ class StoreRef:
         if job != self.job:
             raise ValueError(f"{self.about} of job {self.job} is pickled: of another job only arrays are loaded")
         return decode_value(whole, self.about)
+
+    def is_older_than(self, epoch: Optional[str]) -> bool:
+        """Whether the store of its host, which has this epoch, is known to have been restarted since it was put."""
+        return self.store_epoch is not None and epoch is not None and self.store_epoch != epoch
 
     def __sizeof__(self) -> int:
         return 500 + DIGEST * len(self.digests) + len(self.inline)

@@ -11,22 +11,23 @@ import random
 import socket
 import threading
 from pathlib import Path
-from typing import Any, Counter, Coroutine, Dict, Iterator, List, Optional, Sequence, Set, TypeVar
+from typing import Any, Counter, Coroutine, Dict, Iterator, List, NoReturn, Optional, Sequence, Set, Tuple, TypeVar
 
 from distributed import Reschedule, WorkerPlugin
 
-from ..checks import key_bytes, whole_number
+from ..absence import Absence
+from ..checks import key_bytes, seconds, whole_number
 from ..ids import ObjectId
 from ..items import Kind, Usage
 from ..memory import blank
-from ..refusals import ConnectionLost
+from ..refusals import ConnectionLost, StoreError
 from ..requests import Pieces
 from ..steps import Deadline
 from .again import Tries
-from .errors import KeyReleased, ValueLost
+from .errors import KeyReleased, StoreAway, ValueLost
 from .host import HostStore, all_of, all_under_way
 from .names import Name
-from .peers import GONE, Peers, Route, answer_part
+from .peers import GONE, RESTARTED, Peers, Route, answer_part, is_store_away
 from .reference import PLUGIN, StoreRef, digest_of, encode, in_words
 from .sharing import Sharing
 
@@ -35,6 +36,8 @@ T = TypeVar("T")
 # in bytes, if nothing else is said: how long a part is; and how long a value may be that lies in its reference, since a store has 1,024
 # copies of a job at a node
 PART, SMALL = 1 << 22, 1 << 16
+# how long a store that is away is waited for, in seconds, if nothing else is said
+RETURN = 30.0
 # so many parts are moved at once for tasks, and as many for other hosts: who waits for another host never keeps one waiting
 _THREADS = 4
 # what is counted
@@ -63,14 +66,16 @@ class StoreWorkers(WorkerPlugin):  # type: ignore[misc]
         part: int = PART,
         small: int = SMALL,
         lease: float = 5.0,
+        patience: float = RETURN,
     ) -> None:
         """The socket of the server's node K is `SOCKET.K`. A part has so many bytes at most, and a value that lies in its reference; a
-        lease so many seconds."""
-        self._pickled = (socket, job, key_file, nodes, part, small, lease)
+        lease so many seconds. A task waits so many seconds for a store that is away."""
+        self._pickled = (socket, job, key_file, nodes, part, small, lease, patience)
         self._words = {"STORE_SOCKET": socket, "STORE_JOB": job, "STORE_KEY_FILE": key_file, "STORE_NODES": nodes}
         self._part = whole_number(part, "the length of a part", 16, 1 << 24)
         self._small = whole_number(small, "the length of a small value", 0, 1 << 24)
         self._lease = lease
+        self._patience = seconds(patience, "the patience with a store") or 0.0
         # whether `setup` has ended, well or not; and the tries of tasks after that
         self._is_set_up = threading.Event()
         self._trying = threading.Lock()
@@ -175,22 +180,40 @@ class StoreWorkers(WorkerPlugin):  # type: ignore[misc]
             raise KeyReleased(f"{key} was released while it ran")
         name = Name.of(key, epoch)
         with self._working_on(name):
-            digests = self._put_parts(name, pieces, timeout)
+            digests, epoch = self._put_parts(name, pieces, timeout)
         self._count("put", pieces.length)
-        return StoreRef(key, self.host, self._job, about, pieces.length, name, self._store.part, tuple(digests), is_pickled)
+        length, part = pieces.length, self._store.part
+        return StoreRef(key, self.host, self._job, about, length, name, part, tuple(digests), is_pickled, store_epoch=epoch)
 
-    def _put_parts(self, name: Name, pieces: Pieces, timeout: float) -> List[bytes]:
+    def _put_parts(self, name: Name, pieces: Pieces, timeout: float) -> Tuple[List[bytes], Optional[str]]:
+        """Of each part the digest; and the epoch of the store in which all of them lie."""
         cut, deadline = pieces.cut(self._store.part), Deadline(timeout)
+        ids, absence = [name.primary(part, self._job) for part in range(len(cut))], Absence(self._patience, deadline)
+        digests: List[bytes] = []
+        # of the parts that are put
+        epochs: Dict[int, Optional[str]] = {}
 
         def put_part(part: int) -> None:
-            self._store.put(name.primary(part, self._job), cut[part], Kind.PRIMARY, deadline)
+            epochs[part] = self._store.put(ids[part], cut[part], Kind.PRIMARY, deadline)
+
+        def put_missing() -> None:
+            with all_under_way(self._threads, put_part, [part for part in range(len(cut)) if part not in epochs]):
+                # this thread has nothing else to do
+                digests.extend(digest_of(*part.views) for part in cut[len(digests) :])
 
         try:
-            with all_under_way(self._threads, put_part, range(len(cut))):
-                # this thread has nothing else to do
-                return [digest_of(*part.views) for part in cut]
+            absence.outlast(put_missing)
+            while len(set(epochs.values())) > 1:
+                # a restart came between two of them, and lost the first
+                gone = absence.outlast(lambda: [part for part in epochs if not self._store.has(ids[part])])
+                if not gone:
+                    break
+                for part in gone:
+                    del epochs[part]
+                absence.outlast(put_missing)
+            return digests, epochs[0]
         except BaseException:
-            self._store.delete(name.primary(part, self._job) for part in range(len(cut)))
+            self._store.delete(ids)
             raise
 
     def load(self, ref: StoreRef, timeout: float) -> Any:
@@ -199,24 +222,53 @@ class StoreWorkers(WorkerPlugin):  # type: ignore[misc]
         if ref.inline:
             return ref.decode(memoryview(ref.inline), self._job)
         body, deadline = blank(ref.length), Deadline(timeout)
+        absence = Absence(self._patience, deadline, (StoreAway,))
         route = _Once(lambda: self._ask(self._peers.route(ref)))
         # workers of a host that begin at the same time begin at different parts
         first = 0 if ref.host == self.host else random.randrange(len(ref.parts))
-        order = [*ref.parts[first:], *ref.parts[:first]]
+        missing = dict.fromkeys([*ref.parts[first:], *ref.parts[:first]])
+
+        def load_part(part: int) -> None:
+            self._load_part(ref, part, body[ref.place(part)], route, deadline)
+            del missing[part]
+
         try:
             with self._working_on(ref.name):
-                all_of(self._threads, lambda part: self._load_part(ref, part, body[ref.place(part)], route, deadline), order)
-        except ValueLost:
-            # a task that depends on the key isn't to fail, however late its end is heard of: it runs again after the key has
-            if self._ask(self._worker.scheduler.store_lost(name=ref.name.prefix, asker=self._asker())):
-                raise Reschedule() from None
-            raise
+                # it waits in the task's own thread: others have use for those that move parts
+                absence.outlast(lambda: all_of(self._threads, load_part, list(missing)))
+        except StoreAway as away:
+            self._tell_lost(ref, ValueLost(away.host, away.about, f"{away.why}; the store wasn't there again in time"))
+        except ValueLost as lost:
+            self._tell_lost(ref, lost)
         return ref.decode(body.toreadonly(), self._job)
 
-    def _load_part(self, ref: StoreRef, part: int, into: memoryview, route: _Once, deadline: Deadline) -> None:
-        if ref.host == self.host and self._read_own(ref, part, into, deadline):
-            return self._count("local", len(into))
+    def _tell_lost(self, ref: StoreRef, lost: ValueLost) -> NoReturn:
+        """That nobody has the value any more."""
+        # a task that depends on the key isn't to fail, however late its end is heard of: it runs again after the key has
+        if self._ask(self._worker.scheduler.store_lost(name=ref.name.prefix, asker=self._asker())):
+            raise Reschedule() from None
+        with contextlib.suppress(StoreError):
+            if ref.host == self.host and ref.is_older_than(self._store.epoch(ref.primary(0))):
+                lost = ValueLost(ref.host, ref.about, RESTARTED, at_restart=True)
+        raise lost from None
 
+    def _load_part(self, ref: StoreRef, part: int, into: memoryview, route: _Once, deadline: Deadline) -> None:
+        """`StoreAway` if its host has no store just now, and nobody else has it."""
+        away: Optional[StoreError] = None
+        if ref.host == self.host:
+            try:
+                if self._store.read_into(ref.primary(part), into, deadline):
+                    return self._count("local", len(into))
+            except GONE as error:
+                away = error if is_store_away(error) else None
+        try:
+            self._fetch_part(ref, part, into, route, deadline)
+        except ValueLost as lost:
+            if away:
+                raise StoreAway(lost.host, lost.about, str(away)) from None
+            raise
+
+    def _fetch_part(self, ref: StoreRef, part: int, into: memoryview, route: _Once, deadline: Deadline) -> None:
         def fetch(space: memoryview) -> None:
             # whom to ask is answered by the scheduler, so it isn't asked on the event loop's own thread
             space[:] = self._ask(self._peers.part(route.get(), ref, part, deadline), timeout=None)
@@ -227,12 +279,6 @@ class StoreWorkers(WorkerPlugin):  # type: ignore[misc]
             return self._count("fetched", len(into))
         fetched = self._sharing.bring(ref.name, part, into, fetch, deadline)
         self._count("fetched" if fetched else "local", len(into))
-
-    def _read_own(self, ref: StoreRef, part: int, into: memoryview, deadline: Deadline) -> bool:
-        try:
-            return self._store.read_into(ref.primary(part), into, deadline)
-        except GONE:
-            return False
 
     def keep(self, ref: StoreRef) -> None:
         """See `StoreRef.keep`."""

@@ -1,0 +1,3 @@
+module storeclient
+
+go 1.19
