@@ -469,6 +469,29 @@ def connections_without_key(scale: Scale) -> List[Check]:
             return [*checks, *given_back(host, before), Check("restores that failed afterwards", _failed(session, ids), 0)]
 
 
+def connections_that_come_and_go(scale: Scale) -> List[Check]:
+    """Do connections that come and go, while few descriptors are left, make other jobs' spills and restores fail?"""
+    with hosts(scale, 1, descriptors=96) as (host,):
+        host.admit(VICTIM, 64 * KIB, MIB)
+
+        def come_and_go(place: Host, _: int, is_over: Callable[[], bool]) -> None:
+            while not is_over():
+                with contextlib.suppress(OSError):
+                    close_all(raw_streams(place.path(), 1))
+
+        with host.session(VICTIM) as session:
+            ids = [session.put(bytes(20_000), timeout=PATIENCE) for _ in range(5)]
+            streams = raw_streams(host.path(), 70)
+            asked = failed = 0
+            with attacked(host, come_and_go, 1):
+                end = time.monotonic() + 3 * scale.seconds
+                while time.monotonic() < end:
+                    failed += _failed(session, ids)
+                    asked += len(ids)
+            close_all(streams)
+            return [Check("restores", asked), Check("restores that failed", failed, 0)]
+
+
 def _failed(session: store_client.Connection, ids: "List[ObjectId]") -> int:
     """How many of the objects can't be got, of which some are spilled whenever others are there."""
     failed = 0
@@ -512,6 +535,7 @@ def a_close_by_the_daemon(scale: Scale) -> List[Check]:
 _TRIALS: Sequence[Trial] = (
     grants_to_nobody, never_read_without_key, never_read_with_key, waiters_that_went_away, waiters_100, waiters_400,
     waiters_at_another_node, seals_of_1_session, seals_of_4_sessions, seals_beside_a_writer, versions_of_a_copy, floods_of_32_sessions,
-    restores_of_1_session, fetches_of_1_session, fetches_of_4_sessions, ends_of_large_jobs, connections_without_key, a_close_by_the_daemon,
+    restores_of_1_session, fetches_of_1_session, fetches_of_4_sessions, ends_of_large_jobs, connections_without_key,
+    connections_that_come_and_go, a_close_by_the_daemon,
 )
 ALL: Dict[str, Trial] = {getattr(trial, "__name__"): trial for trial in _TRIALS}
