@@ -49,10 +49,11 @@ impl Session {
     /// [`Error::Invalid`] if it is a manifest that can't be right, or a part has another length than it says.
     pub fn get_whole(&self, id: ObjectId, timeout: Option<Duration>) -> Result<Vec<u8>, Error> {
         let waited = timeout.map(|time| Deadline::after(Some(time)));
+        let deadline = waited.unwrap_or(Deadline::NEVER);
         let mut held = self.get_until(id, waited)?;
-        held.release()?;
+        held.release_until(deadline)?;
         let Some(manifest) = Manifest::decode(&held, id)? else { return Ok(held.into_bytes()) };
-        self.check_lengths(&manifest, id, waited.unwrap_or(Deadline::NEVER))?;
+        self.check_lengths(&manifest, id, deadline)?;
         let mut bytes = Vec::new();
         for (number, &part) in manifest.ids.iter().enumerate() {
             // not all lengths may be known yet: memory is taken part by part

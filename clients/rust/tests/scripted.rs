@@ -568,3 +568,17 @@ fn a_part_whose_length_is_known_only_once_it_is_here_is_looked_at_then() {
     assert!(matches!(error, Error::Invalid(_)), "{error}");
     was_sent_no_more_than(&script, &store, &[0x01, 0x05, 0x06, 0x07, 0x10, 0x05, 0x07]);
 }
+
+#[test]
+fn a_whole_is_given_up_after_its_time_wherever_the_server_stands_still() {
+    let bytes = manifest(33, 32, &[part(1, 7), part(1, 8)]);
+    let replies = [taking(&bytes), vec![listed(&[])]].concat();
+    for count in 0..=replies.len() {
+        let script = after_hello(replies[..count].to_vec());
+        let store = script.connect(Some(SLACK));
+        let began = Instant::now();
+        let error = store.get_whole(id(), Some(SHORT)).expect_err("silent");
+        assert!(matches!(error, Error::Timeout), "after {count} replies: {error}");
+        assert!((SHORT..SLACK).contains(&began.elapsed()), "after {count} replies: {:?}", began.elapsed());
+    }
+}
