@@ -25,6 +25,7 @@ import store_client  # noqa: E402
 from store_client import ObjectId, Task, steps  # noqa: E402
 from store_release.program import program_or_end  # noqa: E402
 
+FRAMES = ROOT / "docs/rules/frames.md"
 VECTORS = ROOT / "docs/rules/frames.vectors"
 REFUSALS = ROOT / "docs/rules/refusals.md"
 # seconds that a process may take, on a machine that does much else
@@ -182,6 +183,13 @@ def documented_refusals() -> dict[int, tuple[str, str]]:
     """Of each number its name, and who may be told."""
     rows = re.findall(r"^\| (\d+) \| (\w+) \|.*\| ([^|]+) \|$", REFUSALS.read_text(encoding="ascii"), re.MULTILINE)
     return {int(number): (name, told) for number, name, told in rows}
+
+
+def documented_answers() -> list[tuple[str, str, list[tuple[str, str]]]]:
+    """Of each command its kind, its name, and the replies that may answer it, each with its kind and its name."""
+    table = FRAMES.read_text(encoding="ascii").split("\n## Which reply answers which command\n")[1].split("\n## ")[0]
+    rows = [line.strip("| ").split(" | ") for line in table.splitlines() if line.startswith("| `")]
+    return [(kind.strip("`"), name, re.findall(r"`(\w+)` (\w+)", " ".join(replies))) for kind, name, *replies in rows]
 
 
 def documented() -> tuple[list[tuple[bytes, str]], list[tuple[bytes, str]]]:

@@ -3,9 +3,9 @@
 from __future__ import annotations
 
 import unittest
-from typing import Sequence
+from typing import Sequence, Union
 
-from support import Script, documented, key
+from support import Script, documented, documented_answers, key
 from spelling import CALLS, call, spelled
 
 import store_client
@@ -14,6 +14,11 @@ from store_client.requests import Requests
 
 # for each reply a call that may get it
 ASKED_BY = {"ok": "seal t1.1", "refused": "seal t1.1", "placed": "create t1.1 20", "got": "get t1.1"}
+
+
+def named(kind: Union[frames.Command, frames.Reply]) -> tuple[str, str]:
+    """Its digits, and its name as the rules spell it."""
+    return f"{kind:02x}", kind.name.title().replace("_", "")
 
 
 class Frames(unittest.TestCase):
@@ -44,13 +49,41 @@ class Frames(unittest.TestCase):
                 reply = frames.frame(frames.Reply.BYTES, bytes(int(said.split(" ")[3]))) if due == "bytes" else self.frame_of[due]
                 self.assertEqual(self.ask(said, reply)[0].hex(), frame.hex(), said)
 
-    def test_hello(self) -> None:
-        frame, said = self.commands[0]
+    def enter(self, said: str, reply: bytes) -> bytes:
+        """What the client sends for a Hello."""
         _, job, secret = said.split(" ")
-        script = Script([self.frame_of["ok"]])
+        script = Script([reply])
         self.addCleanup(script.close)
         store_client.connect(script.path, int(job), bytes.fromhex(secret)).close()
-        self.assertEqual(script.sent[0].hex(), frame.hex())
+        return script.sent[0]
+
+    def test_hello(self) -> None:
+        frame, said = self.commands[0]
+        self.assertEqual(self.enter(said, self.frame_of["ok"]).hex(), frame.hex())
+
+    def takes(self, said: str, reply: bytes) -> bool:
+        """Whether the client takes this as the reply to the command."""
+        try:
+            if said.startswith("hello"):
+                self.enter(said, reply)
+            else:
+                self.ask(said, reply)
+        except store_client.Refused:
+            return True
+        except store_client.ProtocolError:
+            return False
+        return True
+
+    def test_which_reply_answers_which_command(self) -> None:
+        rows = documented_answers()
+        self.assertEqual([(kind, name) for kind, name, _ in rows], [named(kind) for kind in frames.Command])
+        replies = {kind: next(frame for frame, _ in self.replies if frame[4] == kind) for kind in frames.Reply}
+        due = {int(kind, 16): answers for kind, _, answers in rows}
+        for frame, said in self.commands:
+            if frame[4] in (frames.Command.READ, frames.Command.PEEK):
+                replies[frames.Reply.BYTES] = frames.frame(frames.Reply.BYTES, bytes(int(said.split(" ")[3])))
+            taken = [named(kind) for kind, reply in replies.items() if self.takes(said, reply)]
+            self.assertEqual(taken, due[frame[4]], said)
 
     def test_replies(self) -> None:
         for frame, said in self.replies:

@@ -10,7 +10,7 @@ use std::time::{Duration, Instant};
 
 use crate::deadline::{Deadline, Pauses};
 use crate::error::Error;
-use crate::frame::{Command, Reply, State, LARGEST};
+use crate::frame::{Command, Listing, Reply, State};
 use crate::held::Held;
 use crate::id::ObjectId;
 use crate::refusal::Refusal;
@@ -86,8 +86,13 @@ impl Session {
 
     /// The state of this job's copy at the node, if there is one.
     pub(crate) fn state_of(&self, id: ObjectId, deadline: Deadline) -> Result<Option<State>, Error> {
+        let listing = self.listing(deadline)?;
+        Ok(listing.own.iter().find(|item| item.id == id).map(|item| item.state))
+    }
+
+    pub(crate) fn listing(&self, deadline: Deadline) -> Result<Listing, Error> {
         match self.ask(Command::List, deadline)? {
-            Reply::List(listing) => Ok(listing.own.iter().find(|item| item.id == id).map(|item| item.state)),
+            Reply::List(listing) => Ok(listing),
             _ => Err(unexpected()),
         }
     }
@@ -96,12 +101,9 @@ impl Session {
     fn granted_length(&self, id: ObjectId, waited: Option<Deadline>) -> Result<usize, Error> {
         let mut pauses = Pauses::new();
         loop {
-            let listing = match self.ask(Command::List, waited.unwrap_or(Deadline::NEVER))? {
-                Reply::List(listing) => listing,
-                _ => return Err(unexpected()),
-            };
+            let listing = self.listing(waited.unwrap_or(Deadline::NEVER))?;
             if let Some(item) = listing.granted.iter().find(|item| item.id == id) {
-                return length_of_object(item.length);
+                return Ok(item.length as usize);
             }
             match waited {
                 Some(deadline) if !deadline.is_over() => pauses.pause(deadline),
@@ -119,7 +121,7 @@ impl Session {
             self.look(&mut search, deadline)?;
             match (&search.phase, search.refusal) {
                 (Phase::Found(length, holds), _) => {
-                    let (length, holds) = (length_of_object(*length)?, *holds);
+                    let (length, holds) = (*length as usize, *holds);
                     self.release_all(id, holds - 1, deadline)?;
                     return Ok(length);
                 }
@@ -248,12 +250,6 @@ fn length_in(reply: Option<&Reply>) -> Option<u32> {
         Some(Reply::Got(length)) => Some(*length),
         _ => None,
     }
-}
-
-/// A server that names another length than an object has gets no memory for it.
-fn length_of_object(length: u32) -> Result<usize, Error> {
-    let length = usize::try_from(length).ok().filter(|length| (1..=LARGEST).contains(length));
-    length.ok_or_else(|| Error::Protocol("the length isn't that of an object".to_owned()))
 }
 
 fn fits(length: usize, buffer: &[u8]) -> Result<(), Error> {

@@ -34,6 +34,10 @@ pub enum NoFrame {
     Copy(u8),
     /// An object's job or index is 0.
     Id,
+    /// No object has this length in bytes.
+    ObjectLength(u32),
+    /// A refusal has the number 0, which none has.
+    Refusal,
 }
 
 impl fmt::Display for NoFrame {
@@ -44,6 +48,8 @@ impl fmt::Display for NoFrame {
             NoFrame::Body => f.write_str("the body has another length than its kind says"),
             NoFrame::Copy(number) => write!(f, "a copy has no kind or state {number}"),
             NoFrame::Id => f.write_str("the job or the index of an id is 0"),
+            NoFrame::ObjectLength(length) => write!(f, "no object has {length} bytes"),
+            NoFrame::Refusal => f.write_str("no refusal has the number 0"),
         }
     }
 }
@@ -390,11 +396,11 @@ impl Reply {
         let reply = match kind {
             OK => Reply::Ok,
             PLACED => Reply::Placed(Placed { offset: body.number()?, length: body.number()? }),
-            GOT => Reply::Got(body.number()?),
+            GOT => Reply::Got(body.object_length(1)?),
             BYTES => Reply::Bytes(body.rest().to_vec()),
             LIST => Reply::List(Listing { own: body.items(own_item)?, granted: body.items(granted_item)? }),
             USAGE => Reply::Usage(body.usage()?),
-            REFUSED => Reply::Refused(Refusal::from_number(body.byte()?)),
+            REFUSED => Reply::Refused(refusal(body.byte()?)?),
             _ => return Err(NoFrame::Kind(kind)),
         };
         body.end()?;
@@ -439,6 +445,14 @@ impl Reply {
     }
 }
 
+/// The refusal of this number, unless it is 0. One that this client has no name for may be of a later server.
+pub(crate) fn refusal(number: u8) -> Result<Refusal, NoFrame> {
+    match number {
+        0 => Err(NoFrame::Refusal),
+        _ => Ok(Refusal::from_number(number)),
+    }
+}
+
 fn add_number(to: &mut Vec<u8>, number: u32) {
     to.extend_from_slice(&number.to_be_bytes());
 }
@@ -475,12 +489,13 @@ fn own_item(body: &mut Body<'_>) -> Result<OwnItem, NoFrame> {
         id: ObjectId::from_bytes(body.take()?)?,
         state: State::of(body.byte()?)?,
         kind: CopyKind::of(body.byte()?)?,
-        length: body.number()?,
+        // a fetch that hasn't found the object has none
+        length: body.object_length(0)?,
     })
 }
 
 fn granted_item(body: &mut Body<'_>) -> Result<GrantedItem, NoFrame> {
-    Ok(GrantedItem { id: ObjectId::from_bytes(body.take()?)?, length: body.number()?, depth: body.byte()? })
+    Ok(GrantedItem { id: ObjectId::from_bytes(body.take()?)?, length: body.object_length(1)?, depth: body.byte()? })
 }
 
 /// What is left of a body.
@@ -504,6 +519,16 @@ impl<'a> Body<'a> {
 
     fn number(&mut self) -> Result<u32, NoFrame> {
         self.take().map(u32::from_be_bytes)
+    }
+
+    /// The length of an object, from the least on: a server that names another gets no memory for it.
+    fn object_length(&mut self, least: u32) -> Result<u32, NoFrame> {
+        let length = self.number()?;
+        if (least..=LARGEST as u32).contains(&length) {
+            Ok(length)
+        } else {
+            Err(NoFrame::ObjectLength(length))
+        }
     }
 
     fn long_number(&mut self) -> Result<u64, NoFrame> {

@@ -3,7 +3,9 @@
 use std::fmt;
 use std::ops::Deref;
 
+use crate::deadline::Deadline;
 use crate::error::Error;
+use crate::frame::Command;
 use crate::id::ObjectId;
 use crate::session::Session;
 
@@ -33,8 +35,12 @@ impl<'a> Held<'a> {
 
     /// Gives the hold up, once, and says whether that went well. The bytes that were read stay.
     pub fn release(&mut self) -> Result<(), Error> {
+        self.release_until(Deadline::NEVER)
+    }
+
+    pub(crate) fn release_until(&mut self, deadline: Deadline) -> Result<(), Error> {
         match self.holder.take() {
-            Some(session) => session.release(self.id),
+            Some(session) => session.ask(Command::Release(self.id), deadline).map(drop),
             None => Ok(()),
         }
     }

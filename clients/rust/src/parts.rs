@@ -4,11 +4,12 @@
 //! the manifest is written and sealed. Who finds it sealed finds all parts. The parts' ids are of the manifest's task if its id was given,
 //! so they end with it. The manifest's bytes are those of the client in Python.
 
+use std::collections::{HashMap, HashSet};
 use std::time::Duration;
 
 use crate::deadline::Deadline;
 use crate::error::Error;
-use crate::frame::LARGEST;
+use crate::frame::{State, LARGEST};
 use crate::id::{ObjectId, ID_BYTES};
 use crate::putting::NewCopy;
 use crate::refusal::Refusal;
@@ -17,8 +18,8 @@ use crate::session::{random_bytes, Session};
 const MANIFEST: &[u8; 8] = b"store\0m1";
 /// What comes before the ids, in bytes: those, the length of the whole, the length of each part.
 const HEAD_BYTES: usize = 20;
-/// Of a job at a node.
-const MOST_COPIES: usize = 1024;
+/// The manifest and its parts are copies of a job at a node, which has at most 1,024.
+const MOST_PARTS: usize = 1023;
 /// So many parts have room beside each other in the window.
 const PARTS_OF_A_WINDOW: u64 = 16;
 /// The parts of an object whose id was given have indexes from here on in its task, which hardly anybody gives.
@@ -38,22 +39,24 @@ impl Session {
 
     /// The same under an id that was given. Waits and is refused as [`Session::put_as`].
     pub fn put_whole_as(&self, id: ObjectId, bytes: &[u8], timeout: Option<Duration>) -> Result<(), Error> {
-        let first = FIRST_INDEX + u32::from_be_bytes(random_bytes()?) % (FIRST_INDEX - MOST_COPIES as u32);
-        // there are at most as many parts as copies
+        let first = FIRST_INDEX + u32::from_be_bytes(random_bytes()?) % (FIRST_INDEX - MOST_PARTS as u32);
+        // a number is below that of the most parts
         let part = |number: usize| Ok(id.task().object(id.job(), first + number as u32)?);
         self.fill_whole(&mut NewCopy::new(self, id, false), bytes, Deadline::after(timeout), part)
     }
 
     /// The bytes that [`Session::put_whole`] or another put has stored, without a hold. Waits and is refused as [`Session::get`].
-    /// [`Error::Invalid`] if it is a manifest that can't be right.
+    /// [`Error::Invalid`] if it is a manifest that can't be right, or a part has another length than it says.
     pub fn get_whole(&self, id: ObjectId, timeout: Option<Duration>) -> Result<Vec<u8>, Error> {
         let waited = timeout.map(|time| Deadline::after(Some(time)));
-        let held = self.get_until(id, waited)?;
+        let deadline = waited.unwrap_or(Deadline::NEVER);
+        let mut held = self.get_until(id, waited)?;
+        held.release_until(deadline)?;
         let Some(manifest) = Manifest::decode(&held, id)? else { return Ok(held.into_bytes()) };
-        drop(held);
+        self.check_lengths(&manifest, id, deadline)?;
         let mut bytes = Vec::new();
         for (number, &part) in manifest.ids.iter().enumerate() {
-            // who granted a manifest may have said anything of the whole: memory is taken part by part
+            // not all lengths may be known yet: memory is taken part by part
             let start = bytes.len();
             bytes.resize(start + manifest.length_of(number), 0);
             self.get_into_until(part, &mut bytes[start..], waited)?;
@@ -67,7 +70,9 @@ impl Session {
         if id.job() == self.job() && !self.begins_as_a_manifest(id)? {
             return Ok(Vec::new());
         }
-        Ok(Manifest::decode(&self.get(id, None)?, id)?.map_or_else(Vec::new, |manifest| manifest.ids))
+        let mut held = self.get(id, None)?;
+        held.release()?;
+        Ok(Manifest::decode(&held, id)?.map_or_else(Vec::new, |manifest| manifest.ids))
     }
 
     /// The object is removed, and its parts. Refused as [`Session::get`] and [`Session::delete`]; parts that are refused stay.
@@ -76,6 +81,18 @@ impl Session {
         self.delete(id)?;
         self.take_back(&parts, Deadline::NEVER);
         Ok(())
+    }
+
+    /// Refuses a manifest of which a part has another length than it says. Parts that aren't here, or aren't granted yet, have none.
+    fn check_lengths(&self, manifest: &Manifest, id: ObjectId, deadline: Deadline) -> Result<(), Error> {
+        let listing = self.listing(deadline)?;
+        let own = listing.own.iter().filter(|item| item.state != State::Fetching).map(|item| (item.id, item.length));
+        let known: HashMap<ObjectId, u32> = own.chain(listing.granted.iter().map(|item| (item.id, item.length))).collect();
+        let mut lengths = manifest.ids.iter().map(|part| known.get(part)).enumerate();
+        if lengths.all(|(number, known)| known.map_or(true, |&length| length as usize == manifest.length_of(number))) {
+            return Ok(());
+        }
+        Err(Error::Invalid(format!("{id} is a manifest, and a part has another length than it says")))
     }
 
     fn begins_as_a_manifest(&self, id: ObjectId) -> Result<bool, Error> {
@@ -103,7 +120,7 @@ impl Session {
         }
         let length = part_length(self.usage()?.window);
         let count = bytes.len().div_ceil(length);
-        if count >= MOST_COPIES {
+        if count > MOST_PARTS {
             return Err(Refusal::BadSize.into());
         }
         let ids = (0..count).map(part).collect::<Result<Vec<ObjectId>, Error>>()?;
@@ -163,12 +180,20 @@ impl Manifest {
         if !bytes.starts_with(MANIFEST) {
             return Ok(None);
         }
+        if bytes.len() > HEAD_BYTES + MOST_PARTS * ID_BYTES {
+            return Err(Error::Invalid(format!("{id} is a manifest of more than {MOST_PARTS} parts, and no job has so many copies")));
+        }
         let manifest = Manifest::read(bytes).filter(|manifest| {
             let is_cut_so = (1..=LARGEST).contains(&manifest.part) && manifest.ids.len() == manifest.length.div_ceil(manifest.part);
             // who grants a manifest can't have others read what is their own
             is_cut_so && manifest.ids.iter().all(|part| part.job() == id.job())
         });
-        manifest.map(Some).ok_or_else(|| Error::Invalid(format!("{id} is a manifest whose parts can't be right")))
+        let manifest = manifest.ok_or_else(|| Error::Invalid(format!("{id} is a manifest whose parts can't be right")))?;
+        let mut seen = HashSet::from([id]);
+        if !manifest.ids.iter().all(|&part| seen.insert(part)) {
+            return Err(Error::Invalid(format!("{id} is a manifest that can't be right: a part stands in it twice, or it itself")));
+        }
+        Ok(Some(manifest))
     }
 
     fn read(bytes: &[u8]) -> Option<Manifest> {
@@ -209,12 +234,24 @@ mod tests {
     fn a_manifest_that_cannot_be_right_is_told() {
         let good = Manifest { length: 33, part: 32, ids: vec![id(1, 7), id(1, 8)] };
         assert!(Manifest::decode(&good.encode(), id(2, 1)).is_err(), "another job's parts");
+        assert!(Manifest::decode(&good.encode(), id(1, 8)).is_err(), "itself among its parts");
+        let twice = Manifest { ids: vec![id(1, 7), id(1, 7)], ..good };
+        assert!(Manifest::decode(&twice.encode(), id(1, 1)).is_err(), "a part twice");
         for length in (8..20 + 56).filter(|length| *length != 20 + 28) {
             assert!(Manifest::decode(&good.encode()[..length], id(1, 1)).is_err(), "cut to {length}");
         }
         for (length, part) in [(0, 32), (32, 32), (65, 32), (33, 0), (usize::MAX, 32), (2 * LARGEST, LARGEST + 1)] {
             let wrong = Manifest { length, part, ids: good.ids.clone() };
             assert!(Manifest::decode(&wrong.encode(), id(1, 1)).is_err(), "{length} in parts of {part}");
+        }
+    }
+
+    #[test]
+    fn a_manifest_has_at_most_1023_parts() {
+        for (count, is_good) in [(MOST_PARTS, true), (MOST_PARTS + 1, false)] {
+            let ids = (0..count).map(|number| id(1, 2 + number as u32)).collect();
+            let manifest = Manifest { length: count, part: 1, ids };
+            assert_eq!(Manifest::decode(&manifest.encode(), id(1, 1)).is_ok(), is_good, "{count} parts");
         }
     }
 

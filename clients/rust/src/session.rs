@@ -208,10 +208,7 @@ impl Session {
 
     /// The job's copies at the node, and what others granted to it.
     pub fn list(&self) -> Result<Listing, Error> {
-        match self.ask(Command::List, Deadline::NEVER)? {
-            Reply::List(listing) => Ok(listing),
-            _ => Err(unexpected()),
-        }
+        self.listing(Deadline::NEVER)
     }
 
     /// The job's quotas at the node, and what is used of them.

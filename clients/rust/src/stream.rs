@@ -10,7 +10,7 @@ use std::time::Duration;
 
 use crate::deadline::Deadline;
 use crate::error::Error;
-use crate::frame::{Command, Reply, BYTES, HEAD_BYTES, LONGEST_REPLY, REFUSED};
+use crate::frame::{refusal, Command, Reply, BYTES, HEAD_BYTES, LONGEST_REPLY, REFUSED};
 use crate::refusal::Refusal;
 
 /// So many commands may be unanswered. The frames of so many Reads, and the replies to so many Writes, don't fill a socket: so a server
@@ -160,7 +160,7 @@ impl Stream {
         if kind == REFUSED && length == 1 {
             let mut number = [0];
             self.fill(&mut number, deadline)?;
-            return Ok(Err(Refusal::from_number(number[0])));
+            return Ok(Err(refusal(number[0])?));
         }
         if kind != due || !lengths.contains(&length) {
             return Err(Error::Protocol(format!("{length} bytes of kind {kind:#04x} came, and {due:#04x} is due with {lengths:?}")));

@@ -2,24 +2,28 @@
 
 use std::fs;
 use std::io::{Read, Write};
+use std::net::Shutdown;
 use std::os::unix::net::{UnixListener, UnixStream};
 use std::path::PathBuf;
 use std::sync::atomic::{AtomicUsize, Ordering};
 use std::sync::mpsc::{self, Receiver, Sender};
+use std::sync::{Arc, Mutex};
 use std::thread;
 use std::time::{Duration, Instant};
 
 use store_client::frame::{Command, Reply};
-use store_client::{CopyKind, Error, Listing, ObjectId, OwnItem, Placed, Pool, Refusal, Session, State, Task, Usage};
+use store_client::{CopyKind, Error, GrantedItem, Listing, ObjectId, OwnItem, Placed, Pool, Refusal, Session, State, Task, Usage};
 
 const KEY: [u8; 32] = [1; 32];
+const GET: u8 = 0x05;
 const SHORT: Duration = Duration::from_millis(200);
-const LONG: Duration = Duration::from_secs(6);
 // beyond what a call may take, on a machine that does much else
-const SLACK: Duration = Duration::from_secs(20);
+const SLACK: Duration = Duration::from_secs(60);
 
 // at the end of a reply: the session is closed after it
 const CLOSE: &[u8] = b"close";
+// at the end of a reply: a Get in the command's place is Pending, and the reply is of what comes after it
+const UNLESS_GET: &[u8] = b"unless Get";
 
 static FOLDERS: AtomicUsize = AtomicUsize::new(0);
 
@@ -28,6 +32,8 @@ static FOLDERS: AtomicUsize = AtomicUsize::new(0);
 struct Script {
     folder: PathBuf,
     frames: Receiver<Vec<u8>>,
+    // the session that it has now
+    taken: Arc<Mutex<Option<UnixStream>>>,
 }
 
 impl Script {
@@ -37,13 +43,23 @@ impl Script {
         fs::create_dir(&folder).expect("a folder");
         let listener = UnixListener::bind(folder.join("socket")).expect("a socket");
         let (sender, frames) = mpsc::channel();
+        let script = Script { folder, frames, taken: Arc::default() };
+        let taken = Arc::clone(&script.taken);
         thread::spawn(move || {
             for replies in sessions {
                 let (stream, _) = listener.accept().expect("a session");
-                serve(stream, &replies, &sender);
+                *taken.lock().expect("a place") = Some(stream.try_clone().expect("the session once more"));
+                serve(&stream, &replies, &sender);
+                *taken.lock().expect("a place") = None;
             }
         });
-        Script { folder, frames }
+        script
+    }
+
+    /// Ends the session that it has, in the middle of its silence. The client can see that from now on.
+    fn hang_up(&self) {
+        let taken = self.taken.lock().expect("a place");
+        taken.as_ref().expect("a session").shutdown(Shutdown::Both).expect("its end");
     }
 
     fn connect(&self, patience: Option<Duration>) -> Session {
@@ -66,8 +82,8 @@ impl Drop for Script {
     }
 }
 
-fn serve(mut stream: UnixStream, replies: &[Vec<u8>], frames: &Sender<Vec<u8>>) {
-    let mut replies = replies.iter();
+fn serve(mut stream: &UnixStream, replies: &[Vec<u8>], frames: &Sender<Vec<u8>>) {
+    let mut replies = replies.iter().peekable();
     let mut head = [0; 4];
     while stream.read_exact(&mut head).is_ok() {
         let mut frame = head.to_vec();
@@ -75,11 +91,13 @@ fn serve(mut stream: UnixStream, replies: &[Vec<u8>], frames: &Sender<Vec<u8>>) 
         if stream.read_exact(&mut frame[4..]).is_err() {
             return;
         }
+        let is_early = frame[4] == GET && replies.peek().is_some_and(|reply| reply.ends_with(UNLESS_GET));
         // a test that has seen enough doesn't listen any more
         let _ = frames.send(frame);
-        if let Some(reply) = replies.next() {
-            let rest = reply.strip_suffix(CLOSE);
-            if stream.write_all(rest.unwrap_or(reply)).is_err() || rest.is_some() {
+        let early = is_early.then(|| refused(Refusal::Pending));
+        if let Some(reply) = early.as_ref().or_else(|| replies.next()) {
+            let (closing, later) = (reply.strip_suffix(CLOSE), reply.strip_suffix(UNLESS_GET));
+            if stream.write_all(closing.or(later).unwrap_or(reply)).is_err() || closing.is_some() {
                 return;
             }
         }
@@ -103,7 +121,11 @@ fn placed() -> Vec<u8> {
 }
 
 fn id() -> ObjectId {
-    Task::numbered(1).object(1, 1).expect("an id")
+    part(1, 1)
+}
+
+fn part(job: u32, index: u32) -> ObjectId {
+    Task::numbered(1).object(job, index).expect("an id")
 }
 
 /// One session that is answered so after its Hello.
@@ -148,21 +170,22 @@ fn a_thread_waits_for_its_turn_no_longer_than_it_may() {
     let script = after_hello(vec![]);
     let store = script.connect(None);
     thread::scope(|scope| {
-        scope.spawn(|| store.hold_wait(id(), Some(LONG)).expect_err("silent"));
+        let waiting = scope.spawn(|| store.hold_wait(id(), None).expect_err("the session ends"));
         assert_eq!(script.kinds(2), [0x01, 0x13]);
-        let began = Instant::now();
-        let error = store.get(id(), Some(SHORT)).expect_err("in use");
-        assert!(matches!(error, Error::Timeout), "{error}");
-        assert!(began.elapsed() < LONG, "{:?}", began.elapsed());
-        assert!(store.is_usable(), "another thread's call goes on");
+        let error = store.get(id(), Some(SHORT));
+        let is_usable = store.is_usable();
+        script.hang_up();
+        assert!(matches!(error, Err(Error::Timeout)), "{error:?}");
+        assert!(is_usable, "another thread's call goes on");
+        assert!(matches!(waiting.join().expect("its error"), Error::Lost(_)));
     });
 }
 
 #[test]
 fn each_refusal_is_told_by_its_name_and_the_session_goes_on() {
-    let script = after_hello((0..=u8::MAX).map(|number| refused(Refusal::from_number(number))).collect());
+    let script = after_hello((1..=u8::MAX).map(|number| refused(Refusal::from_number(number))).collect());
     let store = script.connect(None);
-    for number in 0..=u8::MAX {
+    for number in 1..=u8::MAX {
         let error = store.seal(id()).expect_err("refused");
         assert_eq!(error.refusal().map(Refusal::number), Some(number), "{error}");
     }
@@ -171,12 +194,13 @@ fn each_refusal_is_told_by_its_name_and_the_session_goes_on() {
 
 #[test]
 fn what_is_no_reply_is_a_protocol_error() {
-    let rubbish: [&[u8]; 7] = [
+    let rubbish: [&[u8]; 8] = [
         &[0, 0, 0, 0, 0x80],
         &[0xff, 0xff, 0xff, 0xff, 0x80],
         &[0, 0, 0, 1, 0x81],
         &[0, 0, 0, 2, 0x80, 0],
         &[0, 0, 0, 1, 0x8f],
+        &[0, 0, 0, 2, 0x8f, 0],
         &[0, 0, 0, 3, 0x8f, 1, 1],
         b"HTTP/1.1 200 OK",
     ];
@@ -208,10 +232,26 @@ fn a_length_that_was_not_asked_for_is_refused_before_its_bytes_come() {
 #[test]
 fn an_object_that_is_longer_than_any_takes_no_memory() {
     for length in [0, 16_777_217, u32::MAX] {
-        let script = after_hello(vec![said(Reply::Got(length))]);
-        let error = script.connect(Some(SLACK)).get(id(), None).expect_err("too long");
-        assert!(matches!(error, Error::Protocol(_)), "{error}");
+        let got = said(Reply::Got(length));
+        is_no_reply(&got, |store| store.hold(id()).map(drop));
+        is_no_reply(&got, |store| store.hold_wait(id(), Some(SLACK)).map(drop));
+        is_no_reply(&got, |store| store.get(id(), None).map(drop));
+        let granted = vec![GrantedItem { id: part(2, 1), length, depth: 1 }];
+        is_no_reply(&said(Reply::List(Listing { own: Vec::new(), granted })), |store| store.get(part(2, 1), None).map(drop));
+        if length > 0 {
+            is_no_reply(&listed(&[(id(), State::Fetching, length)]), |store| store.list().map(drop));
+        }
     }
+}
+
+/// A reply that is none loses the session.
+fn is_no_reply(reply: &[u8], ask: impl Fn(&Session) -> Result<(), Error>) {
+    let script = after_hello(vec![reply.to_vec()]);
+    let store = script.connect(Some(SLACK));
+    let error = ask(&store).expect_err("no reply");
+    assert!(matches!(error, Error::Protocol(_)), "{error}");
+    assert!(!store.is_usable());
+    assert!(matches!(store.leave(), Err(Error::Lost(_))));
 }
 
 #[test]
@@ -303,18 +343,22 @@ fn a_burst_that_finds_no_room_is_sent_again_once_there_is_some() {
     assert_eq!(script.kinds(7), [0x01, 0x02, 0x03, 0x04, 0x02, 0x03, 0x04]);
 }
 
-fn listed(state: State) -> Vec<u8> {
-    let item = OwnItem { id: id(), state, kind: CopyKind::Secondary, length: 0 };
-    said(Reply::List(Listing { own: vec![item], granted: Vec::new() }))
+fn listed(items: &[(ObjectId, State, u32)]) -> Vec<u8> {
+    let item = |&(id, state, length)| OwnItem { id, state, kind: CopyKind::Secondary, length };
+    said(Reply::List(Listing { own: items.iter().map(item).collect(), granted: Vec::new() }))
+}
+
+fn found(state: State) -> Vec<u8> {
+    listed(&[(id(), state, 0)])
 }
 
 #[test]
 fn a_put_takes_a_fetch_away_that_is_in_its_place() {
-    let replies = vec![refused(Refusal::Exists), listed(State::Fetching), refused(Refusal::Absent), placed(), ok(), ok()];
+    let replies = vec![refused(Refusal::Exists), found(State::Fetching), refused(Refusal::Absent), placed(), ok(), ok()];
     let script = after_hello(replies);
     script.connect(Some(SLACK)).put_as(id(), b"Hello", None).expect("a put");
     assert_eq!(script.kinds(7), [0x01, 0x02, 0x10, 0x05, 0x02, 0x03, 0x04]);
-    let script = after_hello(vec![refused(Refusal::Exists), listed(State::Created)]);
+    let script = after_hello(vec![refused(Refusal::Exists), found(State::Created)]);
     let error = script.connect(Some(SLACK)).put_as(id(), b"Hello", None).expect_err("another producer's");
     assert_eq!(error.refusal(), Some(Refusal::Exists), "{error}");
 }
@@ -331,22 +375,29 @@ fn a_look_that_finds_twice_has_one_hold() {
 
 #[test]
 fn a_transfer_is_waited_for_and_left_to_go_on() {
-    let pending = || refused(Refusal::Pending);
-    let under_way = [pending(), pending(), refused(Refusal::NotSealed), refused(Refusal::NotHeld)];
-    let replies = [&under_way[..], &[said(Reply::Got(5)), said(Reply::Bytes(b"Hello".to_vec()))]].concat();
+    let unless_get = |refusal| [&refused(refusal), UNLESS_GET].concat();
+    let under_way = [refused(Refusal::Pending), refused(Refusal::Pending), unless_get(Refusal::NotSealed), unless_get(Refusal::NotHeld)];
+    let replies = [&under_way[..], &[said(Reply::Got(5)), said(Reply::Bytes(b"Hello".to_vec())), ok()]].concat();
     let script = after_hello(replies);
     let store = script.connect(Some(SLACK));
-    assert_eq!(store.get(id(), None).expect("a get").into_bytes(), b"Hello");
-    assert_eq!(script.kinds(7), [0x01, 0x05, 0x05, 0x06, 0x06, 0x05, 0x06]);
+    let mut held = store.get(id(), None).expect("a get");
+    held.release().expect("a release");
+    assert_eq!(held.into_bytes(), b"Hello");
+    let kinds: Vec<u8> = script.frames.try_iter().map(|frame| frame[4]).collect();
+    // on a slow machine it may be time for a Get before a Read
+    let between: Vec<&[u8]> = kinds.split(|&kind| kind == 0x06).collect();
+    let [[0x01, 0x05, 0x05, entering @ ..], going_on @ .., [0x05, arrived @ ..], [0x07]] = &between[..] else { panic!("{kinds:02x?}") };
+    assert_eq!(going_on.len(), 1, "{kinds:02x?}");
+    assert!([entering, going_on[0], arrived].concat().iter().all(|&kind| kind == 0x05), "{kinds:02x?}");
 }
 
 #[test]
 fn a_fetch_that_finds_no_room_is_deleted_and_no_other_copy_is() {
-    let script = after_hello(vec![refused(Refusal::Full), listed(State::Fetching), ok()]);
+    let script = after_hello(vec![refused(Refusal::Full), found(State::Fetching), ok()]);
     let error = script.connect(Some(SLACK)).get(id(), None).expect_err("no room");
     assert_eq!(error.refusal(), Some(Refusal::Full), "{error}");
     assert_eq!(script.kinds(4), [0x01, 0x05, 0x10, 0x0b]);
-    let script = after_hello(vec![refused(Refusal::Full), listed(State::Away), ok()]);
+    let script = after_hello(vec![refused(Refusal::Full), found(State::Away), ok()]);
     let store = script.connect(Some(SLACK));
     assert_eq!(store.get(id(), None).expect_err("no room").refusal(), Some(Refusal::Full));
     store.leave().expect("the session goes on");
@@ -419,10 +470,11 @@ fn a_pool_keeps_no_session_with_replies_that_nobody_asked_for() {
 
 #[test]
 fn a_pool_notices_a_session_that_was_closed_while_nobody_had_it() {
-    let script = Script::new(vec![vec![ok(), [&ok(), CLOSE].concat()], vec![ok(), ok()]]);
+    let script = Script::new(vec![vec![ok(), ok()], vec![ok(), ok()]]);
     let pool = Pool::new(script.path(), 1, &KEY, Some(SLACK), 1).expect("a pool");
     pool.session(None).expect("a session").leave().expect("an answer");
-    thread::sleep(SHORT);
+    assert_eq!(pool.idle_sessions(), 1);
+    script.hang_up();
     pool.session(None).expect("another session").leave().expect("an answer");
     assert_eq!(script.kinds(4), [0x01, 0x12, 0x01, 0x12]);
 }
@@ -436,4 +488,97 @@ fn arguments_that_cannot_be_meant_are_told_and_nothing_is_sent() {
     assert!(matches!(store.write(id(), u32::MAX, &[0; 65_537]), Err(Error::Invalid(_))));
     store.leave().expect("the session goes on");
     assert_eq!(script.kinds(2), [0x01, 0x12]);
+}
+
+/// What is in parts of this length, as long as it says.
+fn manifest(length: u64, part: u32, parts: &[ObjectId]) -> Vec<u8> {
+    let mut bytes = [&b"store\0m1"[..], &length.to_be_bytes(), &part.to_be_bytes()].concat();
+    parts.iter().for_each(|part| bytes.extend_from_slice(&part.to_bytes()));
+    bytes
+}
+
+/// The replies to a client that takes an object as a whole, up to the Release.
+fn taking(bytes: &[u8]) -> Vec<Vec<u8>> {
+    vec![said(Reply::Got(bytes.len() as u32)), said(Reply::Bytes(bytes.to_vec())), ok()]
+}
+
+/// The commands of these kinds are all that were sent, and the session goes on.
+fn was_sent_no_more_than(script: &Script, store: &Session, kinds: &[u8]) {
+    store.leave().expect("the session goes on");
+    assert_eq!(script.kinds(kinds.len() + 1), [kinds, &[0x12]].concat());
+}
+
+#[test]
+fn a_manifest_that_cannot_be_right_is_invalid_and_nothing_is_asked_of_its_parts() {
+    let many: Vec<ObjectId> = (0..1024).map(|number| part(1, 2 + number)).collect();
+    let wrong = [
+        ("a part twice", manifest(33, 32, &[part(1, 7), part(1, 7)])),
+        ("itself", manifest(33, 32, &[part(1, 7), id()])),
+        ("more than 1,023 parts", manifest(1024, 1, &many)),
+        ("another job's part", manifest(33, 32, &[part(1, 7), part(2, 8)])),
+        ("too few parts", manifest(65, 32, &[part(1, 7), part(1, 8)])),
+    ];
+    for (what, bytes) in wrong {
+        let script = after_hello([taking(&bytes), vec![ok()]].concat());
+        let store = script.connect(Some(SLACK));
+        let error = store.get_whole(id(), None).expect_err(what);
+        assert!(matches!(error, Error::Invalid(_)), "{what}: {error}");
+        was_sent_no_more_than(&script, &store, &[0x01, 0x05, 0x06, 0x07]);
+        let beginning = vec![said(Reply::Got(bytes.len() as u32)), said(Reply::Bytes(bytes[..8].to_vec())), ok()];
+        let script = after_hello([beginning, taking(&bytes), vec![ok()]].concat());
+        let store = script.connect(Some(SLACK));
+        let error = store.delete_whole(id()).expect_err(what);
+        assert!(matches!(error, Error::Invalid(_)), "{what}: {error}");
+        was_sent_no_more_than(&script, &store, &[0x01, 0x05, 0x06, 0x07, 0x05, 0x06, 0x07]);
+    }
+}
+
+#[test]
+fn lengths_of_parts_are_looked_at_before_any_is_taken() {
+    // it says that it has 16 GiB, less 16 MiB
+    let parts: Vec<ObjectId> = (0..1023).map(|number| part(1, 2 + number)).collect();
+    let bytes = manifest(1023 << 24, 1 << 24, &parts);
+    let other = parts[1022];
+    let known = [(parts[0], State::Sealed, 1 << 24), (parts[1], State::Fetching, 0), (other, State::Away, 16)];
+    let script = after_hello([taking(&bytes), vec![listed(&known), ok()]].concat());
+    let store = script.connect(Some(SLACK));
+    let error = store.get_whole(id(), None).expect_err("another length");
+    assert!(matches!(error, Error::Invalid(_)), "{error}");
+    was_sent_no_more_than(&script, &store, &[0x01, 0x05, 0x06, 0x07, 0x10]);
+}
+
+#[test]
+fn lengths_of_granted_parts_are_looked_at_before_any_is_taken() {
+    let bytes = manifest(33, 32, &[part(2, 7), part(2, 8)]);
+    let item = |index, length| GrantedItem { id: part(2, index), length, depth: 1 };
+    let granted = || said(Reply::List(Listing { own: Vec::new(), granted: vec![item(1, 76), item(7, 32), item(8, 2)] }));
+    let script = after_hello(vec![granted(), said(Reply::Bytes(bytes)), granted(), ok()]);
+    let store = script.connect(Some(SLACK));
+    let error = store.get_whole(part(2, 1), None).expect_err("another length");
+    assert!(matches!(error, Error::Invalid(_)), "{error}");
+    was_sent_no_more_than(&script, &store, &[0x01, 0x10, 0x0f, 0x10]);
+}
+
+#[test]
+fn a_part_whose_length_is_known_only_once_it_is_here_is_looked_at_then() {
+    let bytes = manifest(33, 32, &[part(1, 7), part(1, 8)]);
+    let script = after_hello([taking(&bytes), vec![listed(&[]), said(Reply::Got(31)), ok(), ok()]].concat());
+    let store = script.connect(Some(SLACK));
+    let error = store.get_whole(id(), None).expect_err("another length");
+    assert!(matches!(error, Error::Invalid(_)), "{error}");
+    was_sent_no_more_than(&script, &store, &[0x01, 0x05, 0x06, 0x07, 0x10, 0x05, 0x07]);
+}
+
+#[test]
+fn a_whole_is_given_up_after_its_time_wherever_the_server_stands_still() {
+    let bytes = manifest(33, 32, &[part(1, 7), part(1, 8)]);
+    let replies = [taking(&bytes), vec![listed(&[])]].concat();
+    for count in 0..=replies.len() {
+        let script = after_hello(replies[..count].to_vec());
+        let store = script.connect(Some(SLACK));
+        let began = Instant::now();
+        let error = store.get_whole(id(), Some(SHORT)).expect_err("silent");
+        assert!(matches!(error, Error::Timeout), "after {count} replies: {error}");
+        assert!((SHORT..SLACK).contains(&began.elapsed()), "after {count} replies: {:?}", began.elapsed());
+    }
 }

@@ -198,6 +198,21 @@ fn ids_and_copies_that_are_none_are_refused() {
 }
 
 #[test]
+fn refusals_and_lengths_that_are_none_are_refused() {
+    assert_eq!(Reply::decode(&bytes("000000028f00")), Err(NoFrame::Refusal));
+    let id = "00000000000000000000000000000000000000010000000100000001";
+    for (length, digits) in [(0, "00000000"), (16_777_217, "01000001"), (u32::MAX, "ffffffff")] {
+        let none = Err(NoFrame::ObjectLength(length));
+        assert_eq!(Reply::decode(&bytes(&format!("0000000582{digits}"))), none);
+        assert_eq!(Reply::decode(&bytes(&format!("0000002a840000000000000001{id}{digits}01"))), none);
+        let own = Reply::decode(&bytes(&format!("0000002b8400000001{id}0301{digits}00000000")));
+        // a fetch may have no length yet
+        assert_eq!(own.is_ok(), length == 0);
+        assert!(length == 0 || own == none);
+    }
+}
+
+#[test]
 fn a_list_of_more_items_than_its_bytes_takes_no_memory() {
     let frame = bytes("0000000984ffffffff00000000");
     assert_eq!(Reply::decode(&frame), Err(NoFrame::Body));
