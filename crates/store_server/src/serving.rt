@@ -8,6 +8,7 @@ use crate::patient::Patient;
 use crate::serve_fault::{PrintedFault, ServeFault};
 use crate::sockets::{SocketFile, bind};
 use crate::telling::{Telling, TellingDevice};
+use node_housekeeping::NoPause;
 use operator_service::{serve_text, write_report};
 use program_lines::Fault;
 use schedule_runs::Serving;
