@@ -2,10 +2,14 @@
 ghost use Rattle.std.specs.Prelude.{◌<◌};
 
 use obj_id::{Command, JobNo, ObjectId};
-use std::sync::{Mutex, Wait};
+use std::array;
+use std::sync::{Condvar, Mutex, Wait};
 
 /// How many classes of jobs there are: those whose numbers are the same modulo this.
 const CLASSES: usize = 16;
+
+/// How many copies of a class may be hashed at once.
+const MOST_SEALS: usize = 4;
 
 /// A copy of a job.
 #[derive(Clone, Copy)]
@@ -14,42 +18,103 @@ struct Sealing {
     id: ObjectId,
 }
 
-/// The copies that sessions of a node are hashing, one for each class of jobs at most. Their bytes are shared meanwhile: a Write would
-/// have them copied under the node's lock, and after a Delete they would take memory beside the job's window.
+impl Sealing {
+    /// Whether the command would change or remove the copy.
+    fn is_met<B>(&self, job: JobNo, command: &Command<B>) -> bool {
+        self.job == job
+            && match command {
+                Command::Write { id, .. } | Command::Delete(id) => self.id == *id,
+                Command::EndTask(task) => self.id.task() == *task,
+                _ => false,
+            }
+    }
+}
+
+/// What the sessions of a class are hashing.
+#[derive(Drop)]
+struct SealClass {
+    copies: Mutex<[Option<Sealing>; MOST_SEALS]>,
+    // one of them is over
+    ended: Condvar,
+}
+
+/// The copies that sessions of a node are hashing. Their bytes are shared meanwhile: a Write would have them copied under the node's lock, and
+/// once removed they would take memory beside the job's window. So what changes or removes such a copy waits.
 #[derive(Drop)]
 pub struct Seals {
-    copies: Mutex<[Option<Sealing>; CLASSES]>,
+    classes: [SealClass; CLASSES],
 }
 
 impl Seals {
     /// None is being hashed.
     pub fn new() -> Seals {
         Seals {
-            copies: Mutex::new([None; CLASSES]),
+            classes: array::from_fn(|_| SealClass {
+                copies: Mutex::new([None; MOST_SEALS]),
+                ended: Condvar::new(),
+            }),
         }
     }
 
-    /// The copy is being hashed from now on. The node is locked, and the lock of the job's class is the caller's.
+    /// The copy is being hashed from now on: once fewer than four of the job's class are. No node is locked.
     pub fn begin<R: Wait>(&self, rt: &R, job: JobNo, id: &ObjectId) {
-        let sealing = Sealing { job, id: *id };
-        self.copies.lock(rt)[class_of(job)] = Some(sealing);
+        let class = self.class(job);
+        let mut copies = class.ended.wait_while(rt, class.copies.lock(rt), |copies| {
+            copies.iter().all(|copy| copy.is_some())
+        });
+        if let Some(free) = copies.iter_mut().find(|copy| copy.is_none()) {
+            *free = Some(Sealing { job, id: *id });
+        }
     }
 
-    /// The copy of the job's class isn't being hashed any more.
-    pub fn end<R: Wait>(&self, rt: &R, job: JobNo) {
-        self.copies.lock(rt)[class_of(job)] = None;
+    /// The copy isn't being hashed any more by who began that.
+    pub fn end<R: Wait>(&self, rt: &R, job: JobNo, id: &ObjectId) {
+        let class = self.class(job);
+        let mut copies = class.copies.lock(rt);
+        for copy in copies.iter_mut() {
+            if let Some(sealing) = copy
+                && sealing.job == job
+                && sealing.id == *id
+            {
+                *copy = None;
+                break;
+            }
+        }
+        drop(copies);
+        class.ended.notify_all();
     }
 
     /// Whether the command would change or remove a copy that is being hashed.
     pub fn are_met<R: Wait, B>(&self, rt: &R, job: JobNo, command: &Command<B>) -> bool {
-        let (Command::Write { id, .. } | Command::Delete(id)) = command else {
-            return false;
-        };
-        match &self.copies.lock(rt)[class_of(job)] {
-            Some(sealing) => sealing.job == job && sealing.id == *id,
-            None => false,
-        }
+        may_meet(command) && are_among(&*self.class(job).copies.lock(rt), job, command)
     }
+
+    /// Waits until it wouldn't. No node is locked.
+    pub fn await_end<R: Wait, B>(&self, rt: &R, job: JobNo, command: &Command<B>) {
+        let class = self.class(job);
+        let copies = class.ended.wait_while(rt, class.copies.lock(rt), |copies| {
+            are_among(copies, job, command)
+        });
+        drop(copies);
+    }
+
+    /// The class of the job.
+    fn class(&self, job: JobNo) -> &SealClass {
+        &self.classes[class_of(job)]
+    }
+}
+
+/// Whether the command may change or remove a copy that isn't sealed.
+fn may_meet<B>(command: &Command<B>) -> bool {
+    matches!(
+        command,
+        Command::Write { .. } | Command::Delete(_) | Command::EndTask(_)
+    )
+}
+
+/// Whether the command would change or remove one of the copies.
+fn are_among<B>(copies: &[Option<Sealing>], job: JobNo, command: &Command<B>) -> bool {
+    copies.iter().any(|copy| matches!(copy, Some(sealing) if sealing.is_met(job, command)))
 }
 
 /// Which class is the job's.

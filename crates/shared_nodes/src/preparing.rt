@@ -30,28 +30,9 @@ struct Chunk<'a> {
 }
 
 impl<L: Ledger, P: Pause> SharedNode<L, P> {
-    /// What a command wants: a Seal that its copy has a digest, which is known then, and one that may place a long extent zeros. The job's
-    /// place among the makers is the caller's.
-    pub(crate) fn prepare<R: Wait>(
-        &self,
-        rt: &R,
-        job: JobNo,
-        command: &Command<Bytes>,
-    ) -> Prepared {
-        if let Command::Seal(id) = command {
-            self.prepare_seal(rt, job, id);
-            return Prepared::nothing();
-        }
-        let zeros = self.zeros_for(rt, job, command);
-        Prepared {
-            zeros,
-            ..Prepared::nothing()
-        }
-    }
-
-    /// Has the copy know its digest: once its bytes were compared with those that were hashed, a part at a time, between which others may
-    /// lock the node.
-    fn prepare_seal<R: Wait>(&self, rt: &R, job: JobNo, id: &ObjectId) {
+    /// What a Seal wants: the digest of the copy's bytes. The copy has it once its bytes were compared with those that were hashed, a
+    /// part at a time, between which others may lock the node.
+    pub(crate) fn prepare_seal<R: Wait>(&self, rt: &R, job: JobNo, id: &ObjectId) {
         let Some(hashed) = self.hash_copy(rt, job, id) else {
             return;
         };
@@ -63,13 +44,23 @@ impl<L: Ledger, P: Pause> SharedNode<L, P> {
         }
     }
 
-    /// The bytes of a copy with their digest, which is computed while the node isn't locked. Until the Seal is made no Write changes the
-    /// copy.
+    /// What a command wants that may place a long extent: zeros.
+    pub(crate) fn prepare_place<R: Wait>(
+        &self,
+        rt: &R,
+        job: JobNo,
+        command: &Command<Bytes>,
+    ) -> Prepared {
+        let zeros = self.zeros_for(rt, job, command);
+        Prepared {
+            zeros,
+            ..Prepared::nothing()
+        }
+    }
+
+    /// The bytes of a copy with their digest, which is computed while the node isn't locked.
     fn hash_copy<R: Wait>(&self, rt: &R, job: JobNo, id: &ObjectId) -> Option<Hashed> {
-        let mut kept = self.kept.lock(rt);
-        let bytes = kept.share_copy(job, id)?;
-        self.housekeeping.seals.begin(rt, job, id);
-        drop(kept);
+        let bytes = self.kept.lock(rt).share_copy(job, id)?;
         Some(Hashed::new(bytes))
     }
 

@@ -1,5 +1,6 @@
 //! A node with its journal behind a lock.
 ghost use Rattle.std.specs.Prelude.{◌≡◌, ◌⊎◌, ◌<◌, ◌≤◌, true, false, Some, None, MatchOption, MatchResult, IfSome, IfOk, IfErr};
+ghost use Rattle.obj_id.specs.declared.commands.Command.TheVariants as command;
 ghost use Rattle.obj_id.specs.declared.commands.Reply.TheVariants as reply;
 ghost use Rattle.obj_id.specs.declared.refusals.Refusal.TheVariants.{NoMemory, Stale};
 ghost use Rattle.private_store.specs.laws.Answers.{wants_memory, is_small_reply};
@@ -25,7 +26,7 @@ use node_steps::{
     Stepped, audit, may_reach_others, step_arrival, step_call, step_call_after, step_end,
     step_event, step_located, step_order, step_take, sweep_after,
 };
-use obj_id::{Command, JobKey, JobNo, Quota, Refusal, Reply};
+use obj_id::{Command, JobKey, JobNo, ObjectId, Quota, Refusal, Reply};
 use private_store::{Awaited, Event};
 use std::alloc::{AllocError, Global};
 use std::hint::spin_loop;
@@ -118,9 +119,8 @@ impl<L: Ledger, P: Pause> SharedNode<L, P> {
         ensures called { IfOk result (λ s. (wants_memory s.reply ≡ false) × IsCalled job session command s.reply (witness_of s.receipt)) }
         ensures small { IfOk result (λ s. is_small_reply s.reply ≡ true) }
     {
-        let queued = self.housekeeping.queues.of(job).lock(rt);
-        let mut kept = self.lock(rt);
-        if self.is_prepared(rt, &*kept, job, &command) {
+        let (queued, mut kept) = self.lock_for(rt, job, &command);
+        if kept.node().wants(job, &command) {
             drop(kept);
             drop(queued);
             return self.step_prepared(rt, job, session, command);
@@ -149,19 +149,27 @@ impl<L: Ledger, P: Pause> SharedNode<L, P> {
         self.kept.lock(rt)
     }
 
-    /// Whether something is to be prepared for the command, or waited for, while the node isn't locked.
-    fn is_prepared<R: Wait>(
+    /// Takes the job's queue and locks the node, once no copy is being hashed that the command would change or remove.
+    fn lock_for<R: Wait>(
         &self,
         rt: &R,
-        kept: &Kept<L>,
         job: JobNo,
         command: &Command<Bytes>,
-    ) -> bool {
-        kept.node().wants(job, command) || self.housekeeping.seals.are_met(rt, job, command)
+    ) -> (MutexGuard<'_, ()>, MutexGuard<'_, Kept<L>>) {
+        for _ in rt.forever() {
+            let queued = self.housekeeping.queues.of(job).lock(rt);
+            let kept = self.lock(rt);
+            if !self.housekeeping.seals.are_met(rt, job, command) {
+                return (queued, kept);
+            }
+            drop(kept);
+            drop(queued);
+            self.housekeeping.seals.await_end(rt, job, command);
+        }
+        unreachable!()
     }
 
-    /// The step of a command for which something is prepared before the node is locked, or which waits for a Seal of its copy. The job's
-    /// place among the makers is taken until the step is made.
+    /// The step of a command for which something is prepared before the node is locked.
     fn step_prepared<R: Wait>(
         &self,
         rt: &R,
@@ -172,11 +180,33 @@ impl<L: Ledger, P: Pause> SharedNode<L, P> {
         ensures called { IfOk result (λ s. (wants_memory s.reply ≡ false) × IsCalled job session command s.reply (witness_of s.receipt)) }
         ensures small { IfOk result (λ s. is_small_reply s.reply ≡ true) }
     {
+        if let Command::Seal(id) = &command {
+            let id = *id;
+            return self.step_seal(rt, job, session, id);
+        }
         let making = self.housekeeping.makers.of(job).lock(rt);
-        let prepared = self.prepare(rt, job, &command);
+        let prepared = self.prepare_place(rt, job, &command);
         let stepped = self.step_with(rt, prepared, job, session, command);
-        self.housekeeping.seals.end(rt, job);
         drop(making);
+        stepped
+    }
+
+    /// The step of a Seal, whose copy is hashed while the node isn't locked. Until the step is made what would change or remove it waits.
+    fn step_seal<R: Wait>(
+        &self,
+        rt: &R,
+        job: JobNo,
+        session: u32,
+        id: ObjectId,
+    ) -> Result<Stepped<L>, AllocError>
+        ensures called { IfOk result (λ s. (wants_memory s.reply ≡ false) × IsCalled job session (command.Seal id) s.reply (witness_of s.receipt)) }
+        ensures small { IfOk result (λ s. is_small_reply s.reply ≡ true) }
+    {
+        let seals = &self.housekeeping.seals;
+        seals.begin(rt, job, &id);
+        self.prepare_seal(rt, job, &id);
+        let stepped = self.step_with(rt, Prepared::nothing(), job, session, Command::Seal(id));
+        seals.end(rt, job, &id);
         stepped
     }
 
