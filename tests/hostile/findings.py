@@ -59,7 +59,10 @@ def middle(rounds: Sequence[Latencies]) -> Latencies:
     return Latencies(*(statistics.median(figures) for figures in zip(*rounds)))
 
 
-def compared(call: Callable[[], None], host: Host, other: Host, attack: Attack, attackers: int, rounds: int, seconds: float) -> List[Check]:
+def compared(
+    call: Callable[[], None], host: Host, other: Host, attack: Attack, attackers: int, rounds: int, seconds: float,
+    most_p50: "float | None" = None,
+) -> List[Check]:
     """What a call feels while a host is attacked, to what it feels while the same attack goes on at another one, by turns."""
     idle = felt(call, seconds)
     control: List[Latencies] = []
@@ -75,7 +78,7 @@ def compared(call: Callable[[], None], host: Host, other: Host, attack: Attack, 
         for name, each in rows
     ]
     return [
-        *seen, Check("p50 to control", second.p50 / first.p50),
+        *seen, Check("p50 to control", second.p50 / first.p50, most_p50),
         Check("p99 to control", second.p99 / first.p99, MOST_P99),
         Check("longest to control", second.longest / first.longest, MOST_LONGEST),
     ]
