@@ -12,7 +12,7 @@ from __future__ import annotations
 import array
 import contextlib
 import multiprocessing
-from typing import Iterator
+from typing import Any, Iterator, Optional, Tuple
 
 from serving import KEYS, served
 
@@ -21,18 +21,20 @@ from store_client import NotGranted, ObjectId
 
 ROUNDS = 3
 NUMBERS = 100_000
+# the ids of numbers and of their squares
+Pair = Tuple[bytes, bytes]
 
 
 @contextlib.contextmanager
-def closing(queue: multiprocessing.Queue) -> Iterator[None]:
-    """Tells who reads the queue that nothing more comes, whatever happens."""
+def closing(queue: multiprocessing.Queue[Any]) -> Iterator[None]:
+    """Tells the queue's reader by None that nothing more comes, whatever happens."""
     try:
         yield
     finally:
         queue.put(None)
 
 
-def make_numbers(path: str, stored: multiprocessing.Queue) -> None:
+def make_numbers(path: str, stored: multiprocessing.Queue[Optional[bytes]]) -> None:
     """Job 1: stores an array of whole numbers in each round, and tells of its id."""
     with closing(stored), store_client.connect(path, 1, KEYS[1]) as store:
         for turn in range(ROUNDS):
@@ -40,7 +42,7 @@ def make_numbers(path: str, stored: multiprocessing.Queue) -> None:
             stored.put(store.put(numbers).to_bytes())
 
 
-def make_squares(path: str, stored: multiprocessing.Queue, granted: multiprocessing.Queue) -> None:
+def make_squares(path: str, stored: multiprocessing.Queue[Optional[bytes]], granted: multiprocessing.Queue[Optional[Pair]]) -> None:
     """Job 1: gets each array, stores the squares of its numbers, and grants them to job 2."""
     with closing(granted), store_client.connect(path, 1, KEYS[1]) as store:
         for name in iter(stored.get, None):
@@ -51,7 +53,7 @@ def make_squares(path: str, stored: multiprocessing.Queue, granted: multiprocess
             granted.put((name, squares.to_bytes()))
 
 
-def add_up(path: str, granted: multiprocessing.Queue, told: multiprocessing.Queue) -> None:
+def add_up(path: str, granted: multiprocessing.Queue[Optional[Pair]], told: multiprocessing.Queue[Optional[str]]) -> None:
     """Job 2: gets what it was granted, and tries to peek at what it wasn't."""
     with closing(told), store_client.connect(path, 2, KEYS[2]) as store:
         for numbers, squares in iter(granted.get, None):
@@ -69,7 +71,9 @@ def add_up(path: str, granted: multiprocessing.Queue, told: multiprocessing.Queu
 def main() -> None:
     """Starts the server and the three processes, and prints what the last one tells."""
     with served() as path:
-        stored, granted, told = multiprocessing.Queue(), multiprocessing.Queue(), multiprocessing.Queue()
+        stored: multiprocessing.Queue[Optional[bytes]] = multiprocessing.Queue()
+        granted: multiprocessing.Queue[Optional[Pair]] = multiprocessing.Queue()
+        told: multiprocessing.Queue[Optional[str]] = multiprocessing.Queue()
         processes = [
             multiprocessing.Process(target=make_numbers, args=(path, stored)),
             multiprocessing.Process(target=make_squares, args=(path, stored, granted)),

@@ -14,7 +14,7 @@ ROOT = Path(__file__).resolve().parents[1]
 sys.path[:0] = [str(ROOT / "clients/python"), str(ROOT / "operate")]
 
 try:
-    from store_release.program import program_or_end
+    from store_release.program import program_or_end as program_or_end
 except ImportError:
     # in a release, which has its program in bin/
     def program_or_end() -> str:
@@ -32,6 +32,7 @@ def served() -> Iterator[str]:
     with tempfile.TemporaryDirectory() as folder, tempfile.TemporaryFile("w+") as complaints:
         words = [program, "serve", "--socket", f"{folder}/store", "--nodes", "1", "--memory", str(2**24), "--spill", f"{folder}/spill"]
         with subprocess.Popen(words, stdin=subprocess.PIPE, stdout=subprocess.PIPE, stderr=complaints, text=True) as server:
+            assert server.stdin and server.stdout
             for job, window in WINDOWS.items():
                 server.stdin.write(f"admit 0 {job} {window} 0 {KEYS[job].hex()}\n")
                 server.stdin.flush()

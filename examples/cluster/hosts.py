@@ -96,8 +96,8 @@ class Hosts:
             self._schedule(job)
         for job, told in self.jobs.items():
             for number in range(told.workers):
-                for host in self.hosts:
-                    self.work(host, job, number)
+                for name in self.hosts:
+                    self.work(name, job, number)
         for job, told in self.jobs.items():
             self._attach(job, told.workers * len(self.hosts))
 
@@ -163,6 +163,7 @@ class Hosts:
         words = [os.environ["STORE_PROGRAM"], "serve", "--socket", str(self._folder / f"{host.name}.new"), "--nodes", str(self._nodes)]
         words += ["--memory", str(memory), "--spill", str(self._folder / f"spill{host.name}")]
         host.store = subprocess.Popen(words, stdin=subprocess.PIPE, stdout=subprocess.PIPE, text=True)
+        assert host.store.stdin and host.store.stdout
         for number, job in self.jobs.items():
             for node in range(self._nodes):
                 host.store.stdin.write(f"admit {node} {number} {job.window} {job.device} {job.key(number)}\n")

@@ -7,7 +7,8 @@ ghost use Rattle.std.specs.Prelude.{◌≡◌, ℕ, ◌+◌, ◌^◌, ◌<◌, �
 ghost use Rattle.augmented_tree.specs.Lists.{put_item, take_item, has_item, find_item, change_item};
 ghost use Rattle.augmented_tree.specs.Shape.{items, middle as middle_of, HasSummaries, IsTree};
 
-use std::alloc::{AllocError, Global};
+use memory_growth::{OutOfMemory, boxes};
+use std::alloc::Global;
 use std::mem;
 
 /// An item of a tree, and the summaries that the tree's nodes have of such items.
@@ -87,7 +88,7 @@ pub struct SpareNode<T, S> {
 
 impl<T: Keyed<S>, S: Drop> SpareNode<T, S> {
     /// Takes the memory of one item. Which one stands in it until then doesn't matter.
-    pub fn new(alloc: Global, item: T) -> Result<SpareNode<T, S>, AllocError> {
+    pub fn new(alloc: Global, item: T) -> Result<SpareNode<T, S>, OutOfMemory> {
         let node = Node {
             here: item,
             summary: T::none(),
@@ -95,7 +96,7 @@ impl<T: Keyed<S>, S: Drop> SpareNode<T, S> {
             right: Tree::Leaf,
         };
         Ok(SpareNode {
-            node: Box::new(alloc, node)?,
+            node: boxes::boxed(alloc, node)?,
         })
     }
 }

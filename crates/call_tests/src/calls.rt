@@ -1,14 +1,16 @@
 //! Calls at nodes behind locks, with the receipts that they give.
 use assertions::{holds, same};
 use bytes::Bytes;
+use cluster_threads::Cluster;
+use memory_growth::{OutOfMemory, lists, shared, texts};
 use node_journal::Receipt;
 use obj_id::{Command, JobKey, JobNo, Kind, ObjectId, Quota, Refusal, Reply, TaskNo};
 use private_store::StepAnswer;
 use schedule_text::answer_text;
 use session_engine::Gate;
-use session_threads::{Cluster, Session};
+use session_threads::Session;
 use shared_nodes::SharedNode;
-use std::alloc::{AllocError, Global};
+use std::alloc::Global;
 use std::process::Abort;
 use std::sync::Wait;
 use std::sync::ledger::Ledger;
@@ -43,7 +45,7 @@ ok
 ";
 
 /// The commands of an object that is created, filled, sealed, held, read and released.
-fn command(alloc: Global, id: ObjectId, turn: u64) -> Result<Command<Bytes>, AllocError> {
+fn command(alloc: Global, id: ObjectId, turn: u64) -> Result<Command<Bytes>, OutOfMemory> {
     match turn {
         0 => Ok(Command::Create {
             id,
@@ -51,11 +53,11 @@ fn command(alloc: Global, id: ObjectId, turn: u64) -> Result<Command<Bytes>, All
             length: 20,
         }),
         1 => {
-            let hello = Vec::from_slice(alloc, b"Hello")?;
+            let hello = lists::copied(alloc, b"Hello")?;
             Ok(Command::Write {
                 id,
                 offset: 0,
-                bytes: Bytes::from_vec(hello)?,
+                bytes: shared::from_vec(hello)?,
             })
         }
         2 => Ok(Command::Seal(id)),
@@ -76,7 +78,7 @@ fn called<L: Ledger, R: Wait>(
     node: &SharedNode<L>,
     id: ObjectId,
     turn: u64,
-) -> Result<(Reply<Bytes>, Option<Receipt<L>>), AllocError> {
+) -> Result<(Reply<Bytes>, Option<Receipt<L>>), OutOfMemory> {
     let first = node.call(rt, JOB, 1, command(alloc, id, turn)?);
     if matches!(&first.0, Reply::Refused(Refusal::NoMemory)) {
         return Ok(node.call(rt, JOB, 1, command(alloc, id, turn)?));
@@ -90,14 +92,14 @@ fn call_all<L: Ledger, R: Wait + Abort>(
     alloc: Global,
     node: &SharedNode<L>,
     id: ObjectId,
-) -> Result<Option<Receipt<L>>, AllocError> {
+) -> Result<Option<Receipt<L>>, OutOfMemory> {
     let mut last = None;
     let mut response = String::new(alloc);
     for turn in 0..6u64 {
         let (reply, receipt) = called(rt, alloc, node, id, turn)?;
         let text = answer_text(alloc, JOB, &StepAnswer::Response(reply))?;
-        response.push_str(text.as_str())?;
-        response.push_str("\n")?;
+        texts::push_str(&mut response, text.as_str())?;
+        texts::push_str(&mut response, "\n")?;
         let named = receipt.as_ref().map(|receipt| (
             receipt.node(),
             receipt.job(),
@@ -171,7 +173,7 @@ pub(crate) fn call_six<L: Ledger, R: Wait + Abort>(
     rt: &R,
     alloc: Global,
     cluster: &Cluster<L>,
-) -> Result<(), AllocError> {
+) -> Result<(), OutOfMemory> {
     let node = cluster.node(0).expect(rt, "a node");
     admit(rt, node);
     call_all(rt, alloc, node, object(rt, 1))?;
@@ -189,7 +191,7 @@ pub(crate) fn call_with_receipts<L: Ledger, R: Wait + Abort>(
     rt: &R,
     alloc: Global,
     cluster: &Cluster<L>,
-) -> Result<(), AllocError> {
+) -> Result<(), OutOfMemory> {
     let node = cluster.node(0).expect(rt, "a node");
     admit(rt, node);
     let last = call_all(rt, alloc, node, object(rt, 1))?;
@@ -236,7 +238,7 @@ pub(crate) fn leave_often<L: Ledger, R: Wait + Clock + Abort>(
     rt: &R,
     alloc: Global,
     cluster: &Cluster<L>,
-) -> Result<(), AllocError> {
+) -> Result<(), OutOfMemory> {
     let node = cluster.node(0).expect(rt, "a node");
     let id = object(rt, 1);
     admit(rt, node);

@@ -3,12 +3,14 @@ ghost use Rattle.std.specs.Prelude.{◌≡◌};
 
 use crate::calls::admit;
 use assertions::same;
-use hex::FromHexError;
+use cluster_threads::Cluster;
+use memory_growth::{OutOfMemory, lists};
 use node_housekeeping::NoPause;
 use session_engine::{Ended, SessionFault, serve};
-use session_threads::{Cluster, Session};
+use session_threads::Session;
 use shared_nodes::SharedNode;
-use std::alloc::{AllocError, Global};
+use std::alloc::Global;
+use std::io;
 use std::marker::Brand;
 use std::process::Abort;
 use std::sync::Wait;
@@ -60,8 +62,8 @@ fn told_at<L: Ledger, R: Wait + Clock>(
     alloc: Global,
     node: &SharedNode<L>,
     input: &[u8],
-) -> Result<Served, AllocError> {
-    let mut written = Vec::with_capacity(alloc, ROOM)?;
+) -> Result<Served, OutOfMemory> {
+    let mut written = lists::with_capacity(alloc, ROOM)?;
     let mut reader = input;
     let mut session = Session::new(rt, node);
     let outcome = serve(alloc, &mut reader, &mut written, &mut session);
@@ -74,7 +76,7 @@ fn response_by<L: Ledger, R: Wait + Clock + Abort>(
     alloc: Global,
     blank: Blank,
     input: &[u8],
-) -> Result<Served, AllocError>
+) -> io::Result<Served>
     requires name { blank.name ≡ L.name }
     requires parts { blank.parts ≡ L.parts }
     requires one { blank.parts ≡ 1 }
@@ -83,14 +85,10 @@ fn response_by<L: Ledger, R: Wait + Clock + Abort>(
     let cluster = Cluster::start(alloc, 1, 1024, seats, NoPause)?;
     let node = cluster.node(0).expect(rt, "a node");
     admit(rt, node);
-    told_at(rt, alloc, node, input)
+    Ok(told_at(rt, alloc, node, input)?)
 }
 
-fn response<R: Wait + Clock + Abort>(
-    rt: &R,
-    alloc: Global,
-    input: &[u8],
-) -> Result<Served, AllocError> {
+fn response<R: Wait + Clock + Abort>(rt: &R, alloc: Global, input: &[u8]) -> io::Result<Served> {
     let blank = Blank::new(1);
     response_by::<Brand, R>(rt, alloc, blank, input)
 }
@@ -102,7 +100,7 @@ fn check(
     input: &str,
     answers: &str,
     ended: Ended,
-) -> Result<(), FromHexError> {
+) -> Result<(), Fail> {
     let input = hex::decode(alloc, input)?;
     let answers = hex::decode(alloc, answers)?;
     let response = response(rt, alloc, &input)?;

@@ -4,10 +4,12 @@ ghost use Rattle.std.specs.Prelude.{◌≡◌};
 use crate::calls::{call_six, call_with_receipts, leave_often};
 use crate::works::{ask_for_deleted, work_at_a_failing_device};
 use assertions::{holds, same};
-use node_housekeeping::NoPause;
+use cluster_threads::Cluster;
+use memory_growth::OutOfMemory;
+use node_housekeeping::{NoPause, Report};
 use obj_id::{Refusal, Reply};
-use session_threads::{Cluster, Report};
-use std::alloc::{AllocError, Global};
+use std::alloc::Global;
+use std::io;
 use std::marker::Brand;
 use std::process::Abort;
 use std::sync::Wait;
@@ -40,7 +42,7 @@ impl Trial {
         rt: &R,
         alloc: Global,
         cluster: &Cluster<L>,
-    ) -> Result<bool, AllocError> {
+    ) -> Result<bool, OutOfMemory> {
         match self {
             Trial::DirectCalls => call_six(rt, alloc, cluster)?,
             Trial::LaterCall => call_with_receipts(rt, alloc, cluster)?,
@@ -81,7 +83,7 @@ fn try_at<L: Ledger, R: Threads + Wait + Clock + Abort>(
     trial: &Trial,
     nodes: u32,
     blank: Blank,
-) -> Result<(), AllocError>
+) -> io::Result<()>
     requires name { blank.name ≡ L.name }
     requires parts { blank.parts ≡ L.parts }
     requires count { blank.parts ≡ nodes }
@@ -100,7 +102,7 @@ fn try_once<R: Threads + Wait + Clock + Abort>(
     rt: &R,
     alloc: Global,
     trial: &Trial,
-) -> Result<(), AllocError> {
+) -> io::Result<()> {
     let nodes = trial.nodes();
     let blank = Blank::new(u64::from(nodes));
     try_at::<Brand, R>(rt, alloc, trial, nodes, blank)

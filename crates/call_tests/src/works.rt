@@ -2,9 +2,9 @@
 use crate::calls::{JOB, admit_with, answered, object};
 use assertions::{holds, same};
 use bytes::Bytes;
+use cluster_threads::Cluster;
 use node_housekeeping::WorkDone;
 use obj_id::{Command, Kind, ObjectId, Quota, Refusal, Reply};
-use session_threads::Cluster;
 use shared_nodes::SharedNode;
 use spill_device::{FaultyDevice, MemoryDevice, SpillDevice};
 use std::alloc::Global;

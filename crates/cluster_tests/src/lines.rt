@@ -3,15 +3,16 @@ ghost use Rattle.std.specs.Prelude.{◌≡◌, true, IfOk};
 ghost use Rattle.world_core.specs.Worlds.{is_within as is_within_lem};
 
 use bytes::Bytes;
+use memory_growth::{OutOfMemory, shared};
 use obj_id::DeviceAnswer;
 use private_store::{Event, Step};
 use schedule_text::{FinishWord, Line, read_line};
-use std::alloc::{AllocError, Global};
+use std::alloc::Global;
 use std::process::Abort;
 use world_core::is_within;
 
 /// What the line says, asked for once more if memory ran out.
-fn read(alloc: Global, line: &str) -> Result<Option<Line>, AllocError> {
+fn read(alloc: Global, line: &str) -> Result<Option<Line>, OutOfMemory> {
     match read_line(alloc, line, 2) {
         Ok(read) => Ok(read),
         Err(_) => read_line(alloc, line, 2),
@@ -20,7 +21,7 @@ fn read(alloc: Global, line: &str) -> Result<Option<Line>, AllocError> {
 
 /// What is handed in for a work on 32 bytes that were never written: zeros, whether it read or wrote them; zeros but for one
 /// bit; or a failure.
-fn answer(alloc: Global, outcome: FinishWord) -> Result<DeviceAnswer, AllocError> {
+fn answer(alloc: Global, outcome: FinishWord) -> Result<DeviceAnswer, OutOfMemory> {
     match outcome {
         FinishWord::Ok => Ok(DeviceAnswer::Bytes(bytes_of(alloc, &[0; 32])?)),
         FinishWord::Damage => {
@@ -33,15 +34,15 @@ fn answer(alloc: Global, outcome: FinishWord) -> Result<DeviceAnswer, AllocError
 }
 
 /// The bytes, asked for once more if memory ran out.
-fn bytes_of(alloc: Global, bytes: &[u8]) -> Result<Bytes, AllocError> {
-    match Bytes::copy_from_slice(alloc, bytes) {
+fn bytes_of(alloc: Global, bytes: &[u8]) -> Result<Bytes, OutOfMemory> {
+    match shared::copied(alloc, bytes) {
         Ok(copied) => Ok(copied),
-        Err(_) => Bytes::copy_from_slice(alloc, bytes),
+        Err(_) => shared::copied(alloc, bytes),
     }
 }
 
 /// The step that the line spells.
-pub(crate) fn step_of(rt: &impl Abort, alloc: Global, line: &str) -> Result<Step, AllocError>
+pub(crate) fn step_of(rt: &impl Abort, alloc: Global, line: &str) -> Result<Step, OutOfMemory>
     ensures { IfOk result (λ step. is_within_lem 2 step ≡ true) }
 {
     match read(alloc, line)? {

@@ -6,11 +6,12 @@ ghost use Rattle.world_core.specs.Worlds.{is_within};
 
 use crate::lines::step_of;
 use assertions::same;
+use memory_growth::{OutOfMemory, lists, texts};
 use obj_id::{Command, JobNo, Refusal, Reply, Usage};
 use private_store::{Event, Step, StepAnswer};
 use run_laws::run_two;
 use schedule_text::{Prefix, answer_line};
-use std::alloc::{AllocError, Global};
+use std::alloc::Global;
 use std::process::Abort;
 use std::test::Fail;
 use world_core::{ClusterSize, Trace, World};
@@ -30,7 +31,7 @@ fn wants_memory(answer: &StepAnswer) -> bool {
     )
 }
 
-fn printed(alloc: Global, step: &Step, answer: &StepAnswer) -> Result<String, AllocError> {
+fn printed(alloc: Global, step: &Step, answer: &StepAnswer) -> Result<String, OutOfMemory> {
     match answer_line(alloc, Prefix::of(step), answer) {
         Ok(line) => Ok(line),
         Err(_) => answer_line(alloc, Prefix::of(step), answer),
@@ -93,12 +94,12 @@ fn check_row(rt: &impl Abort, alloc: Global, world: &mut World, row: &str) -> Re
     Ok(())
 }
 
-fn new_world(alloc: Global) -> Result<World, AllocError>
+fn new_world(alloc: Global) -> Result<World, OutOfMemory>
     ensures { IfOk result (λ world. length world.nodes ≡ 2) }
 {
     match World::new(alloc, TWO_NODES) {
         Ok(world) => Ok(world),
-        Err(_) => World::new(alloc, TWO_NODES),
+        Err(_) => Ok(World::new(alloc, TWO_NODES)?),
     }
 }
 
@@ -279,28 +280,28 @@ fn every_step_that_wanted_memory_can_be_taken_again(rt: HostRuntime) -> Result<(
 }
 
 /// The schedule of these lines.
-fn schedule_of(rt: &impl Abort, alloc: Global, lines: &str) -> Result<Vec<Step>, AllocError>
+fn schedule_of(rt: &impl Abort, alloc: Global, lines: &str) -> Result<Vec<Step>, OutOfMemory>
     ensures { IfOk result (λ steps. list_all (is_within 2) steps.items ≡ true) }
 {
     let mut steps = Vec::new(alloc);
     for line in lines.lines() {
         let step = step_of(rt, alloc, line)?;
-        steps.push(step)?;
+        lists::push(&mut steps, step)?;
     }
     Ok(steps)
 }
 
 /// What the job was answered, line by line. It is an error if memory ran out in the run.
-fn told_to(alloc: Global, job: JobNo, trace: &Trace) -> Result<String, AllocError> {
+fn told_to(alloc: Global, job: JobNo, trace: &Trace) -> Result<String, Fail> {
     let mut all = String::new(alloc);
     for entry in trace.entries() {
         if wants_memory(&entry.answer) {
-            return Err(AllocError);
+            return Err(Fail::new("no memory for a step"));
         }
         if let Step::At(_, Event::Call { job: of, .. }) = &entry.step {
             if *of == job {
                 let line = answer_line(alloc, Prefix::of(&entry.step), &entry.answer)?;
-                all.push_str(line.as_str())?;
+                texts::push_str(&mut all, line.as_str())?;
             }
         }
     }
@@ -314,7 +315,7 @@ fn told_in_both(
     memory: u64,
     lines: &str,
     others: &str,
-) -> Result<(String, String), AllocError>
+) -> Result<(String, String), Fail>
     requires { memory ≤ largest_memory }
 {
     let first = schedule_of(rt, alloc, lines)?;
@@ -325,7 +326,7 @@ fn told_in_both(
 }
 
 /// What job 1 was answered in both.
-fn both_told(alloc: Global, first: &Trace, second: &Trace) -> Result<(String, String), AllocError> {
+fn both_told(alloc: Global, first: &Trace, second: &Trace) -> Result<(String, String), Fail> {
     let response = told_to(alloc, JobNo(1), first)?;
     Ok((response, told_to(alloc, JobNo(1), second)?))
 }

@@ -2,6 +2,7 @@
 use assertions::holds;
 use bytes::Bytes;
 use fetch_core::{FetchIn, Stage, chunks_asked};
+use memory_growth::shared;
 use obj_id::{
     ChunkIndex, Digest, FetchNo, JobNo, Location, NodeNo, ObjectId, PeerMessage, Refusal, TaskNo,
 };
@@ -57,7 +58,7 @@ fn pulling(alloc: Global, bytes: &[u8]) -> Result<FetchIn, Refusal> {
 
 /// The chunks that are asked for.
 fn served(alloc: Global, bytes: &[u8], indexes: &[u32]) -> Result<Vec<PeerMessage>, Refusal> {
-    let bytes = Bytes::copy_from_slice(alloc, bytes)?;
+    let bytes = shared::copied(alloc, bytes)?;
     Ok(chunks_asked(alloc, &bytes, an_id()?, NUMBER.0, indexes)?)
 }
 

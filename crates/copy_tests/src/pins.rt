@@ -1,15 +1,15 @@
 //! Pins, borrowers and holds of a copy, if memory is wanting.
 use assertions::{holds, same};
-use obj_id::{Kind, Refusal, TaskNo};
+use obj_id::{Failure, Kind, Refusal, TaskNo};
 use pins_holds::Pins;
 use std::process::Abort;
 use std::test::Fail;
 
 /// A hold, asked for once more if memory ran out: then nothing has changed.
-fn hold(rt: &impl Abort, pins: &mut Pins, session: u32) -> Result<(), Refusal> {
+fn hold(rt: &impl Abort, pins: &mut Pins, session: u32) -> Result<(), Failure> {
     let before = pins.holds_of(session);
     match pins.hold(session) {
-        Err(Refusal::NoMemory) => {
+        Err(Failure::Memory(_)) => {
             same!(rt; pins.holds_of(session), before);
             pins.hold(session)
         }
@@ -18,9 +18,9 @@ fn hold(rt: &impl Abort, pins: &mut Pins, session: u32) -> Result<(), Refusal> {
 }
 
 /// A borrow, asked for once more if memory ran out: then nothing has changed.
-fn borrow(rt: &impl Abort, pins: &mut Pins, task: TaskNo) -> Result<(), Refusal> {
+fn borrow(rt: &impl Abort, pins: &mut Pins, task: TaskNo) -> Result<(), Failure> {
     match pins.borrow(task) {
-        Err(Refusal::NoMemory) => {
+        Err(Failure::Memory(_)) => {
             holds!(rt; !pins.borrows(task));
             pins.borrow(task)
         }

@@ -1,9 +1,10 @@
 //! The devices: what real files do, and which call of a faulty device fails.
 use assertions::{holds, same};
 use bytes::Bytes;
+use memory_growth::{OutOfMemory, lists, text_of};
 use obj_id::{DeviceKey, JobNo};
 use spill_device::{DeviceFault, FaultyDevice, FileDevice, FolderFault, MemoryDevice, SpillDevice};
-use std::alloc::{AllocError, Global};
+use std::alloc::Global;
 use std::process::{self, Abort};
 use std::rt::{Env, Files};
 use std::test::Fail;
@@ -31,8 +32,8 @@ const NEIGHBOUR: DeviceKey = DeviceKey {
 /// The longest object, of many chunks.
 const LONG: usize = 16_777_216;
 
-pub(crate) fn joined(alloc: Global, folder: &str, name: &str) -> Result<String, AllocError> {
-    format!(in alloc; "{folder}/{name}")
+pub(crate) fn joined(alloc: Global, folder: &str, name: &str) -> Result<String, OutOfMemory> {
+    text_of!(in alloc; "{folder}/{name}")
 }
 
 /// A folder of this test's own that isn't there.
@@ -43,18 +44,18 @@ pub(crate) fn own_folder<R: Files + Env + AllocGlobal>(
 ) -> Result<String, Fail> {
     let alloc = rt.alloc();
     let temporary = env::temp_dir(rt)?;
-    let below = format!(in alloc; "devices-{process}-{name}")?;
+    let below = text_of!(in alloc; "devices-{process}-{name}")?;
     let folder = joined(alloc, temporary.as_str(), below.as_str())?;
     let _ = fs::remove_dir_all(rt, folder.as_str());
     Ok(folder)
 }
 
 /// A device in the folder.
-pub(crate) fn over_files<R: Files + AllocGlobal + Clone + Drop>(
+pub(crate) fn over_files<R: Files + AllocGlobal + Copy>(
     rt: &R,
     folder: &str,
 ) -> Result<FileDevice<R>, FolderFault> {
-    FileDevice::new(rt.clone()?, folder)
+    FileDevice::new(*rt, folder)
 }
 
 /// Whether the device has these bytes under the key.
@@ -106,8 +107,8 @@ fn keeps_jobs_apart<D: SpillDevice>(rt: &impl Abort, device: &mut D) {
 }
 
 /// As many bytes, each another than the one before it.
-fn long_bytes(alloc: Global) -> Result<Vec<u8>, AllocError> {
-    let mut bytes = vec![in alloc; 0u8; LONG]?;
+fn long_bytes(alloc: Global) -> Result<Vec<u8>, OutOfMemory> {
+    let mut bytes = lists::filled(alloc, 0u8, LONG)?;
     for (place, byte) in bytes.iter_mut().enumerate() {
         *byte = (place % 251) as u8;
     }
@@ -227,9 +228,8 @@ fn fail_to_write<R: Files + Abort, D: SpillDevice>(
     fs::remove_dir(rt, part)?;
     same!(rt; device.erase(OTHER), Ok(()));
     fs::remove_dir(rt, folder)?;
-    same!(rt; device.write(OTHER, &[4]), failed);
-    same!(rt; device.erase(OTHER), Ok(()));
-    same!(rt; device.failures(), 2);
+    same!(rt; [device.write(OTHER, &[4]), device.erase(OTHER)], [failed; 2]);
+    same!(rt; device.failures(), 3);
     Ok(())
 }
 
@@ -242,10 +242,10 @@ fn a_write_that_fails_leaves_what_was_there(rt: HostRuntime) -> Result<(), Fail>
 }
 
 /// What is printed of a folder that is refused; nothing if it isn't.
-fn refusal_of<R: Files + AllocGlobal + Clone + Drop>(rt: &R, folder: &str) -> Result<String, Fail> {
+fn refusal_of<R: Files + AllocGlobal + Copy>(rt: &R, folder: &str) -> Result<String, Fail> {
     match over_files(rt, folder) {
         Ok(_) => Ok(String::new(rt.alloc())),
-        Err(fault) => Ok(format!(in rt.alloc(); "{fault}")?),
+        Err(fault) => Ok(text_of!(in rt.alloc(); "{fault}")?),
     }
 }
 

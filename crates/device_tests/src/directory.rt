@@ -1,8 +1,8 @@
 //! The directory of owners.
 use assertions::same;
+use memory_growth::OutOfMemory;
 use obj_id::{Digest, DirectoryMessage, JobNo, Location, ObjectId, Refusal, TaskNo};
 use owner_directory::{Directory, DirectoryReply};
-use std::alloc::AllocError;
 use std::test::Fail;
 
 const JOB: JobNo = JobNo(1);
@@ -24,15 +24,13 @@ fn located(
     directory: &mut Directory,
     job: JobNo,
     id: ObjectId,
-) -> Result<DirectoryReply, AllocError> {
-    directory.apply(
-        job,
-        DirectoryMessage::Locate {
-            id,
-            node: 3,
-            number: 77,
-        },
-    )
+) -> Result<DirectoryReply, OutOfMemory> {
+    let asked = DirectoryMessage::Locate {
+        id,
+        node: 3,
+        number: 77,
+    };
+    Ok(directory.apply(job, asked)?)
 }
 
 /// Whether node 3, for its fetch 77, is told just these nodes and lengths.

@@ -1,10 +1,13 @@
 //! The folders of spilled objects: whose they are, and what is in the way in them.
 use crate::devices::{FAILED, FILE, KEY, joined, over_files, own_folder, unread};
 use assertions::{holds, same};
-use spill_device::{DeviceFault, SpillDevice, SpillFolder};
-use std::os::unix::fs::{MetadataExt, PermissionsExt, symlink};
+use memory_growth::text_of;
+use spill_device::{DeviceFault, FileDevice, SpillDevice, SpillFolder};
+use std::fs;
+use std::os::unix::fs::{MetadataExt, PermissionsExt, chown, symlink};
+use std::process::{self, Abort};
+use std::rt::Files;
 use std::test::Fail;
-use std::{fs, process};
 
 /// The permissions of a mode.
 const PERMISSIONS: u32 = 0o777;
@@ -18,7 +21,7 @@ fn mode_of(rt: &HostRuntime, path: &str) -> Result<u32, Fail> {
 fn refusal_of(rt: HostRuntime, path: &str) -> Result<String, Fail> {
     match SpillFolder::take(rt, path) {
         Ok(_) => Ok(String::new(rt.alloc())),
-        Err(fault) => Ok(format!(in rt.alloc(); "{fault}")?),
+        Err(fault) => Ok(text_of!(in rt.alloc(); "{fault}")?),
     }
 }
 
@@ -59,7 +62,7 @@ fn what_a_write_left_is_replaced_and_a_link_in_its_place_is_not_followed(
     let mut device = over_files(&rt, folder.as_str())?;
     let foreign = joined(rt.alloc(), folder.as_str(), "foreign")?;
     let file = joined(rt.alloc(), folder.as_str(), FILE)?;
-    let part = format!(in rt.alloc(); "{file}.part")?;
+    let part = text_of!(in rt.alloc(); "{file}.part")?;
     fs::write(&rt, foreign.as_str(), "of others")?;
     symlink(&rt, foreign.as_str(), part.as_str())?;
     same!(rt; device.write(KEY, b"some"), Ok(()));
@@ -99,6 +102,73 @@ fn a_folder_that_others_may_use_is_refused(rt: HostRuntime) -> Result<(), Fail> 
         "{response}"
     );
     fs::remove_dir_all(&rt, folder.as_str())?;
+    Ok(())
+}
+
+/// A user whom no test is run as.
+const ANOTHER: u32 = 54_321;
+
+#[test]
+fn a_folder_of_another_user_is_refused(rt: HostRuntime) -> Result<(), Fail> {
+    let folder = own_folder(&rt, process::id(rt.process()), "anothers")?;
+    drop(SpillFolder::take(rt, folder.as_str())?);
+    // nobody but root can give a folder away, and to all others the topmost one is another user's
+    let is_given = chown(&rt, folder.as_str(), Some(ANOTHER), None).is_ok();
+    let refused = if is_given { folder.as_str() } else { "/" };
+    let response = refusal_of(rt, refused)?;
+    assert!(rt;
+        response.as_str().ends_with("is another user's"),
+        "{response}"
+    );
+    fs::remove_dir_all(&rt, folder.as_str())?;
+    Ok(())
+}
+
+/// Calls a device whose folder was moved: each call fails, and the last one says why.
+fn call_in_vain<R: Files + AllocGlobal + Abort>(
+    rt: &R,
+    device: &mut FileDevice<HostRuntime>,
+) -> Result<(), Fail> {
+    let failed = Err(DeviceFault::Failed);
+    same!(rt; unread(device, KEY, 9), FAILED);
+    same!(rt; [device.write(KEY, b"more"), device.erase(KEY)], [failed; 2]);
+    let reason = device.take_reason().ok_or("no reason")?;
+    let text = text_of!(in rt.alloc(); "{reason}")?;
+    same!(rt; text.as_str(), "the folder was moved or removed");
+    Ok(())
+}
+
+/// Puts another folder in the place of one, with another file of the key.
+fn put_another<R: Files + AllocGlobal>(rt: &R, folder: &str, away: &str) -> Result<(), Fail> {
+    fs::rename(rt, folder, away)?;
+    fs::create_dir(rt, folder)?;
+    fs::write(rt, joined(rt.alloc(), folder, FILE)?.as_str(), "of others")?;
+    Ok(())
+}
+
+/// Puts the folder back, if the file of the other one is as it was.
+fn put_back<R: Files + AllocGlobal + Abort>(rt: &R, folder: &str, away: &str) -> Result<(), Fail> {
+    let file = joined(rt.alloc(), folder, FILE)?;
+    same!(rt; fs::read_to_string(rt, file.as_str())?.as_str(), "of others");
+    fs::remove_dir_all(rt, folder)?;
+    fs::rename(rt, away, folder)?;
+    Ok(())
+}
+
+#[test]
+fn what_comes_in_the_place_of_a_moved_folder_stays(rt: HostRuntime) -> Result<(), Fail> {
+    let folder = own_folder(&rt, process::id(rt.process()), "moved")?;
+    let away = own_folder(&rt, process::id(rt.process()), "away")?;
+    let taken = SpillFolder::take(rt, folder.as_str())?;
+    let mut device = FileDevice::of(rt, &taken)?;
+    same!(rt; device.write(KEY, b"some"), Ok(()));
+    put_another(&rt, folder.as_str(), away.as_str())?;
+    call_in_vain(&rt, &mut device)?;
+    holds!(rt; taken.clear().is_err());
+    put_back(&rt, folder.as_str(), away.as_str())?;
+    same!(rt; unread(&mut device, KEY, 4), None);
+    taken.clear()?;
+    fs::remove_dir(&rt, folder.as_str())?;
     Ok(())
 }
 

@@ -5,8 +5,9 @@ ghost use Rattle.extent_tree.specs.Residents.{resident_offset, resident_in_class
 
 use crate::spans::{Span, Spans};
 use augmented_tree::{Keyed, Marked, Tree, end, summary, widen_to};
+use memory_growth::OutOfMemory;
 use obj_id::Extent;
-use std::alloc::{AllocError, Global};
+use std::alloc::Global;
 use std::marker::Model;
 use use_tree::{VictimClass, VictimClasses};
 
@@ -74,7 +75,7 @@ impl Drop for SpareNode {
 
 impl SpareNode {
     /// Takes the memory of one extent.
-    pub fn new(alloc: Global) -> Result<SpareNode, AllocError> {
+    pub fn new(alloc: Global) -> Result<SpareNode, OutOfMemory> {
         let resident = Resident {
             extent: Extent {
                 offset: 0,

@@ -16,11 +16,12 @@ ghost use Rattle.fetch_core.specs.Fetching.{begun, missing_of, fetch_after_locat
 pub mod laws;
 
 use bytes::Bytes;
+use memory_growth::{OutOfMemory, lists, shared};
 use obj_id::limits::CHUNK_SIZE;
 use obj_id::{ChunkIndex, Digest, FetchNo, Location, NodeNo, ObjectId, PeerMessage};
 use private_store::FetchFault;
 use sha2::{Digest as _, Sha256};
-use std::alloc::{AllocError, Global};
+use std::alloc::Global;
 use std::marker::Model;
 
 /// How far a fetch is.
@@ -142,7 +143,7 @@ impl FetchIn {
     /// All chunks are missing from now on. Does nothing to a fetch that isn't Sized, and takes no memory then.
     ///
     /// Out of memory leaves it as it was. Takes as many steps as the object has chunks.
-    pub fn begin(&mut self, alloc: Global) -> Result<(), AllocError>
+    pub fn begin(&mut self, alloc: Global) -> Result<(), OutOfMemory>
         ensures ok { OnOk result (self.new ≡ pull_begun self.old) }
         ensures err { OnErr result (self.new ≡ self.old) }
         ensures grows { OnErr result ((source : ℕ) × (self.old.phase ≡ sized source)) }
@@ -249,18 +250,21 @@ pub fn chunks_asked(
     id: ObjectId,
     number: u64,
     indexes: &[u32],
-) -> Result<Vec<PeerMessage>, AllocError>
+) -> Result<Vec<PeerMessage>, OutOfMemory>
     ensures ok { IfOk result (λ v. v.items ≡ chunks_asked_for bytes.now id number (length bytes.now) indexes.now) }
 {
     let mut sent = Vec::new(alloc);
     for index in indexes {
         if let Some(chunk) = chunk_at(bytes, *index)? {
-            sent.push(PeerMessage::Chunk {
-                id,
-                number,
-                index: *index,
-                bytes: chunk,
-            })?;
+            lists::push(
+                &mut sent,
+                PeerMessage::Chunk {
+                    id,
+                    number,
+                    index: *index,
+                    bytes: chunk,
+                },
+            )?;
         }
     }
     Ok(sent)
@@ -279,7 +283,7 @@ pub fn elsewhere(node: u32, entries: &[Location]) -> Option<Location>
 }
 
 /// The bytes of the chunk of this index, if there is one, which are shared.
-fn chunk_at(bytes: &Bytes, index: u32) -> Result<Option<Bytes>, AllocError>
+fn chunk_at(bytes: &Bytes, index: u32) -> Result<Option<Bytes>, OutOfMemory>
     ensures there { IfOk result (λ chunk. is_some chunk ≡ nat_lt (65536 * index) (length bytes.now)) }
     ensures bytes { IfOk result (λ chunk. IfSome chunk (λ part. part ≡ take (chunk_length (length bytes.now) index) (drop (65536 * index) bytes.now))) }
 {
@@ -288,7 +292,7 @@ fn chunk_at(bytes: &Bytes, index: u32) -> Result<Option<Bytes>, AllocError>
         return Ok(None);
     }
     let end = (start + CHUNK_SIZE as usize).min(bytes.len());
-    Ok(Some(bytes.slice(start..end)?))
+    Ok(Some(shared::part(bytes, start, end)?))
 }
 
 /// The SHA-256 digest (FIPS 180-4) of the bytes.
@@ -309,13 +313,13 @@ fn chunk_bytes(length: u32, index: ChunkIndex) -> usize
 }
 
 /// The indexes of all chunks of an object of `length` bytes.
-pub fn all_chunks(alloc: Global, length: u32) -> Result<Vec<u32>, AllocError>
+pub fn all_chunks(alloc: Global, length: u32) -> Result<Vec<u32>, OutOfMemory>
     ensures { IfOk result (λ v. v.items ≡ counted 0 (chunk_count length)) }
 {
     let count = length.div_ceil(CHUNK_SIZE);
     let mut indexes = Vec::new(alloc);
     for index in 0..count {
-        indexes.push(index)?;
+        lists::push(&mut indexes, index)?;
     }
     Ok(indexes)
 }

@@ -16,10 +16,12 @@ use crossbeam_channel::bounded_with;
 pub use receiver::LinkReceiver;
 pub use rule::MOST_IN_FLIGHT;
 pub use sender::{LinkSender, Sent};
-use std::alloc::{AllocError, Global};
+use std::alloc::Global;
+use std::io;
 
-/// The two ends of a new link, which has room for `MOST_IN_FLIGHT` messages. All memory that a link takes is taken here.
-pub fn open<M: Drop>(alloc: Global) -> Result<(LinkSender<M>, LinkReceiver<M>), AllocError>
+/// The two ends of a new link, which has room for `MOST_IN_FLIGHT` messages. All memory that a link takes is taken here; the error is the
+/// system's, that there is none.
+pub fn open<M: Drop>(alloc: Global) -> io::Result<(LinkSender<M>, LinkReceiver<M>)>
     ensures one { IfOk result (λ ends. AreEnds ends.0 ends.1) }
     ensures accepted { IfOk result (λ ends. accepted_of ends.0 ≡ []) }
     ensures received { IfOk result (λ ends. received_of ends.1 ≡ []) }

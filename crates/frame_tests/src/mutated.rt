@@ -1,8 +1,9 @@
 //! Streams that are no session: frames of which some bytes were changed, and random bytes. What is read of a stream
 //! doesn't hang on its pieces.
+use memory_growth::{OutOfMemory, lists, text_of};
 use obj_id::Refusal;
 use private_store::Item;
-use std::alloc::{AllocError, Global};
+use std::alloc::Global;
 use std::test::Fail;
 use wire_frames::Reader;
 
@@ -100,7 +101,7 @@ fn tells_fault(
         match reader.feed(alloc, bytes) {
             Ok(more) => {
                 for item in more {
-                    items.push(item)?;
+                    lists::push(items, item)?;
                 }
             }
             Err(Refusal::Malformed) => return Ok(true),
@@ -116,32 +117,32 @@ fn cut<'a>(
     random: &mut Random,
     stream: &'a [u8],
     longest: u32,
-) -> Result<Vec<&'a [u8]>, AllocError> {
+) -> Result<Vec<&'a [u8]>, OutOfMemory> {
     let mut pieces = Vec::new(alloc);
     let mut rest = stream;
     for _ in 0..stream.len() {
         let length = random.below(longest.saturating_add(1)) as usize;
         let (piece, behind) = rest.split_at(length.min(rest.len()));
-        pieces.push(piece)?;
+        lists::push(&mut pieces, piece)?;
         rest = behind;
     }
-    pieces.push(rest)?;
+    lists::push(&mut pieces, rest)?;
     Ok(pieces)
 }
 
 /// Each byte as a piece.
-fn single_bytes(alloc: Global, stream: &[u8]) -> Result<Vec<&[u8]>, AllocError> {
+fn single_bytes(alloc: Global, stream: &[u8]) -> Result<Vec<&[u8]>, OutOfMemory> {
     let mut pieces = Vec::new(alloc);
     for piece in stream.chunks(1) {
-        pieces.push(piece)?;
+        lists::push(&mut pieces, piece)?;
     }
     Ok(pieces)
 }
 
 /// Whether the same was read, to the same end. An item is told by its debug text.
 fn is_same(alloc: Global, left: &Outcome, right: &Outcome) -> Result<bool, Fail> {
-    let items = format!(in alloc; "{:?}", left.items)?;
-    let others = format!(in alloc; "{:?}", right.items)?;
+    let items = text_of!(in alloc; "{:?}", left.items)?;
+    let others = text_of!(in alloc; "{:?}", right.items)?;
     Ok(items == others && left.faulty == right.faulty && left.in_mid_frame == right.in_mid_frame)
 }
 
@@ -182,17 +183,17 @@ fn is_read_alike(
 }
 
 /// Adds a frame with a body of ones, and a payload of random bytes if it is a write.
-fn add_frame(random: &mut Random, stream: &mut Vec<u8>) -> Result<(), AllocError> {
+fn add_frame(random: &mut Random, stream: &mut Vec<u8>) -> Result<(), OutOfMemory> {
     let (kind, body) = KINDS[random.next() as usize % KINDS.len()];
     let payload = if kind == 0x03 { random.below(2_000) } else { 0 };
     let length = body.saturating_add(payload).saturating_add(1);
-    stream.extend_from_slice(&length.to_be_bytes())?;
-    stream.push(kind)?;
+    lists::extend_from_slice(stream, &length.to_be_bytes())?;
+    lists::push(stream, kind)?;
     for _ in 0..body {
-        stream.push(1)?;
+        lists::push(stream, 1)?;
     }
     for _ in 0..payload {
-        stream.push(random.byte())?;
+        lists::push(stream, random.byte())?;
     }
     Ok(())
 }
@@ -203,7 +204,7 @@ fn mutated_frames(
     random: &mut Random,
     count: u32,
     rarity: u32,
-) -> Result<Vec<u8>, AllocError> {
+) -> Result<Vec<u8>, OutOfMemory> {
     let mut stream = Vec::new(alloc);
     for _ in 0..count {
         let mut frame = Vec::new(alloc);
@@ -212,15 +213,15 @@ fn mutated_frames(
         if random.below(rarity) == 0 && at < frame.len() {
             frame[at] = random.byte();
         }
-        stream.extend_from_slice(&frame)?;
+        lists::extend_from_slice(&mut stream, &frame)?;
     }
     Ok(stream)
 }
 
-fn random_bytes(alloc: Global, random: &mut Random, count: u32) -> Result<Vec<u8>, AllocError> {
+fn random_bytes(alloc: Global, random: &mut Random, count: u32) -> Result<Vec<u8>, OutOfMemory> {
     let mut bytes = Vec::new(alloc);
     for _ in 0..count {
-        bytes.push(random.byte())?;
+        lists::push(&mut bytes, random.byte())?;
     }
     Ok(bytes)
 }

@@ -1,5 +1,6 @@
 //! Streams as they are read.
 use assertions::holds;
+use memory_growth::lists;
 use obj_id::{Command, JobKey, JobNo, Kind, ObjectId, Refusal, TaskNo};
 use private_store::Item;
 use std::alloc::Global;
@@ -31,7 +32,7 @@ fn items_of(alloc: Global, reader: &mut Reader, pieces: &[&[u8]]) -> Result<Vec<
     let mut items = Vec::new(alloc);
     for piece in pieces {
         for item in reader.feed(alloc, piece)? {
-            items.push(item)?;
+            lists::push(&mut items, item)?;
         }
     }
     Ok(items)
@@ -83,7 +84,7 @@ fn a_session_is_read_byte_by_byte(rt: HostRuntime) -> Result<(), Fail> {
     let mut items = Vec::new(alloc);
     for byte in &bytes {
         for item in reader.feed(alloc, &[*byte])? {
-            items.push(item)?;
+            lists::push(&mut items, item)?;
         }
     }
     holds!(rt; is_the_session(&items, object));
@@ -111,7 +112,7 @@ fn items_before_a_fault_are_given(rt: HostRuntime) -> Result<(), Fail> {
     for fault in FAULTS {
         let mut bytes = hex::decode(alloc, SESSION)?;
         let behind = hex::decode(alloc, fault)?;
-        bytes.extend_from_slice(&behind)?;
+        lists::extend_from_slice(&mut bytes, &behind)?;
         let mut reader = Reader::new(alloc);
         let items = reader.feed(alloc, &bytes)?;
         assert!(rt; is_the_session(&items, object), "{fault}");
@@ -140,7 +141,7 @@ fn the_longest_write_is_read(rt: HostRuntime) -> Result<(), Fail> {
         alloc,
         "00010040030000000000000000000000000000000000000001000000010000000100000007",
     )?;
-    let payload = vec![in alloc; 9; 65_567]?;
+    let payload = lists::filled(alloc, 9, 65_567)?;
     let mut reader = Reader::new(alloc);
     let items = items_of(alloc, &mut reader, &[&head, &payload])?;
     let object = first_object()?;

@@ -93,7 +93,7 @@ among_rest g gs (h ∷ hs) all = by (h.grantor == g) (g == h.grantor) (grind (ar
     by false false e here l = both (is_among gs h.grantor) (list_all (λ (h : StandingGrant). is_among gs h.grantor) rest) here l
     by false true e here l = absurd cc
 
-few_by : (gs : List ℕ) (hs : List StandingGrant) → list_all (λ h. is_among gs h.grantor) hs ≡ true → ((g : ℕ) → length (given_by g hs) ≤ most_grants) → length hs ≤ 64 * length gs
+pub few_by : (gs : List ℕ) (hs : List StandingGrant) → list_all (λ h. is_among gs h.grantor) hs ≡ true → ((g : ℕ) → length (given_by g hs) ≤ most_grants) → length hs ≤ 64 * length gs
 few_by [] [] all few = omega arith
 few_by [] (h ∷ hs) all few = absurd cc
 few_by (g ∷ gs) hs all few =

@@ -5,7 +5,7 @@ pub use Rattle.grants.proofs.Alike.{any_filtered, numbers_equal, same_alike, sam
 -- which grants end, in a job's own store as in the table; one test after another
 pub use Rattle.grants.proofs.Ends.{any_filter, any_map, ends_alike, filter_filter, filter_map, filter_swap, rest_alike}
 -- how much a live job may be given, so that answers are small
-pub use Rattle.grants.proofs.Few.{few_granted, is_among}
+pub use Rattle.grants.proofs.Few.{few_by, few_granted, is_among}
 -- what stands after grants have ended is a table again; a test of two lists
 pub use Rattle.grants.proofs.Left.{apart, append_nothing, filter_both, left_are_grants}
 -- what stands after a grant is a table again

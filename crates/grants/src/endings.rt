@@ -7,8 +7,9 @@ ghost use Rattle.grants.specs.Links.{links_are_apart};
 
 use crate::standing::{Link, StandingGrant, same_id, same_task};
 use indexmap::IndexSet;
+use memory_growth::{OutOfMemory, lists, ordered, sets};
 use obj_id::{ItemList, JobNo, ObjectId, TaskNo};
-use std::alloc::{AllocError, Global};
+use std::alloc::Global;
 use std::collections::BTreeMap;
 use std::marker::Model;
 
@@ -89,11 +90,11 @@ impl Gone {
     }
 
     /// One more.
-    fn push(&mut self, grant: StandingGrant) -> Result<(), AllocError>
+    fn push(&mut self, grant: StandingGrant) -> Result<(), OutOfMemory>
         ensures { OnOk result (self.new ≡ self.old ++ grant ∷ []) }
     {
-        self.grants.reserve(1)?;
-        self.links.insert(grant.link())?;
+        lists::reserve(&mut self.grants, 1)?;
+        sets::insert(&mut self.links, grant.link())?;
         self.grants.push(grant).unwrap();
         Ok(())
     }
@@ -155,7 +156,7 @@ impl EndingGrants {
     }
 
     /// These, no two of which are the same.
-    pub(crate) fn of(alloc: Global, gone: Gone) -> Result<EndingGrants, AllocError>
+    pub(crate) fn of(alloc: Global, gone: Gone) -> Result<EndingGrants, OutOfMemory>
         requires { links_are_apart gone ≡ true }
         ensures { IfOk result (λ ends. ends ≡ gone) }
     {
@@ -194,7 +195,7 @@ pub(crate) fn ended(
     alloc: Global,
     grants: &Vec<StandingGrant>,
     ending: &Ending,
-) -> Result<Gone, AllocError>
+) -> Result<Gone, OutOfMemory>
     ensures { IfOk result (λ gone. gone ≡ ended_from (is_ended_by_lem ending.now) [] grants.now.items) }
 {
     let mut gone = Gone::new(alloc);
@@ -207,7 +208,7 @@ pub(crate) fn ended(
 }
 
 /// The grants, no two of which are the same, in the order in which their ends are announced.
-fn sorted(alloc: Global, grants: &Vec<StandingGrant>) -> Result<Vec<StandingGrant>, AllocError>
+fn sorted(alloc: Global, grants: &Vec<StandingGrant>) -> Result<Vec<StandingGrant>, OutOfMemory>
     requires { links_are_apart grants.now.items ≡ true }
     ensures { IfOk result (λ in_order. in_order.items ≡ grants_sorted grants.now.items) }
 {
@@ -216,9 +217,9 @@ fn sorted(alloc: Global, grants: &Vec<StandingGrant>) -> Result<Vec<StandingGran
     while left > 0 {
         left -= 1;
         let grant = grants[left];
-        ranked.insert(grant.rank(), grant)?;
+        ordered::insert(&mut ranked, grant.rank(), grant)?;
     }
-    let in_order = ranked.into_values().collect(alloc)?;
+    let in_order = lists::collected(alloc, ranked.into_values())?;
     Ok(in_order)
 }
 

@@ -11,7 +11,8 @@ ghost use Rattle.std.specs.List.{list_any, list_all};
 ghost use Rattle.private_store.specs.laws.Answers.{AreGrantedWithin};
 ghost use Rattle.obj_id.specs.declared.ids.ObjectId.{ObjectId};
 ghost use Rattle.obj_id.specs.declared.refusals.Refusal.{Refusal};
-ghost use Rattle.obj_id.specs.declared.refusals.Refusal.TheVariants.{NoMemory};
+ghost use Rattle.obj_id.specs.declared.refusals.Failure.TheVariants.{Refused, Memory};
+ghost use Rattle.memory_growth.specs.declared.OutOfMemory.{OutOfMemory};
 ghost use Rattle.private_store.specs.rules.Limits.{greatest_depth, most_grants, most_live_jobs};
 ghost use Rattle.private_store.specs.rules.Grants.{StandingGrant as GrantView, new_grant, with_grant, grants_ended, grants_left, ground, is_withdrawn, is_of_task, is_given_by};
 ghost use Rattle.grants.specs.Table.{AreGrants, is_first, given_by, given_to, seen_list, limits_check, grant_check as grant_check_lem, withdraw_check, is_ended_by, ends_found, AreFoundIn};
@@ -26,10 +27,11 @@ mod standing;
 
 use endings::Ending;
 pub use endings::EndingGrants;
+use memory_growth::{OutOfMemory, lists};
 use obj_id::limits::{GREATEST_DEPTH, MOST_GRANTS};
-use obj_id::{ItemList, JobNo, ObjectId, Refusal, TaskNo};
+use obj_id::{Failure, ItemList, JobNo, ObjectId, Refusal, TaskNo};
 pub use standing::StandingGrant;
-use std::alloc::{AllocError, Global};
+use std::alloc::Global;
 use std::marker::Model;
 
 /// The standing grants of a node.
@@ -72,6 +74,13 @@ impl Grants {
         }
     }
 
+    /// The grants that stand, in the order in which they were made.
+    pub fn as_slice(&self) -> &[StandingGrant]
+        ensures { result.now ≡ self.now }
+    {
+        &self.grants
+    }
+
     /// How many grants stand.
     pub fn len(&self) -> usize
         ensures { result ≡ length self.now }
@@ -92,62 +101,57 @@ impl Grants {
     /// Grants an object: a grant from the grantor to the target stands, the youngest, and is given back. Another job's
     /// object is handed on: the grant hangs on the grantor's oldest grant of it.
     ///
-    /// Refused as `grant_check` says, with `NoMemory` last. A refusal changes nothing.
+    /// Refused as `grant_check` says, with out of memory last. A refusal changes nothing.
     pub fn grant(
         &mut self,
         grantor: JobNo,
         id: ObjectId,
         target: JobNo,
-    ) -> Result<StandingGrant, Refusal>
+    ) -> Result<StandingGrant, Failure>
         ensures made { IfOk result (λ grant. grant ≡ new_grant self.old id grantor.0 target.0) }
         ensures ok { OnOk result (self.new ≡ with_grant self.old id grantor.0 target.0) }
         ensures passed { IsOk result → grant_check_lem self.old grantor.0 id target.0 ≡ None }
-        ensures refused { (r : Refusal) → r ≢ NoMemory → IsErrOf result r → grant_check_lem self.old grantor.0 id target.0 ≡ Some r }
-        ensures memory { IsErrOf result NoMemory → grant_check_lem self.old grantor.0 id target.0 ≡ None }
+        ensures refused { (r : Refusal) → IsErrOf result (Refused r) → grant_check_lem self.old grantor.0 id target.0 ≡ Some r }
+        ensures memory { (m : OutOfMemory) → IsErrOf result (Memory m) → grant_check_lem self.old grantor.0 id target.0 ≡ None }
         ensures err { OnErr result (self.new ≡ self.old) }
     {
         let grant = self.next_grant(grantor, id, target)?;
-        match self.grants.push(grant) {
-            Err(_) => Err(Refusal::NoMemory),
-            Ok(()) => Ok(grant),
-        }
+        lists::push(&mut self.grants, grant)?;
+        Ok(grant)
     }
 
     /// Withdraws the grantor's grant of the object to the target. It ends, and in the same step every grant
     /// that hangs on it; no other grant to the same grantee does. Gives the grants that ended by depth, id,
     /// grantor and grantee.
     ///
-    /// `NotGranted` if no such grant stands, `NoMemory` last. A refusal changes nothing.
+    /// `NotGranted` if no such grant stands, out of memory last. A refusal changes nothing.
     pub fn withdraw(
         &mut self,
         grantor: JobNo,
         id: ObjectId,
         target: JobNo,
-    ) -> Result<ItemList<StandingGrant>, Refusal>
+    ) -> Result<ItemList<StandingGrant>, Failure>
         ensures response { IfOk result (λ response. response ≡ grants_ended (is_withdrawn grantor.0 id target.0) self.old) }
         ensures ok { OnOk result (self.new ≡ grants_left (is_withdrawn grantor.0 id target.0) self.old) }
         ensures passed { IsOk result → withdraw_check self.old grantor.0 id target.0 ≡ None }
-        ensures refused { (r : Refusal) → r ≢ NoMemory → IsErrOf result r → withdraw_check self.old grantor.0 id target.0 ≡ Some r }
-        ensures memory { IsErrOf result NoMemory → withdraw_check self.old grantor.0 id target.0 ≡ None }
+        ensures refused { (r : Refusal) → IsErrOf result (Refused r) → withdraw_check self.old grantor.0 id target.0 ≡ Some r }
+        ensures memory { (m : OutOfMemory) → IsErrOf result (Memory m) → withdraw_check self.old grantor.0 id target.0 ≡ None }
         ensures gone { OnOk result (filter (is_withdrawn grantor.0 id target.0) self.new ≡ []) }
         ensures err { OnErr result (self.new ≡ self.old) }
     {
         if !standing::is_given(&self.grants, grantor, &id, target) {
-            return Err(Refusal::NotGranted);
+            return Err(Failure::Refused(Refusal::NotGranted));
         }
-        match self.end(Ending::Withdrawn {
+        Ok(self.end(Ending::Withdrawn {
             grantor,
             id,
             grantee: target,
-        }) {
-            Err(_) => Err(Refusal::NoMemory),
-            Ok(response) => Ok(response),
-        }
+        })?)
     }
 
     /// Ends all grants of the object, in the same order. A failure changes nothing, and there is none if no
     /// grant of it stands.
-    pub fn drop_object(&mut self, id: ObjectId) -> Result<ItemList<StandingGrant>, AllocError>
+    pub fn drop_object(&mut self, id: ObjectId) -> Result<ItemList<StandingGrant>, OutOfMemory>
         ensures response { IfOk result (λ response. response ≡ grants_ended (λ grant. same_id id grant.id) self.old) }
         ensures ok { OnOk result (self.new ≡ grants_left (λ grant. same_id id grant.id) self.old) }
         ensures gone { OnOk result (filter (λ grant. same_id id grant.id) self.new ≡ []) }
@@ -164,7 +168,7 @@ impl Grants {
         grantor: JobNo,
         id: ObjectId,
         target: JobNo,
-    ) -> Result<EndingGrants, AllocError>
+    ) -> Result<EndingGrants, OutOfMemory>
         ensures found { IfOk result (λ ends. ends ≡ ends_found (is_withdrawn grantor.0 id target.0) self.now) }
         ensures succeeds { filter (is_withdrawn grantor.0 id target.0) self.now ≡ [] → IsOk result }
     {
@@ -177,7 +181,7 @@ impl Grants {
 
     /// What the job gave of its own objects that the task made, and what hangs on it. There is no failure if the job
     /// gave none of them. Nothing changes.
-    pub fn ends_with_task(&self, job: JobNo, task: TaskNo) -> Result<EndingGrants, AllocError>
+    pub fn ends_with_task(&self, job: JobNo, task: TaskNo) -> Result<EndingGrants, OutOfMemory>
         ensures found { IfOk result (λ ends. ends ≡ ends_found (is_of_task job.0 task) self.now) }
         ensures succeeds { filter (is_of_task job.0 task) self.now ≡ [] → IsOk result }
     {
@@ -186,7 +190,7 @@ impl Grants {
 
     /// All that the job gave, of own objects and others', and what hangs on it. What was given to the job is not among
     /// it. There is no failure if the job gave nothing. Nothing changes.
-    pub fn ends_with_job(&self, job: JobNo) -> Result<EndingGrants, AllocError>
+    pub fn ends_with_job(&self, job: JobNo) -> Result<EndingGrants, OutOfMemory>
         ensures found { IfOk result (λ ends. ends ≡ ends_found (is_given_by job.0) self.now) }
         ensures succeeds { given_by job.0 self.now ≡ [] → IsOk result }
     {
@@ -225,7 +229,7 @@ impl Grants {
     }
 
     /// The grants that the job gave, oldest first: at most 64.
-    pub fn given_by(&self, job: JobNo) -> Result<ItemList<StandingGrant>, AllocError>
+    pub fn given_by(&self, job: JobNo) -> Result<ItemList<StandingGrant>, OutOfMemory>
         ensures grants { IfOk result (λ given. given ≡ given_by job.0 self.now) }
         ensures few { length (given_by job.0 self.now) ≤ most_grants }
     {
@@ -234,7 +238,7 @@ impl Grants {
     }
 
     /// The grants to the job, oldest first.
-    pub fn given_to(&self, job: JobNo) -> Result<ItemList<StandingGrant>, AllocError>
+    pub fn given_to(&self, job: JobNo) -> Result<ItemList<StandingGrant>, OutOfMemory>
         ensures { IfOk result (λ given. given ≡ given_to job.0 self.now) }
     {
         let given = standing::given_to(self.alloc, &self.grants, job)?;
@@ -242,7 +246,7 @@ impl Grants {
     }
 
     /// Of each object that the job sees the oldest grant, by rising id.
-    pub fn seen(&self, job: JobNo) -> Result<ItemList<StandingGrant>, AllocError>
+    pub fn seen(&self, job: JobNo) -> Result<ItemList<StandingGrant>, OutOfMemory>
         ensures { IfOk result (λ seen. seen ≡ seen_list job.0 self.now) }
     {
         let seen = standing::seen(self.alloc, &self.grants, job)?;
@@ -302,7 +306,7 @@ impl Grants {
     }
 
     /// The grants that end, with all that hang on them. If none ends by itself, no memory is taken.
-    fn found(&self, ending: Ending) -> Result<EndingGrants, AllocError>
+    fn found(&self, ending: Ending) -> Result<EndingGrants, OutOfMemory>
         ensures found { IfOk result (λ found. found ≡ ends_found (is_ended_by ending) self.now) }
         ensures succeeds { filter (is_ended_by ending) self.now ≡ [] → IsOk result }
     {
@@ -314,7 +318,7 @@ impl Grants {
     }
 
     /// Ends grants, with all that hang on them. All growth comes first, and if none ends there is none.
-    fn end(&mut self, ending: Ending) -> Result<ItemList<StandingGrant>, AllocError>
+    fn end(&mut self, ending: Ending) -> Result<ItemList<StandingGrant>, OutOfMemory>
         ensures response { IfOk result (λ response. response ≡ grants_ended (is_ended_by ending) self.old) }
         ensures ok { OnOk result (self.new ≡ grants_left (is_ended_by ending) self.old) }
         ensures gone { OnOk result (filter (is_ended_by ending) self.new ≡ []) }

@@ -9,8 +9,9 @@ ghost use Rattle.grants.specs.Back.{job_number_of};
 ghost use Rattle.grants.specs.Links.{link_of, below_of, rank_of};
 ghost use Rattle.std.specs.Option.{option_map};
 
+use memory_growth::{OutOfMemory, lists};
 use obj_id::{JobNo, ObjectId, TaskNo};
-use std::alloc::{AllocError, Global};
+use std::alloc::Global;
 use std::marker::Model;
 
 /// What tells a grant from all others that stand, and what hangs on it names it by.
@@ -245,13 +246,13 @@ pub(crate) fn given_by(
     alloc: Global,
     grants: &Vec<StandingGrant>,
     job: JobNo,
-) -> Result<Vec<StandingGrant>, AllocError>
+) -> Result<Vec<StandingGrant>, OutOfMemory>
     ensures { IfOk result (λ given. given.items ≡ given_by_lem job.0 grants.now.items) }
 {
     let mut given = Vec::new(alloc);
     for grant in grants {
         if grant.is_from(job) {
-            given.push(*grant)?;
+            lists::push(&mut given, *grant)?;
         }
     }
     Ok(given)
@@ -262,20 +263,20 @@ pub(crate) fn given_to(
     alloc: Global,
     grants: &Vec<StandingGrant>,
     job: JobNo,
-) -> Result<Vec<StandingGrant>, AllocError>
+) -> Result<Vec<StandingGrant>, OutOfMemory>
     ensures { IfOk result (λ given. given.items ≡ given_to_lem job.0 grants.now.items) }
 {
     let mut given = Vec::new(alloc);
     for grant in grants {
         if grant.is_to(job) {
-            given.push(*grant)?;
+            lists::push(&mut given, *grant)?;
         }
     }
     Ok(given)
 }
 
 /// Puts a grant among the oldest of each object, by rising id, unless an older one of its object is there.
-fn put_seen(seen: &mut Vec<StandingGrant>, grant: StandingGrant) -> Result<(), AllocError>
+fn put_seen(seen: &mut Vec<StandingGrant>, grant: StandingGrant) -> Result<(), OutOfMemory>
     ensures { OnOk result (seen.new.items ≡ with_seen grant seen.old.items) }
 {
     let mut at = 0;
@@ -285,7 +286,7 @@ fn put_seen(seen: &mut Vec<StandingGrant>, grant: StandingGrant) -> Result<(), A
     if at < seen.len() && same_id(&seen[at].id, &grant.id) {
         return Ok(());
     }
-    seen.insert(at, grant)?;
+    lists::insert(seen, at, grant)?;
     Ok(())
 }
 
@@ -294,7 +295,7 @@ pub(crate) fn seen(
     alloc: Global,
     grants: &Vec<StandingGrant>,
     job: JobNo,
-) -> Result<Vec<StandingGrant>, AllocError>
+) -> Result<Vec<StandingGrant>, OutOfMemory>
     ensures { IfOk result (λ seen. seen.items ≡ seen_list job.0 grants.now.items) }
 {
     let mut seen = Vec::new(alloc);

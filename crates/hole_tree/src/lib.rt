@@ -10,7 +10,8 @@ ghost use Rattle.augmented_tree.specs.Shape.{items, depth, HasSummaries};
 ghost use Rattle.hole_tree.specs.Holes.{hole_offset, IsAnyHole, IsGreatest, AreHolesRising, put_hole, take_hole, has_hole, hole_at, first_fitting};
 
 use augmented_tree::{Keyed, Tree, end, summary, widen_to};
-use std::alloc::{AllocError, Global};
+use memory_growth::OutOfMemory;
+use std::alloc::Global;
 use std::marker::Model;
 
 /// Free bytes between two extents.
@@ -60,7 +61,7 @@ impl Drop for SpareNode {
 
 impl SpareNode {
     /// Takes the memory of one hole.
-    pub fn new(alloc: Global) -> Result<SpareNode, AllocError> {
+    pub fn new(alloc: Global) -> Result<SpareNode, OutOfMemory> {
         let hole = Hole {
             offset: 0,
             length: 0,

@@ -6,7 +6,9 @@ ghost use Rattle.std.specs.Prelude.{◌≡◌, ◌≢◌, ◌↔◌, ◌+◌, �
 ghost use Rattle.std.specs.List.{list_all};
 ghost use Rattle.obj_id.specs.declared.ids.JobNo.{JobNo};
 ghost use Rattle.obj_id.specs.declared.refusals.Refusal.{Refusal};
-ghost use Rattle.obj_id.specs.declared.refusals.Refusal.TheVariants.{NotAdmitted, NoMemory};
+ghost use Rattle.obj_id.specs.declared.refusals.Refusal.TheVariants.{NotAdmitted};
+ghost use Rattle.obj_id.specs.declared.refusals.Failure.TheVariants.{Refused, Memory};
+ghost use Rattle.memory_growth.specs.declared.OutOfMemory.{OutOfMemory};
 ghost use Rattle.private_store.specs.rules.Jobs.{same_job};
 ghost use Rattle.private_store.specs.rules.Limits.{is_window, is_quota as is_quota_lem};
 ghost use Rattle.private_store.specs.rules.Extents.{is_apart as is_apart_lem, end_of};
@@ -14,8 +16,9 @@ ghost use Rattle.private_store.specs.rules.Shared.{job_is, widened, admitted as 
 ghost use Rattle.job_admission.specs.Admissions.{largest_memory, live_at, window_of, lives_of, windows, window_place_for, admit_check as admit_check_lem, with_admitted, resize_check as resize_check_lem, resized, enter_check as enter_check_lem, sessions_entered as sessions_entered_lem, entered, finished, AreAdmissionsKept};
 
 use indexmap::IndexMap;
+use memory_growth::tables;
 use obj_id::limits::{GREATEST_DEVICE_QUOTA, MOST_LIVE_JOBS, UNIT, WIDEST_WINDOW};
-use obj_id::{Extent, JobKey, JobNo, Quota, Refusal};
+use obj_id::{Extent, Failure, JobKey, JobNo, Quota, Refusal};
 use std::alloc::Global;
 use std::marker::Model;
 
@@ -97,14 +100,14 @@ impl Admission {
     /// live job's.
     ///
     /// `BadId` for job 0, `BadSize` if the quota is out of its limits, `Exists` for a number that isn't
-    /// above all that were admitted here, `NoRoom` if 64 jobs are live or no place is free, `NoMemory`
+    /// above all that were admitted here, `NoRoom` if 64 jobs are live or no place is free, out of memory
     /// last. A refusal changes nothing.
-    pub fn admit(&mut self, job: JobNo, quota: Quota, key: JobKey) -> Result<(), Refusal>
+    pub fn admit(&mut self, job: JobNo, quota: Quota, key: JobKey) -> Result<(), Failure>
         ensures ok { OnOk result (self.new ≡ with_admitted self.old job quota key) }
         ensures lives { OnOk result (lives_of self.new.live ≡ admitted_lem self.old.memory job.0 quota.window (lives_of self.old.live)) }
         ensures passed { IsOk result → admit_check_lem self.old job quota ≡ None }
-        ensures refused { (r : Refusal) → r ≢ NoMemory → IsErrOf result r → admit_check_lem self.old job quota ≡ Some r }
-        ensures memory { IsErrOf result NoMemory → admit_check_lem self.old job quota ≡ None }
+        ensures refused { (r : Refusal) → IsErrOf result (Refused r) → admit_check_lem self.old job quota ≡ Some r }
+        ensures memory { (m : OutOfMemory) → IsErrOf result (Memory m) → admit_check_lem self.old job quota ≡ None }
         ensures err { OnErr result (self.new ≡ self.old) }
     {
         let offset = self.placed(job, quota)?;
@@ -114,13 +117,9 @@ impl Admission {
             offset,
             entered: 0,
         };
-        match self.live.insert(job, live) {
-            Err(_) => Err(Refusal::NoMemory),
-            Ok(_) => {
-                self.greatest = job.0;
-                Ok(())
-            }
-        }
+        tables::insert(&mut self.live, job, live)?;
+        self.greatest = job.0;
+        Ok(())
     }
 
     /// The job lives no longer, and the bytes of its window are free. `NotAdmitted` if it isn't live;

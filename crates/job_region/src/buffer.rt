@@ -6,8 +6,9 @@ ghost use Rattle.job_region.specs.Layout.{IsWindowKept};
 use crate::zeros::Zeros;
 use bytes::Bytes;
 use hashed_bytes::{Agreed, Hashed};
+use memory_growth::{MOST_ROOM, OutOfMemory, boxes, lists, shared};
 use obj_id::Digest;
-use std::alloc::{AllocError, AllocFailed, Global};
+use std::alloc::Global;
 use std::marker::Model;
 use std::mem;
 
@@ -20,15 +21,27 @@ const SHARED_FROM: usize = 32_768;
 /// freed, which stays with that thread.
 const MAPPED: usize = 33_554_432;
 
-/// How many bytes are reserved for a buffer of so many.
+/// How many bytes are reserved for a buffer of so many: as far as a window may have them.
 pub(crate) fn reserved(len: usize) -> usize
-    ensures { len ≤ result }
+    ensures most { result ≤ 268435456 }
+    ensures least { len ≤ 268435456 → len ≤ result }
 {
     if len < SHARED_FROM {
         len
     } else {
-        len.max(MAPPED)
+        len.clamp(MAPPED, MOST_ROOM)
     }
+}
+
+/// Room for so many bytes, if there is memory for it and a window may have them.
+fn room_for(alloc: Global, len: usize) -> Option<Vec<u8>>
+    ensures items { IfSome result (λ room. room.items ≡ []) }
+    ensures capacity { IfSome result (λ room. len ≤ vec_capacity room) }
+{
+    if len > MOST_ROOM {
+        return None;
+    }
+    lists::with_capacity(alloc, reserved(len)).ok()
 }
 
 /// The bytes of an extent. A contract sees these alone.
@@ -67,7 +80,8 @@ impl Buffer {
         made: Option<Zeros>,
         alloc: Global,
         len: usize,
-    ) -> Result<Buffer, AllocError>
+    ) -> Result<Buffer, OutOfMemory>
+        requires { len ≤ 268435456 }
         ensures { IfOk result (λ b. b ≡ replicate len 0) }
     {
         let parts = Parts {
@@ -76,7 +90,7 @@ impl Buffer {
             agreed: Agreed::nothing(),
         };
         Ok(Buffer {
-            parts: Box::new(alloc, parts)?,
+            parts: boxes::boxed(alloc, parts)?,
         })
     }
 
@@ -104,12 +118,12 @@ impl Buffer {
             parts.agreed = Agreed::nothing();
             return;
         }
-        let Ok(room) = Vec::with_capacity(alloc, reserved(parts.own.len())) else {
+        let Some(room) = room_for(alloc, parts.own.len()) else {
             return;
         };
-        match Bytes::from_vec(mem::replace(&mut parts.own, room)) {
+        match shared::from_vec_or_back(mem::replace(&mut parts.own, room)) {
             Ok(shared) => parts.shared = shared,
-            Err(AllocFailed { value: own }) => parts.own = own,
+            Err(own) => parts.own = own,
         }
     }
 
@@ -121,7 +135,7 @@ impl Buffer {
         if parts.shared.is_empty() {
             return None;
         }
-        parts.shared.clone().ok()
+        shared::again(&parts.shared).ok()
     }
 
     /// The bytes become these, which others may have too. Copies none, and gives what was written before.
@@ -133,9 +147,9 @@ impl Buffer {
         parts.agreed = Agreed::nothing();
         parts.shared = bytes;
         // room that nobody has touched in place of what was written, if there is memory for it
-        match Vec::with_capacity(alloc, reserved(parts.shared.len())) {
-            Ok(room) => Some(mem::replace(&mut parts.own, room)),
-            Err(_) => {
+        match room_for(alloc, parts.shared.len()) {
+            Some(room) => Some(mem::replace(&mut parts.own, room)),
+            None => {
                 parts.own.clear();
                 None
             }
@@ -194,6 +208,6 @@ fn unshare(own: &mut Vec<u8>, shared: &mut Bytes)
     if shared.is_empty() {
         return;
     }
-    own.extend_from_slice(shared.as_slice()).unwrap();
+    lists::extend_from_slice(own, shared.as_slice()).unwrap();
     *shared = Bytes::new();
 }

@@ -11,8 +11,9 @@ use crate::buffer::Buffer;
 use crate::spent::Spent;
 use bytes::Bytes;
 use hashed_bytes::Hashed;
+use memory_growth::{OutOfMemory, lists};
 use obj_id::Extent;
-use std::alloc::{AllocError, Global};
+use std::alloc::Global;
 
 /// How many extents begin before an offset.
 pub(crate) fn place_of(extents: &[Extent], offset: u64) -> usize
@@ -39,13 +40,13 @@ fn is_at(extents: &[Extent], place: usize, offset: u64) -> bool
 pub(crate) fn reserve_places(
     extents: &mut Vec<Extent>,
     buffers: &mut Vec<Buffer>,
-) -> Result<(), AllocError>
+) -> Result<(), OutOfMemory>
     ensures extents { extents.new.items ≡ extents.old.items }
     ensures buffers { buffers.new.items ≡ buffers.old.items }
     ensures ok { OnOk result ((length extents.new.items < vec_capacity extents.new) × (length buffers.new.items < vec_capacity buffers.new)) }
 {
-    extents.reserve(1)?;
-    buffers.reserve(1)?;
+    lists::reserve(extents, 1)?;
+    lists::reserve(buffers, 1)?;
     Ok(())
 }
 
@@ -65,8 +66,8 @@ pub(crate) fn put(
     ensures placed { zipped extents.new.items buffers.new.items ≡ put_in (extent.offset, buffer) (zipped extents.old.items buffers.old.items) }
 {
     let at = place_of(extents, extent.offset);
-    extents.insert(at, extent).unwrap();
-    buffers.insert(at, buffer).unwrap();
+    lists::insert(extents, at, extent).unwrap();
+    lists::insert(buffers, at, buffer).unwrap();
 }
 
 /// Takes out the extent at an offset, if there is one. Its buffer is kept apart.

@@ -10,15 +10,16 @@ use crate::buffer::Buffer;
 use crate::extents::{end_of_last, place_of, start_of_first, take_out};
 use crate::spent::Spent;
 use hole_tree::{Hole, Holes, SpareNode};
+use memory_growth::{OutOfMemory, lists};
 use obj_id::Extent;
-use std::alloc::{AllocError, Global};
+use std::alloc::Global;
 
 /// Makes room for one hole more than there are extents.
 pub(crate) fn reserve(
     rooms: &mut Vec<SpareNode>,
     alloc: Global,
     extents: usize,
-) -> Result<(), AllocError>
+) -> Result<(), OutOfMemory>
     requires { extents ≤ vec_len rooms.old }
     ensures ok { OnOk result (extents < vec_len rooms.new) }
     ensures err { extents ≤ vec_len rooms.new }
@@ -26,7 +27,7 @@ pub(crate) fn reserve(
     if extents < rooms.len() {
         return Ok(());
     }
-    rooms.push(SpareNode::new(alloc)?)?;
+    lists::push(rooms, SpareNode::new(alloc)?)?;
     Ok(())
 }
 
@@ -37,7 +38,7 @@ pub(crate) fn reserve_to_grow(
     extents: usize,
     from: u64,
     to: u64,
-) -> Result<(), AllocError>
+) -> Result<(), OutOfMemory>
     requires { extents ≤ vec_len rooms.old }
     ensures ok { OnOk result (from < to → extents < vec_len rooms.new) }
     ensures rooms { extents ≤ vec_len rooms.new }

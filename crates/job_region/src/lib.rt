@@ -6,8 +6,10 @@ ghost use Rattle.std.specs.Prelude.{◌≡◌, ◌≢◌, ◌↔◌, ℕ, ◌+�
 ghost use Rattle.std.specs.List.Sorted.{IsNonDecreasingBy};
 ghost use Rattle.obj_id.specs.declared.works.Extent.{Extent};
 ghost use Rattle.std.specs.Map.{lookup, remove_entry, set_value};
+ghost use Rattle.memory_growth.specs.declared.OutOfMemory.{OutOfMemory};
+ghost use Rattle.obj_id.specs.declared.refusals.Failure.TheVariants.{Refused, Memory};
 ghost use Rattle.obj_id.specs.declared.refusals.Refusal.{Refusal};
-ghost use Rattle.obj_id.specs.declared.refusals.Refusal.TheVariants.{BadSize, OutOfBounds, NoMemory};
+ghost use Rattle.obj_id.specs.declared.refusals.Refusal.TheVariants.{BadSize, OutOfBounds};
 ghost use Rattle.private_store.specs.rules.Limits.{is_window as is_window_lem};
 ghost use Rattle.private_store.specs.rules.Extents.{rounded as rounded_lem, is_size, first};
 ghost use Rattle.private_store.specs.rules.Contents.{digest_of, overwritten};
@@ -29,11 +31,12 @@ use extents::{
 use hashed_bytes::Hashed;
 use hole_tree::{Hole, Holes, SpareNode};
 use holes::{cut, end_at, free_all, free_at, reserve, reserve_to_grow};
+use memory_growth::OutOfMemory;
 use obj_id::limits::{LONGEST_OBJECT, UNIT, WIDEST_WINDOW};
-use obj_id::{Digest, Extent, Refusal};
+use obj_id::{Digest, Extent, Failure, Refusal};
 use private_store::rounded;
 pub use spent::Spent;
-use std::alloc::{AllocError, Global};
+use std::alloc::Global;
 use std::marker::Model;
 use std::mem;
 pub use zeros::Zeros;
@@ -87,14 +90,14 @@ impl Model for Window {
 
 impl Window {
     /// A window of `quota` bytes with nothing placed. `BadSize` unless that is 16 to 268,435,456 and a
-    /// multiple of 16.
-    pub fn new(alloc: Global, quota: u64) -> Result<Window, Refusal>
+    /// multiple of 16; out of memory comes last.
+    pub fn new(alloc: Global, quota: u64) -> Result<Window, Failure>
         ensures ok { IfOk result (λ w. w ≡ record { quota = quota; placed = [] }) }
-        ensures size { IsErrOf result BadSize ↔ (is_window_lem quota ≡ false) }
-        ensures refused { (r : Refusal) → r ≢ NoMemory → IsErrOf result r → r ≡ BadSize }
+        ensures size { IsErrOf result (Refused BadSize) ↔ (is_window_lem quota ≡ false) }
+        ensures refused { (r : Refusal) → IsErrOf result (Refused r) → r ≡ BadSize }
     {
         if !is_window(quota) {
-            return Err(Refusal::BadSize);
+            return Err(Failure::Refused(Refusal::BadSize));
         }
         let mut holes = Holes::new();
         holes.put(
@@ -127,15 +130,15 @@ impl Window {
     /// Places an extent of zeros for an object of `len` bytes, at the least multiple of 16 at which they
     /// lie within the window and meet no extent. Finds it in a descent of the tree of holes.
     ///
-    /// `BadSize` if no object of that length may be in the window, `Full` if no place is free, `NoMemory`
-    /// last. A refusal changes nothing.
-    pub fn place(&mut self, len: u32) -> Result<Extent, Refusal>
+    /// `BadSize` if no object of that length may be in the window, `Full` if no place is free; out of
+    /// memory comes last. A failure changes nothing.
+    pub fn place(&mut self, len: u32) -> Result<Extent, Failure>
         ensures least { IfOk result (λ e. place_for self.old len ≡ Some e.offset) }
         ensures length { IfOk result (λ e. e.length ≡ rounded_lem len) }
         ensures placed { IfOk result (λ e. self.new ≡ record self.old { placed = put_in (e.offset, replicate e.length 0) self.old.placed }) }
-        ensures refused { (r : Refusal) → r ≢ NoMemory → IsErrOf result r → place_check self.old len ≡ Some r }
+        ensures refused { (r : Refusal) → IsErrOf result (Refused r) → place_check self.old len ≡ Some r }
         ensures passed { IsOk result → place_check self.old len ≡ None }
-        ensures memory { IsErrOf result NoMemory → place_check self.old len ≡ None }
+        ensures memory { (m : OutOfMemory) → IsErrOf result (Memory m) → place_check self.old len ≡ None }
         ensures err { OnErr result (self.new ≡ self.old) }
         ensures fresh { IfOk result (λ e. lookup (nat_eq e.offset) self.old.placed ≡ None) }
         ensures there { IfOk result (λ e. IsAt e self.new.placed) }
@@ -143,10 +146,10 @@ impl Window {
     {
         let need = rounded(len);
         if len == 0 || len > LONGEST_OBJECT || need > self.quota {
-            return Err(Refusal::BadSize);
+            return Err(Failure::Refused(Refusal::BadSize));
         }
         let Some(hole) = self.holes.first_fit(need).0 else {
-            return Err(Refusal::Full);
+            return Err(Failure::Refused(Refusal::Full));
         };
         reserve(&mut self.rooms, self.alloc, self.extents.len())?;
         reserve_places(&mut self.extents, &mut self.buffers)?;
@@ -209,7 +212,7 @@ impl Window {
         gone: &[Extent],
         len: u32,
         offset: u64,
-    ) -> Result<Extent, AllocError>
+    ) -> Result<Extent, OutOfMemory>
         requires rising { IsNonDecreasingBy (λ (e : Extent). e.offset) gone.now }
         requires some { 0 < len }
         requires first { first (extents_of (without gone.now self.old.placed)) self.old.quota len ≡ Some offset }
@@ -423,17 +426,17 @@ impl Window {
     /// Gives the window `quota` bytes; the extents keep their places and their bytes. Shrinking takes no
     /// memory.
     ///
-    /// `BadSize` unless that is a window's size, `Full` if an extent would reach past its end, `NoMemory`
-    /// last. A refusal changes nothing.
-    pub fn resize(&mut self, quota: u64) -> Result<(), Refusal>
+    /// `BadSize` unless that is a window's size, `Full` if an extent would reach past its end; out of
+    /// memory comes last. A failure changes nothing.
+    pub fn resize(&mut self, quota: u64) -> Result<(), Failure>
         ensures ok { OnOk result (self.new ≡ record self.old { quota = quota }) }
         ensures passed { IsOk result → resize_check_lem self.old quota ≡ None }
-        ensures refused { (r : Refusal) → r ≢ NoMemory → IsErrOf result r → resize_check_lem self.old quota ≡ Some r }
-        ensures memory { IsErrOf result NoMemory → (self.old.quota < quota) × (resize_check_lem self.old quota ≡ None) }
+        ensures refused { (r : Refusal) → IsErrOf result (Refused r) → resize_check_lem self.old quota ≡ Some r }
+        ensures memory { (m : OutOfMemory) → IsErrOf result (Memory m) → (self.old.quota < quota) × (resize_check_lem self.old quota ≡ None) }
         ensures err { OnErr result (self.new ≡ self.old) }
     {
         if let Some(refusal) = self.resize_check(quota) {
-            return Err(refusal);
+            return Err(Failure::Refused(refusal));
         }
         let extents = self.extents.len();
         reserve_to_grow(&mut self.rooms, self.alloc, extents, self.quota, quota)?;

@@ -1,9 +1,11 @@
 //! Zeros that are made ahead of the extent that they are for.
-ghost use Rattle.std.specs.Prelude.{◌≡◌, IfOk, vec_len, replicate};
+ghost use Rattle.std.specs.Prelude.{◌≡◌, ◌≤◌, IfOk, vec_len, replicate};
 
 use crate::buffer::reserved;
+use memory_growth::{OutOfMemory, lists};
+use obj_id::limits::WIDEST_WINDOW;
 use private_store::rounded;
-use std::alloc::{AllocError, Global};
+use std::alloc::Global;
 use std::marker::Model;
 use std::thread;
 
@@ -28,10 +30,12 @@ impl Model for Zeros {
 }
 
 impl Zeros {
-    /// As many as the extent of an object of `len` bytes has. Lets other threads run now and then.
-    pub fn for_object(alloc: Global, len: u32) -> Result<Zeros, AllocError> {
+    /// As many as the extent of an object of `len` bytes has, and none if no window has as many. Lets other threads run now and then.
+    pub fn for_object(alloc: Global, len: u32) -> Result<Zeros, OutOfMemory> {
+        let need = rounded(len);
+        let count = if need > WIDEST_WINDOW { 0 } else { need };
         Ok(Zeros {
-            bytes: make_in_parts(alloc, rounded(len) as usize)?,
+            bytes: make_in_parts(alloc, count as usize)?,
         })
     }
 
@@ -40,7 +44,8 @@ impl Zeros {
         made: Option<Zeros>,
         alloc: Global,
         len: usize,
-    ) -> Result<Vec<u8>, AllocError>
+    ) -> Result<Vec<u8>, OutOfMemory>
+        requires { len ≤ 268435456 }
         ensures { IfOk result (λ bytes. bytes.items ≡ replicate len 0) }
     {
         if let Some(made) = made {
@@ -54,24 +59,26 @@ impl Zeros {
 }
 
 /// So many zeros.
-fn make_zeros(alloc: Global, len: usize) -> Result<Vec<u8>, AllocError>
+fn make_zeros(alloc: Global, len: usize) -> Result<Vec<u8>, OutOfMemory>
+    requires { len ≤ 268435456 }
     ensures { IfOk result (λ bytes. bytes.items ≡ replicate len 0) }
 {
-    let mut bytes = Vec::with_capacity(alloc, reserved(len))?;
-    bytes.resize(len, 0)?;
+    let mut bytes = lists::with_capacity(alloc, reserved(len))?;
+    lists::resize(&mut bytes, len, 0)?;
     Ok(bytes)
 }
 
 /// The same. Who waits for a processor gets it after a part: threads that write for as long as the system lets them would keep all
 /// others waiting for as long.
-fn make_in_parts(alloc: Global, len: usize) -> Result<Vec<u8>, AllocError>
+fn make_in_parts(alloc: Global, len: usize) -> Result<Vec<u8>, OutOfMemory>
+    requires { len ≤ 268435456 }
     ensures { IfOk result (λ zeros. zeros.items ≡ replicate len 0) }
 {
-    let mut zeros = Vec::with_capacity(alloc, reserved(len))?;
+    let mut zeros = lists::with_capacity(alloc, reserved(len))?;
     for count in 0..len / PART {
-        zeros.resize((count + 1) * PART, 0)?;
+        lists::resize(&mut zeros, (count + 1) * PART, 0)?;
         thread::yield_now();
     }
-    zeros.resize(len, 0)?;
+    lists::resize(&mut zeros, len, 0)?;
     Ok(zeros)
 }

@@ -1,6 +1,6 @@
 -- A change written through what a map of copies lends.
 use Rattle.std.proofs.Common.{◌≡◌, true, not, cond, List, [], ◌∷◌, Option, Some, None, refl, sym, ap, ◌∙◌}
-use Rattle.std.specs.Prelude.{false, is_err, OnOk, OnErr, Ok, Err}
+use Rattle.std.specs.Prelude.{false, OnOk, OnErr, Ok, Err}
 use Rattle.std.specs.declared.result.Result.{Result}
 use Rattle.std.specs.Option.{option_map_or}
 use Rattle.std.specs.Map.{lookup, set_value}
@@ -79,15 +79,6 @@ pub checked_written : {X P : Type 0} (check : Option X → P) (id : ObjectId) (e
 checked_written check id es new x y found set =
     ap (λ t. check (at t id)) (written (λ old. y) id es (by_rising_id es) refl new x y found refl set)
     ∙ ap check (at-changed_here (λ old. y) id (by_rising_id es) x (at-rising es id ∙ found))
-
--- what is so of a refusal, where there was one
-pub of_err : {T E P : Type 0} (r : Result T E) → OnErr r P → is_err r ≡ true → P
-of_err (Ok v) h e = absurd cc
-of_err (Err q) h e = h
-
-pub of_ok : {T E P : Type 0} (r : Result T E) → OnOk r P → is_err r ≡ false → P
-of_ok (Ok v) h e = h
-of_ok (Err q) h e = absurd cc
 
 -- an entry that is there, as the table's holder sees it
 pub found_rising : {X : Type 0} (id : ObjectId) (es : List (ObjectId × X)) (now : ById X) → by_rising_id es ≡ now → (x : X) → lookup (id_eq id) es ≡ Some x → at now id ≡ Some x

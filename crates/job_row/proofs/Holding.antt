@@ -5,7 +5,7 @@ use Rattle.std.specs.declared.result.Result.{Result}
 use Rattle.std.specs.Option.{option_map_or}
 use Rattle.std.specs.Map.{lookup, set_value}
 use Rattle.obj_id.specs.declared.ids.ObjectId.{ObjectId}
-use Rattle.obj_id.specs.declared.refusals.Refusal.{Refusal}
+use Rattle.obj_id.specs.declared.refusals.Failure.{Failure}
 use Rattle.obj_id.specs.Ids.{id_eq}
 use Rattle.private_store.specs.rules.Tables.{ById, at}
 use Rattle.lru_evictor.specs.Facts.{info_at}
@@ -24,7 +24,7 @@ module _ (session : ℕ) (id : ObjectId) (es : List (ObjectId × CopyView)) (now
   there : at now id ≡ Some x
   there = checked_there (λ (o : Option CopyView). o) id es now x seen found
 
-  pub held_at : (r : Result (Option Held) Refusal) → IfOk r (λ o. IfSome o (λ response. IsHeld x session response y)) → IfOk r (λ o. IfSome o (λ response. IsHeldAt now session id response (by_rising_id new)))
+  pub held_at : (r : Result (Option Held) Failure) → IfOk r (λ o. IfSome o (λ response. IsHeld x session response y)) → IfOk r (λ o. IfSome o (λ response. IsHeldAt now session id response (by_rising_id new)))
   held_at (Ok (Some response)) h =
       let copies = written (after_hold session) id es now seen new x y found h.copy set in
       let after : at (by_rising_id new) id ≡ Some y = ap (λ t. at t id) copies ∙ at-changed_here (after_hold session) id now x there ∙ ap Some (sym h.copy) in
@@ -32,17 +32,17 @@ module _ (session : ℕ) (id : ObjectId) (es : List (ObjectId × CopyView)) (now
   held_at (Ok None) h = tt
   held_at (Err e) h = tt
 
-  pub unready_at : (r : Result (Option Held) Refusal) → IfOk r (λ o. IfNone o (IsUnready x y)) → IfOk r (λ o. IfNone o (IsUnreadyAt now id (by_rising_id new)))
+  pub unready_at : (r : Result (Option Held) Failure) → IfOk r (λ o. IfNone o (IsUnready x y)) → IfOk r (λ o. IfNone o (IsUnreadyAt now id (by_rising_id new)))
   unready_at (Ok (Some response)) h = tt
   unready_at (Ok None) h = record { unready = ap (λ (o : Option CopyView). option_map_or (λ k. is_ready k.copy) o false) there ∙ h.unready; same = unwritten (after_hold session) id es now seen new x y found h.same set }
   unready_at (Err e) h = tt
 
-  pub refused_at : (r : Result (Option Held) Refusal) → IfErr r (λ refusal. IsHoldRefused x refusal y) → IfErr r (λ refusal. IsHoldRefusedAt now id refusal (by_rising_id new))
+  pub refused_at : (r : Result (Option Held) Failure) → IfErr r (λ failure. IsHoldRefused x failure y) → IfErr r (λ failure. IsHoldRefusedAt now id failure (by_rising_id new))
   refused_at (Ok o) h = tt
   refused_at (Err e) h = record { kept = x; found = there; ready = h.ready; refused = h.refused; late = h.late; same = unwritten (after_hold session) id es now seen new x y found h.same set }
 
 -- a hold takes no bytes
-pub taken-held : (session : ℕ) (x y : CopyView) (r : Result (Option Held) Refusal) → IfOk r (λ o. IfSome o (λ response. IsHeld x session response y)) → IfOk r (λ o. IfNone o (IsUnready x y)) → IfErr r (λ refusal. IsHoldRefused x refusal y) → footprint_by y ≡ footprint_by x
+pub taken-held : (session : ℕ) (x y : CopyView) (r : Result (Option Held) Failure) → IfOk r (λ o. IfSome o (λ response. IsHeld x session response y)) → IfOk r (λ o. IfNone o (IsUnready x y)) → IfErr r (λ failure. IsHoldRefused x failure y) → footprint_by y ≡ footprint_by x
 taken-held session x y (Ok (Some response)) some none refused = ap footprint_by some.copy
 taken-held session x y (Ok None) some none refused = ap footprint_by none.same
 taken-held session x y (Err e) some none refused = ap footprint_by refused.same
@@ -54,10 +54,10 @@ none_at id es now new seen none same = record { unready = checked_absent (λ (o 
 -- ---- a change that may be refused
 
 module _ (f : CopyView → CopyView) (id : ObjectId) (now : ById CopyView) (x : CopyView) (found : at now id ≡ Some x) where
-  pub standing_after : (r : Result AfterChange Refusal) → IfOk r (λ a. a ≡ after_change (f x)) → IfOk r (λ a. a.eviction_info ≡ info_at (facts_in (changed f now id)) id)
+  pub standing_after : {E : Type 0} (r : Result AfterChange E) → IfOk r (λ a. a ≡ after_change (f x)) → IfOk r (λ a. a.eviction_info ≡ info_at (facts_in (changed f now id)) id)
   standing_after (Ok a) h = ap (λ a. a.eviction_info) h ∙ sym (standing_found (changed f now id) id (f x) (at-changed_here f id now x found))
   standing_after (Err e) h = tt
 
-  pub over_after : (r : Result AfterChange Refusal) → IfOk r (λ a. a ≡ after_change (f x)) → IfOk r (λ a. a.over ≡ is_over_at (changed f now id) id)
+  pub over_after : {E : Type 0} (r : Result AfterChange E) → IfOk r (λ a. a ≡ after_change (f x)) → IfOk r (λ a. a.over ≡ is_over_at (changed f now id) id)
   over_after (Ok a) h = ap (λ a. a.over) h ∙ sym (ap (λ o. option_map_or is_over o false) (at-changed_here f id now x found))
   over_after (Err e) h = tt

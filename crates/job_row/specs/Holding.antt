@@ -1,9 +1,11 @@
 -- A hold that was asked for: what was answered, and what is left.
-use Rattle.std.specs.Prelude.{◌≡◌, ◌≢◌, ℕ, true, false, Some, None}
+use Rattle.std.specs.Prelude.{◌≡◌, ℕ, true, false, Some, None}
 use Rattle.std.specs.Option.{option_map_or}
+use Rattle.memory_growth.specs.declared.OutOfMemory.{OutOfMemory}
 use Rattle.obj_id.specs.declared.ids.ObjectId.{ObjectId}
 use Rattle.obj_id.specs.declared.refusals.Refusal.{Refusal}
-use Rattle.obj_id.specs.declared.refusals.Refusal.TheVariants.{NoMemory}
+use Rattle.obj_id.specs.declared.refusals.Failure.{Failure}
+use Rattle.obj_id.specs.declared.refusals.Failure.TheVariants.{Refused, Memory}
 use Rattle.private_store.specs.rules.Tables.{ById, at}
 use Rattle.lru_evictor.specs.Facts.{info_of, info_at}
 use Rattle.lru_evictor.specs.Orders.{touched}
@@ -31,10 +33,10 @@ pub record IsUnready (old new : CopyView) : Type 0 where
   pub same : new ≡ old
 
 -- it is ready, and can't have one more
-pub record IsHoldRefused (old : CopyView) (r : Refusal) (new : CopyView) : Type 0 where
+pub record IsHoldRefused (old : CopyView) (failure : Failure) (new : CopyView) : Type 0 where
   pub ready : is_ready old.copy ≡ true
-  pub refused : r ≢ NoMemory → hold_check_of old ≡ Some r
-  pub late : r ≡ NoMemory → hold_check_of old ≡ None
+  pub refused : (r : Refusal) → failure ≡ Refused r → hold_check_of old ≡ Some r
+  pub late : (m : OutOfMemory) → failure ≡ Memory m → hold_check_of old ≡ None
   pub same : new ≡ old
 
 -- ---- of the copies of a job, where the one of an id is meant
@@ -53,12 +55,12 @@ pub record IsUnreadyAt (old : ById CopyView) (id : ObjectId) (new : ById CopyVie
   pub unready : option_map_or (λ k. is_ready k.copy) (at old id) false ≡ false
   pub same : new ≡ old
 
-pub record IsHoldRefusedAt (old : ById CopyView) (id : ObjectId) (r : Refusal) (new : ById CopyView) : Type 0 where
+pub record IsHoldRefusedAt (old : ById CopyView) (id : ObjectId) (failure : Failure) (new : ById CopyView) : Type 0 where
   pub kept : CopyView
   pub found : at old id ≡ Some kept
   pub ready : is_ready kept.copy ≡ true
-  pub refused : r ≢ NoMemory → hold_check_of kept ≡ Some r
-  pub late : r ≡ NoMemory → hold_check_of kept ≡ None
+  pub refused : (r : Refusal) → failure ≡ Refused r → hold_check_of kept ≡ Some r
+  pub late : (m : OutOfMemory) → failure ≡ Memory m → hold_check_of kept ≡ None
   pub same : new ≡ old
 
 -- ---- of a row: the copy is its most recently used one as well, and n is its length

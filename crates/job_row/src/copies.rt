@@ -9,13 +9,14 @@ ghost use Rattle.private_store.specs.rules.Marks.{without_borrower};
 ghost use Rattle.private_store.specs.rules.Copies.{in_scope};
 ghost use Rattle.job_row.specs.Evicting.{has_secondary, evicted_one, all_evicted};
 ghost use Rattle.obj_id.specs.declared.refusals.Refusal.{Refusal};
-ghost use Rattle.obj_id.specs.declared.refusals.Refusal.TheVariants.{NoMemory};
+ghost use Rattle.memory_growth.specs.declared.OutOfMemory.{OutOfMemory};
+ghost use Rattle.obj_id.specs.declared.refusals.Failure.TheVariants.{Refused, Memory};
 ghost use Rattle.job_row.specs.Checks.{release_check, borrow_check};
 ghost use Rattle.job_row.specs.Dropping.{is_over_at, settled_copies, over_copy};
 ghost use Rattle.job_row.specs.Scope.{removal_notice_at};
 ghost use Rattle.job_row.specs.EndingTasks.{copies_ungranted, is_doomed_at, borrows_at};
 ghost use Rattle.job_row.specs.Holding.{IsHeldAt, IsUnreadyAt, IsHoldRefusedAt};
-ghost use Rattle.std.specs.Prelude.{◌≡◌, ◌≢◌, ◌<◌, ◌^◌, [], false, Some, None, OnOk, OnErr, IsOk, IsErrOf, IfOk, IfErr, IfSome, IfNone, map, length, is_some, IsTrue};
+ghost use Rattle.std.specs.Prelude.{◌≡◌, ◌<◌, ◌^◌, [], false, Some, None, OnOk, OnErr, IsOk, IsErrOf, IfOk, IfErr, IfSome, IfNone, map, length, is_some, IsTrue};
 ghost use Rattle.std.specs.FinMap.{is_sorted};
 ghost use Rattle.obj_id.specs.Ids.{id_cmp};
 ghost use Rattle.job_row.specs.Usages.{own_item_of, total, window_bytes as window_bytes_lem, device_bytes as device_bytes_lem, doomed_one};
@@ -29,11 +30,12 @@ use crate::footprint::{Footprint, to_u64};
 use crate::marks::Mark;
 use indexmap::IndexMap;
 use lru_evictor::{CopyFacts, CopyLookup, EvictionInfo, UseOrder};
+use memory_growth::{OutOfMemory, lists, tables};
 use obj_id::{
-    ChunkIndex, DirectoryMessage, FetchNo, ItemList, Location, NodeNo, ObjectId, OwnItem, Refusal,
-    TaskNo,
+    ChunkIndex, DirectoryMessage, Failure, FetchNo, ItemList, Location, NodeNo, ObjectId, OwnItem,
+    Refusal, TaskNo,
 };
-use std::alloc::{AllocError, Global};
+use std::alloc::Global;
 use std::marker::Model;
 
 /// The copies of a job. A contract sees them by rising id.
@@ -99,13 +101,13 @@ impl Copies {
     }
 
     /// The copies as List shows them, by rising id. Takes a walk over them, a sort, and memory for each.
-    pub fn items(&self, alloc: Global) -> Result<ItemList<OwnItem>, AllocError>
+    pub fn items(&self, alloc: Global) -> Result<ItemList<OwnItem>, OutOfMemory>
         ensures items { IfOk result (λ items. items ≡ map own_item_of self.now) }
         ensures rising { IfOk result (λ _. IsTrue (is_sorted id_cmp self.now)) }
     {
         let mut items = Vec::new(alloc);
         for (id, copy) in &self.by_id {
-            items.push(copy.item(id))?;
+            lists::push(&mut items, copy.item(id))?;
         }
         items.sort_unstable_by_key(|item| item.id);
         Ok(ItemList::from_vec(items))
@@ -163,14 +165,14 @@ impl Copies {
 
     /// The copy under its id, in place of what was there. If the map is full, it moves to a larger one. A
     /// failure changes nothing.
-    pub fn insert(&mut self, id: ObjectId, copy: RowCopy) -> Result<(), AllocError>
+    pub fn insert(&mut self, id: ObjectId, copy: RowCopy) -> Result<(), OutOfMemory>
         ensures ok { OnOk result (self.new ≡ with_entry self.old id copy) }
         ensures err { OnErr result (self.new ≡ self.old) }
     {
         // so many copies take no more than 128 bits have room for
         let _count = self.by_id.len();
         let after = Footprint::by(&copy);
-        let replaced = self.by_id.insert(id, copy)?;
+        let replaced = tables::insert(&mut self.by_id, id, copy)?;
         let before = Footprint::by_any(replaced.as_ref());
         self.taken = self.taken.exchanged(before, after);
         Ok(())
@@ -318,11 +320,11 @@ impl Copies {
     }
 
     /// One more hold of the session on the copy, if it is there, sealed and not doomed, and what the copy is then. `None`
-    /// if it isn't. `TooMany` at 64 holds, `NoMemory` last; a refusal changes nothing.
-    pub fn hold(&mut self, id: &ObjectId, session: u32) -> Result<Option<Held>, Refusal>
+    /// if it isn't. `TooMany` at 64 holds; out of memory comes last, and a failure changes nothing.
+    pub fn hold(&mut self, id: &ObjectId, session: u32) -> Result<Option<Held>, Failure>
         ensures some { IfOk result (λ o. IfSome o (λ held. IsHeldAt self.old session id.now held self.new)) }
         ensures none { IfOk result (λ o. IfNone o (IsUnreadyAt self.old id.now self.new)) }
-        ensures refused { IfErr result (λ r. IsHoldRefusedAt self.old id.now r self.new) }
+        ensures refused { IfErr result (λ failure. IsHoldRefusedAt self.old id.now failure self.new) }
     {
         let Some(copy) = self.by_id.get_mut(id) else {
             return Ok(None);
@@ -407,21 +409,21 @@ impl Copies {
     }
 
     /// The task borrows the copy, as the last one, and what the copy is then. `Absent`, also if it is doomed, `NotOwner`, `Exists`, `TooMany`,
-    /// `NoMemory` last; a refusal changes nothing.
-    pub fn borrow(&mut self, id: &ObjectId, task: TaskNo) -> Result<AfterChange, Refusal>
+    /// and out of memory last; a failure changes nothing.
+    pub fn borrow(&mut self, id: &ObjectId, task: TaskNo) -> Result<AfterChange, Failure>
         ensures ok { OnOk result (self.new ≡ changed (after_borrow task) self.old id.now) }
         ensures eviction_info { IfOk result (λ after. after.eviction_info ≡ info_at (facts_in (changed (after_borrow task) self.old id.now)) id.now) }
         ensures over { IfOk result (λ after. after.over ≡ is_over_at (changed (after_borrow task) self.old id.now) id.now) }
         ensures passed { IsOk result → borrow_check self.old id.now task ≡ None }
-        ensures refused { (r : Refusal) → r ≢ NoMemory → IsErrOf result r → borrow_check self.old id.now task ≡ Some r }
-        ensures memory { IsErrOf result NoMemory → borrow_check self.old id.now task ≡ None }
+        ensures refused { (r : Refusal) → IsErrOf result (Refused r) → borrow_check self.old id.now task ≡ Some r }
+        ensures memory { (m : OutOfMemory) → IsErrOf result (Memory m) → borrow_check self.old id.now task ≡ None }
         ensures err { OnErr result (self.new ≡ self.old) }
     {
         let Some(copy) = self.by_id.get_mut(id) else {
-            return Err(Refusal::Absent);
+            return Err(Failure::Refused(Refusal::Absent));
         };
         if copy.doomed() {
-            return Err(Refusal::Absent);
+            return Err(Failure::Refused(Refusal::Absent));
         }
         copy.borrow(task)
     }

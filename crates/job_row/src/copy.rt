@@ -1,9 +1,10 @@
 //! One copy of a row.
-ghost use Rattle.std.specs.Prelude.{◌≡◌, ◌≢◌, ◌&&◌, ◌==◌, if◌then◌else◌, true, false, Some, None, IfOk, IfErr, IfSome, IfNone, OnOk, OnErr, IsErrOf, IsOk, is_some, option_map};
+ghost use Rattle.std.specs.Prelude.{◌≡◌, ◌&&◌, ◌==◌, if◌then◌else◌, true, false, Some, None, IfOk, IfErr, IfSome, IfNone, OnOk, OnErr, IsErrOf, IsOk, is_some, option_map};
 ghost use Rattle.std.specs.List.{list_all};
 ghost use Rattle.std.specs.Option.{option_and_then, option_copied, option_map_or};
 ghost use Rattle.obj_id.specs.declared.refusals.Refusal.{Refusal};
-ghost use Rattle.obj_id.specs.declared.refusals.Refusal.TheVariants.{NoMemory};
+ghost use Rattle.memory_growth.specs.declared.OutOfMemory.{OutOfMemory};
+ghost use Rattle.obj_id.specs.declared.refusals.Failure.TheVariants.{Refused, Memory};
 ghost use Rattle.obj_id.specs.Ids.{same_task};
 ghost use Rattle.private_store.specs.rules.Marks.{without_borrower};
 ghost use Rattle.private_store.specs.rules.Copies.{extent_of, is_away, is_held, in_scope, was_sealed};
@@ -29,8 +30,8 @@ use fetch_core::{FetchIn, Stage};
 use hashed_bytes::{Hashed, digest_by};
 use lru_evictor::{CopyFacts, EvictionInfo};
 use obj_id::{
-    ChunkIndex, CopyState, Digest, DirectoryMessage, Extent, FetchNo, Kind, Location, NodeNo,
-    ObjectId, Refusal, TaskNo, WorkKind,
+    ChunkIndex, CopyState, Digest, DirectoryMessage, Extent, Failure, FetchNo, Kind, Location,
+    NodeNo, ObjectId, Refusal, TaskNo, WorkKind,
 };
 use object_state::ObjectCopy;
 use pins_holds::Pins;
@@ -314,11 +315,11 @@ impl RowCopy {
     }
 
     /// One more hold of the session, if it is sealed and not doomed, and what the copy is then. `None` if it isn't, and
-    /// then nothing changes. `TooMany` at 64 holds of all sessions, `NoMemory` last; a refusal changes nothing.
-    pub fn hold(&mut self, session: u32) -> Result<Option<Held>, Refusal>
+    /// then nothing changes. `TooMany` at 64 holds of all sessions; out of memory comes last, and a failure changes nothing.
+    pub fn hold(&mut self, session: u32) -> Result<Option<Held>, Failure>
         ensures some { IfOk result (λ o. IfSome o (λ held. IsHeld self.old session held self.new)) }
         ensures none { IfOk result (λ o. IfNone o (IsUnready self.old self.new)) }
-        ensures refused { IfErr result (λ r. IsHoldRefused self.old r self.new) }
+        ensures refused { IfErr result (λ failure. IsHoldRefused self.old failure self.new) }
     {
         if !matches!(self.state(), CopyState::Sealed) || self.doomed() {
             return Ok(None);
@@ -354,13 +355,13 @@ impl RowCopy {
     }
 
     /// The task borrows it, as the last one, and what it is then. `NotOwner` for a secondary, `Exists` if the task borrows it already,
-    /// `TooMany` at 64 borrowers, `NoMemory` last; a refusal changes nothing.
-    pub fn borrow(&mut self, task: TaskNo) -> Result<AfterChange, Refusal>
+    /// `TooMany` at 64 borrowers; out of memory comes last, and a failure changes nothing.
+    pub fn borrow(&mut self, task: TaskNo) -> Result<AfterChange, Failure>
         ensures ok { OnOk result (self.new ≡ after_borrow task self.old) }
         ensures after { IfOk result (λ after. after ≡ after_change_lem (after_borrow task self.old)) }
         ensures passed { IsOk result → borrow_check_of self.old task ≡ None }
-        ensures refused { (r : Refusal) → r ≢ NoMemory → IsErrOf result r → borrow_check_of self.old task ≡ Some r }
-        ensures memory { IsErrOf result NoMemory → borrow_check_of self.old task ≡ None }
+        ensures refused { (r : Refusal) → IsErrOf result (Refused r) → borrow_check_of self.old task ≡ Some r }
+        ensures memory { (m : OutOfMemory) → IsErrOf result (Memory m) → borrow_check_of self.old task ≡ None }
         ensures err { OnErr result (self.new ≡ self.old) }
     {
         self.pins.borrow(task)?;

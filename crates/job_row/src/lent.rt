@@ -2,7 +2,8 @@
 ghost use Rattle.std.specs.Prelude.{◌≡◌, take, drop, [], None, IfOk, IfSome, option_map};
 
 use bytes::Bytes;
-use std::alloc::{AllocError, Global};
+use memory_growth::{OutOfMemory, shared};
+use std::alloc::Global;
 
 /// The bytes of a copy, and what shares them without a copy, if they can be shared.
 #[derive(Drop)]
@@ -24,24 +25,24 @@ impl<'a> Lent<'a> {
     }
 
     /// All of them: shared if they can be, and copied otherwise.
-    pub fn whole(self, alloc: Global) -> Result<Bytes, AllocError>
+    pub fn whole(self, alloc: Global) -> Result<Bytes, OutOfMemory>
         requires { IfSome self.shared (λ shared. shared ≡ self.bytes.now) }
         ensures { IfOk result (λ whole. whole ≡ self.entry.bytes.now) }
     {
         match self.shared {
             Some(shared) => Ok(shared),
-            None => Bytes::copy_from_slice(alloc, self.bytes),
+            None => shared::copied(alloc, self.bytes),
         }
     }
 
     /// `len` of them from the offset on, or as many as there are: shared if they can be, and copied otherwise.
-    pub fn part(self, alloc: Global, offset: u32, len: u32) -> Result<Bytes, AllocError>
+    pub fn part(self, alloc: Global, offset: u32, len: u32) -> Result<Bytes, OutOfMemory>
         requires { IfSome self.shared (λ shared. shared ≡ self.bytes.now) }
         ensures { IfOk result (λ part. part ≡ take len (drop offset self.entry.bytes.now)) }
     {
         match self.shared {
             Some(shared) => Ok(shared_part(shared, offset, len)),
-            None => Bytes::copy_from_slice(alloc, part_of(self.bytes, offset, len)),
+            None => shared::copied(alloc, part_of(self.bytes, offset, len)),
         }
     }
 }

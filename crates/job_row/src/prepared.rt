@@ -5,6 +5,7 @@ ghost use Rattle.private_store.specs.rules.Contents.{overwritten};
 use bytes::Bytes;
 use hashed_bytes::{Hashed, are_same};
 use job_region::{Spent, Zeros};
+use memory_growth::shared;
 
 /// What takes long, and is made for a step before its node is locked, or let go after it: whatever it is, and if it is missing, the
 /// step is the same, and only takes longer. So a contract sees nothing of it.
@@ -39,13 +40,13 @@ pub(crate) fn filling(lies: &[u8], bytes: &Bytes, filled: Option<&Bytes>) -> Opt
     ensures bytes { IfSome result (λ filling. filling ≡ overwritten lies.now 0 bytes.now) }
 {
     if bytes.len() == lies.len() {
-        return bytes.clone().ok();
+        return shared::again(bytes).ok();
     }
     let filled = filled?;
     if !is_filling(filled, bytes, lies) {
         return None;
     }
-    filled.clone().ok()
+    shared::again(filled).ok()
 }
 
 /// Whether the first is what lies in an extent once these bytes are written into it from its first byte on.

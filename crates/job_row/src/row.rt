@@ -1,9 +1,11 @@
 //! The row of one job.
-ghost use Rattle.std.specs.Prelude.{◌≡◌, ◌≢◌, ◌↔◌, ℕ, ◌+◌, ◌^◌, ◌≤◌, ◌<◌, [], nat_eq, take, length, true, false, Some, None, IfOk, IfErr, IfSome, IfNone, OnOk, OnErr, IsOk, IsErr, IsErrOf, option_to_list};
+ghost use Rattle.std.specs.Prelude.{◌≡◌, ◌↔◌, ℕ, ◌+◌, ◌^◌, ◌≤◌, ◌<◌, [], nat_eq, take, length, true, false, Some, None, IfOk, IfErr, IfSome, IfNone, OnOk, OnErr, IsOk, IsErr, IsErrOf, option_to_list};
 ghost use Rattle.std.specs.Map.{set_value};
 ghost use Rattle.obj_id.specs.declared.works.Extent.{Extent};
 ghost use Rattle.obj_id.specs.declared.refusals.Refusal.{Refusal};
-ghost use Rattle.obj_id.specs.declared.refusals.Refusal.TheVariants.{BadSize, NoMemory};
+ghost use Rattle.memory_growth.specs.declared.OutOfMemory.{OutOfMemory};
+ghost use Rattle.obj_id.specs.declared.refusals.Failure.TheVariants.{Refused, Memory};
+ghost use Rattle.obj_id.specs.declared.refusals.Refusal.TheVariants.{BadSize};
 ghost use Rattle.private_store.specs.rules.Limits.{is_window, most_works};
 ghost use Rattle.private_store.specs.rules.Tables.{at, with_entry, is_among};
 ghost use Rattle.private_store.specs.rules.Copies.{extent_of};
@@ -46,12 +48,13 @@ use hashed_bytes::{Hashed, digest_by};
 use indexmap::IndexSet;
 use job_region::Window;
 use lru_evictor::{DeviceRoom, Plan, UseOrder};
+use memory_growth::{OutOfMemory, lists, sets};
 use obj_id::{
-    DeviceKey, Digest, Extent, FetchNo, ItemList, JobNo, Kind, Location, NodeNo, ObjectId, Quota,
-    Refusal, TaskNo,
+    DeviceKey, Digest, Extent, Failure, FetchNo, ItemList, JobNo, Kind, Location, NodeNo, ObjectId,
+    Quota, Refusal, TaskNo,
 };
 use private_store::{Fault, FetchFault};
-use std::alloc::{AllocError, Global};
+use std::alloc::Global;
 use std::marker::Model;
 use std::mem;
 
@@ -108,11 +111,11 @@ impl Model for JobRow {
 
 impl JobRow {
     /// The row of a job that was admitted now: no copies, and a window of zeros. `BadSize` unless the
-    /// window's size is one, and `NoMemory`.
-    pub fn new(alloc: Global, job: JobNo, quota: Quota) -> Result<JobRow, Refusal>
+    /// window's size is one; out of memory comes last.
+    pub fn new(alloc: Global, job: JobNo, quota: Quota) -> Result<JobRow, Failure>
         ensures ok { IfOk result (λ r. r ≡ new_row job.0 quota) }
-        ensures size { IsErrOf result BadSize ↔ (is_window quota.window ≡ false) }
-        ensures refused { (r : Refusal) → r ≢ NoMemory → IsErrOf result r → r ≡ BadSize }
+        ensures size { IsErrOf result (Refused BadSize) ↔ (is_window quota.window ≡ false) }
+        ensures refused { (r : Refusal) → IsErrOf result (Refused r) → r ≡ BadSize }
     {
         let window = Window::new(alloc, quota.window)?;
         Ok(JobRow {
@@ -148,14 +151,15 @@ impl JobRow {
 
     /// The job may have so many bytes in its window and on the device. The error is out of memory, which a narrower window
     /// never is, and then nothing has changed.
-    pub fn set_quota(&mut self, quota: Quota) -> Result<(), AllocError>
+    pub fn set_quota(&mut self, quota: Quota) -> Result<(), OutOfMemory>
         requires { region_resize_check self.old.window quota.window ≡ None }
         ensures ok { OnOk result (self.new ≡ requoted self.old quota) }
         ensures memory { IsErr result → self.old.window.quota < quota.window }
         ensures err { OnErr result (self.new ≡ self.old) }
     {
         match self.window.resize(quota.window) {
-            Err(_) => Err(AllocError),
+            Err(Failure::Memory(error)) => Err(error),
+            Err(Failure::Refused(_)) => unreachable!(),
             Ok(()) => {
                 self.device_quota = quota.device;
                 Ok(())
@@ -347,13 +351,13 @@ impl JobRow {
     }
 
     /// One more hold of the session on the copy, if it is there, sealed and not doomed, which is the most recently used
-    /// now, and its length in bytes. `None` if it isn't. `TooMany` at 64 holds, `NoMemory` last; a refusal
-    /// changes nothing. Looks the copy up once.
-    pub fn hold_copy(&mut self, id: &ObjectId, session: u32) -> Result<Option<u32>, Refusal>
+    /// now, and its length in bytes. `None` if it isn't. `TooMany` at 64 holds; out of memory comes last, and a
+    /// failure changes nothing. Looks the copy up once.
+    pub fn hold_copy(&mut self, id: &ObjectId, session: u32) -> Result<Option<u32>, Failure>
         ensures some { IfOk result (λ o. IfSome o (λ n. IsRowHeld self.old session id.now n self.new)) }
         ensures none { IfOk result (λ o. IfNone o (IsUnreadyAt self.old.copies id.now self.new.copies)) }
         ensures same { IfOk result (λ o. IfNone o (self.new ≡ self.old)) }
-        ensures refused { IfErr result (λ r. IsHoldRefusedAt self.old.copies id.now r self.new.copies) }
+        ensures refused { IfErr result (λ failure. IsHoldRefusedAt self.old.copies id.now failure self.new.copies) }
         ensures err { OnErr result (self.new ≡ self.old) }
     {
         let Some(held) = self.copies.hold(id, session)? else {
@@ -399,12 +403,12 @@ impl JobRow {
     }
 
     /// The tasks that have ended here, in the order in which they ended. Takes a walk over them, and memory for each.
-    pub fn ended_tasks(&self, alloc: Global) -> Result<ItemList<TaskNo>, AllocError>
+    pub fn ended_tasks(&self, alloc: Global) -> Result<ItemList<TaskNo>, OutOfMemory>
         ensures { IfOk result (λ tasks. tasks ≡ self.now.ended_tasks) }
     {
         let mut tasks = Vec::new(alloc);
         for task in &self.ended_tasks {
-            tasks.push(*task)?;
+            lists::push(&mut tasks, *task)?;
         }
         Ok(ItemList::from_vec(tasks))
     }
@@ -418,13 +422,13 @@ impl JobRow {
 
     /// The task is remembered as the last one that ended, and no grant of its objects stands any more. The error is
     /// out of memory, and then nothing has changed.
-    pub fn remember_end(&mut self, task: TaskNo) -> Result<(), AllocError>
+    pub fn remember_end(&mut self, task: TaskNo) -> Result<(), OutOfMemory>
         requires { is_remembered self.old.ended_tasks task ≡ false }
         ensures ok { OnOk result (self.new ≡ task_row task self.old) }
         ensures placed { OnOk result (ArePlaced self.old.window.placed (place_of self.old.copies)) }
         ensures err { OnErr result (self.new ≡ self.old) }
     {
-        self.ended_tasks.insert(task)?;
+        sets::insert(&mut self.ended_tasks, task)?;
         self.copies.end_grants(task);
         self.copies.sync_all(&mut self.order);
         Ok(())
@@ -437,15 +441,15 @@ impl JobRow {
         alloc: Global,
         id: &ObjectId,
         number: FetchNo,
-    ) -> Result<(), AllocError>
+    ) -> Result<(), OutOfMemory>
         requires { at self.old.copies id.now ≡ None }
         ensures ok { OnOk result (self.new ≡ record self.old { copies = with_entry self.old.copies id.now (fetched_copy_view number); order = last_used id.now self.old.order; fetches_begun = number }) }
         ensures err { OnErr result (self.new ≡ self.old) }
     {
         self.copies.insert(*id, RowCopy::fetching(alloc, number))?;
-        if self.order.enter(*id).is_err() {
+        if let Err(error) = self.order.enter(*id) {
             self.copies.remove(id);
-            return Err(AllocError);
+            return Err(error);
         }
         self.fetches_begun = number.0;
         Ok(())
@@ -461,7 +465,7 @@ impl JobRow {
         kind: Kind,
         len: u32,
         placement: &Placement,
-    ) -> Result<Extent, AllocError>
+    ) -> Result<Extent, OutOfMemory>
         requires some { 0 < len }
         requires absent { at self.old.copies id.now ≡ None }
         requires stays { is_among placement.now.victims id.now ≡ false }
@@ -476,9 +480,12 @@ impl JobRow {
         let copy = RowCopy::created(alloc, kind, len, placement.offset);
         self.copies.insert(*id, copy)?;
         // it lies nowhere, as far as the order knows, until the victims have gone
-        let Ok(entered) = self.order.enter_new(*id) else {
-            self.copies.remove(id);
-            return Err(AllocError);
+        let entered = match self.order.enter_new(*id) {
+            Ok(entered) => entered,
+            Err(error) => {
+                self.copies.remove(id);
+                return Err(error);
+            }
         };
         match self
             .window
@@ -508,7 +515,7 @@ impl JobRow {
         len: u32,
         placement: &Placement,
         awaited: Awaited,
-    ) -> Result<Extent, AllocError>
+    ) -> Result<Extent, OutOfMemory>
         requires some { 0 < len }
         requires stays { is_among placement.now.victims id.now ≡ false }
         requires place { IsPlacement self.old len placement.now }
@@ -665,12 +672,12 @@ impl JobRow {
     }
 
     /// The task borrows the copy, as the last one. `Absent`, also if it is doomed, `NotOwner`, `Exists`, `TooMany`,
-    /// `NoMemory` last; a refusal changes nothing.
-    pub fn borrow_copy(&mut self, id: &ObjectId, task: TaskNo) -> Result<(), Refusal>
+    /// and out of memory last; a failure changes nothing.
+    pub fn borrow_copy(&mut self, id: &ObjectId, task: TaskNo) -> Result<(), Failure>
         ensures ok { OnOk result (self.new ≡ with_copy (after_borrow task) self.old id.now) }
         ensures passed { IsOk result → borrow_check self.old.copies id.now task ≡ None }
-        ensures refused { (r : Refusal) → r ≢ NoMemory → IsErrOf result r → borrow_check self.old.copies id.now task ≡ Some r }
-        ensures memory { IsErrOf result NoMemory → borrow_check self.old.copies id.now task ≡ None }
+        ensures refused { (r : Refusal) → IsErrOf result (Refused r) → borrow_check self.old.copies id.now task ≡ Some r }
+        ensures memory { (m : OutOfMemory) → IsErrOf result (Memory m) → borrow_check self.old.copies id.now task ≡ None }
         ensures err { OnErr result (self.new ≡ self.old) }
     {
         let after = self.copies.borrow(id, task)?;

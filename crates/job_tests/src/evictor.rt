@@ -5,6 +5,7 @@ use extent_tree::{Resident, SpareNode};
 use indexmap::IndexMap;
 use job_region::Window;
 use lru_evictor::{CopyFacts, CopyLookup, DeviceRoom, Plan, UseOrder};
+use memory_growth::tables;
 use obj_id::{ItemList, JobNo, ObjectId, Refusal, TaskNo};
 use std::alloc::Global;
 use std::test::Fail;
@@ -94,7 +95,7 @@ impl Store {
             ..facts
         };
         let classes = facts.eviction_info().classes;
-        self.copies.by_id.insert(id, facts)?;
+        tables::insert(&mut self.copies.by_id, id, facts)?;
         self.order.enter(id)?;
         self.order
             .insert_resident(room, &id, Resident { extent, classes });

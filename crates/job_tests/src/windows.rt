@@ -6,8 +6,9 @@ ghost use Rattle.job_region.specs.Region.{IsAt};
 use assertions::holds;
 use bytes::Bytes;
 use job_region::{Window, Zeros};
-use obj_id::{Extent, Refusal};
-use std::alloc::{AllocError, Global};
+use memory_growth::{OutOfMemory, shared};
+use obj_id::{Extent, Failure, Refusal};
+use std::alloc::Global;
 use std::test::Fail;
 
 /// An extent for so many bytes: those that were there before stay.
@@ -36,7 +37,7 @@ fn shows(window: &Window, extent: &Extent, bytes: &[u8]) -> bool
 }
 
 /// Gives the window so many bytes: the extents stay.
-fn resize(window: &mut Window, quota: u64) -> Result<(), Refusal>
+fn resize(window: &mut Window, quota: u64) -> Result<(), Failure>
     ensures { window.new.placed ≡ window.old.placed }
 {
     window.resize(quota)
@@ -101,8 +102,8 @@ fn shared_bytes_stay(rt: HostRuntime) -> Result<(), Fail> {
     Ok(())
 }
 
-fn fives(alloc: Global) -> Result<Bytes, AllocError> {
-    Bytes::copy_from_slice(alloc, &[5; 40_000])
+fn fives(alloc: Global) -> Result<Bytes, OutOfMemory> {
+    shared::copied(alloc, &[5; 40_000])
 }
 
 /// Whether an extent takes over bytes that it is given, and keeps them until they are written.

@@ -194,7 +194,7 @@ module _ (nodes memory : ℕ) where
         by None skipped after old after_old same tell response = (subst (λ w. Tell w (entries_saved marks)) (sym same) tell, response)
         by (Some entry) spells after old after_old noted tell response =
             let now : AreTold (entry ∷ history) =
-            both (is_response_to entry.step entry.answer) (list_all (λ (e : Traced). is_response_to e.step e.answer) history) (noted_told old world line.kept.judged line.kept.notes entry.step entry.answer noted) response in (
-              each_step old world marks tell line.kept.judged line.kept.notes nodes memory few history (entry ∷ history) after_old after response now entry.step entry.answer (spoken nodes history line.text entry.step spells) noted,
+            both (is_response_to entry.step entry.answer) (list_all (λ (e : Traced). is_response_to e.step e.answer) history) (noted_told old world line.kept.judged line.kept.notes entry.step entry.answer noted.0) response in (
+              each_step old world marks tell line.kept.judged line.kept.notes nodes memory few history (entry ∷ history) after_old after response now entry.step entry.answer (spoken nodes history line.text entry.step spells) noted.0,
               now,
             )

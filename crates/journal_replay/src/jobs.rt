@@ -6,11 +6,12 @@ ghost use Rattle.journal_text.specs.Saved.{same_job_place};
 ghost use Rattle.journal_replay.specs.States.{state_of};
 
 use indexmap::IndexMap;
+use memory_growth::{OutOfMemory, tables};
 use obj_id::{JobNo, Reply};
 use plain_store::PlainStore;
 use private_store::Judged;
 use schedule_text::JobAt;
-use std::alloc::{AllocError, Global};
+use std::alloc::Global;
 use std::marker::Model;
 
 /// The replay of one job at one node: the number of its last line, or 0, and its store.
@@ -48,7 +49,7 @@ impl JobReplay {
         alloc: Global,
         number: u32,
         input: &Judged,
-    ) -> Result<(JobReplay, Reply<u64>), AllocError>
+    ) -> Result<(JobReplay, Reply<u64>), OutOfMemory>
         ensures state { IfOk result (λ r. r.0 ≡ record { last = number; store = replay_after self.store input.now }) }
         ensures due { IfOk result (λ r. r.1 ≡ (replay_step self.store input.now).reply) }
     {
@@ -107,13 +108,13 @@ impl Jobs {
         place: JobAt,
         number: u32,
         input: &Judged,
-    ) -> Result<Reply<u64>, AllocError>
+    ) -> Result<Reply<u64>, OutOfMemory>
         ensures states { OnOk result ((other : JobAt) → state_of self.new other ≡ (if same_job_place place other then record { last = number; store = replay_after (state_of self.old place).store input.now } else state_of self.old other)) }
         ensures due { IfOk result (λ due. due ≡ (replay_step (state_of self.old place).store input.now).reply) }
     {
         let replay = self.take_out(place);
         let (replay, due) = replay.step(self.alloc, number, input)?;
-        let _ = self.jobs.insert(place, replay)?;
+        let _ = tables::insert(&mut self.jobs, place, replay)?;
         Ok(due)
     }
 

@@ -11,7 +11,8 @@ ghost use Rattle.journal_replay.specs.Progress.{IsJournalFault, LinesEnd, TakesL
 use crate::fault::ReplayFault;
 use crate::replay::{Replay, ReplayResult};
 use journal_text::{Version, read_head, read_line};
-use std::alloc::{AllocError, Global};
+use memory_growth::OutOfMemory;
+use std::alloc::Global;
 use std::io::{BufRead, ErrorKind};
 use std::str;
 
@@ -50,7 +51,7 @@ fn replay_lines<R: BufRead>(
             Ok(true) => {}
         }
         match replay_line(alloc, &mut replay, &line) {
-            Err(AllocError) => return Err(ReplayFault::NoMemory),
+            Err(_) => return Err(ReplayFault::NoMemory),
             Ok(false) => return Err(ReplayFault::NotAnEntry(number)),
             Ok(true) => {}
         }
@@ -90,7 +91,7 @@ fn head(bytes: &[u8]) -> Option<Version>
 }
 
 /// Replays the next line, with its line feed. False if it isn't an entry.
-fn replay_line(alloc: Global, replay: &mut Replay, bytes: &[u8]) -> Result<bool, AllocError>
+fn replay_line(alloc: Global, replay: &mut Replay, bytes: &[u8]) -> Result<bool, OutOfMemory>
     ensures { IfOk result (λ taken. TakesLine taken replay.old replay.new bytes.now) }
 {
     let Some((b'\n', text)) = bytes.split_last() else {

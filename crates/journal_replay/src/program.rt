@@ -8,7 +8,8 @@ use crate::fault::ReplayFault;
 use crate::journal::replay_journal;
 use crate::replay::{Difference, ReplayResult};
 use journal_text::{Address, Version, write_answer};
-use std::alloc::{AllocError, Global};
+use memory_growth::{OutOfMemory, text_of};
+use std::alloc::Global;
 use std::io::{BufRead, Write};
 
 /// Whether a journal's answers are those that are due.
@@ -71,14 +72,14 @@ fn verdict_of(difference: &Option<Difference>) -> Verdict
 }
 
 /// The line that is written of a replay, with its line feed.
-fn outcome_text(alloc: Global, outcome: &ReplayResult) -> Result<String, AllocError>
+fn outcome_text(alloc: Global, outcome: &ReplayResult) -> Result<String, OutOfMemory>
     ensures { IfOk result (λ text. string_bytes text ≡ outcome_text_lem outcome.now) }
 {
     match &outcome.difference {
         Some(difference) => difference_text(alloc, outcome.version, difference),
         None => {
             let lines = outcome.lines;
-            format!(in alloc; "replayed {lines}\n")
+            text_of!(in alloc; "replayed {lines}\n")
         }
     }
 }
@@ -88,25 +89,25 @@ fn difference_text(
     alloc: Global,
     version: Version,
     difference: &Difference,
-) -> Result<String, AllocError>
+) -> Result<String, OutOfMemory>
     ensures { IfOk result (λ text. string_bytes text ≡ difference_text_lem version difference.now) }
 {
     let job = difference.address.job;
     let place = place_text(alloc, difference.address)?;
     let had = &difference.had;
     let due = write_answer(alloc, job, &difference.due, version)?;
-    let text = format!(in alloc; "{place}: had {had}, should be {due}\n")?;
+    let text = text_of!(in alloc; "{place}: had {had}, should be {due}\n")?;
     Ok(text)
 }
 
 /// Where a line stands.
-fn place_text(alloc: Global, address: Address) -> Result<String, AllocError>
+fn place_text(alloc: Global, address: Address) -> Result<String, OutOfMemory>
     ensures { IfOk result (λ text. string_bytes text ≡ place_text_lem address) }
 {
     let number = address.number;
     let job = address.job.0;
     let node = address.node;
-    format!(in alloc; "entry {number} of j{job} at n{node}")
+    text_of!(in alloc; "entry {number} of j{job} at n{node}")
 }
 
 /// The status with which the process ends: 0 if every line has the answer that is due, 1 otherwise.

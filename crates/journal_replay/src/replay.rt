@@ -7,8 +7,9 @@ use crate::inputs::judged_of;
 use crate::jobs::Jobs;
 use crate::replies::same_reply;
 use journal_text::{Address, Entry, Version, answer_of};
+use memory_growth::OutOfMemory;
 use obj_id::Reply;
-use std::alloc::{AllocError, Global};
+use std::alloc::Global;
 
 /// A line whose answer isn't the one that is due.
 #[derive(Debug, Drop)]
@@ -59,7 +60,7 @@ impl Replay {
         alloc: Global,
         text: &str,
         entry: Entry,
-    ) -> Result<bool, AllocError>
+    ) -> Result<bool, OutOfMemory>
         ensures { IfOk result (λ added. Adds added self.old self.new (record { text = text.now; entry = entry })) }
     {
         let Entry {
@@ -105,7 +106,7 @@ fn compare(
     address: Address,
     reply: Reply<u64>,
     due: Reply<u64>,
-) -> Result<Option<Difference>, AllocError>
+) -> Result<Option<Difference>, OutOfMemory>
     ensures { IfOk result (λ found. MatchOption found (reply ≡ due) (IsUnlike text.now address reply due)) }
 {
     if same_reply(&reply, &due) {

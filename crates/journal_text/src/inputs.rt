@@ -8,11 +8,12 @@ use crate::entry::{LineInput, Version};
 use crate::fields::{fetch, grant};
 use crate::locations::located;
 use crate::words::{InputWord, chunk_verdict, matched, work_verdict};
+use memory_growth::OutOfMemory;
 use obj_id::{JobNo, ObjectId, Quota};
 use private_store::{ChunkVerdict, WorkVerdict};
 use schedule_text::fields::{alone, id, id_number, long_number, number, object, target};
 use schedule_text::quota;
-use std::alloc::{AllocError, Global};
+use std::alloc::Global;
 
 /// The input that fields spell, if the job speaks.
 pub(crate) fn input(
@@ -20,7 +21,7 @@ pub(crate) fn input(
     fields: &[&str],
     job: JobNo,
     version: Version,
-) -> Result<Option<LineInput>, AllocError>
+) -> Result<Option<LineInput>, OutOfMemory>
     ensures { IfOk result (λ input. Reads input
         (IsInput version job.0 (map (λ field. field.now) fields.now))) }
 {
@@ -37,7 +38,7 @@ fn input_from(
     fields: &[&str],
     job: JobNo,
     version: Version,
-) -> Result<Option<LineInput>, AllocError>
+) -> Result<Option<LineInput>, OutOfMemory>
     ensures { IfOk result (λ input. Reads input
         (IsInputFrom version job.0 first.now (map (λ field. field.now) fields.now))) }
 {
@@ -63,7 +64,7 @@ fn input_text(
     fields: &[&str],
     job: JobNo,
     version: Version,
-) -> Result<Option<LineInput>, AllocError>
+) -> Result<Option<LineInput>, OutOfMemory>
     ensures { IfOk result (λ input. Reads input
         (IsInputText version job.0 first.now (map (λ field. field.now) fields.now))) }
 {
@@ -80,7 +81,7 @@ fn input_of(
     fields: &[&str],
     job: JobNo,
     version: Version,
-) -> Result<Option<LineInput>, AllocError>
+) -> Result<Option<LineInput>, OutOfMemory>
     ensures { IfOk result (λ input. Reads input
         (IsInputOf version job.0 word (map (λ field. field.now) fields.now))) }
 {

@@ -8,9 +8,10 @@ ghost use Rattle.journal_text.specs.Items.{IsFirstGrant, IsFirstGrantItem, IsGra
 use crate::entry::Version;
 use crate::fields::positive;
 use crate::locations::parts_of;
+use memory_growth::OutOfMemory;
 use obj_id::{CopyState, GrantedItem, ItemList, JobNo, Kind, OwnItem};
 use schedule_text::fields::{number, object};
-use std::alloc::{AllocError, Global};
+use std::alloc::Global;
 
 /// An item of either half of a list.
 #[derive(Clone, Copy, Debug, PartialEq, Eq)]
@@ -25,7 +26,7 @@ pub(crate) fn listed(
     fields: &[&str],
     job: JobNo,
     version: Version,
-) -> Result<Option<(ItemList<OwnItem>, ItemList<GrantedItem>)>, AllocError>
+) -> Result<Option<(ItemList<OwnItem>, ItemList<GrantedItem>)>, OutOfMemory>
     ensures { IfOk result (λ read. Reads read
         (IsListed version job.0 (map (λ field. field.now) fields.now))) }
 {
@@ -41,7 +42,7 @@ fn items(
     fields: &[&str],
     job: JobNo,
     version: Version,
-) -> Result<Option<ItemList<Item>>, AllocError>
+) -> Result<Option<ItemList<Item>>, OutOfMemory>
     ensures { IfOk result (λ items. Reads items
         (IsEach (IsItem version job.0) (map (λ field. field.now) fields.now))) }
 {
@@ -59,7 +60,7 @@ fn items(
 fn sorted(
     alloc: Global,
     items: &[Item],
-) -> Result<Option<(ItemList<OwnItem>, ItemList<GrantedItem>)>, AllocError>
+) -> Result<Option<(ItemList<OwnItem>, ItemList<GrantedItem>)>, OutOfMemory>
     ensures { IfOk result (λ read. Reads read (IsSorted items.now)) }
 {
     let mut own = ItemList::new(alloc);
@@ -84,7 +85,7 @@ fn one_item(
     field: &str,
     job: JobNo,
     version: Version,
-) -> Result<Option<Item>, AllocError>
+) -> Result<Option<Item>, OutOfMemory>
     ensures { IfOk result (λ item. Reads item (IsItem version job.0 field.now)) }
 {
     let parts = parts_of(alloc, field)?;

@@ -8,9 +8,10 @@ use crate::entry::{Address, Entry, LineInput, Version};
 use crate::fields::address;
 use crate::inputs::input;
 use crate::replies::reply;
+use memory_growth::{OutOfMemory, lists, texts};
 use obj_id::{JobNo, Reply};
 use schedule_text::fields_of;
-use std::alloc::{AllocError, Global};
+use std::alloc::Global;
 
 /// The form of the journal whose first line this is, without its line feed. `None` if it is the first
 /// line of none.
@@ -27,7 +28,7 @@ pub fn read_head(text: &str) -> Option<Version>
 
 /// The entry that a line spells in a journal of this form. The text is the line's without its line
 /// feed. `None` if it isn't an entry. Whether its number is the next one is seen from the lines before.
-pub fn read_line(alloc: Global, text: &str, version: Version) -> Result<Option<Entry>, AllocError>
+pub fn read_line(alloc: Global, text: &str, version: Version) -> Result<Option<Entry>, OutOfMemory>
     ensures { IfOk result (λ entry. Reads entry (IsEntryLine version text.now)) }
 {
     let halves = cut_at_equals(alloc, text)?;
@@ -36,11 +37,11 @@ pub fn read_line(alloc: Global, text: &str, version: Version) -> Result<Option<E
 
 /// The answer, as it stands in a line that spells an entry: what comes after the equals sign and a space. Nothing if the line
 /// has no such part.
-pub fn answer_of(alloc: Global, text: &str) -> Result<String, AllocError>
+pub fn answer_of(alloc: Global, text: &str) -> Result<String, OutOfMemory>
     ensures { IfOk result (λ answer. string_bytes answer ≡ answer_part text.now) }
 {
     let halves = cut_at_equals(alloc, text)?;
-    String::from_str(alloc, answer_in(&halves))
+    texts::from_str(alloc, answer_in(&halves))
 }
 
 /// What comes after the equals sign and a space, if there is one equals sign.
@@ -55,11 +56,11 @@ fn answer_in<'a>(halves: &[&'a str]) -> &'a str
 }
 
 /// What stands between the equals signs.
-fn cut_at_equals(alloc: Global, text: &str) -> Result<Vec<&str>, AllocError>
+fn cut_at_equals(alloc: Global, text: &str) -> Result<Vec<&str>, OutOfMemory>
     ensures { IfOk result (λ parts.
         map (λ part. part.now) parts.items ≡ cut_at_equals_lem text.now) }
 {
-    text.split('=').collect(alloc)
+    lists::collected(alloc, text.split('='))
 }
 
 /// The entry of an input and its answer, which stand round the one equals sign.
@@ -67,7 +68,7 @@ fn halves_entry(
     alloc: Global,
     halves: &[&str],
     version: Version,
-) -> Result<Option<Entry>, AllocError>
+) -> Result<Option<Entry>, OutOfMemory>
     ensures { IfOk result (λ entry. Reads entry
         (IsHalves version (map (λ half. half.now) halves.now))) }
 {
@@ -83,7 +84,7 @@ fn spaced_entry(
     front: &str,
     back: &str,
     version: Version,
-) -> Result<Option<Entry>, AllocError>
+) -> Result<Option<Entry>, OutOfMemory>
     ensures { IfOk result (λ entry. Reads entry (IsSpaced version front.now back.now)) }
 {
     let Some(input) = before_space(front) else {
@@ -119,7 +120,7 @@ fn entry(
     fields: &[&str],
     answer: &[&str],
     version: Version,
-) -> Result<Option<Entry>, AllocError>
+) -> Result<Option<Entry>, OutOfMemory>
     ensures { IfOk result (λ entry. Reads entry (IsEntry version
         (map (λ field. field.now) fields.now) (map (λ field. field.now) answer.now))) }
 {
@@ -139,7 +140,7 @@ fn entry_at(
     fields: &[&str],
     answer: &[&str],
     version: Version,
-) -> Result<Option<Entry>, AllocError>
+) -> Result<Option<Entry>, OutOfMemory>
     ensures { IfOk result (λ entry. Reads entry (IsEntryAt version address
         (map (λ field. field.now) fields.now) (map (λ field. field.now) answer.now))) }
 {
@@ -160,7 +161,7 @@ fn said(
     answer: &[&str],
     job: JobNo,
     version: Version,
-) -> Result<Option<(LineInput, Reply<u64>)>, AllocError>
+) -> Result<Option<(LineInput, Reply<u64>)>, OutOfMemory>
     ensures { IfOk result (λ said. Reads said (IsInputRead version job.0
         (map (λ field. field.now) fields.now) (map (λ field. field.now) answer.now))) }
 {

@@ -8,16 +8,17 @@ ghost use Rattle.obj_id.specs.declared.messages.Digest.{Digest};
 
 use crate::fields::fetch;
 use hex::FromHex;
+use memory_growth::{OutOfMemory, lists};
 use obj_id::{Digest, ItemList, JobNo, Location, ObjectId};
 use schedule_text::fields::number;
-use std::alloc::{AllocError, Global};
+use std::alloc::Global;
 
 /// `ID NUMBER`, then each entry in a field of its own.
 pub(crate) fn located(
     alloc: Global,
     fields: &[&str],
     job: JobNo,
-) -> Result<Option<((ObjectId, u64), ItemList<Location>)>, AllocError>
+) -> Result<Option<((ObjectId, u64), ItemList<Location>)>, OutOfMemory>
     ensures { IfOk result (λ read. Reads read
         (IsLocated job.0 (map (λ field. field.now) fields.now))) }
 {
@@ -34,7 +35,7 @@ pub(crate) fn located(
 }
 
 /// An entry of each field.
-fn locations(alloc: Global, fields: &[&str]) -> Result<Option<ItemList<Location>>, AllocError>
+fn locations(alloc: Global, fields: &[&str]) -> Result<Option<ItemList<Location>>, OutOfMemory>
     ensures { IfOk result (λ entries. Reads entries
         (IsEach IsLocation (map (λ field. field.now) fields.now))) }
 {
@@ -49,7 +50,7 @@ fn locations(alloc: Global, fields: &[&str]) -> Result<Option<ItemList<Location>
 }
 
 /// `NODE:LEN:DIGEST`.
-fn location(alloc: Global, field: &str) -> Result<Option<Location>, AllocError>
+fn location(alloc: Global, field: &str) -> Result<Option<Location>, OutOfMemory>
     ensures { IfOk result (λ entry. Reads entry (IsLocation field.now)) }
 {
     let parts = parts_of(alloc, field)?;
@@ -57,11 +58,11 @@ fn location(alloc: Global, field: &str) -> Result<Option<Location>, AllocError>
 }
 
 /// What stands between the colons of a field.
-pub(crate) fn parts_of(alloc: Global, field: &str) -> Result<Vec<&str>, AllocError>
+pub(crate) fn parts_of(alloc: Global, field: &str) -> Result<Vec<&str>, OutOfMemory>
     ensures { IfOk result (λ parts.
         map (λ part. part.now) parts.items ≡ parts_of_lem field.now) }
 {
-    field.split(':').collect(alloc)
+    lists::collected(alloc, field.split(':'))
 }
 
 /// `NODE:LEN:DIGEST`, by its parts.

@@ -6,45 +6,46 @@ ghost use Rattle.journal_text.specs.Printing.{address_text as address_text_lem, 
 
 use crate::entry::{Address, Entry, Version};
 use crate::put_inputs::put_input;
+use memory_growth::{OutOfMemory, text_of, texts};
 use obj_id::{GrantedItem, JobNo, OwnItem, Reply};
 use schedule_text::{list_text, placed_text, refusal_text, usage_text};
-use std::alloc::{AllocError, Global};
+use std::alloc::Global;
 
 /// The line of the entry in version 3, without its line feed. A Take has no line; of its answers the
 /// word alone is written, which isn't read.
-pub fn write_line(alloc: Global, entry: &Entry) -> Result<String, AllocError>
+pub fn write_line(alloc: Global, entry: &Entry) -> Result<String, OutOfMemory>
     ensures { IfOk result (λ line. string_bytes line ≡ entry_text entry.now) }
 {
     let job = entry.address.job;
     let answer = reply_text(alloc, job, &entry.reply)?;
     let mut line = address_text(alloc, entry.address)?;
     put_input(alloc, &mut line, &entry.input, job)?;
-    format!(in alloc; "{line} = {answer}")
+    text_of!(in alloc; "{line} = {answer}")
 }
 
 /// `nNODE jJOB K`.
-fn address_text(alloc: Global, address: Address) -> Result<String, AllocError>
+fn address_text(alloc: Global, address: Address) -> Result<String, OutOfMemory>
     ensures { IfOk result (λ text. string_bytes text ≡ address_text_lem address) }
 {
     let node = address.node;
     let job = address.job.0;
     let number = address.number;
-    format!(in alloc; "n{node} j{job} {number}")
+    text_of!(in alloc; "n{node} j{job} {number}")
 }
 
 /// The text of an answer, with ids as the job names them.
-fn reply_text(alloc: Global, job: JobNo, reply: &Reply<u64>) -> Result<String, AllocError>
+fn reply_text(alloc: Global, job: JobNo, reply: &Reply<u64>) -> Result<String, OutOfMemory>
     ensures { IfOk result (λ text. string_bytes text ≡ reply_text_without_payload job.0 reply.now) }
 {
     match reply {
-        Reply::Ok => String::from_str(alloc, "ok"),
+        Reply::Ok => texts::from_str(alloc, "ok"),
         Reply::Placed(offset, extent) => placed_text(alloc, *offset, *extent),
-        Reply::Got(length) => format!(in alloc; "got {length}"),
-        Reply::Bytes(count) => format!(in alloc; "bytes #{count}"),
+        Reply::Got(length) => text_of!(in alloc; "got {length}"),
+        Reply::Bytes(count) => text_of!(in alloc; "bytes #{count}"),
         Reply::List(own, granted) => list_text(alloc, job, own.as_slice(), granted.as_slice()),
         Reply::Usage(usage) => usage_text(alloc, *usage),
-        Reply::Work(_) => String::from_str(alloc, "work"),
-        Reply::NoWork => String::from_str(alloc, "none"),
+        Reply::Work(_) => texts::from_str(alloc, "work"),
+        Reply::NoWork => texts::from_str(alloc, "none"),
         Reply::Refused(refusal) => refusal_text(alloc, *refusal),
     }
 }
@@ -56,7 +57,7 @@ pub fn write_answer(
     job: JobNo,
     reply: &Reply<u64>,
     version: Version,
-) -> Result<String, AllocError>
+) -> Result<String, OutOfMemory>
     ensures { IfOk result (λ text. string_bytes text ≡ journal_answer_text version job.0 reply.now) }
 {
     match version {
@@ -66,7 +67,7 @@ pub fn write_answer(
 }
 
 /// The same, in version 1.
-fn first_answer(alloc: Global, job: JobNo, reply: &Reply<u64>) -> Result<String, AllocError>
+fn first_answer(alloc: Global, job: JobNo, reply: &Reply<u64>) -> Result<String, OutOfMemory>
     ensures { IfOk result (λ text. string_bytes text ≡ first_answer_text job.0 reply.now) }
 {
     match reply {
@@ -81,33 +82,33 @@ fn first_list(
     job: JobNo,
     own: &[OwnItem],
     granted: &[GrantedItem],
-) -> Result<String, AllocError>
+) -> Result<String, OutOfMemory>
     ensures { IfOk result (λ text. string_bytes text
         ≡ codes "list" ++ own_items_text job.0 own.now ++ first_grants_text job.0 granted.now) }
 {
     let own = list_text(alloc, job, own, &[])?;
     let granted = first_grants(alloc, job, granted)?;
-    format!(in alloc; "{own}{granted}")
+    text_of!(in alloc; "{own}{granted}")
 }
 
 /// The granted items without their depths, each after a space.
-fn first_grants(alloc: Global, job: JobNo, items: &[GrantedItem]) -> Result<String, AllocError>
+fn first_grants(alloc: Global, job: JobNo, items: &[GrantedItem]) -> Result<String, OutOfMemory>
     ensures { IfOk result (λ text. string_bytes text ≡ first_grants_text job.0 items.now) }
 {
     let mut text = String::new(alloc);
     for item in items {
         let item = first_grant(alloc, job, item)?;
-        text.push(' ')?;
-        text.push_str(&item)?;
+        texts::push(&mut text, ' ')?;
+        texts::push_str(&mut text, &item)?;
     }
     Ok(text)
 }
 
 /// `ID:granted:LEN`.
-fn first_grant(alloc: Global, job: JobNo, item: &GrantedItem) -> Result<String, AllocError>
+fn first_grant(alloc: Global, job: JobNo, item: &GrantedItem) -> Result<String, OutOfMemory>
     ensures { IfOk result (λ text. string_bytes text ≡ first_grant_text job.0 item.now) }
 {
     let id = item.id.write(alloc, job)?;
     let length = item.length;
-    format!(in alloc; "{id}:granted:{length}")
+    text_of!(in alloc; "{id}:granted:{length}")
 }

@@ -7,8 +7,9 @@ ghost use Rattle.journal_text.specs.Printing.{command_fields, count_field, creat
 use crate::puts::{
     put, put_count, put_object, put_object_number, put_object_numbers, put_object_task, put_task,
 };
+use memory_growth::{OutOfMemory, text_of};
 use obj_id::{Command, JobNo, Kind, ObjectId, TaskNo};
-use std::alloc::{AllocError, Global};
+use std::alloc::Global;
 
 /// `sSESSION` and the command.
 pub(crate) fn put_call(
@@ -17,11 +18,11 @@ pub(crate) fn put_call(
     session: u32,
     command: &Command<u64>,
     job: JobNo,
-) -> Result<(), AllocError>
+) -> Result<(), OutOfMemory>
     ensures { OnOk result (string_bytes line.new ≡ string_bytes line.old
         ++ spaced_text ((codes "s" ++ decimal session) ∷ command_fields job.0 command.now)) }
 {
-    let session = format!(in alloc; "s{session}")?;
+    let session = text_of!(in alloc; "s{session}")?;
     put(line, &session)?;
     put_command(alloc, line, command, job)
 }
@@ -32,7 +33,7 @@ fn put_command(
     line: &mut String,
     command: &Command<u64>,
     job: JobNo,
-) -> Result<(), AllocError>
+) -> Result<(), OutOfMemory>
     ensures { OnOk result (string_bytes line.new
         ≡ string_bytes line.old ++ spaced_text (command_fields job.0 command.now)) }
 {
@@ -95,7 +96,7 @@ fn put_write(
     job: JobNo,
     offset: u32,
     count: u64,
-) -> Result<(), AllocError>
+) -> Result<(), OutOfMemory>
     ensures { OnOk result (string_bytes line.new ≡ string_bytes line.old ++ spaced_text
         (codes "write" ∷ id_text job.0 id.now ∷ decimal offset ∷ count_field count ∷ [])) }
 {
@@ -104,7 +105,7 @@ fn put_write(
 }
 
 /// `endtask TASK`.
-fn put_end_task(alloc: Global, line: &mut String, task: &TaskNo) -> Result<(), AllocError>
+fn put_end_task(alloc: Global, line: &mut String, task: &TaskNo) -> Result<(), OutOfMemory>
     ensures { OnOk result (string_bytes line.new
         ≡ string_bytes line.old ++ spaced_text (codes "endtask" ∷ task_text task.now ∷ [])) }
 {

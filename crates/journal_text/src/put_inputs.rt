@@ -11,9 +11,10 @@ use crate::puts::{
     put, put_number, put_object, put_object_number, put_object_numbers, put_word_number,
     put_word_numbers,
 };
+use memory_growth::{OutOfMemory, text_of, texts};
 use obj_id::{JobNo, Location, ObjectId};
 use private_store::{ChunkVerdict, WorkVerdict};
-use std::alloc::{AllocError, Global};
+use std::alloc::Global;
 
 /// The fields of an input.
 pub(crate) fn put_input(
@@ -21,7 +22,7 @@ pub(crate) fn put_input(
     line: &mut String,
     input: &LineInput,
     job: JobNo,
-) -> Result<(), AllocError>
+) -> Result<(), OutOfMemory>
     ensures { OnOk result (string_bytes line.new
         ≡ string_bytes line.old ++ spaced_text (input_fields job.0 input.now)) }
 {
@@ -74,7 +75,7 @@ pub(crate) fn put_input(
 }
 
 /// `answer NUMBER WORD`.
-fn put_answer(line: &mut String, number: u64, verdict: WorkVerdict) -> Result<(), AllocError>
+fn put_answer(line: &mut String, number: u64, verdict: WorkVerdict) -> Result<(), OutOfMemory>
     ensures { OnOk result (string_bytes line.new ≡ string_bytes line.old
         ++ spaced_text (codes "answer" ∷ decimal number ∷ work_verdict_text verdict ∷ [])) }
 {
@@ -83,7 +84,7 @@ fn put_answer(line: &mut String, number: u64, verdict: WorkVerdict) -> Result<()
 }
 
 /// `FROM WORD`.
-fn put_sent(line: &mut String, from: u32, verdict: ChunkVerdict) -> Result<(), AllocError>
+fn put_sent(line: &mut String, from: u32, verdict: ChunkVerdict) -> Result<(), OutOfMemory>
     ensures { OnOk result (string_bytes line.new ≡ string_bytes line.old
         ++ spaced_text (decimal from ∷ chunk_verdict_text verdict ∷ [])) }
 {
@@ -92,7 +93,7 @@ fn put_sent(line: &mut String, from: u32, verdict: ChunkVerdict) -> Result<(), A
 }
 
 /// `GRANTOR DEPTH`.
-fn put_grant(line: &mut String, grantor: JobNo, depth: u32) -> Result<(), AllocError>
+fn put_grant(line: &mut String, grantor: JobNo, depth: u32) -> Result<(), OutOfMemory>
     ensures { OnOk result (string_bytes line.new ≡ string_bytes line.old
         ++ spaced_text (decimal grantor.0 ∷ decimal depth ∷ [])) }
 {
@@ -108,37 +109,37 @@ fn put_located(
     job: JobNo,
     number: u64,
     entries: &[Location],
-) -> Result<(), AllocError>
+) -> Result<(), OutOfMemory>
     ensures { OnOk result (string_bytes line.new ≡ string_bytes line.old ++ spaced_text
         (codes "located" ∷ id_text job.0 id.now ∷ decimal number ∷ map location_field entries.now)) }
 {
     let entries = locations_text(alloc, entries)?;
     put_object_number(alloc, line, "located", id, job, number)?;
-    line.push_str(&entries)
+    texts::push_str(line, &entries)
 }
 
 /// Each entry after a space.
-fn locations_text(alloc: Global, entries: &[Location]) -> Result<String, AllocError>
+fn locations_text(alloc: Global, entries: &[Location]) -> Result<String, OutOfMemory>
     ensures { IfOk result (λ text.
         string_bytes text ≡ spaced_text (map location_field entries.now)) }
 {
     let mut text = String::new(alloc);
     for entry in entries {
         let entry = location_text(alloc, entry)?;
-        text.push(' ')?;
-        text.push_str(&entry)?;
+        texts::push(&mut text, ' ')?;
+        texts::push_str(&mut text, &entry)?;
     }
     Ok(text)
 }
 
 /// `NODE:LEN:DIGEST`.
-fn location_text(alloc: Global, entry: &Location) -> Result<String, AllocError>
+fn location_text(alloc: Global, entry: &Location) -> Result<String, OutOfMemory>
     ensures { IfOk result (λ text. string_bytes text ≡ location_field entry.now) }
 {
     let node = entry.node;
     let length = entry.length;
-    let digits = hex::encode(alloc, entry.digest.0)?;
-    format!(in alloc; "{node}:{length}:{digits}")
+    let digits = texts::encode(alloc, entry.digest.0)?;
+    text_of!(in alloc; "{node}:{length}:{digits}")
 }
 
 fn work_word(verdict: WorkVerdict) -> &'static str

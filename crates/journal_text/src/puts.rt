@@ -5,20 +5,21 @@ ghost use Rattle.obj_id.specs.Texts.{id_text, task_text};
 ghost use Rattle.journal_text.specs.Printing.{count_field, spaced_text};
 
 use itoa::Buffer;
+use memory_growth::{OutOfMemory, text_of, texts};
 use obj_id::{JobNo, ObjectId, TaskNo};
-use std::alloc::{AllocError, Global};
+use std::alloc::Global;
 
 /// The field.
-pub(crate) fn put(line: &mut String, field: &str) -> Result<(), AllocError>
+pub(crate) fn put(line: &mut String, field: &str) -> Result<(), OutOfMemory>
     ensures { OnOk result (string_bytes line.new
         ≡ string_bytes line.old ++ spaced_text (field.now ∷ [])) }
 {
-    line.push(' ')?;
-    line.push_str(field)
+    texts::push(line, ' ')?;
+    texts::push_str(line, field)
 }
 
 /// A number.
-pub(crate) fn put_number(line: &mut String, number: u64) -> Result<(), AllocError>
+pub(crate) fn put_number(line: &mut String, number: u64) -> Result<(), OutOfMemory>
     ensures { OnOk result (string_bytes line.new
         ≡ string_bytes line.old ++ spaced_text (decimal number ∷ [])) }
 {
@@ -27,16 +28,16 @@ pub(crate) fn put_number(line: &mut String, number: u64) -> Result<(), AllocErro
 }
 
 /// `#N`.
-pub(crate) fn put_count(alloc: Global, line: &mut String, count: u64) -> Result<(), AllocError>
+pub(crate) fn put_count(alloc: Global, line: &mut String, count: u64) -> Result<(), OutOfMemory>
     ensures { OnOk result (string_bytes line.new
         ≡ string_bytes line.old ++ spaced_text (count_field count ∷ [])) }
 {
-    let field = format!(in alloc; "#{count}")?;
+    let field = text_of!(in alloc; "#{count}")?;
     put(line, &field)
 }
 
 /// A task.
-pub(crate) fn put_task(alloc: Global, line: &mut String, task: &TaskNo) -> Result<(), AllocError>
+pub(crate) fn put_task(alloc: Global, line: &mut String, task: &TaskNo) -> Result<(), OutOfMemory>
     ensures { OnOk result (string_bytes line.new
         ≡ string_bytes line.old ++ spaced_text (task_text task.now ∷ [])) }
 {
@@ -45,7 +46,7 @@ pub(crate) fn put_task(alloc: Global, line: &mut String, task: &TaskNo) -> Resul
 }
 
 /// An id, as the job names it.
-fn put_id(alloc: Global, line: &mut String, id: &ObjectId, job: JobNo) -> Result<(), AllocError>
+fn put_id(alloc: Global, line: &mut String, id: &ObjectId, job: JobNo) -> Result<(), OutOfMemory>
     ensures { OnOk result (string_bytes line.new
         ≡ string_bytes line.old ++ spaced_text (id_text job.0 id.now ∷ [])) }
 {
@@ -54,7 +55,7 @@ fn put_id(alloc: Global, line: &mut String, id: &ObjectId, job: JobNo) -> Result
 }
 
 /// A word and a number.
-pub(crate) fn put_word_number(line: &mut String, word: &str, number: u64) -> Result<(), AllocError>
+pub(crate) fn put_word_number(line: &mut String, word: &str, number: u64) -> Result<(), OutOfMemory>
     ensures { OnOk result (string_bytes line.new
         ≡ string_bytes line.old ++ spaced_text (word.now ∷ decimal number ∷ [])) }
 {
@@ -68,7 +69,7 @@ pub(crate) fn put_word_numbers(
     word: &str,
     first: u64,
     second: u64,
-) -> Result<(), AllocError>
+) -> Result<(), OutOfMemory>
     ensures { OnOk result (string_bytes line.new ≡ string_bytes line.old
         ++ spaced_text (word.now ∷ decimal first ∷ decimal second ∷ [])) }
 {
@@ -83,7 +84,7 @@ pub(crate) fn put_object(
     word: &str,
     id: &ObjectId,
     job: JobNo,
-) -> Result<(), AllocError>
+) -> Result<(), OutOfMemory>
     ensures { OnOk result (string_bytes line.new ≡ string_bytes line.old
         ++ spaced_text (word.now ∷ id_text job.0 id.now ∷ [])) }
 {
@@ -99,7 +100,7 @@ pub(crate) fn put_object_number(
     id: &ObjectId,
     job: JobNo,
     number: u64,
-) -> Result<(), AllocError>
+) -> Result<(), OutOfMemory>
     ensures { OnOk result (string_bytes line.new ≡ string_bytes line.old
         ++ spaced_text (word.now ∷ id_text job.0 id.now ∷ decimal number ∷ [])) }
 {
@@ -116,7 +117,7 @@ pub(crate) fn put_object_numbers(
     job: JobNo,
     first: u64,
     second: u64,
-) -> Result<(), AllocError>
+) -> Result<(), OutOfMemory>
     ensures { OnOk result (string_bytes line.new ≡ string_bytes line.old
         ++ spaced_text (word.now ∷ id_text job.0 id.now ∷ decimal first ∷ decimal second ∷ [])) }
 {
@@ -132,7 +133,7 @@ pub(crate) fn put_object_task(
     id: &ObjectId,
     job: JobNo,
     task: &TaskNo,
-) -> Result<(), AllocError>
+) -> Result<(), OutOfMemory>
     ensures { OnOk result (string_bytes line.new ≡ string_bytes line.old
         ++ spaced_text (word.now ∷ id_text job.0 id.now ∷ task_text task.now ∷ [])) }
 {

@@ -7,9 +7,10 @@ use crate::entry::Version;
 use crate::fields::count;
 use crate::items::listed;
 use crate::words::ReplyWord;
+use memory_growth::OutOfMemory;
 use obj_id::{JobNo, Refusal, Reply, Usage};
 use schedule_text::fields::{alone, long_number, number};
-use std::alloc::{AllocError, Global};
+use std::alloc::Global;
 
 /// The answer that fields spell, if the job speaks.
 pub(crate) fn reply(
@@ -17,7 +18,7 @@ pub(crate) fn reply(
     fields: &[&str],
     job: JobNo,
     version: Version,
-) -> Result<Option<Reply<u64>>, AllocError>
+) -> Result<Option<Reply<u64>>, OutOfMemory>
     ensures { IfOk result (λ reply. Reads reply
         (IsReply version job.0 (map (λ field. field.now) fields.now))) }
 {
@@ -37,7 +38,7 @@ fn reply_of(
     fields: &[&str],
     job: JobNo,
     version: Version,
-) -> Result<Option<Reply<u64>>, AllocError>
+) -> Result<Option<Reply<u64>>, OutOfMemory>
     ensures { IfOk result (λ reply. Reads reply
         (IsReplyOf version job.0 word (map (λ field. field.now) fields.now))) }
 {
@@ -86,7 +87,7 @@ fn list_reply(
     fields: &[&str],
     job: JobNo,
     version: Version,
-) -> Result<Option<Reply<u64>>, AllocError>
+) -> Result<Option<Reply<u64>>, OutOfMemory>
     ensures { IfOk result (λ reply. Reads reply
         (IsListReply version job.0 (map (λ field. field.now) fields.now))) }
 {

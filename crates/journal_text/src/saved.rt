@@ -7,9 +7,10 @@ use crate::entry::{Address, Entry, LineInput};
 use crate::printing::write_line;
 use crate::typed::typed;
 use indexmap::IndexMap;
+use memory_growth::{OutOfMemory, lists, tables, texts};
 use obj_id::Reply;
 use schedule_text::JobAt;
-use std::alloc::{AllocError, Global};
+use std::alloc::Global;
 use std::marker::Model;
 
 /// The entries and notes that a job's list has at most.
@@ -56,12 +57,12 @@ impl Model for SavedJournal {
 
 impl SavedJournal {
     /// A journal without an entry. The error is out of memory.
-    pub fn new(alloc: Global) -> Result<SavedJournal, AllocError>
+    pub fn new(alloc: Global) -> Result<SavedJournal, OutOfMemory>
         ensures { IfOk result (λ saved. IsSaved saved []) }
     {
         Ok(SavedJournal {
             alloc,
-            text: Vec::from_slice(alloc, b"journal 3\n")?,
+            text: lists::copied(alloc, b"journal 3\n")?,
             counts: IndexMap::new(alloc),
             folded: false,
         })
@@ -69,7 +70,7 @@ impl SavedJournal {
 
     /// Adds an entry or a note. If it finds the list of its job full, that list is folded, and the journal can't be saved
     /// any more. The error is out of memory, and then no entry is added.
-    pub fn add(&mut self, mark: JournalItem) -> Result<(), AllocError>
+    pub fn add(&mut self, mark: JournalItem) -> Result<(), OutOfMemory>
         ensures after { OnOk result ((marks : List JournalItem) → IsSaved self.old marks → IsSaved self.new (mark ∷ marks)) }
         ensures same { OnErr result ((marks : List JournalItem) → IsSaved self.old marks → IsSaved self.new marks) }
     {
@@ -81,10 +82,10 @@ impl SavedJournal {
         }
         let more = counted(counts, &line);
         // all growth comes before the first change
-        self.counts.reserve(1)?;
+        tables::reserve(&mut self.counts, 1)?;
         let text = line_text(self.alloc, place, counts.lines + 1, line)?;
-        self.text.extend_from_slice(text.as_bytes())?;
-        match self.counts.insert(place, more) {
+        lists::extend_from_slice(&mut self.text, text.as_bytes())?;
+        match tables::insert(&mut self.counts, place, more) {
             Ok(_) => Ok(()),
             Err(_) => unreachable!(),
         }
@@ -137,7 +138,7 @@ fn line_text(
     place: JobAt,
     number: u32,
     line: Option<Answered>,
-) -> Result<String, AllocError>
+) -> Result<String, OutOfMemory>
     ensures text { IfOk result (λ text. string_bytes text ≡ line_text_lem place number line) }
     ensures typed { IfOk result (λ _. IsTypedLine place number line) }
 {
@@ -153,6 +154,6 @@ fn line_text(
     };
     typed(&entry);
     let mut text = write_line(alloc, &entry)?;
-    text.push('\n')?;
+    texts::push(&mut text, '\n')?;
     Ok(text)
 }

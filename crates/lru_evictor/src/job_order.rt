@@ -21,8 +21,9 @@ use crate::use_order::Order;
 use extent_tree::Resident;
 use job_region::Window;
 use lru::LruCache;
+use memory_growth::{OutOfMemory, caches};
 use obj_id::ObjectId;
-use std::alloc::{AllocError, Global};
+use std::alloc::Global;
 use std::marker::Model;
 use use_tree::{SpareNode, Use, VictimClasses};
 
@@ -50,12 +51,9 @@ impl Model for JobOrder {
     ghost invariant = { λ o. (o.slots.cap ≡ 2 ^ 64 - 1) × IsIndexOf o.slots.entries o.index × (length o.slots.entries < 4611686018427387904) };
 }
 
-/// So many ids are in no order, so that each can have a turn and one is left.
-const MOST_IDS: usize = 4_611_686_018_427_387_903;
-
 impl JobOrder {
     /// The order of a job with one copy, of which nothing is known.
-    pub(crate) fn first(alloc: Global, id: ObjectId) -> Result<JobOrder, AllocError>
+    pub(crate) fn first(alloc: Global, id: ObjectId) -> Result<JobOrder, OutOfMemory>
         ensures ids { IfOk result (λ o. order_ids o ≡ id ∷ []) }
         ensures infos { IfOk result (λ o. (test : ObjectId → EvictionInfo → Bool) → test id nowhere ≡ true → AllPass test o) }
     {
@@ -65,17 +63,17 @@ impl JobOrder {
     }
 
     /// The order of a job without copies.
-    fn new(alloc: Global) -> Result<JobOrder, AllocError>
+    fn new(alloc: Global) -> Result<JobOrder, OutOfMemory>
         ensures { IfOk result (λ o. o ≡ []) }
     {
         Ok(JobOrder {
-            slots: LruCache::unbounded(alloc)?,
+            slots: caches::unbounded(alloc)?,
             index: Index::new(),
         })
     }
 
     /// Makes the id the most recently used, whether or not it was there; its copy lies nowhere, and is in no class of victims.
-    pub(crate) fn enter(&mut self, alloc: Global, id: ObjectId) -> Result<(), AllocError>
+    pub(crate) fn enter(&mut self, alloc: Global, id: ObjectId) -> Result<(), OutOfMemory>
         ensures ids { OnOk result (order_ids self.new ≡ last_used id (order_ids self.old)) }
         ensures infos { OnOk result ((test : ObjectId → EvictionInfo → Bool) → OthersPass id test self.old → test id nowhere ≡ true → AllPass test self.new) }
         ensures succeeds { is_among (order_ids self.old) id ≡ true → IsOk result }
@@ -90,7 +88,7 @@ impl JobOrder {
     }
 
     /// Makes the id the most recently used, if it isn't there; its copy lies nowhere, and is in no class of victims. Gives whether it wasn't.
-    pub(crate) fn enter_new(&mut self, alloc: Global, id: ObjectId) -> Result<bool, AllocError>
+    pub(crate) fn enter_new(&mut self, alloc: Global, id: ObjectId) -> Result<bool, OutOfMemory>
         ensures entered { IfOk result (λ entered. entered ≡ not (is_among (order_ids self.old) id)) }
         ensures ids { IfOk result (λ entered. entered ≡ true → order_ids self.new ≡ last_used id (order_ids self.old)) }
         ensures infos { IfOk result (λ entered. entered ≡ true → (test : ObjectId → EvictionInfo → Bool) → OthersPass id test self.old → test id nowhere ≡ true → AllPass test self.new) }
@@ -104,27 +102,23 @@ impl JobOrder {
         Ok(true)
     }
 
-    /// Adds an id that isn't there, as the most recently used. The error is out of memory, or that there are 2^62 - 1 ids.
-    fn add(&mut self, alloc: Global, id: ObjectId) -> Result<(), AllocError>
+    /// Adds an id that isn't there, as the most recently used. The error is out of memory.
+    fn add(&mut self, alloc: Global, id: ObjectId) -> Result<(), OutOfMemory>
         requires { is_among (order_ids self.old) id ≡ false }
         ensures ids { OnOk result (order_ids self.new ≡ last_used id (order_ids self.old)) }
         ensures infos { OnOk result ((test : ObjectId → EvictionInfo → Bool) → OthersPass id test self.old → test id nowhere ≡ true → AllPass test self.new) }
         ensures err { OnErr result (self.new ≡ self.old) }
     {
         let turn = next_turn(&mut self.slots, &mut self.index);
-        if self.slots.len() >= MOST_IDS {
-            return Err(AllocError);
-        }
+        caches::check_countable(&self.slots)?;
         let classes = VictimClasses::none();
         let room = SpareNode::new(alloc, Use { turn, id, classes })?;
         let eviction_info = EvictionInfo::nowhere();
-        self.slots.put(
-            id,
-            OrderSlot {
-                turn,
-                eviction_info,
-            },
-        )?;
+        let slot = OrderSlot {
+            turn,
+            eviction_info,
+        };
+        caches::put(&mut self.slots, id, slot)?;
         self.index.add(room, id, turn);
         Ok(())
     }

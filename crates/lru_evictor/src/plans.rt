@@ -28,10 +28,11 @@ use crate::spilling::Gap;
 use crate::use_order::UseOrder;
 use extent_tree::has_gap;
 use job_region::Window;
+use memory_growth::{OutOfMemory, lists};
 use obj_id::limits::MOST_WORKS;
 use obj_id::{ItemList, ObjectId};
 use private_store::rounded;
-use std::alloc::{AllocError, Global};
+use std::alloc::Global;
 use use_tree::VictimClass;
 
 impl UseOrder {
@@ -74,7 +75,7 @@ impl UseOrder {
         len: u32,
         window: &Window,
         copies: &C,
-    ) -> Result<ItemList<ObjectId>, AllocError>
+    ) -> Result<ItemList<ObjectId>, OutOfMemory>
         ensures plan { IfOk result (λ ids. (store : Shape) (device : DeviceRoom) → IsOfCopies self.now (C.facts copies.now) → IsDescribed store window.now device (C.facts copies.now)
             → plan_kind_of (room_plan (order_ids self.now) store len) ≡ found.Evict → ids ≡ listed (room_plan (order_ids self.now) store len)) }
         ensures room { IfOk result (λ ids. 0 < length ids → is_room_without window.now (C.facts copies.now) len ids ≡ true) }
@@ -89,7 +90,7 @@ impl UseOrder {
 
     /// The first so many copies that may be spilled, the least recently used first. The error is out of memory. Takes a descent of
     /// a tree for each.
-    pub fn spillable(&self, alloc: Global, count: usize) -> Result<ItemList<ObjectId>, AllocError>
+    pub fn spillable(&self, alloc: Global, count: usize) -> Result<ItemList<ObjectId>, OutOfMemory>
         ensures listed { IfOk result (λ ids. (store : Shape) (window : Region) (device : DeviceRoom) (facts : Looked) (n : ℕ) → IsOfCopies self.now facts → IsDescribed store window device facts
             → plan_kind_of (room_plan (order_ids self.now) store n) ≡ found.Spill count → ids ≡ listed (room_plan (order_ids self.now) store n)) }
         ensures few { IfOk result (λ ids. length ids ≤ count) }
@@ -218,7 +219,7 @@ fn victims<C: CopyLookup>(
     len: u32,
     window: &Window,
     copies: &C,
-) -> Result<ItemList<ObjectId>, AllocError>
+) -> Result<ItemList<ObjectId>, OutOfMemory>
     ensures plan { IfOk result (λ ids. (store : Shape) (order : List (ObjectId × EvictionInfo)) (device : DeviceRoom) → HasIndex index.now order → IsOfCopies order (C.facts copies.now) → IsDescribed store window.now device (C.facts copies.now)
         → plan_kind_of (room_plan (order_ids order) store len) ≡ found.Evict → ids ≡ listed (room_plan (order_ids order) store len)) }
     ensures room { IfOk result (λ ids. 0 < length ids → is_room_without window.now (C.facts copies.now) len ids ≡ true) }
@@ -233,7 +234,7 @@ fn victims<C: CopyLookup>(
 }
 
 /// The first so many copies that may be spilled.
-fn spillable(index: &Index, alloc: Global, count: usize) -> Result<ItemList<ObjectId>, AllocError>
+fn spillable(index: &Index, alloc: Global, count: usize) -> Result<ItemList<ObjectId>, OutOfMemory>
     ensures all { AllOf (λ u. u.turn < 4611686018427387904) index.now.0 }
     ensures first { IfOk result (λ ids. ids ≡ take count (chosen_ids Spillable 4611686018427387904 index.now.0)) }
     ensures few { IfOk result (λ ids. length ids ≤ count) }
@@ -243,7 +244,7 @@ fn spillable(index: &Index, alloc: Global, count: usize) -> Result<ItemList<Obje
         if ids.len() == count {
             return Ok(ItemList::from_vec(ids));
         }
-        ids.push(id)?;
+        lists::push(&mut ids, id)?;
     }
     Ok(ItemList::from_vec(ids))
 }

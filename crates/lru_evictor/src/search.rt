@@ -13,8 +13,9 @@ ghost use Rattle.lru_evictor.specs.Leavings.{leaving_of as all_leaving, firsts, 
 use crate::candidates::Candidates;
 use crate::facts::CopyLookup;
 use job_region::Window;
+use memory_growth::{OutOfMemory, lists};
 use obj_id::{Extent, ObjectId};
-use std::alloc::{AllocError, Global};
+use std::alloc::Global;
 
 /// Whether the copy of the id may be evicted, if there is one.
 fn is_evictable<C: CopyLookup>(copies: &C, id: &ObjectId) -> bool
@@ -38,13 +39,13 @@ fn extents_of<C: CopyLookup>(
     alloc: Global,
     copies: &C,
     ids: &[ObjectId],
-) -> Result<Vec<Extent>, AllocError>
+) -> Result<Vec<Extent>, OutOfMemory>
     ensures { IfOk result (λ v. v.items ≡ gone_of (C.facts copies.now) ids.now) }
 {
     let mut extents = Vec::new(alloc);
     for id in ids {
         if let Some(extent) = extent_of(copies, id) {
-            extents.push(extent)?;
+            lists::push(&mut extents, extent)?;
         }
     }
     Ok(extents)
@@ -55,22 +56,21 @@ pub fn extents_by_offset<C: CopyLookup>(
     alloc: Global,
     copies: &C,
     ids: &[ObjectId],
-) -> Result<Vec<Extent>, AllocError>
+) -> Result<Vec<Extent>, OutOfMemory>
     ensures permutation { IfOk result (λ v. IsPermutation (gone_of (C.facts copies.now) ids.now) v.items) }
     ensures rising { IfOk result (λ v. IsNonDecreasingBy (λ (e : Extent). e.offset) v.items) }
 {
     let mut extents = extents_of(alloc, copies, ids)?;
-    sort_extents(&mut extents)?;
+    sort_extents(&mut extents);
     Ok(extents)
 }
 
 /// The extents by rising offset.
-fn sort_extents(extents: &mut Vec<Extent>) -> Result<(), AllocError>
+fn sort_extents(extents: &mut Vec<Extent>)
     ensures permutation { IsPermutation extents.old.items extents.new.items }
-    ensures rising { OnOk result (IsNonDecreasingBy (λ (e : Extent). e.offset) extents.new.items) }
+    ensures rising { IsNonDecreasingBy (λ (e : Extent). e.offset) extents.new.items }
 {
-    extents.sort_by_key(|e| e.offset)?;
-    Ok(())
+    extents.sort_unstable_by_key(|e| e.offset);
 }
 
 /// The extent of a copy that may go, and the copy's place in the order in which they go.
@@ -85,14 +85,14 @@ fn leaving_of<C: CopyLookup>(
     alloc: Global,
     copies: &C,
     ids: &[ObjectId],
-) -> Result<Vec<Leaving>, AllocError>
+) -> Result<Vec<Leaving>, OutOfMemory>
     ensures { IfOk result (λ v. v.items ≡ all_leaving (C.facts copies.now) 0 ids.now) }
 {
     let mut leaving = Vec::new(alloc);
     let mut place = 0;
     for id in ids {
         if let Some(extent) = extent_of(copies, id) {
-            leaving.push(Leaving { extent, place })?;
+            lists::push(&mut leaving, Leaving { extent, place })?;
         }
         place += 1;
     }
@@ -100,12 +100,11 @@ fn leaving_of<C: CopyLookup>(
 }
 
 /// The extents by rising offset.
-fn sort_leaving(leaving: &mut Vec<Leaving>) -> Result<(), AllocError>
+fn sort_leaving(leaving: &mut Vec<Leaving>)
     ensures permutation { IsPermutation leaving.old.items leaving.new.items }
-    ensures rising { OnOk result (IsNonDecreasingBy (λ (l : Leaving). l.extent.offset) leaving.new.items) }
+    ensures rising { IsNonDecreasingBy (λ (l : Leaving). l.extent.offset) leaving.new.items }
 {
-    leaving.sort_by_key(|l| l.extent.offset)?;
-    Ok(())
+    leaving.sort_unstable_by_key(|l| l.extent.offset);
 }
 
 /// The extents of the first `count` copies, in the order in which all are given.
@@ -113,13 +112,13 @@ fn first_extents(
     alloc: Global,
     leaving: &[Leaving],
     count: usize,
-) -> Result<Vec<Extent>, AllocError>
+) -> Result<Vec<Extent>, OutOfMemory>
     ensures { IfOk result (λ v. v.items ≡ firsts count leaving.now) }
 {
     let mut extents = Vec::new(alloc);
     for l in leaving {
         if l.place < count {
-            extents.push(l.extent)?;
+            lists::push(&mut extents, l.extent)?;
         }
     }
     Ok(extents)
@@ -132,7 +131,7 @@ fn fits_first(
     leaving: &[Leaving],
     count: usize,
     len: u32,
-) -> Result<bool, AllocError>
+) -> Result<bool, OutOfMemory>
     requires { IsNonDecreasingBy (λ (l : Leaving). l.extent.offset) leaving.now }
     ensures { IfOk result (λ b. b ≡ is_room_first window.now len leaving.now count) }
 {
@@ -149,7 +148,7 @@ fn bisect(
     few: usize,
     enough: usize,
     len: u32,
-) -> Result<usize, AllocError>
+) -> Result<usize, OutOfMemory>
     requires by_offset { IsNonDecreasingBy (λ (l : Leaving). l.extent.offset) leaving.now }
     requires rising { few ≤ enough }
     requires few { is_room_first window.now len leaving.now few ≡ false }
@@ -177,14 +176,14 @@ fn needed<C: CopyLookup>(
     ids: &[ObjectId],
     few: usize,
     len: u32,
-) -> Result<Option<usize>, AllocError>
+) -> Result<Option<usize>, OutOfMemory>
     requires within { few ≤ length ids.now }
     requires few { is_room_without window.now (C.facts copies.now) len (take few ids.now) ≡ false }
     ensures found { IfOk result (λ r. IfSome r (AreEnough window.now (C.facts copies.now) len ids.now)) }
     ensures none { IfOk result (λ r. IfNone r (is_room_without window.now (C.facts copies.now) len ids.now ≡ false)) }
 {
     let mut leaving = leaving_of(alloc, copies, ids)?;
-    sort_leaving(&mut leaving)?;
+    sort_leaving(&mut leaving);
     let all = ids.len();
     if fits_first(alloc, window, &leaving, all, len)? {
         let count = bisect(alloc, window, &leaving, few, all, len)?;
@@ -204,7 +203,7 @@ pub(crate) fn shortest<C: CopyLookup>(
     window: &Window,
     copies: &C,
     len: u32,
-) -> Result<Option<Vec<ObjectId>>, AllocError>
+) -> Result<Option<Vec<ObjectId>>, OutOfMemory>
     ensures { IfOk result (λ r. option_map (λ v. v.items) r ≡ shortest_beginning (is_room_without window.now (C.facts copies.now) len) (chosen (C.facts copies.now) Evictable candidates.entry)) }
 {
     let mut ids = Vec::new(alloc);
@@ -218,7 +217,7 @@ pub(crate) fn shortest<C: CopyLookup>(
         if !is_evictable(copies, &id) {
             continue;
         }
-        ids.push(id)?;
+        lists::push(&mut ids, id)?;
         left -= 1;
         if left == 0 {
             if let Some(count) = needed(alloc, window, copies, &ids, few, len)? {

@@ -1,7 +1,6 @@
 //! The order of use of one job's copies.
 ghost use Rattle.std.specs.Prelude.{◌≡◌, Bool, [], true, false, not, IfOk, OnOk, OnErr, IsOk, length, reverse};
 ghost use Rattle.std.specs.Map.{keys_of};
-ghost use Rattle.obj_id.specs.declared.refusals.Refusal.{Refusal};
 ghost use Rattle.obj_id.specs.declared.ids.ObjectId.{ObjectId};
 ghost use Rattle.private_store.specs.rules.Tables.{is_among};
 ghost use Rattle.lru_evictor.specs.declared.facts.EvictionInfo.{EvictionInfo};
@@ -13,8 +12,9 @@ use crate::index::OrderSlot;
 use crate::job_order::JobOrder;
 use extent_tree::{Resident, SpareNode};
 use lru::Iter;
-use obj_id::{ObjectId, Refusal};
-use std::alloc::{AllocError, Global};
+use memory_growth::OutOfMemory;
+use obj_id::ObjectId;
+use std::alloc::Global;
 use std::marker::Model;
 
 /// The order of use of one job's copies. A contract sees their ids, most recently used first, each with its copy's eviction info:
@@ -56,12 +56,11 @@ impl UseOrder {
 
     /// Makes the id the most recently used, whether or not it was there; its copy lies nowhere, and is in no class of victims.
     /// `NoMemory` alone, and then nothing has changed; an id that is there takes no memory.
-    pub fn enter(&mut self, id: ObjectId) -> Result<(), Refusal>
+    pub fn enter(&mut self, id: ObjectId) -> Result<(), OutOfMemory>
         ensures ids { OnOk result (order_ids self.new ≡ last_used id (order_ids self.old)) }
         ensures infos { OnOk result ((test : ObjectId → EvictionInfo → Bool) → OthersPass id test self.old → test id nowhere ≡ true → AllPass test self.new) }
         ensures succeeds { is_among (order_ids self.old) id ≡ true → IsOk result }
         ensures err { OnErr result (self.new ≡ self.old) }
-        ensures memory { (r : Refusal) → result ≡ Err r → r ≡ Refusal.NoMemory }
     {
         if let Some(order) = &mut self.order {
             order.enter(self.alloc, id)?;
@@ -74,7 +73,7 @@ impl UseOrder {
 
     /// Makes the id the most recently used, if it isn't there; its copy lies nowhere, and is in no class of victims. Gives whether it wasn't
     /// there: what is there stays as it is. The error is out of memory, and then nothing has changed.
-    pub fn enter_new(&mut self, id: ObjectId) -> Result<bool, AllocError>
+    pub fn enter_new(&mut self, id: ObjectId) -> Result<bool, OutOfMemory>
         ensures entered { IfOk result (λ entered. entered ≡ not (is_among (order_ids self.old) id)) }
         ensures ids { IfOk result (λ entered. entered ≡ true → order_ids self.new ≡ last_used id (order_ids self.old)) }
         ensures infos { IfOk result (λ entered. entered ≡ true → (test : ObjectId → EvictionInfo → Bool) → OthersPass id test self.old → test id nowhere ≡ true → AllPass test self.new) }

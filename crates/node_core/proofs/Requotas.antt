@@ -23,7 +23,7 @@ use Rattle.spill_work.specs.Line.{WorkLine, IsSameFor, same_work_job as same_lin
 use Rattle.grants.specs.Table.{AreGrants}
 use Rattle.job_admission.specs.declared.Live.{Live}
 use Rattle.job_admission.specs.Admissions.{Admissions, live_at, lives_of, resize_check, resized}
-use Rattle.job_row.specs.Quotas.{store_check}
+use Rattle.job_row.specs.Quotas.{row_requota_check, store_check}
 use Rattle.job_row.specs.Row.{Row}
 use Rattle.node_table.specs.Shown.{only, IsShown, RowStep}
 use Rattle.node_core.specs.Hosted.{Hosted, AreHosted, IsRowView, IsViewBy, Shows, bytes_here, beside_at}
@@ -35,6 +35,18 @@ use Rattle.node_core.proofs.Views.{Takes, node_of, views_stepped, told_stepped}
 use Rattle.node_table.specs.Beside.{SharedTables, shape_of}
 
 -- ---- the check
+
+-- why a job can't have the quota, where its row is this one, and the rest of the node says this
+abbrev pub refusal_at : Quota → Option Refusal → Option Row → Option Refusal
+refusal_at quota rest here = elim here [ None ↦ Some NotAdmitted | Some row ↦ refused_or (row_requota_check row quota) rest ]
+
+-- what isn't refused at a node isn't refused by its row
+pub row_lets : (here : Option Row) (row : Row) (quota : Quota) (rest : Option Refusal) → here ≡ Some row → refusal_at quota rest here ≡ None → row_requota_check row quota ≡ None
+row_lets here row quota rest found none = by (row_requota_check row quota) (ap (refusal_at quota rest) (sym found) ∙ none)
+  where
+    by : (check : Option Refusal) → refused_or check rest ≡ None → check ≡ None
+    by None e = refl
+    by (Some r) e = e
 
 -- whether a job is among the live ones
 live_is : (job : ℕ) (live : List (JobNo × Live)) → list_any (job_is job) (lives_of live) ≡ list_any (same_job (record { 0 = job })) (keys_of live)

@@ -1,6 +1,7 @@
 -- The reply to a command has a frame, and who is notified of grants.
 use Rattle.std.proofs.Common.{◌≡◌, ℕ, ◌==◌, ◌≤◌, Bool, true, false, cond, ◌||◌, ◌&&◌, not, List, [], ◌∷◌, length, map, Option, Some, None, is_some, refl, sym, ap, subst, ◌∙◌, arith}
 use Rattle.std.specs.List.{list_all}
+use Rattle.std.specs.Option.{option_map_or}
 use Rattle.std.specs.Map.{lookup, keys_of}
 use Rattle.std.proofs.lemmas.Bool.Decides.{nat_tests}
 use Rattle.std.proofs.lemmas.List.{length-map}
@@ -17,7 +18,8 @@ use Rattle.private_store.specs.declared.schedules.Event.TheVariants as event
 use Rattle.private_store.specs.declared.schedules.NodeEvent.TheVariants.{Own}
 use Rattle.private_store.specs.laws.Answers.{is_small_reply, AreGrantedWithin}
 use Rattle.private_store.specs.rules.Contents.{View}
-use Rattle.private_store.specs.rules.Grants.{StandingGrant}
+use Rattle.private_store.specs.rules.Grants.{StandingGrant, grants_ended}
+use Rattle.private_store.specs.rules.Trace.{ends}
 use Rattle.private_store.specs.rules.Jobs.{same_job}
 use Rattle.private_store.specs.laws.Invariants.{IsViewKept}
 use Rattle.private_store.specs.rules.Limits.{most_live_jobs}
@@ -26,11 +28,11 @@ use Rattle.store_facts.proofs.AnswersAre.{answers_small}
 use Rattle.store_facts.proofs.Tests.{both_left, both_right, none_some, true_false}
 use Rattle.grants.specs.Private.{as_given}
 use Rattle.grants.specs.Table.{AreGrants, given_by}
-use Rattle.grants.proofs.ForCallers.{is_among, few_granted}
+use Rattle.grants.proofs.ForCallers.{is_among, few_by, few_end, few_granted}
 use Rattle.job_row.specs.Row.{Row}
-use Rattle.node_core.specs.Foreseen.{grantees_in, AreTakers}
+use Rattle.node_core.specs.Foreseen.{grantees_in, grantees_of_ended, AreTakers}
 use Rattle.node_core.specs.Hosted.{Hosted, IsViewBy, ShowsAll, row_at, beside_at, bytes_here}
-use Rattle.node_core.specs.Judged.{moves_grants, SeesFew, IsSmall}
+use Rattle.node_core.specs.Judged.{moves_grants, GivesFew, SeesFew, IsSmall}
 use Rattle.node_core.specs.declared.outcome.Note.{Note}
 use Rattle.node_core.specs.Outcomes.{inputs_noted, end_noted, received_noted}
 use Rattle.node_core.specs.Steps.{JobJudged, NodeGiven, NodeStep}
@@ -91,6 +93,27 @@ received_bound node table jobs few v shows = few_shown node v shows table (less 
   where
     less : length (numbers node.rows) ≡ length node.rows → length node.rows ≡ length node.admissions.live → length (numbers node.rows) ≤ most_live_jobs
     less a b = omega (arith, a, b, few)
+
+pub few_stand : (node : Hosted) → AreGrants node.grants → keys_of node.rows ≡ keys_of node.admissions.live → length node.admissions.live ≤ most_live_jobs → GivesFew node
+few_stand node table jobs few v shows =
+    let all = few_by (numbers node.rows) node.grants (all_live (numbers node.rows) node.grants (none_of node v shows)) table.few in
+    let rows = length-map node.rows (λ (e : JobNo × Row). e.0.0) in
+    let keys : length node.rows ≡ length node.admissions.live = sym (length-map node.rows (λ (e : JobNo × Row). e.0)) ∙ ap length jobs ∙ length-map node.admissions.live (λ e. e.0) in
+    omega (arith, few, all, rows, keys)
+
+-- of the grants that end each has one grantee
+abbrev grantee_of : StandingGrant → JobNo
+grantee_of grant = record { 0 = grant.grantee }
+
+pub few_ended : (grants : List StandingGrant) (e : Event) → length (grantees_of_ended grants e) ≤ length grants
+few_ended grants e = by (ends e)
+  where
+    by : (o : Option (StandingGrant → Bool)) → length (grantees_in (option_map_or (λ test. grants_ended test grants) o [])) ≤ length grants
+    by None = omega arith
+    by (Some test) =
+        let few = few_end test grants in
+        let same = length-map (grants_ended test grants) grantee_of in
+        omega (arith, few, same)
 
 -- ---- replies
 

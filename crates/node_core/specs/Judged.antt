@@ -1,5 +1,5 @@
 -- What an event was to its own job, without contents, and which replies have a frame.
-use Rattle.std.specs.Prelude.{◌≡◌, List, ℕ, Bool, true, false, Option, Some, None, is_some, option_map}
+use Rattle.std.specs.Prelude.{◌≡◌, ◌≤◌, List, length, ℕ, Bool, true, false, Option, Some, None, is_some, option_map}
 use Rattle.obj_id.specs.declared.commands.Command.TheVariants as command
 use Rattle.obj_id.specs.declared.commands.Reply.{Reply}
 use Rattle.obj_id.specs.declared.commands.Reply.TheVariants as reply
@@ -69,6 +69,14 @@ IsArrivalJudged old job a response was = (view : View) → Shows old job.0 view 
 -- what others granted to a live job is no more than a frame has room for
 abbrev pub SeesFew : Hosted → Type 0
 SeesFew node = (v : ℕ → View) → ShowsAll node v → (job : ℕ) → is_some (row_at node (record { 0 = job })) ≡ true → AreGrantedWithin (v job).shape.received
+
+-- no more than 4,096 grants stand
+abbrev pub GivesFew : Hosted → Type 0
+GivesFew node = (v : ℕ → View) → ShowsAll node v → length node.grants ≤ 4096
+
+-- no more than 4,096 jobs are told of grants
+abbrev pub TellsFew : Hosted → List JobNo → Type 0
+TellsFew node grantees = (v : ℕ → View) → ShowsAll node v → length grantees ≤ 4096
 
 abbrev pub IsSmallCall : Event → Reply (List ℕ) → Type 0
 IsSmallCall (event.Call job session c) response = is_small_reply response ≡ true

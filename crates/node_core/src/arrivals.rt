@@ -27,10 +27,11 @@ use crate::Node;
 use crate::outcome::NodeOutcome;
 use fetch_core::elsewhere;
 use job_row::JobRow;
+use memory_growth::OutOfMemory;
 use obj_id::{Arrival, ChunkIndex, FetchNo, JobNo, Location, NodeNo, PeerMessage, Refusal, Reply};
 use private_store::{Judged, Source};
 use spill_work::Works;
-use std::alloc::{AllocError, Global};
+use std::alloc::Global;
 
 impl Node {
     /// Whether each message of the job is stale here, as the job isn't live. Takes no memory.
@@ -55,8 +56,8 @@ impl Node {
         &mut self,
         job: JobNo,
         arrival: &Arrival,
-        room: Result<(), AllocError>,
-    ) -> Result<NodeOutcome, AllocError>
+        room: Result<(), OutOfMemory>,
+    ) -> Result<NodeOutcome, OutOfMemory>
         ensures ok { IfOk result (λ o. NodeStep self.old (node_event.Arrive job arrival.now) (node_given_of o) self.new) }
         ensures memory_last { OnErr result (IsMemoryLast self.old (node_event.Arrive job arrival.now)) }
         ensures bounded { IfOk result (λ o. length o.messages ≤ most_by_arrival (row_at self.old job) arrival.now) }
@@ -87,12 +88,12 @@ impl Node {
 /// has changed. Works that it asks for come last in the line, and those before them stay.
 fn deliver(
     alloc: Global,
-    room: Result<(), AllocError>,
+    room: Result<(), OutOfMemory>,
     node: u32,
     row: &mut JobRow,
     works: &mut Works,
     arrival: &Arrival,
-) -> Result<(node_table::RowOutcome, Judged), AllocError>
+) -> Result<(node_table::RowOutcome, Judged), OutOfMemory>
     ensures ok { IfOk result (λ o. (grants : List StandingGrant) (bytes : ObjectId → List ℕ) (contents : Contents) → IsShown row.old (beside_of works.old grants bytes row.old.job) contents
         → RowStep node row.old (beside_of works.old grants bytes row.old.job) contents (input.Arrive arrival.now) (row_given_of o.0) row.new (beside_of works.new grants bytes row.old.job)) }
     ensures judged { IfOk result (λ o. (grants : List StandingGrant) (bytes : ObjectId → List ℕ) (contents : Contents) → IsShown row.old (beside_of works.old grants bytes row.old.job) contents
@@ -130,13 +131,13 @@ fn deliver(
 /// The same of a message from another node.
 fn deliver_from(
     alloc: Global,
-    room: Result<(), AllocError>,
+    room: Result<(), OutOfMemory>,
     node: u32,
     row: &mut JobRow,
     works: &mut Works,
     from: u32,
     message: &PeerMessage,
-) -> Result<(node_table::RowOutcome, Judged), AllocError>
+) -> Result<(node_table::RowOutcome, Judged), OutOfMemory>
     ensures ok { IfOk result (λ o. (grants : List StandingGrant) (bytes : ObjectId → List ℕ) (contents : Contents) → IsShown row.old (beside_of works.old grants bytes row.old.job) contents
         → RowStep node row.old (beside_of works.old grants bytes row.old.job) contents (input.Arrive (arrival.FromPeer from message.now)) (row_given_of o.0) row.new (beside_of works.new grants bytes row.old.job)) }
     ensures judged { IfOk result (λ o. (grants : List StandingGrant) (bytes : ObjectId → List ℕ) (contents : Contents) → IsShown row.old (beside_of works.old grants bytes row.old.job) contents

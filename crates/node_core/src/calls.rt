@@ -11,10 +11,11 @@ ghost use Rattle.node_core.specs.MemoryLast.{IsMemoryLastOnRow, IsRoomDue, IsUnr
 
 use bytes::Bytes;
 use job_row::JobRow;
+use memory_growth::OutOfMemory;
 use node_table::RowOutcome;
 use obj_id::{Command, JobNo, Refusal, Reply};
 use spill_work::Works;
-use std::alloc::{AllocError, Global};
+use std::alloc::Global;
 
 /// Carries out a command on the row of the session's job. `NotGranted` for another job's object. The error
 /// is out of memory: no other refusal was due then, and nothing has changed; Write, Release and Usage take none, and Leave
@@ -22,14 +23,14 @@ use std::alloc::{AllocError, Global};
 /// come last in the line, and those before them stay.
 pub(crate) fn carry_out(
     alloc: Global,
-    room: Result<(), AllocError>,
+    room: Result<(), OutOfMemory>,
     node: u32,
     job: JobNo,
     row: &mut JobRow,
     works: &mut Works,
     session: u32,
     command: &Command<Bytes>,
-) -> Result<RowOutcome, AllocError>
+) -> Result<RowOutcome, OutOfMemory>
     requires { is_of_row command.now ≡ true }
     ensures ok { IfOk result (λ o. CallStep node job.0 row.old works.old session command.now (row_given_of o) row.new works.new) }
     ensures bounded { IfOk result (λ o. length o.messages ≤ most_by_command (Some row.old) command.now) }
@@ -59,13 +60,13 @@ pub(crate) fn carry_out(
 /// The same of a command that asks for no work, and whose object, if it names one, is the job's own.
 fn carry_out_without_work(
     alloc: Global,
-    room: Result<(), AllocError>,
+    room: Result<(), OutOfMemory>,
     node: u32,
     row: &mut JobRow,
     works: &Works,
     session: u32,
     command: &Command<Bytes>,
-) -> Result<RowOutcome, AllocError>
+) -> Result<RowOutcome, OutOfMemory>
     requires { is_plain command.now ≡ true }
     ensures ok { IfOk result (λ o. (job : ℕ) → is_own_lem job command.now ≡ true → CallStep node job row.old works.now session command.now (row_given_of o) row.new works.now) }
     ensures bounded { IfOk result (λ o. length o.messages ≤ most_by_command (Some row.old) command.now) }
@@ -95,7 +96,7 @@ fn answer(
     works: &Works,
     session: u32,
     command: &Command<Bytes>,
-) -> Result<Reply<Bytes>, AllocError>
+) -> Result<Reply<Bytes>, OutOfMemory>
     requires { is_answered_here command.now ≡ true }
     ensures ok { IfOk result (λ response. (node job : ℕ) → is_own_lem job command.now ≡ true → CallStep node job row.old works.now session command.now (only response) row.new works.now) }
     ensures memory_last { OnErr result (IsMemoryLastOnRow row.old session command.now) }

@@ -11,9 +11,9 @@ ghost use Rattle.node_core.specs.OneJob.{event_input_of, NodeStepOne};
 
 use crate::Node;
 use crate::judged::if_ok;
+use memory_growth::OutOfMemory;
 use obj_id::{DeviceAnswer, JobNo, Refusal, Reply};
 use private_store::Judged;
-use std::alloc::AllocError;
 
 impl Node {
     /// Whether a work waits that nobody has taken. No event: nothing changes. Takes no memory.
@@ -43,7 +43,7 @@ impl Node {
 
     /// A worker asks for a work: of all jobs' the first that nobody has taken, with a write's bytes. `NoWork` if there is
     /// none. The error is out of memory, and then nobody has taken the work.
-    pub(crate) fn take(&mut self) -> Result<node_table::RowOutcome, AllocError>
+    pub(crate) fn take(&mut self) -> Result<node_table::RowOutcome, OutOfMemory>
         ensures ok { IfOk result (λ o. NodeStepOne self.old event.Take (row_given_of o) self.new) }
         ensures silent { IfOk result (λ o. o.messages ≡ []) }
         ensures memory_last { OnErr result (IsFront self.old) }

@@ -1,15 +1,17 @@
 //! What a node knows of an event before it is taken.
 ghost use Rattle.std.specs.Prelude.{◌≡◌, ◌∷◌, [], Some, IfOk};
 ghost use Rattle.node_core.specs.Hosted.{row_at};
+ghost use Rattle.node_core.specs.Judged.{TellsFew};
 ghost use Rattle.node_core.specs.Foreseen.{grantees_of_ended as grantees_of_ended_lem, most_by_arrival as most_by_arrival_lem, most_by_command as most_by_command_lem, most_messages as most_messages_lem, grantees_of as grantees_of_lem, grantees_in};
 
 use crate::Node;
 use bytes::Bytes;
 use grants::StandingGrant;
 use job_row::JobRow;
+use memory_growth::{OutOfMemory, lists};
 use obj_id::{Arrival, Command, ItemList, JobNo, PeerMessage};
 use private_store::Event;
-use std::alloc::{AllocError, Global};
+use std::alloc::Global;
 
 /// What a caller has to grow for before an event is taken.
 #[derive(Debug, Drop)]
@@ -42,9 +44,11 @@ impl Node {
 
     /// The jobs that the event tells of grants if it is accepted, one for each note, in their order. The error is out
     /// of memory. It changes nothing.
-    pub fn grantees(&self, event: &Event) -> Result<ItemList<JobNo>, AllocError>
+    pub fn grantees(&self, event: &Event) -> Result<ItemList<JobNo>, OutOfMemory>
         ensures grantees { IfOk result (λ grantees. grantees ≡ grantees_of_lem self.now.grants event.now) }
+        ensures few { IfOk result (TellsFew self.now) }
     {
+        self.few_stand();
         match event {
             Event::Call {
                 command: Command::Grant(_, target),
@@ -55,7 +59,7 @@ impl Node {
     }
 
     /// The grantees of the grants that end if the event is accepted, in the order in which they are announced.
-    fn grantees_of_ended(&self, event: &Event) -> Result<ItemList<JobNo>, AllocError>
+    fn grantees_of_ended(&self, event: &Event) -> Result<ItemList<JobNo>, OutOfMemory>
         ensures { IfOk result (λ grantees. grantees ≡ grantees_of_ended_lem self.now.grants event.now) }
     {
         let ends = match event {
@@ -111,21 +115,21 @@ impl Node {
 }
 
 /// One grantee.
-fn one_grantee(alloc: Global, grantee: JobNo) -> Result<ItemList<JobNo>, AllocError>
+fn one_grantee(alloc: Global, grantee: JobNo) -> Result<ItemList<JobNo>, OutOfMemory>
     ensures { IfOk result (λ grantees. grantees ≡ grantee ∷ []) }
 {
-    let mut grantees = Vec::with_capacity(alloc, 1)?;
-    grantees.push(grantee)?;
+    let mut grantees = lists::with_capacity(alloc, 1)?;
+    lists::push(&mut grantees, grantee)?;
     Ok(ItemList::from_vec(grantees))
 }
 
 /// The grantees of the grants, in their order.
-fn grantees_of(alloc: Global, grants: &[StandingGrant]) -> Result<ItemList<JobNo>, AllocError>
+fn grantees_of(alloc: Global, grants: &[StandingGrant]) -> Result<ItemList<JobNo>, OutOfMemory>
     ensures { IfOk result (λ grantees. grantees ≡ grantees_in grants.now) }
 {
-    let mut grantees = Vec::with_capacity(alloc, grants.len())?;
+    let mut grantees = lists::with_room_for(alloc, grants)?;
     for grant in grants {
-        grantees.push(grant.grantee())?;
+        lists::push(&mut grantees, grant.grantee())?;
     }
     Ok(ItemList::from_vec(grantees))
 }

@@ -15,9 +15,10 @@ ghost use Rattle.node_core.specs.Steps.{NodeStep};
 use crate::Node;
 use crate::outcome::NodeOutcome;
 use job_row::JobRow;
-use obj_id::{Command, JobNo, ObjectId, Refusal, Reply};
+use memory_growth::{OutOfMemory, lists};
+use obj_id::{Command, Failure, JobNo, ObjectId, Refusal, Reply};
 use private_store::Judged;
-use std::alloc::{AllocError, Global};
+use std::alloc::Global;
 
 impl Node {
     /// Grants an object, the job's own or one that it was granted, to the target, live or not: the target is notified.
@@ -30,7 +31,7 @@ impl Node {
         session: u32,
         id: &ObjectId,
         target: JobNo,
-    ) -> Result<NodeOutcome, AllocError>
+    ) -> Result<NodeOutcome, OutOfMemory>
         ensures ok { IfOk result (λ o. NodeStep self.old (node_event.Own (event.Call job session (command.Grant id.now target))) (node_given_of o) self.new) }
         ensures silent { IfOk result (λ o. o.messages ≡ []) }
         ensures judged { IfOk result (λ o. o.judged ≡ judged_as (event.Call job session (command.Grant id.now target)) o.reply) }
@@ -47,9 +48,11 @@ impl Node {
         if let Some(refusal) = grant_refusal(row, job, id, target, table) {
             return Ok(NodeOutcome::refused(self.alloc, refusal, judged));
         }
-        let notes = Vec::with_capacity(self.alloc, 1)?;
-        let Ok(made) = self.grants.grant(job, *id, target) else {
-            return Err(AllocError);
+        let notes = lists::with_capacity(self.alloc, 1)?;
+        let made = match self.grants.grant(job, *id, target) {
+            Ok(made) => made,
+            Err(Failure::Memory(error)) => return Err(error),
+            Err(Failure::Refused(_)) => unreachable!(),
         };
         let outcome = give(self.alloc, job, row, id, target, table);
         Ok(NodeOutcome::with_given(outcome, notes, &made, length, judged))
@@ -64,7 +67,7 @@ impl Node {
         session: u32,
         id: &ObjectId,
         target: JobNo,
-    ) -> Result<NodeOutcome, AllocError>
+    ) -> Result<NodeOutcome, OutOfMemory>
         ensures ok { IfOk result (λ o. NodeStep self.old (node_event.Own (event.Call job session (command.Withdraw id.now target))) (node_given_of o) self.new) }
         ensures silent { IfOk result (λ o. o.messages ≡ []) }
         ensures judged { IfOk result (λ o. o.judged ≡ judged_as (event.Call job session (command.Withdraw id.now target)) o.reply) }
@@ -79,9 +82,11 @@ impl Node {
         if !self.grants.has_given(job, *id, target) {
             return Ok(NodeOutcome::refused(self.alloc, Refusal::NotGranted, judged));
         }
-        let notes = Vec::with_capacity(self.alloc, self.grants.len())?;
-        let Ok(ended) = self.grants.withdraw(job, *id, target) else {
-            return Err(AllocError);
+        let notes = lists::with_room_for(self.alloc, self.grants.as_slice())?;
+        let ended = match self.grants.withdraw(job, *id, target) {
+            Ok(ended) => ended,
+            Err(Failure::Memory(error)) => return Err(error),
+            Err(Failure::Refused(_)) => unreachable!(),
         };
         let granted = self.grants.is_granted(*id);
         let outcome = let_go(self.alloc, job, row, id, target, granted);

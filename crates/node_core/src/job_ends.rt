@@ -15,9 +15,9 @@ ghost use Rattle.node_core.specs.Steps.{NodeStep, end_check};
 use crate::Node;
 use crate::outcome::NodeOutcome;
 use grants::EndingGrants;
+use memory_growth::{OutOfMemory, lists};
 use obj_id::{DirectoryMessage, Endpoint, JobNo, Message, Refusal, Reply};
 use private_store::Judged;
-use std::alloc::AllocError;
 
 impl Node {
     /// The operator ends a job: nothing is left of it here, the directory is notified, the device keys of its copies are to be
@@ -26,8 +26,8 @@ impl Node {
     pub(crate) fn end_job(
         &mut self,
         job: JobNo,
-        room: Result<(), AllocError>,
-    ) -> Result<NodeOutcome, AllocError>
+        room: Result<(), OutOfMemory>,
+    ) -> Result<NodeOutcome, OutOfMemory>
         ensures ok { IfOk result (λ o. NodeStep self.old (node_event.Own (event.JobEnd job)) (node_given_of o) self.new) }
         ensures bounded { IfOk result (λ o. length o.messages ≤ 1) }
         ensures unsent { IfOk result (λ o. is_ok room ≡ false → o.messages ≡ []) }
@@ -40,7 +40,7 @@ impl Node {
             return Ok(NodeOutcome::refused(self.alloc, Refusal::NotAdmitted, None));
         }
         let ends = self.grants.ends_with_job(job)?;
-        let notes = Vec::with_capacity(self.alloc, ends.grants().len())?;
+        let notes = lists::with_room_for(self.alloc, ends.grants())?;
         let outcome = self.own_end(job, room)?;
         self.let_job_go(job, &ends);
         let judged = Some(Judged::End);
@@ -51,8 +51,8 @@ impl Node {
     fn own_end(
         &self,
         job: JobNo,
-        room: Result<(), AllocError>,
-    ) -> Result<node_table::RowOutcome, AllocError>
+        room: Result<(), OutOfMemory>,
+    ) -> Result<node_table::RowOutcome, OutOfMemory>
         requires { is_some (live_at self.now.admissions job) ≡ true }
         ensures ok { IfOk result (λ o. IsOwnEnd self.now job (row_given_of o)) }
         ensures unsent { IfOk result (λ o. is_ok room ≡ false → o.messages ≡ []) }

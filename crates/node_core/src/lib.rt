@@ -24,7 +24,7 @@ ghost use Rattle.node_core.specs.MemoryLast.{IsCallUnrefused, IsEventUnrefused, 
 ghost use Rattle.node_core.specs.OneJob.{NodeStepOne};
 ghost use Rattle.node_core.specs.Outcomes.{node_given_of};
 ghost use Rattle.node_core.specs.Foreseen.{most_by_command, most_messages, AreTakers};
-ghost use Rattle.node_core.specs.Judged.{is_finish, moves_grants, judged_as, IsJudged, SeesFew, IsSmall};
+ghost use Rattle.node_core.specs.Judged.{is_finish, moves_grants, judged_as, GivesFew, IsJudged, SeesFew, IsSmall};
 
 mod arrivals;
 mod calls;
@@ -46,12 +46,13 @@ use grants::Grants;
 use indexmap::IndexMap;
 use job_admission::Admission;
 pub use job_row::{JobRow, Prepared};
+use memory_growth::{OutOfMemory, tables};
 pub use node_table::Erase;
-use obj_id::{Command, JobKey, JobNo, ObjectId, Quota, Refusal, Reply, Usage};
+use obj_id::{Command, Failure, JobKey, JobNo, ObjectId, Quota, Refusal, Reply, Usage};
 pub use outcome::{NodeOutcome, Note};
 use private_store::Event;
 use spill_work::Works;
-use std::alloc::{AllocError, Global};
+use std::alloc::Global;
 use std::marker::Model;
 
 /// A node of a cluster.
@@ -128,8 +129,8 @@ impl Node {
     pub fn apply(
         &mut self,
         event: &Event,
-        room: Result<(), AllocError>,
-    ) -> Result<NodeOutcome, AllocError>
+        room: Result<(), OutOfMemory>,
+    ) -> Result<NodeOutcome, OutOfMemory>
         ensures ok { IfOk result (λ o. NodeStep self.old (node_event.Own event.now) (node_given_of o) self.new) }
         ensures memory_last { OnErr result (IsMemoryLast self.old (node_event.Own event.now)) }
         ensures bounded { IfOk result (λ o. length o.messages ≤ most_messages self.old event.now) }
@@ -165,12 +166,19 @@ impl Node {
         let _ = self.admission.live_jobs();
     }
 
+    /// A law of every node: each of at most 64 live jobs gave at most 64 grants that stand, and nobody else gave one.
+    pub(crate) fn few_stand(&self)
+        ensures { GivesFew self.now }
+    {
+        let _ = self.admission.live_jobs();
+    }
+
     /// A step of what may end grants or give one.
     fn move_grants(
         &mut self,
         event: &Event,
-        room: Result<(), AllocError>,
-    ) -> Result<NodeOutcome, AllocError>
+        room: Result<(), OutOfMemory>,
+    ) -> Result<NodeOutcome, OutOfMemory>
         requires moves { moves_grants event.now ≡ true }
         ensures ok { IfOk result (λ o. NodeStep self.old (node_event.Own event.now) (node_given_of o) self.new) }
         ensures bounded { IfOk result (λ o. length o.messages ≤ most_messages self.old event.now) }
@@ -205,8 +213,8 @@ impl Node {
     fn step_one(
         &mut self,
         event: &Event,
-        room: Result<(), AllocError>,
-    ) -> Result<node_table::RowOutcome, AllocError>
+        room: Result<(), OutOfMemory>,
+    ) -> Result<node_table::RowOutcome, OutOfMemory>
         requires other { is_finish event.now ≡ false }
         requires lasting { moves_grants event.now ≡ false }
         ensures ok { IfOk result (λ o. NodeStepOne self.old event.now (row_given_of o) self.new) }
@@ -304,8 +312,8 @@ impl Node {
         job: JobNo,
         session: u32,
         command: &Command<Bytes>,
-        room: Result<(), AllocError>,
-    ) -> Result<node_table::RowOutcome, AllocError>
+        room: Result<(), OutOfMemory>,
+    ) -> Result<node_table::RowOutcome, OutOfMemory>
         requires lasting { moves_grants (event.Call job session command.now) ≡ false }
         ensures ok { IfOk result (λ o. NodeStepOne self.old (event.Call job session command.now) (row_given_of o) self.new) }
         ensures bounded { IfOk result (λ o. length o.messages ≤ most_by_command (row_at self.old job) command.now) }
@@ -334,8 +342,8 @@ impl Node {
         job: JobNo,
         session: u32,
         command: &Command<Bytes>,
-        room: Result<(), AllocError>,
-    ) -> Result<node_table::RowOutcome, AllocError>
+        room: Result<(), OutOfMemory>,
+    ) -> Result<node_table::RowOutcome, OutOfMemory>
         requires { is_of_row command.now ≡ true }
         ensures ok { IfOk result (λ o. NodeStepOne self.old (event.Call job session command.now) (row_given_of o) self.new) }
         ensures bounded { IfOk result (λ o. length o.messages ≤ most_by_command (row_at self.old job) command.now) }
@@ -366,7 +374,7 @@ impl Node {
         job: JobNo,
         quota: Quota,
         key: JobKey,
-    ) -> Result<node_table::RowOutcome, AllocError>
+    ) -> Result<node_table::RowOutcome, OutOfMemory>
         ensures ok { IfOk result (λ o. NodeStepOne self.old (event.Admit job quota key) (row_given_of o) self.new) }
         ensures silent { IfOk result (λ o. o.messages ≡ []) }
         ensures memory_last { OnErr result (admit_check self.old.admissions job quota ≡ None) }
@@ -380,21 +388,23 @@ impl Node {
     }
 
     /// The job is live from now on, with an empty row. All growth comes before the first change.
-    fn add_row(&mut self, job: JobNo, quota: Quota, key: JobKey) -> Result<(), AllocError>
+    fn add_row(&mut self, job: JobNo, quota: Quota, key: JobKey) -> Result<(), OutOfMemory>
         requires { admit_check self.old.admissions job quota ≡ None }
         ensures ok { OnOk result (NodeStepOne self.old (event.Admit job quota key) (only reply.Ok) self.new) }
         ensures err { OnErr result (self.new ≡ self.old) }
     {
-        let Ok(row) = JobRow::new(self.alloc, job, quota) else {
-            return Err(AllocError);
+        let row = match JobRow::new(self.alloc, job, quota) {
+            Ok(row) => row,
+            Err(Failure::Memory(error)) => return Err(error),
+            Err(Failure::Refused(_)) => unreachable!(),
         };
-        self.rows.reserve(1)?;
-        let Ok(()) = self.admission.admit(job, quota, key) else {
-            return Err(AllocError);
-        };
-        match self.rows.insert(job, row) {
-            Ok(_) => Ok(()),
-            Err(_) => Err(AllocError),
+        tables::reserve(&mut self.rows, 1)?;
+        match self.admission.admit(job, quota, key) {
+            Ok(()) => {}
+            Err(Failure::Memory(error)) => return Err(error),
+            Err(Failure::Refused(_)) => unreachable!(),
         }
+        tables::insert(&mut self.rows, job, row)?;
+        Ok(())
     }
 }

@@ -10,8 +10,8 @@ ghost use Rattle.node_core.specs.OneJob.{NodeStepOne};
 
 use crate::Node;
 use grants::StandingGrant;
+use memory_growth::{OutOfMemory, lists};
 use obj_id::{GrantedItem, ItemList, JobNo, ObjectId, Refusal, Reply};
-use std::alloc::AllocError;
 
 impl Node {
     /// List: the job's own copies by rising id, and the objects that others granted to it. `NotAdmitted` if the job
@@ -20,7 +20,7 @@ impl Node {
         &self,
         job: JobNo,
         session: u32,
-    ) -> Result<node_table::RowOutcome, AllocError>
+    ) -> Result<node_table::RowOutcome, OutOfMemory>
         ensures ok { IfOk result (λ o. NodeStepOne self.now (event.Call job session command.List) (row_given_of o) self.now) }
         ensures silent { IfOk result (λ o. o.messages ≡ []) }
         ensures memory_last { OnErr result (IsCallUnrefused self.now job session command.List) }
@@ -35,7 +35,7 @@ impl Node {
     }
 
     /// The objects that others granted to the job, by rising id, each with the depth of its oldest grant.
-    fn granted(&self, job: JobNo) -> Result<ItemList<GrantedItem>, AllocError>
+    fn granted(&self, job: JobNo) -> Result<ItemList<GrantedItem>, OutOfMemory>
         ensures { IfOk result (λ items. items ≡ granted_here self.now job.0) }
     {
         let seen = self.grants.seen(job)?;
@@ -43,12 +43,12 @@ impl Node {
     }
 
     /// The objects of these grants.
-    fn granted_items(&self, grants: &[StandingGrant]) -> Result<ItemList<GrantedItem>, AllocError>
+    fn granted_items(&self, grants: &[StandingGrant]) -> Result<ItemList<GrantedItem>, OutOfMemory>
         ensures { IfOk result (λ items. items ≡ map (granted_item_lem self.now.rows) grants.now) }
     {
         let mut items = Vec::new(self.alloc);
         for grant in grants {
-            items.push(self.granted_item(grant))?;
+            lists::push(&mut items, self.granted_item(grant))?;
         }
         Ok(ItemList::from_vec(items))
     }

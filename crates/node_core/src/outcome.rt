@@ -7,6 +7,7 @@ ghost use Rattle.node_core.specs.Outcomes.{node_given_of, input_noted, end_noted
 
 use bytes::Bytes;
 use grants::StandingGrant;
+use memory_growth::lists;
 use node_table::Erase;
 use obj_id::{Endpoint, ItemList, JobNo, Message, Refusal, Reply};
 use private_store::Judged;
@@ -76,7 +77,7 @@ impl NodeOutcome {
         ensures judged { result.judged ≡ judged }
     {
         let mut notes = notes;
-        notes.push(received_note(grant, length)).unwrap();
+        lists::push(&mut notes, received_note(grant, length)).unwrap();
         NodeOutcome {
             reply: outcome.reply,
             messages: outcome.messages,
@@ -100,7 +101,7 @@ impl NodeOutcome {
     {
         let mut notes = notes;
         for grant in ended {
-            notes.push(end_note(grant)).unwrap();
+            lists::push(&mut notes, end_note(grant)).unwrap();
         }
         NodeOutcome {
             reply: outcome.reply,

@@ -12,9 +12,9 @@ ghost use Rattle.node_core.specs.OneJob.{NodeStepOne};
 
 use crate::Node;
 use job_row::Lent;
+use memory_growth::OutOfMemory;
 use obj_id::limits::MOST_BYTES;
 use obj_id::{JobNo, ObjectId, Refusal, Reply};
-use std::alloc::AllocError;
 
 impl Node {
     /// Peek: bytes of an object that another job granted, as they lie in the window of its own job. `NotAdmitted` if the
@@ -27,7 +27,7 @@ impl Node {
         id: &ObjectId,
         offset: u32,
         len: u32,
-    ) -> Result<node_table::RowOutcome, AllocError>
+    ) -> Result<node_table::RowOutcome, OutOfMemory>
         ensures ok { IfOk result (λ o. NodeStepOne self.now (event.Call job session (command.Peek id.now offset len)) (row_given_of o) self.now) }
         ensures silent { IfOk result (λ o. o.messages ≡ []) }
         ensures memory_last { OnErr result (IsCallUnrefused self.now job session (command.Peek id.now offset len)) }

@@ -9,8 +9,8 @@ ghost use Rattle.node_core.specs.Quotas.{requota_refusal};
 ghost use Rattle.node_core.specs.Steps.{requota_check as requota_check_lem};
 
 use crate::Node;
-use obj_id::{JobNo, Quota, Refusal, Reply};
-use std::alloc::AllocError;
+use memory_growth::OutOfMemory;
+use obj_id::{Failure, JobNo, Quota, Refusal, Reply};
 
 impl Node {
     /// Why the job can't have this quota: `NotAdmitted`, `BadSize`, `Full` if what it uses isn't within it, `NoRoom` if its
@@ -33,7 +33,7 @@ impl Node {
         &mut self,
         job: JobNo,
         quota: Quota,
-    ) -> Result<node_table::RowOutcome, AllocError>
+    ) -> Result<node_table::RowOutcome, OutOfMemory>
         ensures ok { IfOk result (λ o. NodeStepOne self.old (event.Requota job quota) (row_given_of o) self.new) }
         ensures silent { IfOk result (λ o. o.messages ≡ []) }
         ensures memory_last { OnErr result ((view : View) → Shows self.old job.0 view → requota_check_lem self.old.admissions view job quota ≡ None) }
@@ -45,9 +45,11 @@ impl Node {
         let Some(own_row) = self.rows.get_mut(&job) else {
             unreachable!()
         };
-        let Ok(()) = node_table::requota(own_row, quota) else {
-            return Err(AllocError);
-        };
+        match node_table::requota(own_row, quota) {
+            Ok(()) => {}
+            Err(Failure::Memory(error)) => return Err(error),
+            Err(Failure::Refused(_)) => unreachable!(),
+        }
         let Ok(()) = self.admission.resize(job, quota) else {
             unreachable!()
         };

@@ -12,9 +12,9 @@ ghost use Rattle.node_core.specs.Steps.{NodeStep};
 
 use crate::Node;
 use crate::outcome::NodeOutcome;
+use memory_growth::{OutOfMemory, lists};
 use obj_id::{Command, JobNo, Refusal, Reply, TaskNo};
 use private_store::Judged;
-use std::alloc::AllocError;
 
 impl Node {
     /// A session ends a task of its job: the row doesn't take the task's commands from then on, and what the job granted
@@ -25,8 +25,8 @@ impl Node {
         job: JobNo,
         session: u32,
         task: TaskNo,
-        room: Result<(), AllocError>,
-    ) -> Result<NodeOutcome, AllocError>
+        room: Result<(), OutOfMemory>,
+    ) -> Result<NodeOutcome, OutOfMemory>
         ensures ok { IfOk result (λ o. NodeStep self.old (node_event.Own (event.Call job session (command.EndTask task))) (node_given_of o) self.new) }
         ensures bounded { IfOk result (λ o. length o.messages ≤ most_by_command (row_at self.old job) (command.EndTask task)) }
         ensures unsent { IfOk result (λ o. is_ok room ≡ false → o.messages ≡ []) }
@@ -41,7 +41,7 @@ impl Node {
             return Ok(NodeOutcome::of_row(self.alloc, outcome, judged));
         }
         let ends = self.grants.ends_with_task(job, task)?;
-        let notes = Vec::with_capacity(self.alloc, ends.grants().len())?;
+        let notes = lists::with_room_for(self.alloc, ends.grants())?;
         let Some(row) = self.rows.get_mut(&job) else {
             unreachable!()
         };

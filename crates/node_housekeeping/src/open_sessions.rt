@@ -1,4 +1,5 @@
 //! The sessions of a node that are open, and those that are to be left later.
+use memory_growth::lists;
 use obj_id::JobNo;
 use std::alloc::Global;
 use std::sync::atomic::{AtomicBool, Ordering};
@@ -30,7 +31,7 @@ impl Sessions {
         if open >= MOST_SESSIONS - self.marked.len().min(MOST_SESSIONS) {
             return false;
         }
-        if self.marked.reserve(open + 1).is_err() {
+        if lists::reserve(&mut self.marked, open + 1).is_err() {
             return false;
         }
         self.open = open + 1;
@@ -89,7 +90,7 @@ impl OpenSessions {
     /// Marks a session: it is to be left later. One that wasn't opened may find no room, and is then never left.
     pub fn mark<R: Wait>(&self, rt: &R, job: JobNo, session: u32) {
         let mut sessions = self.sessions.lock(rt);
-        let _ = sessions.marked.push(LeaveMark { job, session });
+        let _ = lists::push(&mut sessions.marked, LeaveMark { job, session });
         self.tell_marked(&sessions.marked);
     }
 

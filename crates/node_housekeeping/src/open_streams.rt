@@ -1,5 +1,6 @@
 //! The streams of a node's open sessions.
-use std::alloc::{AllocError, Global};
+use memory_growth::{OutOfMemory, boxes, lists};
+use std::alloc::Global;
 use std::net::Shutdown;
 use std::os::fd::AsRawFd;
 use std::os::unix::net::UnixStream;
@@ -56,11 +57,11 @@ impl OpenStreams {
         rt: &R,
         alloc: Global,
         stream: UnixStream,
-    ) -> Result<Arc<UnixStream>, AllocError> {
-        let stream = Arc::new(alloc, stream)?;
-        let shared = Arc::try_clone(&stream)?;
+    ) -> Result<Arc<UnixStream>, OutOfMemory> {
+        let stream = boxes::counted(alloc, stream)?;
+        let shared = boxes::another(&stream)?;
         let mut streams = self.streams.lock(rt);
-        streams.open.push(shared)?;
+        lists::push(&mut streams.open, shared)?;
         if let Some(how) = streams.shut {
             let _ = stream.shutdown(how);
         }

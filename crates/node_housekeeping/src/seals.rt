@@ -23,7 +23,10 @@ impl Sealing {
     fn is_met<B>(&self, job: JobNo, command: &Command<B>) -> bool {
         self.job == job
             && match command {
-                Command::Write { id, .. } | Command::Delete(id) => self.id == *id,
+                Command::Write { id, .. }
+                | Command::Unpin(id, _)
+                | Command::GiveUp(id, _)
+                | Command::Delete(id) => self.id == *id,
                 Command::EndTask(task) => self.id.task() == *task,
                 _ => false,
             }
@@ -104,11 +107,15 @@ impl Seals {
     }
 }
 
-/// Whether the command may change or remove a copy that isn't sealed.
+/// Whether the command may change or remove a copy that isn't sealed. The last who keeps a primary may let go of it before it is.
 fn may_meet<B>(command: &Command<B>) -> bool {
     matches!(
         command,
-        Command::Write { .. } | Command::Delete(_) | Command::EndTask(_)
+        Command::Write { .. }
+            | Command::Unpin(..)
+            | Command::GiveUp(..)
+            | Command::Delete(_)
+            | Command::EndTask(_)
     )
 }
 

@@ -1,4 +1,5 @@
 //! The device keys of a node that wait to be erased.
+use memory_growth::lists;
 use obj_id::DeviceKey;
 use std::alloc::Global;
 use std::mem;
@@ -41,7 +42,7 @@ impl WaitingKeys {
 
 /// Adds keys to these: whether any are there now, and how many found no memory.
 fn add_all(keys: &mut Vec<DeviceKey>, more: &[DeviceKey]) -> (bool, u64) {
-    let unerased = match keys.extend_from_slice(more) {
+    let unerased = match lists::extend_from_slice(keys, more) {
         Ok(()) => 0,
         Err(_) => more.len() as u64,
     };

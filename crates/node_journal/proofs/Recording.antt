@@ -1,6 +1,9 @@
 -- What the record of a step needs, and what it adds.
 use Rattle.std.proofs.Common.{◌≡◌, ℕ, ◌≤◌, ◌+◌, Bool, true, false, ◌||◌, List, [], ◌∷◌, ◌++◌, length, map, append_assoc, Result, Ok, Err, IfOk, OnErr, refl, sym, ap, ◌∙◌, arith}
-use Rattle.std.specs.Prelude.{if◌then◌else◌}
+use Rattle.std.specs.Prelude.{if◌then◌else◌, nat_le}
+use Rattle.std.proofs.Math.Logic.{∥∥₁_elim}
+use mathlib.Core.Bool.{Bool-set}
+use Rattle.std.proofs.lemmas.Bool.Decides.{nat_tests}
 use Rattle.std.specs.List.{list_any}
 use Rattle.std.proofs.lemmas.List.{length-map}
 use Rattle.obj_id.specs.declared.ids.JobNo.{JobNo}
@@ -12,8 +15,10 @@ use Rattle.private_store.specs.rules.Jobs.{same_job}
 use Rattle.store_facts.proofs.Tests.{true_false}
 use Rattle.node_core.specs.declared.outcome.Note.{Note}
 use Rattle.node_core.specs.Foreseen.{AreTakers, grantees_of}
+use Rattle.node_core.specs.Hosted.{Hosted}
+use Rattle.node_core.specs.Judged.{TellsFew}
 use Rattle.node_journal.specs.declared.entries.Line.{Line}
-use Rattle.node_journal.specs.Journals.{Journal, with_lines}
+use Rattle.node_journal.specs.Journals.{Journal, Tells, with_lines}
 
 -- those that a step told of grants are among the jobs that it might tell, and no more
 any_mapped : (grantee : JobNo) (notes : List Note) → list_any (same_job grantee) (map (λ (note : Note). note.job) notes) ≡ list_any (λ (note : Note). same_job grantee note.job) notes
@@ -39,6 +44,16 @@ module _ (notes : List Note) (grantees : List JobNo) where
       → (grantee : JobNo) → list_any (λ note. same_job grantee note.job) notes ≡ true → (list_any (same_job grantee) grantees ≡ true) × (length notes ≤ length grantees)
   told_within grants e reply.Ok are is = told_same (are ∙ sym is)
   told_within grants e _ are is = told_none are
+
+-- whom an event tells of grants are few, since the node shows a view of each job
+pub told_few : (node : Hosted) (journals : ℕ → Journal) (grantees : List JobNo) → TellsFew node grantees → ∥ Tells node journals ∥₁ → length grantees ≤ 4096
+told_few node journals grantees few h = from (∥∥₁_elim h (Bool-set _ _) (λ t. to (few t.views t.shown)))
+  where
+    to : length grantees ≤ 4096 → nat_le (length grantees) 4096 ≡ true
+    to l = grind (arith, nat_tests, l)
+
+    from : nat_le (length grantees) 4096 ≡ true → length grantees ≤ 4096
+    from e = grind (arith, nat_tests, e)
 
 -- room for the notes after the entry
 pub notes_fit : {most n spare after : ℕ} → most + 1 ≤ spare → spare ≤ after + 1 → n ≤ most → n ≤ after

@@ -2,4 +2,5 @@ pub mod Replies
 pub mod Journals
 pub mod Receipts
 pub mod Logs
+pub mod MemoryLast
 pub mod Posts

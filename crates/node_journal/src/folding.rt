@@ -4,11 +4,12 @@ ghost use Rattle.node_journal.specs.Journals.{Tells, most_lines, list_is_full as
 ghost use Rattle.node_journal.specs.Logs.{journal_of, list_of, AreBases, has_base as has_base_lem};
 
 use crate::logs::Logs;
+use memory_growth::{OutOfMemory, lists};
 use node_core::Node;
 use node_snapshot::snapshot;
 use obj_id::JobNo;
 use plain_store::PlainStore;
-use std::alloc::{AllocError, Global};
+use std::alloc::Global;
 
 /// The lines that a job's list has at most.
 pub const MOST_LINES: usize = 65_536;
@@ -44,7 +45,7 @@ pub(crate) fn base_of(
     node: &Node,
     logs: &Logs,
     job: JobNo,
-) -> Result<Base, AllocError>
+) -> Result<Base, OutOfMemory>
     requires { ∥ Tells node.now (journal_of logs.now) ∥₁ }
     ensures { IfOk result (λ base. base ≡ base_after (journal_of logs.now job.0)) }
 {
@@ -62,7 +63,7 @@ pub(crate) fn bases_of(
     logs: &Logs,
     own: JobNo,
     grantees: &[JobNo],
-) -> Result<Vec<(JobNo, Base)>, AllocError>
+) -> Result<Vec<(JobNo, Base)>, OutOfMemory>
     requires response { ∥ Tells node.now (journal_of logs.now) ∥₁ }
     requires few { (job : ℕ) → length (list_of logs.now job) ≤ most_lines }
     requires some { length grantees.now < most_lines }
@@ -86,7 +87,7 @@ fn add_base(
     grantees: &[JobNo],
     job: JobNo,
     bases: &mut Vec<(JobNo, Base)>,
-) -> Result<(), AllocError>
+) -> Result<(), OutOfMemory>
     requires response { ∥ Tells node.now (journal_of logs.now) ∥₁ }
     requires few { (job : ℕ) → length (list_of logs.now job) ≤ most_lines }
     requires some { length grantees.now < most_lines }
@@ -98,7 +99,7 @@ fn add_base(
         return Ok(());
     }
     let base = base_of(alloc, node, logs, job)?;
-    bases.push((job, base))?;
+    lists::push(bases, (job, base))?;
     Ok(())
 }
 

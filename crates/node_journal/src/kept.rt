@@ -17,6 +17,7 @@ ghost use Rattle.node_core.specs.Outcomes.{node_given_of};
 ghost use Rattle.node_journal.specs.declared.entries.Agreement.TheVariants.{No};
 ghost use Rattle.node_journal.specs.declared.entries.Entry.{Entry};
 ghost use Rattle.node_journal.specs.Logs.{journal_of, list_of, was_kept};
+ghost use Rattle.node_journal.specs.MemoryLast.{IsStepLast};
 ghost use Rattle.node_journal.specs.Posts.{IsAstray, is_entered};
 ghost use Rattle.private_store.specs.rules.Cluster.{arrival_of};
 ghost use Rattle.private_store.specs.rules.Jobs.{same_job};
@@ -25,22 +26,22 @@ ghost use Rattle.node_journal.specs.Journals.{entry_for, event_name, is_this, ri
 
 use crate::entered::Entered;
 use crate::entries::{Agreement, Entry, Line, Receipt, entry_of, job_of, name_of, name_of_arrival};
-use crate::folding::{MOST_LINES, base_of, bases_of};
+use crate::folding::{base_of, bases_of};
 use crate::logs::Logs;
+use crate::not_stepped::NotStepped;
 use crate::posts::{Made, Posted, arrival};
 use crate::sweeping::sweep_job;
 use bytes::Bytes;
 use hashed_bytes::Hashed;
+use memory_growth::OutOfMemory;
+use memory_growth::counters::Counter;
 use node_core::{JobRow, Node, Prepared};
 use obj_id::{Arrival, Endpoint, ItemList, JobKey, JobNo, ObjectId, Refusal};
 use private_store::Event;
-use std::alloc::{AllocError, Global};
+use std::alloc::Global;
 use std::marker::PhantomData;
 use std::snapshot::Snapshot;
 use std::sync::ledger::{Ledger, Share};
-
-/// The number of the last entry that a journal can have.
-const LAST_ENTRY: u64 = (1 << 60) - 1;
 
 /// How many lists a sweep looks at. A Grant makes one at most: with a sweep after each, there are never many more lists that are of no
 /// use than others.
@@ -60,7 +61,7 @@ pub struct Kept<L: Ledger> {
     number: u32,
     logs: Logs,
     // of all jobs' entries
-    count: u64,
+    count: Counter,
     pub(crate) ledger_share: Share<L>,
     pub ghost seated: { ledger_share.parts ≡ 1 },
     pub ghost blank: { ledger_share.amount ≡ 0 },
@@ -85,7 +86,7 @@ impl<L: Ledger> Kept<L> {
             node: Node::new(alloc, number, memory),
             number,
             logs: Logs::new(alloc),
-            count: 0,
+            count: Counter::new(),
             ledger_share,
         }
     }
@@ -95,9 +96,9 @@ impl<L: Ledger> Kept<L> {
     /// might become longer than 65,536 lines by that is folded first: its base is then the replay of its old base and lines, and
     /// it has the new lines alone.
     ///
-    /// The error is out of memory: for the event, its entry or a fold, or since 1,152,921,504,606,846,975 entries were made or
-    /// the event tells of 65,536 grants or more. Then nothing has changed.
-    pub fn step(&mut self, event: &Event) -> Result<Made<L>, AllocError>
+    /// The error is out of memory: for its entry or a fold, or since 1,152,921,504,606,846,975 entries were made; or for the step
+    /// itself, and then no other refusal was due. Nothing has changed.
+    pub fn step(&mut self, event: &Event) -> Result<Made<L>, NotStepped>
         ensures node { IfOk result (λ r. NodeStep self.old.node (node_event.Own event.now) (node_given_of r.outcome) self.new.node) }
         ensures journal { IfOk result (λ r. (job : ℕ) → journal_of self.new.logs job
             ≡ journal_after self.old.node (self.old.count + 1) (node_event.Own event.now) r.outcome.judged (node_given_of r.outcome) job (journal_of self.old.logs job)) }
@@ -108,6 +109,7 @@ impl<L: Ledger> Kept<L> {
         ensures count { OnOk result (self.new.count ≡ self.old.count + 1) }
         ensures answered { IfOk result (λ r. is_call event.now ≡ true → wants_memory r.outcome.reply ≡ false) }
         ensures small { IfOk result (λ r. is_call event.now ≡ true → is_small_reply r.outcome.reply ≡ true) }
+        ensures memory_last { IfErr result (IsStepLast self.old.node event.now) }
         ensures number { self.new.number ≡ self.old.number }
         ensures same { OnErr result ((self.new.node ≡ self.old.node) × (self.new.count ≡ self.old.count)) }
         ensures unchanged { OnErr result ((job : ℕ) → journal_of self.new.logs job ≡ journal_of self.old.logs job) }
@@ -162,7 +164,7 @@ impl<L: Ledger> Kept<L> {
     }
 
     /// The message arrives, and its entry is added. The error is out of memory, and then nothing has changed.
-    fn take_in(&mut self, job: JobNo, arrival: &Arrival) -> Result<Made<L>, AllocError>
+    fn take_in(&mut self, job: JobNo, arrival: &Arrival) -> Result<Made<L>, OutOfMemory>
         ensures node { IfOk result (λ r. NodeStep self.old.node (node_event.Arrive job arrival.now) (node_given_of r.outcome) self.new.node) }
         ensures journal { IfOk result (λ r. (other : ℕ) → journal_of self.new.logs other
             ≡ journal_after self.old.node (self.old.count + 1) (node_event.Arrive job arrival.now) r.outcome.judged (node_given_of r.outcome) other (journal_of self.old.logs other)) }
@@ -218,7 +220,7 @@ impl<L: Ledger> Kept<L> {
     /// Folds the job's lines into its base: the new base is the replay of the old one and its lines, covers the number of the
     /// last of them, and no line is left. The memory of the lines is given back, and all else stays. Takes a walk over the lines
     /// and over the job's copies, works and grants. The error is out of memory, and then nothing has changed.
-    pub fn checkpoint(&mut self, job: JobNo) -> Result<(), AllocError>
+    pub fn checkpoint(&mut self, job: JobNo) -> Result<(), OutOfMemory>
         ensures journal { OnOk result ((other : ℕ) → journal_of self.new.logs other ≡ folded_if (job.0 == other) (journal_of self.old.logs other)) }
         ensures same { (self.new.node ≡ self.old.node) × (self.new.count ≡ self.old.count) × (self.new.number ≡ self.old.number) }
         ensures unchanged { OnErr result (self.new.logs ≡ self.old.logs) }
@@ -271,7 +273,7 @@ impl<L: Ledger> Kept<L> {
     /// Sweeps the job's list, if the job isn't live. If it has notes alone, they become part of the base, and nothing more is covered;
     /// if then it is as that of a job that no step was of, nothing is kept of it. If it has entries and 64 lines or more, it is folded
     /// as by `checkpoint`. All else stays. The error is out of memory, and then nothing has changed.
-    pub fn sweep_job(&mut self, job: JobNo) -> Result<(), AllocError>
+    pub fn sweep_job(&mut self, job: JobNo) -> Result<(), OutOfMemory>
         ensures journal { OnOk result ((other : ℕ) → journal_of self.new.logs other ≡ swept_if (job.0 == other && not (is_live_in self.old.node other)) (journal_of self.old.logs other)) }
         ensures forgotten { OnOk result (is_live_in self.old.node job.0 ≡ false → has_entries (journal_of self.old.logs job.0) ≡ false → with_notes_absorbed (journal_of self.old.logs job.0) ≡ fresh job.0 → lookup (same_job job) self.new.logs ≡ None) }
         ensures same { (self.new.node ≡ self.old.node) × (self.new.count ≡ self.old.count) × (self.new.number ≡ self.old.number) }
@@ -417,7 +419,7 @@ impl<L: Ledger> Kept<L> {
     pub fn entries(&self) -> u64
         ensures { result ≡ self.now.count }
     {
-        self.count
+        self.count.value()
     }
 
     /// Whether a work waits that nobody has taken. It makes no entry.
@@ -447,7 +449,7 @@ impl<L: Ledger> Kept<L> {
 
     /// The job numbers whose journal has a line, or one that was folded, or a grant in its base, each once and rising: 0 among them,
     /// if there was an entry of no job. Takes a walk over them, a sort, and memory for each. The error is out of memory.
-    pub fn jobs(&self) -> Result<ItemList<JobNo>, AllocError>
+    pub fn jobs(&self) -> Result<ItemList<JobNo>, OutOfMemory>
         ensures kept { IfOk result (λ jobs. (job : ℕ) → list_any (λ own. own.0 == job) jobs ≡ was_kept (journal_of self.now.logs job)) }
         ensures once { IfOk result (λ jobs. IsDistinct same_job jobs) }
         ensures rising { IfOk result (λ jobs. IsNonDecreasingBy (λ (job : JobNo). job.0) jobs) }
@@ -498,9 +500,9 @@ fn record<L: Ledger>(
     number: u32,
     node: &mut Node,
     logs: &mut Logs,
-    count: &mut u64,
+    count: &mut Counter,
     event: &Event,
-) -> Result<Made<L>, AllocError>
+) -> Result<Made<L>, NotStepped>
     requires response { ∥ Tells node.old (journal_of logs.old) ∥₁ }
     requires few { (job : ℕ) → length (list_of logs.old job) ≤ most_lines }
     ensures node { IfOk result (λ r. NodeStep node.old (node_event.Own event.now) (node_given_of r.outcome) node.new) }
@@ -512,32 +514,32 @@ fn record<L: Ledger>(
     ensures logs { IfOk result (λ r. (job : ℕ) → journal_of logs.new job
         ≡ journal_after node.old (count.old + 1) (node_event.Own event.now) r.outcome.judged (node_given_of r.outcome) job (journal_of logs.old job)) }
     ensures few { OnOk result ((job : ℕ) → length (list_of logs.new job) ≤ most_lines) }
+    ensures memory_last { IfErr result (IsStepLast node.old event.now) }
     ensures count { OnOk result (count.new ≡ count.old + 1) }
     ensures err { OnErr result ((node.new ≡ node.old) × (count.new ≡ count.old)) }
     ensures unchanged { OnErr result ((job : ℕ) → journal_of logs.new job ≡ journal_of logs.old job) }
 {
-    if *count >= LAST_ENTRY {
-        return Err(AllocError);
-    }
     // all growth comes before the node's step
+    let next = count.next()?;
     let grantees = node.grantees(event)?;
-    if grantees.as_slice().len() >= MOST_LINES {
-        return Err(AllocError);
-    }
     let job = job_of(node, event);
     logs.reserve(job, grantees.as_slice())?;
     // the bases are those before the step
     let bases = bases_of(alloc, node, logs, job, grantees.as_slice())?;
-    let outcome = node.apply(event, Ok(()))?;
-    *count += 1;
+    let outcome = match node.apply(event, Ok(())) {
+        Ok(outcome) => outcome,
+        Err(refused) => return Err(NotStepped::Step(refused)),
+    };
+    let made = next.value();
+    *count = next;
     let named = name_of(event);
     logs.fold_all(bases);
-    logs.add(job, Line::Entry(entry_of(alloc, *count, &named, &outcome)));
-    logs.add_notes(*count, outcome.notes.as_slice());
+    logs.add(job, Line::Entry(entry_of(alloc, made, &named, &outcome)));
+    logs.add_notes(made, outcome.notes.as_slice());
     let receipt = Receipt {
         node: number,
         job,
-        entry: entry_of(alloc, *count, &named, &outcome),
+        entry: entry_of(alloc, made, &named, &outcome),
         asked: Snapshot::of(event),
         whole: Snapshot::of(&outcome.reply),
         name: PhantomData,
@@ -552,10 +554,10 @@ fn record_arrival<L: Ledger>(
     number: u32,
     node: &mut Node,
     logs: &mut Logs,
-    count: &mut u64,
+    count: &mut Counter,
     job: JobNo,
     arrival: &Arrival,
-) -> Result<Made<L>, AllocError>
+) -> Result<Made<L>, OutOfMemory>
     requires response { ∥ Tells node.old (journal_of logs.old) ∥₁ }
     requires few { (other : ℕ) → length (list_of logs.old other) ≤ most_lines }
     ensures node { IfOk result (λ r. NodeStep node.old (node_event.Arrive job arrival.now) (node_given_of r.outcome) node.new) }
@@ -571,22 +573,21 @@ fn record_arrival<L: Ledger>(
     ensures err { OnErr result ((node.new ≡ node.old) × (count.new ≡ count.old)) }
     ensures unchanged { OnErr result ((other : ℕ) → journal_of logs.new other ≡ journal_of logs.old other) }
 {
-    if *count >= LAST_ENTRY {
-        return Err(AllocError);
-    }
     // all growth comes before the node's step
+    let next = count.next()?;
     logs.reserve(job, &[])?;
     // the base is that before the step
     let bases = bases_of(alloc, node, logs, job, &[])?;
     let outcome = node.arrive(job, arrival, Ok(()))?;
-    *count += 1;
+    let made = next.value();
+    *count = next;
     let named = name_of_arrival(arrival);
     logs.fold_all(bases);
-    logs.add(job, Line::Entry(entry_of(alloc, *count, &named, &outcome)));
+    logs.add(job, Line::Entry(entry_of(alloc, made, &named, &outcome)));
     let receipt = Receipt {
         node: number,
         job,
-        entry: entry_of(alloc, *count, &named, &outcome),
+        entry: entry_of(alloc, made, &named, &outcome),
         // an arrival is no event of a session, a worker or the operator
         asked: Snapshot::of(&Event::Take),
         whole: Snapshot::of(&outcome.reply),

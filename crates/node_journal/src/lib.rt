@@ -9,6 +9,7 @@ mod folding;
 mod kept;
 pub mod laws;
 mod logs;
+mod not_stepped;
 mod posts;
 mod sweeping;
 
@@ -17,4 +18,5 @@ pub use entered::Entered;
 pub use entries::{Agreement, Entry, Line, Receipt};
 pub use folding::MOST_LINES;
 pub use kept::Kept;
+pub use not_stepped::NotStepped;
 pub use posts::{Made, Mail, Parts, Posted};

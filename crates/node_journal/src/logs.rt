@@ -15,10 +15,11 @@ ghost use Rattle.node_journal.specs.Logs.{journal_of, list_of, spare_of, StandsA
 use crate::entries::Line;
 use crate::folding::{Base, MOST_LINES};
 use indexmap::IndexMap;
+use memory_growth::{MOST_ROOM, OutOfMemory, lists, tables};
 use node_core::Note;
 use obj_id::{ItemList, JobNo};
 use plain_store::PlainStore;
-use std::alloc::{AllocError, Global};
+use std::alloc::Global;
 use std::marker::Model;
 
 // the lines that a list has room for from half of what it may have on: all of those, and what is made room for before it is folded
@@ -60,17 +61,17 @@ impl Log {
 
     /// Makes room for so many lines more. A list that is half full has room for all lines at once, and for those of a step before it is
     /// folded: it would be moved to a place of twice its size for that step alone.
-    fn reserve(&mut self, more: usize) -> Result<(), AllocError>
+    fn reserve(&mut self, more: usize) -> Result<(), OutOfMemory>
+        requires { more ≤ 65536 }
         ensures journal { self.new.journal ≡ self.old.journal }
         ensures spare { self.old.spare ≤ self.new.spare }
         ensures room { OnOk result (more ≤ self.new.spare) }
     {
         let count = self.lines.len();
         if count < MOST_LINES / 2 {
-            return self.lines.reserve(more);
+            return lists::reserve(&mut self.lines, more);
         }
-        self.lines
-            .reserve_exact(more.max(FULL_LIST.saturating_sub(count)))
+        lists::reserve(&mut self.lines, more.max(FULL_LIST.saturating_sub(count)))
     }
 
     /// Adds a line, for which there is room.
@@ -196,7 +197,8 @@ impl Logs {
 
     /// Makes room for a line of the job, and a line more for each of these jobs, whichever they are. The journals stay as
     /// they are, whatever the result. The job is found at once from then on.
-    pub fn reserve(&mut self, job: JobNo, grantees: &[JobNo]) -> Result<(), AllocError>
+    pub fn reserve(&mut self, job: JobNo, grantees: &[JobNo]) -> Result<(), OutOfMemory>
+        requires { length grantees.now ≤ 4096 }
         ensures journals { (other : ℕ) → journal_of self.new other ≡ journal_of self.old other }
         ensures own { OnOk result (length grantees.now + 1 ≤ spare_of self.new job.0) }
         ensures room { OnOk result ((grantee : JobNo) → list_any (same_job grantee) grantees.now ≡ true → length grantees.now + 1 ≤ spare_of self.new grantee.0) }
@@ -209,7 +211,8 @@ impl Logs {
     }
 
     /// Makes room for so many lines of the job.
-    fn grow(&mut self, job: JobNo, more: usize) -> Result<(), AllocError>
+    fn grow(&mut self, job: JobNo, more: usize) -> Result<(), OutOfMemory>
+        requires { more ≤ 65536 }
         ensures journals { (other : ℕ) → journal_of self.new other ≡ journal_of self.old other }
         ensures spare { (other : ℕ) → spare_of self.old other ≤ spare_of self.new other }
         ensures room { OnOk result (more ≤ spare_of self.new job.0) }
@@ -222,9 +225,9 @@ impl Logs {
         let mut log = Log::new(self.alloc, job);
         log.reserve(more)?;
         self.latest = self.logs.len();
-        match self.logs.insert(job, log) {
+        match tables::insert(&mut self.logs, job, log) {
             Ok(_) => Ok(()),
-            Err(_) => Err(AllocError),
+            Err(refused) => Err(refused),
         }
     }
 
@@ -365,13 +368,13 @@ impl Logs {
     }
 
     /// The jobs whose journal says something, each once and by rising number. Takes a walk over all jobs, a sort, and memory for each.
-    pub fn jobs(&self) -> Result<ItemList<JobNo>, AllocError>
+    pub fn jobs(&self) -> Result<ItemList<JobNo>, OutOfMemory>
         ensures kept { IfOk result (λ jobs. (job : ℕ) → list_any (λ own. own.0 == job) jobs ≡ was_kept_lem (journal_of self.now job)) }
         ensures once { IfOk result (λ jobs. IsDistinct same_job jobs) }
         ensures rising { IfOk result (λ jobs. IsNonDecreasingBy (λ (job : JobNo). job.0) jobs) }
     {
         let mut jobs = jobs_of(self.alloc, &self.logs)?;
-        sort_jobs(&mut jobs)?;
+        sort_jobs(&mut jobs);
         Ok(ItemList::from_vec(jobs))
     }
 
@@ -397,24 +400,23 @@ impl Logs {
 }
 
 /// The jobs whose journal says something.
-fn jobs_of(alloc: Global, logs: &IndexMap<JobNo, Log>) -> Result<Vec<JobNo>, AllocError>
+fn jobs_of(alloc: Global, logs: &IndexMap<JobNo, Log>) -> Result<Vec<JobNo>, OutOfMemory>
     ensures kept { IfOk result (λ jobs. (job : ℕ) → list_any (λ own. own.0 == job) jobs.items ≡ was_kept_lem (journal_of logs.now.entries job)) }
     ensures once { IfOk result (λ jobs. IsDistinct same_job jobs.items) }
 {
-    let mut jobs = Vec::with_capacity(alloc, logs.len())?;
+    let mut jobs = lists::with_capacity(alloc, logs.len().min(MOST_ROOM))?;
     for (job, log) in logs {
         if log.was_kept() {
-            jobs.push(*job)?;
+            lists::push(&mut jobs, *job)?;
         }
     }
     Ok(jobs)
 }
 
 /// The jobs by rising number.
-fn sort_jobs(jobs: &mut Vec<JobNo>) -> Result<(), AllocError>
+fn sort_jobs(jobs: &mut Vec<JobNo>)
     ensures permutation { IsPermutation jobs.old.items jobs.new.items }
-    ensures rising { OnOk result (IsNonDecreasingBy (λ (job : JobNo). job.0) jobs.new.items) }
+    ensures rising { IsNonDecreasingBy (λ (job : JobNo). job.0) jobs.new.items }
 {
-    jobs.sort_by_key(|job| job.0)?;
-    Ok(())
+    jobs.sort_unstable_by_key(|job| job.0);
 }

@@ -7,10 +7,10 @@ ghost use Rattle.node_journal.specs.Posts.{posts_left, post_of, directory_messag
 
 use crate::entries::Receipt;
 use bytes::Bytes;
+use memory_growth::OutOfMemory;
 use node_core::{Erase, NodeOutcome};
 use obj_id::{Arrival, Endpoint, JobNo, Message, Reply};
 use owner_directory::{Directory, DirectoryReply};
-use std::alloc::AllocError;
 use std::marker::PhantomData;
 use std::sync::ledger::Ledger;
 use std::vec::IntoIter;
@@ -154,7 +154,7 @@ impl<L: Ledger> Posted<L> {
     /// the same job and entry. A message that isn't for the directory changes nothing, and has no answer.
     ///
     /// The error is out of memory, and then the directory is as it was.
-    pub fn through(self, directory: &mut Directory) -> Result<Option<Posted<L>>, AllocError>
+    pub fn through(self, directory: &mut Directory) -> Result<Option<Posted<L>>, OutOfMemory>
         ensures passes { IfOk result (λ answer. PassesOn directory.old directory.new self.job (directory_message_in self.message) (option_to_list (option_map post_of answer))) }
         ensures sender { IfOk result (λ answer. IfSome answer (λ p. (p.job ≡ self.job) × (p.from ≡ place.Directory) × (p.entry ≡ self.entry))) }
         ensures err { OnErr result (directory.new ≡ directory.old) }

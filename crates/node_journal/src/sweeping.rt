@@ -9,9 +9,10 @@ ghost use Rattle.node_journal.specs.Logs.{journal_of, list_of};
 use crate::entries::Line;
 use crate::folding::base_of;
 use crate::logs::Logs;
+use memory_growth::OutOfMemory;
 use node_core::Node;
 use obj_id::JobNo;
-use std::alloc::{AllocError, Global};
+use std::alloc::Global;
 
 /// The lines from which on the list of a job that isn't live is folded, if it has entries: to fold each entry by itself would take
 /// longer, and receipts would sooner be of no use.
@@ -24,7 +25,7 @@ pub(crate) fn sweep_job(
     node: &Node,
     logs: &mut Logs,
     job: JobNo,
-) -> Result<(), AllocError>
+) -> Result<(), OutOfMemory>
     requires { ∥ Tells node.now (journal_of logs.old) ∥₁ }
     ensures swept { OnOk result ((other : ℕ) → journal_of logs.new other ≡ swept_if (job.0 == other && not (is_live_in node.now other)) (journal_of logs.old other)) }
     ensures forgotten { OnOk result (is_live_in node.now job.0 ≡ false → has_entries_lem (journal_of logs.old job.0) ≡ false → with_notes_absorbed (journal_of logs.old job.0) ≡ fresh job.0 → lookup (same_job job) logs.new ≡ None) }
@@ -41,7 +42,7 @@ pub(crate) fn sweep_job(
 }
 
 /// Folds the job's list, if it has many lines, and gives their memory back. If there is no memory for the base nothing changes.
-fn fold_many(alloc: Global, node: &Node, logs: &mut Logs, job: JobNo) -> Result<(), AllocError>
+fn fold_many(alloc: Global, node: &Node, logs: &mut Logs, job: JobNo) -> Result<(), OutOfMemory>
     requires { ∥ Tells node.now (journal_of logs.old) ∥₁ }
     ensures folded { OnOk result ((other : ℕ) → journal_of logs.new other ≡ folded_if (job.0 == other && nat_le many_lines (length (list_of logs.old other))) (journal_of logs.old other)) }
     ensures unchanged { OnErr result (logs.new ≡ logs.old) }
@@ -60,7 +61,7 @@ fn settle_or_forget(
     node: &Node,
     logs: &mut Logs,
     job: JobNo,
-) -> Result<(), AllocError>
+) -> Result<(), OutOfMemory>
     requires { ∥ Tells node.now (journal_of logs.old) ∥₁ }
     ensures absorbed { OnOk result ((other : ℕ) → journal_of logs.new other ≡ with_notes_absorbed_if (job.0 == other) (journal_of logs.old other)) }
     ensures forgotten { OnOk result (with_notes_absorbed (journal_of logs.old job.0) ≡ fresh job.0 → lookup (same_job job) logs.new ≡ None) }
@@ -74,7 +75,7 @@ fn settle_or_forget(
 }
 
 /// The job's notes, if there are some, become part of its base. If there is no memory for that nothing changes.
-fn absorb_notes(alloc: Global, node: &Node, logs: &mut Logs, job: JobNo) -> Result<(), AllocError>
+fn absorb_notes(alloc: Global, node: &Node, logs: &mut Logs, job: JobNo) -> Result<(), OutOfMemory>
     requires { ∥ Tells node.now (journal_of logs.old) ∥₁ }
     ensures absorbed { OnOk result ((other : ℕ) → journal_of logs.new other ≡ with_notes_absorbed_if (job.0 == other) (journal_of logs.old other)) }
     ensures unchanged { OnErr result (logs.new ≡ logs.old) }

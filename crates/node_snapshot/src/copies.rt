@@ -7,30 +7,31 @@ ghost use Rattle.job_row.specs.Row.{copies_of};
 
 use fetch_core::{FetchIn, Stage};
 use job_row::{Copies, RowCopy};
+use memory_growth::{OutOfMemory, lists};
 use obj_id::ObjectId;
 use plain_store::{FetchPhase, PlainCopy, PlainFetch, copies_by_id};
-use std::alloc::{AllocError, Global};
+use std::alloc::Global;
 use std::collections::BTreeMap;
 
 /// The copies without their bytes. Takes a walk over them, a sort, and memory for each.
 pub(crate) fn plain_copies(
     alloc: Global,
     copies: &Copies,
-) -> Result<BTreeMap<ObjectId, PlainCopy>, AllocError>
+) -> Result<BTreeMap<ObjectId, PlainCopy>, OutOfMemory>
     ensures { IfOk result (λ plain. plain.entries ≡ copies_of copies.now) }
 {
     let items = copies.items(alloc)?;
     let mut plain = Vec::new(alloc);
     for item in items.as_slice() {
         if let Some(copy) = copies.get(&item.id) {
-            plain.push((item.id, plain_copy(alloc, copy)?))?;
+            lists::push(&mut plain, (item.id, plain_copy(alloc, copy)?))?;
         }
     }
     copies_by_id(alloc, plain)
 }
 
 /// The copy without its bytes. Takes memory for its borrowers, its holds and the chunks that are missing.
-fn plain_copy(alloc: Global, copy: &RowCopy) -> Result<PlainCopy, AllocError>
+fn plain_copy(alloc: Global, copy: &RowCopy) -> Result<PlainCopy, OutOfMemory>
     ensures { IfOk result (λ plain. plain ≡ copy.now.copy) }
 {
     let pins = copy.pins();
@@ -53,7 +54,7 @@ fn plain_copy(alloc: Global, copy: &RowCopy) -> Result<PlainCopy, AllocError>
 }
 
 /// How far the fetch is, if there is one.
-fn plain_fetch(alloc: Global, fetch: Option<&FetchIn>) -> Result<Option<PlainFetch>, AllocError>
+fn plain_fetch(alloc: Global, fetch: Option<&FetchIn>) -> Result<Option<PlainFetch>, OutOfMemory>
     ensures { IfOk result (λ plain. plain ≡ option_map store_fetch_of (option_copied fetch.entry)) }
 {
     let Some(fetch) = fetch else {
@@ -67,14 +68,14 @@ fn plain_fetch(alloc: Global, fetch: Option<&FetchIn>) -> Result<Option<PlainFet
 }
 
 /// The fetch's phase.
-fn phase(alloc: Global, fetch: &FetchIn) -> Result<FetchPhase, AllocError>
+fn phase(alloc: Global, fetch: &FetchIn) -> Result<FetchPhase, OutOfMemory>
     ensures { IfOk result (λ phase. plain_phase_of phase ≡ fetch.now.phase) }
 {
     match fetch.stage() {
         Stage::Locating => Ok(FetchPhase::Locating),
         Stage::Sized(source) => Ok(FetchPhase::Sized(source)),
         Stage::Pulling(source) => {
-            let missing = fetch.missing().to_vec(alloc)?;
+            let missing = lists::copied(alloc, fetch.missing())?;
             Ok(FetchPhase::Pulling(source, missing))
         }
         Stage::Failed(fault) => Ok(FetchPhase::Failed(fault)),

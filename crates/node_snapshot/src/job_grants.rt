@@ -5,26 +5,28 @@ ghost use Rattle.node_core.specs.Hosted.{bytes_here};
 ghost use Rattle.node_table.specs.Beside.{received_by};
 
 use grants::StandingGrant;
+use memory_growth::{OutOfMemory, lists, ordered};
 use node_core::Node;
 use obj_id::{ItemList, JobNo, ObjectId};
 use plain_store::{GivenGrant, SeenObject, TakenGrant};
-use std::alloc::{AllocError, Global};
+use std::alloc::Global;
 use std::collections::BTreeMap;
 
 /// These grants, as their grantor's store has them.
 pub(crate) fn plain_given(
     alloc: Global,
     grants: &[StandingGrant],
-) -> Result<ItemList<GivenGrant>, AllocError>
+) -> Result<ItemList<GivenGrant>, OutOfMemory>
     ensures { IfOk result (λ given. given ≡ map as_given grants.now) }
 {
     let mut given = Vec::new(alloc);
     for grant in grants {
-        given.push(GivenGrant {
+        let granted = GivenGrant {
             id: grant.id(),
             target: grant.grantee(),
             parent: grant.parent(),
-        })?;
+        };
+        lists::push(&mut given, granted)?;
     }
     Ok(ItemList::from_vec(given))
 }
@@ -34,7 +36,7 @@ pub(crate) fn received(
     alloc: Global,
     node: &Node,
     job: JobNo,
-) -> Result<BTreeMap<ObjectId, SeenObject>, AllocError>
+) -> Result<BTreeMap<ObjectId, SeenObject>, OutOfMemory>
     ensures { IfOk result (λ received. received.entries ≡ received_by (bytes_here node.now.rows) node.now.grants job.0) }
 {
     let taken = node.grants().given_to(job)?;
@@ -51,7 +53,7 @@ fn add_taken(
     seen: &mut BTreeMap<ObjectId, SeenObject>,
     grant: &StandingGrant,
     length: u32,
-) -> Result<(), AllocError>
+) -> Result<(), OutOfMemory>
     ensures { OnOk result (seen.new.entries ≡ with_taken (λ id. length) seen.old.entries grant.now) }
 {
     let id = grant.id();
@@ -64,7 +66,7 @@ fn add_taken(
         return Ok(());
     }
     let mut grants = Vec::new(alloc);
-    grants.push(taken)?;
-    seen.insert(id, SeenObject { length, grants })?;
+    lists::push(&mut grants, taken)?;
+    ordered::insert(seen, id, SeenObject { length, grants })?;
     Ok(())
 }

@@ -13,11 +13,12 @@ mod job_grants;
 mod row;
 
 use job_grants::{plain_given, received};
+use memory_growth::OutOfMemory;
 use node_core::Node;
 use obj_id::{JobNo, ObjectId};
 use plain_store::{Life, PlainStore, SeenObject};
 use row::plain_row;
-use std::alloc::{AllocError, Global};
+use std::alloc::Global;
 use std::collections::BTreeMap;
 
 /// The job's store at this node without contents. Of a job that isn't live the node doesn't know whether it ever was,
@@ -29,7 +30,7 @@ pub fn snapshot(
     node: &Node,
     job: JobNo,
     begun: bool,
-) -> Result<PlainStore, AllocError>
+) -> Result<PlainStore, OutOfMemory>
     ensures { IfOk result (λ plain. (view : View) → Shows node.now job.0 view → has_begun view.shape.life ≡ begun → plain ≡ replay_state_of view) }
 {
     let received = received(alloc, node, job)?;

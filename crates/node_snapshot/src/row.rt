@@ -8,10 +8,11 @@ ghost use Rattle.node_table.specs.Beside.{row_given_by, received_by, beside_of, 
 use crate::copies::plain_copies;
 use job_row::JobRow;
 use lru_evictor::Order;
+use memory_growth::{OutOfMemory, lists};
 use obj_id::{ItemList, JobNo, ObjectId, WorkKind};
 use plain_store::{GivenGrant, Life, PlainStore, PlainWork, SeenObject};
 use spill_work::Works;
-use std::alloc::{AllocError, Global};
+use std::alloc::Global;
 use std::collections::BTreeMap;
 
 /// The row's store without contents, beside its works, the grants that it gave and what others granted to it. Takes a
@@ -22,7 +23,7 @@ pub(crate) fn plain_row(
     works: &Works,
     given: ItemList<GivenGrant>,
     received: BTreeMap<ObjectId, SeenObject>,
-) -> Result<PlainStore, AllocError>
+) -> Result<PlainStore, OutOfMemory>
     ensures { IfOk result (λ plain. (grants : List GrantView) (bytes : ObjectId → List ℕ)
         → given ≡ row_given_by grants row.now.job → received.entries ≡ received_by bytes grants row.now.job
         → plain ≡ record { shape = shape_of row.now (beside_of works.now grants bytes row.now.job); order = row.now.order }) }
@@ -49,28 +50,29 @@ pub(crate) fn plain_row(
 }
 
 /// The ids, in their order.
-fn listed(alloc: Global, order: Order<'_>) -> Result<Vec<ObjectId>, AllocError>
+fn listed(alloc: Global, order: Order<'_>) -> Result<Vec<ObjectId>, OutOfMemory>
     ensures { IfOk result (λ ids. ids.items ≡ order.entry) }
 {
     let mut ids = Vec::new(alloc);
     for id in order {
-        ids.push(id)?;
+        lists::push(&mut ids, id)?;
     }
     Ok(ids)
 }
 
 /// The job's works in flight, in the order asked.
-fn plain_works(alloc: Global, works: &Works, job: JobNo) -> Result<Vec<PlainWork>, AllocError>
+fn plain_works(alloc: Global, works: &Works, job: JobNo) -> Result<Vec<PlainWork>, OutOfMemory>
     ensures { IfOk result (λ plain. plain.items ≡ works_of works.now job) }
 {
     let asked = works.asked_of(job)?;
     let mut plain = Vec::new(alloc);
     for work in asked.as_slice() {
-        plain.push(PlainWork {
+        let in_flight = PlainWork {
             number: work.number,
             id: work.id,
             writes: matches!(work.kind, WorkKind::Write),
-        })?;
+        };
+        lists::push(&mut plain, in_flight)?;
     }
     Ok(plain)
 }

@@ -3,10 +3,11 @@ ghost use Rattle.std.specs.Prelude.{◌≡◌, ◌++◌, ◌∷◌, [], All, IfO
 ghost use Rattle.node_steps.specs.Looking.{AreLive, IsUsageShown, is_live_now};
 ghost use Rattle.node_steps.specs.declared.looking.LiveJob.{LiveJob};
 
+use memory_growth::{OutOfMemory, lists};
 use node_core::Node;
 use node_journal::Kept;
 use obj_id::{JobNo, Usage};
-use std::alloc::{AllocError, Global};
+use std::alloc::Global;
 use std::sync::ledger::Ledger;
 
 /// A live job of a node, with its quotas and what is used of them.
@@ -17,7 +18,7 @@ pub struct LiveJob {
 }
 
 /// The live jobs among those that the journal has, by rising number. The error is out of memory.
-pub fn live_jobs_of<L: Ledger>(alloc: Global, kept: &Kept<L>) -> Result<Vec<LiveJob>, AllocError>
+pub fn live_jobs_of<L: Ledger>(alloc: Global, kept: &Kept<L>) -> Result<Vec<LiveJob>, OutOfMemory>
     ensures { IfOk result (λ live. AreLive kept.now.node kept.now.logs live.items) }
 {
     let jobs = kept.jobs()?;
@@ -29,13 +30,13 @@ pub fn live_jobs_of<L: Ledger>(alloc: Global, kept: &Kept<L>) -> Result<Vec<Live
 }
 
 /// Adds the job, if it is live. The error is out of memory.
-fn add_live(node: &Node, job: JobNo, live: &mut Vec<LiveJob>) -> Result<(), AllocError>
+fn add_live(node: &Node, job: JobNo, live: &mut Vec<LiveJob>) -> Result<(), OutOfMemory>
     ensures listed { OnOk result (map (λ (l : LiveJob). l.job) live.new.items ≡ map (λ (l : LiveJob). l.job) live.old.items ++ filter (is_live_now node.now) (job ∷ [])) }
     ensures used { OnOk result (All (IsUsageShown node.now) live.old.items → All (IsUsageShown node.now) live.new.items) }
 {
     let Ok(usage) = node.usage(job) else {
         return Ok(());
     };
-    live.push(LiveJob { job, usage })?;
+    lists::push(live, LiveJob { job, usage })?;
     Ok(())
 }

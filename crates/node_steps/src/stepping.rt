@@ -18,12 +18,12 @@ ghost use Rattle.node_steps.specs.Witnesses.{IsCalled, IsCalledBy, IsReceiptOf, 
 
 use crate::auditing::audit;
 use bytes::Bytes;
+use memory_growth::OutOfMemory;
 use node_core::Erase;
 use node_housekeeping::{Housekeeping, LeaveMark, Pause, wake_scope_of};
 use node_journal::{Kept, Made, Mail, Parts, Posted, Receipt};
 use obj_id::{Command, DeviceKey, JobNo, Refusal, Reply};
 use private_store::Event;
-use std::alloc::AllocError;
 use std::slice;
 use std::sync::Wait;
 use std::sync::ledger::Ledger;
@@ -44,7 +44,7 @@ pub fn step_call<L: Ledger, R: Wait, P: Pause>(
     job: JobNo,
     session: u32,
     command: Command<Bytes>,
-) -> Result<Stepped<L>, AllocError>
+) -> Result<Stepped<L>, OutOfMemory>
     ensures called { IfOk result (λ s. (wants_memory s.reply ≡ false) × IsCalled job session command s.reply (witness_of s.receipt)) }
     ensures small { IfOk result (λ s. is_small_reply s.reply ≡ true) }
     ensures once { IfOk result (λ s. IsOneStep (node_event.Own (event.Call job session command)) s.reply (posts_left s.mail) (witness_of s.receipt) (seen_node kept.old.node kept.old.count kept.old.logs) (seen_node kept.new.node kept.new.count kept.new.logs)) }
@@ -98,7 +98,7 @@ pub fn step_event<L: Ledger, R: Wait, P: Pause>(
     kept: &mut Kept<L>,
     housekeeping: &Housekeeping<P>,
     event: &Event,
-) -> Result<Stepped<L>, AllocError>
+) -> Result<Stepped<L>, OutOfMemory>
     ensures stepped { IfOk result (λ s. IsReceiptOf event.now s.reply (witness_of s.receipt)) }
     ensures called { IfOk result (λ s. IsCalledBy event.now s.reply (witness_of s.receipt)) }
     ensures small { IfOk result (λ s. IsSmallCall event.now s.reply) }
@@ -118,7 +118,7 @@ pub fn step_order<L: Ledger, R: Wait, P: Pause>(
     kept: &mut Kept<L>,
     housekeeping: &Housekeeping<P>,
     event: &Event,
-) -> Result<Stepped<L>, AllocError>
+) -> Result<Stepped<L>, OutOfMemory>
     ensures stepped { IfOk result (λ s. IsReceiptOf event.now s.reply (witness_of s.receipt)) }
     ensures once { IfOk result (λ s. IsOneStep (node_event.Own event.now) s.reply (posts_left s.mail) (witness_of s.receipt) (seen_node kept.old.node kept.old.count kept.old.logs) (seen_node kept.new.node kept.new.count kept.new.logs)) }
     ensures node { IfOk result (λ s. s.receipt.node ≡ kept.old.number) }
@@ -141,7 +141,7 @@ pub fn step_end<L: Ledger, R: Wait, P: Pause>(
     kept: &mut Kept<L>,
     housekeeping: &Housekeeping<P>,
     job: JobNo,
-) -> Result<Stepped<L>, AllocError>
+) -> Result<Stepped<L>, OutOfMemory>
     ensures stepped { IfOk result (λ s. IsReceiptOf (event.JobEnd job) s.reply (witness_of s.receipt)) }
     ensures once { IfOk result (λ s. IsOneStepFolded (node_event.Own (event.JobEnd job)) job.0 s.reply (posts_left s.mail) (witness_of s.receipt) (seen_node kept.old.node kept.old.count kept.old.logs) (seen_node kept.new.node kept.new.count kept.new.logs)) }
     ensures same { OnErr result (IsUntouched (seen_node kept.old.node kept.old.count kept.old.logs) (seen_node kept.new.node kept.new.count kept.new.logs)) }
@@ -169,7 +169,7 @@ pub fn step_take<L: Ledger, R: Wait, P: Pause>(
     rt: &R,
     kept: &mut Kept<L>,
     housekeeping: &Housekeeping<P>,
-) -> Option<Result<Stepped<L>, AllocError>>
+) -> Option<Result<Stepped<L>, OutOfMemory>>
     ensures stepped { IfSome result (λ r. IfOk r (λ s. IsReceiptOf event.Take s.reply (witness_of s.receipt))) }
     ensures once { IfSome result (λ r. IfOk r (λ s. IsOneStep (node_event.Own event.Take) s.reply (posts_left s.mail) (witness_of s.receipt) (seen_node kept.old.node kept.old.count kept.old.logs) (seen_node kept.new.node kept.new.count kept.new.logs))) }
     ensures same { IfSome result (λ r. OnErr r (IsUntouched (seen_node kept.old.node kept.old.count kept.old.logs) (seen_node kept.new.node kept.new.count kept.new.logs))) }

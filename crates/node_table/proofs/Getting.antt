@@ -1,8 +1,9 @@
 -- A row takes Get of a copy that is sealed.
-use Rattle.std.proofs.Common.{◌≡◌, ◌≢◌, ℕ, ◌+◌, true, false, cond, ◌==◌, [], ◌∷◌, map, Option, Some, None, is_some, refl, sym, ap, subst, ◌∙◌, Bool, not}
+use Rattle.std.proofs.Common.{◌≡◌, ℕ, ◌+◌, true, false, cond, ◌==◌, [], ◌∷◌, map, Option, Some, None, is_some, refl, sym, ap, subst, ◌∙◌, Bool, not}
 use Rattle.obj_id.specs.declared.ids.ObjectId.{ObjectId}
+use Rattle.obj_id.specs.declared.refusals.Failure.TheVariants.{Refused}
 use Rattle.obj_id.specs.declared.refusals.Refusal.{Refusal}
-use Rattle.obj_id.specs.declared.refusals.Refusal.TheVariants.{Absent, Gone, NoMemory, Pending, NotSealed}
+use Rattle.obj_id.specs.declared.refusals.Refusal.TheVariants.{Absent, Gone, Pending, NotSealed}
 use Rattle.obj_id.specs.declared.commands.CopyState.{CopyState}
 use Rattle.obj_id.specs.declared.commands.CopyState.TheVariants.{Created, Sealed, Restoring, Fetching, Away}
 use Rattle.obj_id.specs.declared.commands.Command.TheVariants as command
@@ -238,8 +239,8 @@ module _ (node : ℕ) (row : Row) (beside : SharedTables) (contents : Contents) 
       (subst (λ m. RowStep node row beside contents x (only (reply.Got m)) (row_held is.kept is.found (unmarked_of is.kept is.ready) (sealed_of is.kept is.ready)) beside) (sym is.length)
       (hold_done is.kept is.found (unmarked_of is.kept is.ready) (sealed_of is.kept is.ready) is.passed))
 
-  -- it was refused, and not by NoMemory
-  pub sealed_refused : (r : Refusal) (new : Row) → r ≢ NoMemory → IsHoldRefusedAt row.copies id r new.copies → new ≡ row → RowStep node row beside contents x (only (reply.Refused r)) new beside
-  sealed_refused r new known is same =
+  -- it was refused
+  pub sealed_refused : (r : Refusal) (new : Row) → IsHoldRefusedAt row.copies id (Refused r) new.copies → new ≡ row → RowStep node row beside contents x (only (reply.Refused r)) new beside
+  sealed_refused r new is same =
       subst (λ t. RowStep node row beside contents x (only (reply.Refused r)) t beside) (sym same)
-      (hold_refused is.kept is.found (unmarked_of is.kept is.ready) (sealed_of is.kept is.ready) r (is.refused known))
+      (hold_refused is.kept is.found (unmarked_of is.kept is.ready) (sealed_of is.kept is.ready) r (is.refused r refl))

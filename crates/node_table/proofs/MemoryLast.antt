@@ -4,11 +4,13 @@ use Rattle.std.specs.Prelude.{nat_lt, is_ok}
 use Rattle.std.specs.declared.result.Result.{Result}
 use Rattle.std.specs.Option.{option_map_or}
 use Rattle.std.proofs.lemmas.Bool.Decides.{nat_tests}
+use Rattle.memory_growth.specs.declared.OutOfMemory.{OutOfMemory}
 use Rattle.obj_id.specs.declared.ids.ObjectId.{ObjectId}
+use Rattle.obj_id.specs.declared.refusals.Failure.TheVariants.{Memory}
 use Rattle.obj_id.specs.declared.ids.TaskNo.{TaskNo}
 use Rattle.obj_id.specs.declared.messages.DirectoryMessage.TheVariants.{Locate}
 use Rattle.obj_id.specs.declared.refusals.Refusal.{Refusal}
-use Rattle.obj_id.specs.declared.refusals.Refusal.TheVariants.{Absent, BadSize, Busy, NoMemory, Pending, TooMany}
+use Rattle.obj_id.specs.declared.refusals.Refusal.TheVariants.{Absent, BadSize, Busy, Pending, TooMany}
 use Rattle.obj_id.specs.declared.commands.Kind.{Kind}
 use Rattle.obj_id.specs.declared.commands.CopyState.TheVariants.{Sealed, Fetching, Away}
 use Rattle.obj_id.specs.declared.commands.Command.{Command}
@@ -300,10 +302,10 @@ module _ (node : ℕ) (row : Row) (line : WorkLine) where
     IsGetDue = (id.job.0 == row.job) ≡ true → IsDueMore node row line (command.Get id)
 
     -- a hold that was out of memory
-    pub held_due : (r : Refusal) → r ≡ NoMemory → (new : ById CopyView) → IsHoldRefusedAt row.copies id r new → IsGetDue
-    held_due r is new refused mine session grants bytes contents h =
+    pub held_due : (m : OutOfMemory) (new : ById CopyView) → IsHoldRefusedAt row.copies id (Memory m) new → IsGetDue
+    held_due m new refused mine session grants bytes contents h =
         held_late node row (beside_of line grants bytes row.job) contents session h id mine alive refused.kept refused.found
-        (not_true refused.kept.copy.doomed (both_right (is_sealed refused.kept.copy.state) _ refused.ready)) (sealed_is refused.kept.copy.state (both_left _ (not refused.kept.copy.doomed) refused.ready)) (refused.late is)
+        (not_true refused.kept.copy.doomed (both_right (is_sealed refused.kept.copy.state) _ refused.ready)) (sealed_is refused.kept.copy.state (both_left _ (not refused.kept.copy.doomed) refused.ready)) (refused.late m refl)
 
     pub fetch_due : at row.copies id ≡ None → fetch_check row.copies row.fetches_begun ≡ None → IsGetDue
     fetch_due none passed mine session grants bytes contents h = fetch_late node row (beside_of line grants bytes row.job) contents session h id mine alive none passed

@@ -11,9 +11,10 @@ ghost use Rattle.node_table.specs.Beside.{SharedTables};
 
 use crate::outcome::{Erase, RowOutcome};
 use job_row::JobRow;
+use memory_growth::OutOfMemory;
 use obj_id::{DirectoryMessage, FetchNo, Location, NodeNo, ObjectId, Reply};
 use private_store::FetchFault;
-use std::alloc::{AllocError, Global};
+use std::alloc::Global;
 
 /// The directory's answer to a fetch of this number: the first entry of another node is its source, and without one
 /// it has failed. It counts while the source isn't known; otherwise nothing changes. The reply is Ok. Takes no memory.
@@ -30,11 +31,11 @@ pub fn located(row: &mut JobRow, node: NodeNo, id: &ObjectId, number: FetchNo, e
 pub fn not_here(
     row: &mut JobRow,
     alloc: Global,
-    room: Result<(), AllocError>,
+    room: Result<(), OutOfMemory>,
     from: NodeNo,
     id: &ObjectId,
     number: FetchNo,
-) -> Result<RowOutcome, AllocError>
+) -> Result<RowOutcome, OutOfMemory>
     ensures ok { IfOk result (λ o. (node : ℕ) (beside : SharedTables) (contents : Contents) → IsShown row.old beside contents
         → RowStep node row.old beside contents (input.Arrive (arrival.FromPeer from (peer.NotHere id.now number))) (row_given_of o) row.new beside) }
     ensures response { IfOk result (λ o. o.reply ≡ reply.Ok) }

@@ -33,9 +33,10 @@ use crate::outcome::RowOutcome;
 use crate::room::{MadeRoom, room_for};
 use fetch_core::{Stage, all_chunks};
 use job_row::{Awaited, JobRow, Placement, RowCopy};
+use memory_growth::OutOfMemory;
 use obj_id::{Endpoint, ItemList, Message, ObjectId, PeerMessage};
 use spill_work::Works;
-use std::alloc::{AllocError, Global};
+use std::alloc::Global;
 
 /// Get of an object whose source is known, and that the window may have: room is made for it, and then all its chunks
 /// are asked for at the source; the answer is `Pending`. If there is no room the answer is that of Create. The error
@@ -44,11 +45,11 @@ use std::alloc::{AllocError, Global};
 pub(crate) fn begin_pull(
     row: &mut JobRow,
     alloc: Global,
-    room: Result<(), AllocError>,
+    room: Result<(), OutOfMemory>,
     node: u32,
     works: &mut Works,
     id: &ObjectId,
-) -> Result<RowOutcome, AllocError>
+) -> Result<RowOutcome, OutOfMemory>
     requires alive { is_remembered row.old.ended_tasks id.now.task ≡ false }
     requires visible { visible_state (at row.old.copies id.now) ≡ Ok (Some Fetching) }
     requires sized { can_pull_at row.old id.now ≡ true }
@@ -78,12 +79,12 @@ pub(crate) fn begin_pull(
 fn pull_in_place(
     row: &mut JobRow,
     alloc: Global,
-    room: Result<(), AllocError>,
+    room: Result<(), OutOfMemory>,
     node: u32,
     id: &ObjectId,
     len: u32,
     placement: &Placement,
-) -> Result<RowOutcome, AllocError>
+) -> Result<RowOutcome, OutOfMemory>
     requires alive { is_remembered row.old.ended_tasks id.now.task ≡ false }
     requires visible { visible_state (at row.old.copies id.now) ≡ Ok (Some Fetching) }
     requires sized { can_pull_at row.old id.now ≡ true }
@@ -108,7 +109,7 @@ fn pull_in_place(
 }
 
 /// The question for all chunks of the object, at the source of its fetch.
-fn question(row: &JobRow, alloc: Global, id: &ObjectId) -> Result<(Endpoint, Message), AllocError>
+fn question(row: &JobRow, alloc: Global, id: &ObjectId) -> Result<(Endpoint, Message), OutOfMemory>
     requires visible { visible_state (at row.now.copies id.now) ≡ Ok (Some Fetching) }
     requires sized { can_pull_at row.now id.now ≡ true }
     ensures { IfOk result (λ message. (k : CopyView) (f : Fetch) (source : ℕ) → at row.now.copies id.now ≡ Some k → k.copy.fetch ≡ Some f → f.phase ≡ sized source
@@ -125,7 +126,7 @@ fn question_of(
     alloc: Global,
     id: ObjectId,
     copy: &RowCopy,
-) -> Result<(Endpoint, Message), AllocError>
+) -> Result<(Endpoint, Message), OutOfMemory>
     requires { option_map_or (λ f. is_unasked f.phase) copy.now.copy.fetch false ≡ true }
     ensures { IfOk result (λ message. (f : Fetch) (source : ℕ) → copy.now.copy.fetch ≡ Some f → f.phase ≡ sized source
         → message ≡ to_peer source (Pull id f.number copy.now.copy.length (unwrap_or copy.now.digest no_digest) (counted 0 (chunk_count copy.now.copy.length)))) }

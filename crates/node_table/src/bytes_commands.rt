@@ -17,8 +17,9 @@ ghost use Rattle.node_table.specs.Beside.{SharedTables};
 use crate::outcome::{Erase, RowOutcome};
 use bytes::Bytes;
 use job_row::{JobRow, Mark};
+use memory_growth::OutOfMemory;
 use obj_id::{DirectoryMessage, Endpoint, Location, Message, ObjectId, Refusal, Reply};
-use std::alloc::{AllocError, Global};
+use std::alloc::Global;
 
 /// Write: the bytes are replaced from the offset on, while the copy is being written. `BadSize` for
 /// more than 65,536 bytes, `Absent`, `AlreadySealed`, `OutOfBounds`; a refusal changes nothing.
@@ -40,10 +41,10 @@ pub fn write(row: &mut JobRow, id: &ObjectId, offset: u32, bytes: &[u8]) -> Repl
 pub fn seal(
     row: &mut JobRow,
     alloc: Global,
-    room: Result<(), AllocError>,
+    room: Result<(), OutOfMemory>,
     node: u32,
     id: &ObjectId,
-) -> Result<RowOutcome, AllocError>
+) -> Result<RowOutcome, OutOfMemory>
     ensures ok { IfOk result (λ o. (session : ℕ) (beside : SharedTables) (contents : Contents) → (id.now.job.0 == row.old.job) ≡ true → IsShown row.old beside contents
         → RowStep node row.old beside contents (input.Call session (command.Seal id.now)) (row_given_of o) row.new beside) }
     ensures bounded { IfOk result (λ o. length o.messages ≤ 1) }
@@ -75,7 +76,7 @@ pub fn read(
     id: &ObjectId,
     offset: u32,
     len: u32,
-) -> Result<Reply<Bytes>, AllocError>
+) -> Result<Reply<Bytes>, OutOfMemory>
     ensures ok { IfOk result (λ response. (node : ℕ) (beside : SharedTables) (contents : Contents) → (id.now.job.0 == row.now.job) ≡ true → IsShown row.now beside contents
         → RowStep node row.now beside contents (input.Call session (command.Read id.now offset len)) (only response) row.now beside) }
     ensures memory_last { OnErr result (read_check_lem row.now.copies session id.now offset len ≡ None) }

@@ -19,12 +19,13 @@ ghost use Rattle.node_table.specs.Beside.{SharedTables};
 use crate::outcome::{Erase, RowOutcome};
 use hashed_bytes::digest_by;
 use job_row::{JobRow, Mark};
+use memory_growth::OutOfMemory;
 use obj_id::limits::CHUNK_SIZE;
 use obj_id::{
     ChunkIndex, Digest, DirectoryMessage, Extent, FetchNo, Location, NodeNo, ObjectId, Reply,
 };
 use private_store::{ChunkVerdict, FetchFault};
-use std::alloc::{AllocError, Global};
+use std::alloc::Global;
 
 /// What a chunk gave, and what it was to the fetch that it names.
 #[derive(Drop)]
@@ -40,14 +41,14 @@ pub struct ChunkTaken {
 pub fn chunk(
     row: &mut JobRow,
     alloc: Global,
-    room: Result<(), AllocError>,
+    room: Result<(), OutOfMemory>,
     node: NodeNo,
     id: &ObjectId,
     number: FetchNo,
     index: ChunkIndex,
     from: NodeNo,
     bytes: &[u8],
-) -> Result<ChunkTaken, AllocError>
+) -> Result<ChunkTaken, OutOfMemory>
     ensures ok { IfOk result (λ t. (beside : SharedTables) (contents : Contents) → IsShown row.old beside contents
         → RowStep node row.old beside contents (input.Arrive (arrival.FromPeer from (peer.Chunk id.now number index bytes.now))) (row_given_of t.outcome) row.new beside) }
     ensures verdict { IfOk result (λ t. (beside : SharedTables) (contents : Contents) → IsShown row.old beside contents
@@ -87,14 +88,14 @@ pub fn chunk(
 fn last_chunk(
     row: &mut JobRow,
     alloc: Global,
-    room: Result<(), AllocError>,
+    room: Result<(), OutOfMemory>,
     node: NodeNo,
     id: &ObjectId,
     number: FetchNo,
     index: ChunkIndex,
     from: NodeNo,
     bytes: &[u8],
-) -> Result<ChunkTaken, AllocError>
+) -> Result<ChunkTaken, OutOfMemory>
     requires fills { option_map_or (fills number from index (length bytes.now)) (at row.old.copies id.now) false ≡ true }
     requires last { option_map_or (lacks_only index) (at row.old.copies id.now) false ≡ true }
     ensures ok { IfOk result (λ t. (beside : SharedTables) (contents : Contents) → IsShown row.old beside contents

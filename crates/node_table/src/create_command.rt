@@ -20,9 +20,10 @@ use crate::get_command::refuse;
 use crate::outcome::{Erase, RowOutcome};
 use crate::room::{MadeRoom, room_for};
 use job_row::{Copies, JobRow, Placement};
+use memory_growth::OutOfMemory;
 use obj_id::{DirectoryMessage, Endpoint, ItemList, Kind, Message, ObjectId, Reply};
 use spill_work::Works;
-use std::alloc::{AllocError, Global};
+use std::alloc::Global;
 
 /// Create: a copy of zeros to be written, of `len` bytes, if the window has room or room is made:
 /// by evicting the job's least recently used copies that may go, and otherwise by asking for the writes of
@@ -34,13 +35,13 @@ use std::alloc::{AllocError, Global};
 pub fn create(
     row: &mut JobRow,
     alloc: Global,
-    room: Result<(), AllocError>,
+    room: Result<(), OutOfMemory>,
     node: u32,
     works: &mut Works,
     id: &ObjectId,
     kind: Kind,
     len: u32,
-) -> Result<RowOutcome, AllocError>
+) -> Result<RowOutcome, OutOfMemory>
     ensures ok { IfOk result (λ o. (session : ℕ) (grants : List StandingGrant) (bytes : ObjectId → List ℕ) (contents : Contents) → (id.now.job.0 == row.old.job) ≡ true → IsShown row.old (beside_of works.old grants bytes row.old.job) contents
         → RowStep node row.old (beside_of works.old grants bytes row.old.job) contents (input.Call session (command.Create id.now kind len)) (row_given_of o) row.new (beside_of works.new grants bytes row.old.job)) }
     ensures bounded { IfOk result (λ o. length o.messages ≤ length row.old.copies) }
@@ -66,13 +67,13 @@ pub fn create(
 fn create_in_place(
     row: &mut JobRow,
     alloc: Global,
-    room: Result<(), AllocError>,
+    room: Result<(), OutOfMemory>,
     node: u32,
     id: &ObjectId,
     kind: Kind,
     len: u32,
     placement: &Placement,
-) -> Result<RowOutcome, AllocError>
+) -> Result<RowOutcome, OutOfMemory>
     requires checked { create_check_lem row.old id.now len ≡ None }
     requires may_go { MayGo row.old.copies placement.now.victims }
     requires place { IsPlacement row.old len placement.now }
@@ -100,7 +101,7 @@ pub(crate) fn removals(
     node: u32,
     copies: &Copies,
     ids: &[ObjectId],
-) -> Result<ItemList<(Endpoint, Message)>, AllocError>
+) -> Result<ItemList<(Endpoint, Message)>, OutOfMemory>
     ensures { IfOk result (λ messages. messages ≡ removals_lem node copies.now ids.now) }
 {
     let mut messages = ItemList::new(alloc);

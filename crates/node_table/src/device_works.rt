@@ -29,12 +29,13 @@ ghost use Rattle.node_table.specs.EndedWorks.{ended_row};
 use crate::outcome::RowOutcome;
 use bytes::Bytes;
 use job_row::{JobRow, RowCopy};
+use memory_growth::OutOfMemory;
 use obj_id::{
     CopyState, DeviceAnswer, DeviceKey, ItemList, ObjectId, Refusal, Reply, Work, WorkKind,
 };
 use private_store::{Fault, WorkVerdict};
 use spill_work::{IoRequest, Works};
-use std::alloc::{AllocError, Global};
+use std::alloc::Global;
 
 /// What the answer to a work gave, and what it was to the work.
 #[derive(Drop)]
@@ -87,7 +88,7 @@ pub fn work(
     row: &JobRow,
     alloc: Global,
     asked: &IoRequest,
-) -> Result<Option<Work<Bytes>>, AllocError>
+) -> Result<Option<Work<Bytes>>, OutOfMemory>
     ensures ok { IfOk result (λ work. (beside : SharedTables) (contents : Contents) → asked.now.job.0 ≡ row.now.job → IsShown row.now beside contents → find (λ w. w.number == asked.now.number) beside.works ≡ Some (shown asked.now)
         → work ≡ row_work_of row.now.job asked.now.number (seen row.now beside contents)) }
     ensures job { IfOk result (λ work. IfSome work (λ w. w.job ≡ asked.now.job)) }
@@ -111,7 +112,7 @@ pub fn work(
 }
 
 /// A write's bytes, and nothing for a read, which takes no memory.
-fn payload(row: &JobRow, alloc: Global, asked: &IoRequest) -> Result<Option<Bytes>, AllocError>
+fn payload(row: &JobRow, alloc: Global, asked: &IoRequest) -> Result<Option<Bytes>, OutOfMemory>
     ensures ok { IfOk result (λ payload. (k : CopyView) (e : Extent) → at row.now.copies asked.now.id ≡ Some k → extent_of k.copy ≡ Some e
         → payload ≡ (if is_write asked.now.kind then Some (take k.copy.length (placed_bytes e row.now.window.placed)) else None)) }
     ensures without_memory { asked.now.kind ≡ Read → IsOk result }

@@ -7,12 +7,13 @@ ghost use Rattle.node_table.specs.Erased.{keys_of};
 use crate::hold_commands::push_key;
 use crate::outcome::Erase;
 use job_row::JobRow;
+use memory_growth::{OutOfMemory, lists};
 use obj_id::{DeviceKey, ItemList, ObjectId, OwnItem};
-use std::alloc::{AllocError, Global};
+use std::alloc::Global;
 
 /// The device keys of its backed copies, in order of id. Takes a walk over the copies, a sort, and
 /// memory for each; out of memory it leaves all as it was.
-pub fn device_keys(row: &JobRow, alloc: Global) -> Result<Erase, AllocError>
+pub fn device_keys(row: &JobRow, alloc: Global) -> Result<Erase, OutOfMemory>
     ensures { IfOk result (λ erase. keys_of erase ≡ keys_backed row.now (ids_of row.now.copies)) }
 {
     let items = row.copies().items(alloc)?;
@@ -24,10 +25,10 @@ fn keys_each(
     row: &JobRow,
     alloc: Global,
     items: &[OwnItem],
-) -> Result<ItemList<DeviceKey>, AllocError>
+) -> Result<ItemList<DeviceKey>, OutOfMemory>
     ensures { IfOk result (λ keys. keys ≡ keys_backed row.now (map (λ item. item.id) items.now)) }
 {
-    let mut keys = Vec::with_capacity(alloc, items.len())?;
+    let mut keys = lists::with_room_for(alloc, items)?;
     for item in items {
         push_key(&mut keys, device_key(row, &item.id));
     }

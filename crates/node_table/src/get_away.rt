@@ -20,20 +20,21 @@ use crate::get_command::refuse;
 use crate::outcome::RowOutcome;
 use crate::restore::restore;
 use job_row::{JobRow, Mark};
+use memory_growth::OutOfMemory;
 use obj_id::ObjectId;
 use spill_work::Works;
-use std::alloc::{AllocError, Global};
+use std::alloc::Global;
 
 /// Get of a copy that is away: what its last restore came to is answered, once; otherwise it is read back. `DeviceFailed`,
 /// `Damaged`, and as `restore`.
 pub(crate) fn get_away(
     row: &mut JobRow,
     alloc: Global,
-    room: Result<(), AllocError>,
+    room: Result<(), OutOfMemory>,
     node: u32,
     works: &mut Works,
     id: &ObjectId,
-) -> Result<RowOutcome, AllocError>
+) -> Result<RowOutcome, OutOfMemory>
     requires alive { is_remembered row.old.ended_tasks id.now.task ≡ false }
     requires visible { visible_state (at row.old.copies id.now) ≡ Ok (Some Away) }
     ensures ok { IfOk result (λ o. (session : ℕ) (grants : List StandingGrant) (bytes : ObjectId → List ℕ) (contents : Contents) → (id.now.job.0 == row.old.job) ≡ true → IsShown row.old (beside_of works.old grants bytes row.old.job) contents

@@ -25,11 +25,13 @@ use crate::get_fetching::get_fetching;
 use crate::outcome::{Erase, RowOutcome};
 use bytes::Bytes;
 use job_row::JobRow;
+use memory_growth::OutOfMemory;
 use obj_id::{
-    CopyState, DirectoryMessage, Endpoint, FetchNo, ItemList, Message, ObjectId, Refusal, Reply,
+    CopyState, DirectoryMessage, Endpoint, Failure, FetchNo, ItemList, Message, ObjectId, Refusal,
+    Reply,
 };
 use spill_work::Works;
-use std::alloc::{AllocError, Global};
+use std::alloc::Global;
 
 /// Get of a sealed copy: one more hold of the session, and the copy is the most recently used one.
 /// `TooMany` at 64 holds. `None` if there is no sealed copy, and then nothing has changed.
@@ -37,7 +39,7 @@ fn get_sealed(
     row: &mut JobRow,
     session: u32,
     id: &ObjectId,
-) -> Result<Option<Reply<Bytes>>, AllocError>
+) -> Result<Option<Reply<Bytes>>, OutOfMemory>
     requires { is_remembered row.old.ended_tasks id.now.task ≡ false }
     ensures some { IfOk result (λ o. IfSome o (λ reply. (node : ℕ) (beside : SharedTables) (contents : Contents) → (id.now.job.0 == row.old.job) ≡ true → IsShown row.old beside contents
         → RowStep node row.old beside contents (input.Call session (command.Get id.now)) (only reply) row.new beside)) }
@@ -49,8 +51,8 @@ fn get_sealed(
     match row.hold_copy(id, session) {
         Ok(None) => Ok(None),
         Ok(Some(length)) => Ok(Some(Reply::Got(length))),
-        Err(refusal) if refusal == Refusal::NoMemory => Err(AllocError),
-        Err(refusal) => Ok(Some(Reply::Refused(refusal))),
+        Err(Failure::Memory(error)) => Err(error),
+        Err(Failure::Refused(refusal)) => Ok(Some(Reply::Refused(refusal))),
     }
 }
 
@@ -59,10 +61,10 @@ fn get_sealed(
 fn begin_fetch(
     row: &mut JobRow,
     alloc: Global,
-    room: Result<(), AllocError>,
+    room: Result<(), OutOfMemory>,
     node: u32,
     id: &ObjectId,
-) -> Result<RowOutcome, AllocError>
+) -> Result<RowOutcome, OutOfMemory>
     requires alive { is_remembered row.old.ended_tasks id.now.task ≡ false }
     requires none { at row.old.copies id.now ≡ None }
     ensures ok { IfOk result (λ o. (session : ℕ) (beside : SharedTables) (contents : Contents) → (id.now.job.0 == row.old.job) ≡ true → IsShown row.old beside contents
@@ -87,11 +89,11 @@ fn begin_fetch(
 fn get_unsealed(
     row: &mut JobRow,
     alloc: Global,
-    room: Result<(), AllocError>,
+    room: Result<(), OutOfMemory>,
     node: u32,
     works: &mut Works,
     id: &ObjectId,
-) -> Result<RowOutcome, AllocError>
+) -> Result<RowOutcome, OutOfMemory>
     requires alive { is_remembered row.old.ended_tasks id.now.task ≡ false }
     requires unready { option_map_or (λ k. is_ready k.copy) (at row.old.copies id.now) false ≡ false }
     ensures ok { IfOk result (λ o. (session : ℕ) (grants : List StandingGrant) (bytes : ObjectId → List ℕ) (contents : Contents) → (id.now.job.0 == row.old.job) ≡ true → IsShown row.old (beside_of works.old grants bytes row.old.job) contents
@@ -127,12 +129,12 @@ fn get_unsealed(
 pub fn get(
     row: &mut JobRow,
     alloc: Global,
-    room: Result<(), AllocError>,
+    room: Result<(), OutOfMemory>,
     node: u32,
     works: &mut Works,
     session: u32,
     id: &ObjectId,
-) -> Result<RowOutcome, AllocError>
+) -> Result<RowOutcome, OutOfMemory>
     ensures ok { IfOk result (λ o. (grants : List StandingGrant) (bytes : ObjectId → List ℕ) (contents : Contents) → (id.now.job.0 == row.old.job) ≡ true → IsShown row.old (beside_of works.old grants bytes row.old.job) contents
         → RowStep node row.old (beside_of works.old grants bytes row.old.job) contents (input.Call session (command.Get id.now)) (row_given_of o) row.new (beside_of works.new grants bytes row.old.job)) }
     ensures bounded { IfOk result (λ o. length o.messages ≤ length row.old.copies + 1) }
@@ -153,7 +155,7 @@ pub fn get(
 }
 
 /// A refusal, and nothing else.
-pub(crate) fn refuse(alloc: Global, refusal: Refusal) -> Result<RowOutcome, AllocError>
+pub(crate) fn refuse(alloc: Global, refusal: Refusal) -> Result<RowOutcome, OutOfMemory>
     ensures ok { IfOk result (λ o. row_given_of o ≡ only (reply.Refused refusal)) }
     ensures response { IsOk result }
 {
@@ -174,11 +176,11 @@ pub(crate) fn pending(messages: ItemList<(Endpoint, Message)>) -> RowOutcome
 /// The question where copies of the object are.
 pub(crate) fn locate(
     alloc: Global,
-    room: Result<(), AllocError>,
+    room: Result<(), OutOfMemory>,
     node: u32,
     id: ObjectId,
     number: FetchNo,
-) -> Result<ItemList<(Endpoint, Message)>, AllocError>
+) -> Result<ItemList<(Endpoint, Message)>, OutOfMemory>
     ensures ok { IfOk result (λ messages. messages ≡ to_directory (Locate id node number)) }
     ensures unsent { IfOk result (λ messages. is_ok room ≡ false → messages ≡ []) }
 {

@@ -27,21 +27,22 @@ use crate::get_command::{locate, pending, refuse};
 use crate::outcome::RowOutcome;
 use fetch_core::{FetchIn, Stage};
 use job_row::{JobRow, RowCopy};
+use memory_growth::{OutOfMemory, lists};
 use obj_id::{Endpoint, ItemList, Message, NodeNo, ObjectId, PeerMessage, Refusal, Reply};
 use private_store::FetchFault;
 use spill_work::Works;
-use std::alloc::{AllocError, Global};
+use std::alloc::Global;
 
 /// Get of an object that is on its way: its fetch goes one step on, and the answer is `Pending`. What it came to if it
 /// failed, `Absent` or `Damaged`, and then the copy is removed; and as `get_sized`.
 pub(crate) fn get_fetching(
     row: &mut JobRow,
     alloc: Global,
-    room: Result<(), AllocError>,
+    room: Result<(), OutOfMemory>,
     node: u32,
     works: &mut Works,
     id: &ObjectId,
-) -> Result<RowOutcome, AllocError>
+) -> Result<RowOutcome, OutOfMemory>
     requires alive { is_remembered row.old.ended_tasks id.now.task ≡ false }
     requires visible { visible_state (at row.old.copies id.now) ≡ Ok (Some Fetching) }
     ensures ok { IfOk result (λ o. (session : ℕ) (grants : List StandingGrant) (bytes : ObjectId → List ℕ) (contents : Contents) → (id.now.job.0 == row.old.job) ≡ true → IsShown row.old (beside_of works.old grants bytes row.old.job) contents
@@ -74,12 +75,12 @@ pub(crate) fn get_fetching(
 fn get_sized(
     row: &mut JobRow,
     alloc: Global,
-    room: Result<(), AllocError>,
+    room: Result<(), OutOfMemory>,
     node: u32,
     works: &mut Works,
     id: &ObjectId,
     len: u32,
-) -> Result<RowOutcome, AllocError>
+) -> Result<RowOutcome, OutOfMemory>
     requires alive { is_remembered row.old.ended_tasks id.now.task ≡ false }
     requires visible { visible_state (at row.old.copies id.now) ≡ Ok (Some Fetching) }
     requires sized { (k : CopyView) → at row.old.copies id.now ≡ Some k → (source : ℕ) × IsInPhase k.copy (sized source) }
@@ -116,12 +117,12 @@ fn tell_failed(row: &mut JobRow, alloc: Global, id: &ObjectId, fault: FetchFault
 /// The question for the chunks that are still missing, at the source.
 fn pull(
     alloc: Global,
-    room: Result<(), AllocError>,
+    room: Result<(), OutOfMemory>,
     id: ObjectId,
     copy: &RowCopy,
     fetch: &FetchIn,
     source: NodeNo,
-) -> Result<ItemList<(Endpoint, Message)>, AllocError>
+) -> Result<ItemList<(Endpoint, Message)>, OutOfMemory>
     requires own { copy.now.copy.fetch ≡ Some (store_fetch_of fetch.now) }
     requires pulled { fetch.now.phase ≡ pulling source (missing_of fetch.now.phase) }
     ensures ok { IfOk result (λ messages. messages ≡ to_peer source (Pull id fetch.now.number copy.now.copy.length (unwrap_or copy.now.digest no_digest) (missing_of fetch.now.phase)) ∷ []) }
@@ -131,7 +132,7 @@ fn pull(
         unreachable!()
     };
     let mut indexes = Vec::new(alloc);
-    indexes.extend_from_slice(fetch.missing())?;
+    lists::extend_from_slice(&mut indexes, fetch.missing())?;
     let message = Message::ToPeer(PeerMessage::Pull {
         id,
         number: fetch.number().0,

@@ -11,8 +11,9 @@ ghost use Rattle.node_table.specs.Beside.{SharedTables};
 
 use crate::outcome::{Erase, RowOutcome};
 use job_row::{JobRow, Mark};
+use memory_growth::{OutOfMemory, lists};
 use obj_id::{DeviceKey, ItemList, ObjectId, OwnItem, Reply};
-use std::alloc::{AllocError, Global};
+use std::alloc::Global;
 
 /// Release: one hold of the session on the copy less, which is removed if it is doomed and nothing else keeps it.
 /// `Absent`, `NotHeld`; a refusal changes nothing. Takes no memory.
@@ -30,7 +31,7 @@ pub fn release(row: &mut JobRow, alloc: Global, session: u32, id: &ObjectId) -> 
 /// Leave: no hold of the session on any copy, and a doomed one that nothing else keeps is removed. Takes two walks
 /// over the job's copies. The error is out of memory, which only a job with a doomed copy takes, and then nothing has
 /// changed.
-pub fn leave(row: &mut JobRow, alloc: Global, session: u32) -> Result<RowOutcome, AllocError>
+pub fn leave(row: &mut JobRow, alloc: Global, session: u32) -> Result<RowOutcome, OutOfMemory>
     ensures ok { IfOk result (λ o. (node : ℕ) (beside : SharedTables) (contents : Contents) → IsShown row.old beside contents
         → RowStep node row.old beside contents (input.Call session command.Leave) (row_given_of o) row.new beside) }
     ensures silent { IfOk result (λ o. o.messages ≡ []) }
@@ -57,12 +58,12 @@ fn leave_each(
     alloc: Global,
     session: u32,
     items: &[OwnItem],
-) -> Result<ItemList<DeviceKey>, AllocError>
+) -> Result<ItemList<DeviceKey>, OutOfMemory>
     ensures keys { IfOk result (λ keys. keys ≡ keys_left session row.old (map (λ item. item.id) items.now)) }
     ensures row { OnOk result (row.new ≡ fold (left_row session) row.old (map (λ item. item.id) items.now)) }
     ensures err { OnErr result (row.new ≡ row.old) }
 {
-    let mut keys = Vec::with_capacity(alloc, items.len())?;
+    let mut keys = lists::with_room_for(alloc, items)?;
     for item in items {
         let key = row.apply_and_settle(&item.id, Mark::Left(session));
         push_key(&mut keys, key);
@@ -78,6 +79,6 @@ pub(crate) fn push_key(keys: &mut Vec<DeviceKey>, key: Option<DeviceKey>)
     ensures capacity { vec_capacity keys.old ≤ vec_capacity keys.new }
 {
     if let Some(key) = key {
-        keys.push(key).unwrap();
+        lists::push(keys, key).unwrap();
     }
 }

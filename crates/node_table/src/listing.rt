@@ -12,9 +12,10 @@ ghost use Rattle.node_table.specs.RowUsage.{used};
 
 use bytes::Bytes;
 use job_row::{JobRow, RowCopy};
+use memory_growth::OutOfMemory;
 use obj_id::{GrantedItem, ItemList, ObjectId, OwnItem, Reply, Usage};
 use spill_work::Works;
-use std::alloc::{AllocError, Global};
+use std::alloc::Global;
 
 /// List: the own copies by rising id, and these objects, which are those that others granted. Takes a walk
 /// over the job's copies and memory for each. Changes nothing; the error is out of memory.
@@ -22,7 +23,7 @@ pub fn list(
     row: &JobRow,
     alloc: Global,
     granted: ItemList<GrantedItem>,
-) -> Result<Reply<Bytes>, AllocError>
+) -> Result<Reply<Bytes>, OutOfMemory>
     ensures { IfOk result (λ response. (node session : ℕ) (beside : SharedTables) (contents : Contents) → IsShown row.now beside contents
         → granted ≡ granted_items (shape_of row.now beside)
         → RowStep node row.now beside contents (input.Call session command.List) (only response) row.now beside) }

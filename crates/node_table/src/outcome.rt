@@ -7,8 +7,9 @@ ghost use Rattle.node_table.specs.Outcomes.{row_given_of};
 ghost use Rattle.job_row.specs.Scope.{notice_posts};
 
 use bytes::Bytes;
+use memory_growth::{OutOfMemory, lists};
 use obj_id::{DeviceKey, DirectoryMessage, Endpoint, ItemList, Message, Reply};
-use std::alloc::{AllocError, Global};
+use std::alloc::Global;
 
 /// What an event gave: the answer, the messages that are to be sent, in their order and each with its
 /// place, and the device keys that are to be erased, in order of id.
@@ -65,9 +66,9 @@ impl RowOutcome {
     /// This message to the directory, or none, in a list with room for no more.
     pub fn to_directory(
         alloc: Global,
-        room: Result<(), AllocError>,
+        room: Result<(), OutOfMemory>,
         message: Option<DirectoryMessage>,
-    ) -> Result<ItemList<(Endpoint, Message)>, AllocError>
+    ) -> Result<ItemList<(Endpoint, Message)>, OutOfMemory>
         ensures ok { IfOk result (λ messages. messages ≡ notice_posts message) }
         ensures unsent { IfOk result (λ messages. is_ok room ≡ false → messages ≡ []) }
     {
@@ -87,16 +88,16 @@ impl RowOutcome {
     /// A list of one message, with room for no more: what keeps what was sent keeps no idle memory.
     pub fn one_message(
         alloc: Global,
-        room: Result<(), AllocError>,
+        room: Result<(), OutOfMemory>,
         to: Endpoint,
         message: Message,
-    ) -> Result<ItemList<(Endpoint, Message)>, AllocError>
+    ) -> Result<ItemList<(Endpoint, Message)>, OutOfMemory>
         ensures ok { IfOk result (λ messages. messages ≡ (to, message) ∷ []) }
         ensures unsent { IfOk result (λ messages. is_ok room ≡ false → messages ≡ []) }
     {
         room?;
-        let mut messages = Vec::with_capacity(alloc, 1)?;
-        messages.push((to, message))?;
+        let mut messages = lists::with_capacity(alloc, 1)?;
+        lists::push(&mut messages, (to, message))?;
         Ok(ItemList::from_vec(messages))
     }
 }

@@ -29,9 +29,10 @@ use crate::outcome::{Erase, RowOutcome};
 use crate::restore::restore;
 use fetch_core::chunks_asked;
 use job_row::{Copies, JobRow, RowCopy};
+use memory_growth::{OutOfMemory, lists};
 use obj_id::{CopyState, Digest, Endpoint, ItemList, Message, ObjectId, PeerMessage, Reply};
 use spill_work::Works;
-use std::alloc::{AllocError, Global};
+use std::alloc::Global;
 
 /// What a Pull comes to.
 #[derive(Clone, Copy, Drop)]
@@ -104,7 +105,7 @@ pub fn pull_matches(row: &JobRow, id: &ObjectId, length: u32, digest: &Digest) -
 pub fn serve_pull(
     row: &mut JobRow,
     alloc: Global,
-    room: Result<(), AllocError>,
+    room: Result<(), OutOfMemory>,
     node: u32,
     works: &mut Works,
     from: u32,
@@ -113,7 +114,7 @@ pub fn serve_pull(
     len: u32,
     digest: &Digest,
     indexes: &[u32],
-) -> Result<RowOutcome, AllocError>
+) -> Result<RowOutcome, OutOfMemory>
     ensures ok { IfOk result (λ o. (grants : List StandingGrant) (bytes : ObjectId → List ℕ) (contents : Contents) → IsShown row.old (beside_of works.old grants bytes row.old.job) contents
         → RowStep node row.old (beside_of works.old grants bytes row.old.job) contents (input.Arrive (arrival.FromPeer from (peer.Pull id.now number len digest.now indexes.now))) (row_given_of o) row.new (beside_of works.new grants bytes row.old.job)) }
     ensures response { IfOk result (λ o. o.reply ≡ reply.Ok) }
@@ -138,12 +139,12 @@ pub fn serve_pull(
 fn chunk_messages(
     row: &JobRow,
     alloc: Global,
-    room: Result<(), AllocError>,
+    room: Result<(), OutOfMemory>,
     from: u32,
     id: &ObjectId,
     number: u64,
     indexes: &[u32],
-) -> Result<ItemList<(Endpoint, Message)>, AllocError>
+) -> Result<ItemList<(Endpoint, Message)>, OutOfMemory>
     ensures ok { IfOk result (λ messages. (k : CopyView) (e : Extent) → at row.now.copies id.now ≡ Some k → extent_of k.copy ≡ Some e
         → messages ≡ chunks_to (take k.copy.length (placed_bytes e row.now.window.placed)) from id.now number indexes.now) }
     ensures bounded { IfOk result (λ messages. length messages ≤ length indexes.now) }
@@ -160,11 +161,11 @@ fn chunk_messages(
 fn restore_quietly(
     row: &mut JobRow,
     alloc: Global,
-    room: Result<(), AllocError>,
+    room: Result<(), OutOfMemory>,
     node: u32,
     works: &mut Works,
     id: &ObjectId,
-) -> Result<RowOutcome, AllocError>
+) -> Result<RowOutcome, OutOfMemory>
     requires visible { visible_state (at row.old.copies id.now) ≡ Ok (Some Away) }
     requires sound { fault_at row.old.copies id.now ≡ None }
     ensures ok { IfOk result (λ o. (from number n : ℕ) (digest : Digest) (indexes : List ℕ) (grants : List StandingGrant) (bytes : ObjectId → List ℕ) (contents : Contents)
@@ -199,11 +200,11 @@ fn answered(messages: ItemList<(Endpoint, Message)>) -> RowOutcome
 /// That there is no such copy, to the node that asked for it.
 fn tell_not_here(
     alloc: Global,
-    room: Result<(), AllocError>,
+    room: Result<(), OutOfMemory>,
     from: u32,
     id: &ObjectId,
     number: u64,
-) -> Result<ItemList<(Endpoint, Message)>, AllocError>
+) -> Result<ItemList<(Endpoint, Message)>, OutOfMemory>
     ensures ok { IfOk result (λ messages. messages ≡ to_peer from (peer.NotHere id.now number) ∷ []) }
     ensures unsent { IfOk result (λ messages. is_ok room ≡ false → messages ≡ []) }
 {
@@ -216,12 +217,12 @@ fn all_to_peer(
     alloc: Global,
     node: u32,
     messages: Vec<PeerMessage>,
-) -> Result<ItemList<(Endpoint, Message)>, AllocError>
+) -> Result<ItemList<(Endpoint, Message)>, OutOfMemory>
     ensures { IfOk result (λ posts. posts ≡ map (to_peer node) messages.items) }
 {
-    let mut posts = Vec::with_capacity(alloc, messages.len())?;
+    let mut posts = lists::with_room_for(alloc, messages.as_slice())?;
     for message in messages {
-        posts.push((Endpoint::Node(node), Message::ToPeer(message)))?;
+        lists::push(&mut posts, (Endpoint::Node(node), Message::ToPeer(message)))?;
     }
     Ok(ItemList::from_vec(posts))
 }

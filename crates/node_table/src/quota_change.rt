@@ -1,8 +1,9 @@
 //! Another quota for the row.
-ghost use Rattle.std.specs.Prelude.{◌≡◌, ◌≢◌, ◌<◌, ℕ, Some, None, IsOk, IsErrOf, OnOk, OnErr};
+ghost use Rattle.std.specs.Prelude.{◌≡◌, ◌<◌, ℕ, Some, None, IsOk, IsErrOf, OnOk, OnErr};
 ghost use Rattle.obj_id.specs.declared.commands.Reply.TheVariants as reply;
 ghost use Rattle.obj_id.specs.declared.refusals.Refusal.{Refusal};
-ghost use Rattle.obj_id.specs.declared.refusals.Refusal.TheVariants.{NoMemory};
+ghost use Rattle.memory_growth.specs.declared.OutOfMemory.{OutOfMemory};
+ghost use Rattle.obj_id.specs.declared.refusals.Failure.TheVariants.{Refused, Memory};
 ghost use Rattle.private_store.specs.declared.inputs.Input.TheVariants as input;
 ghost use Rattle.private_store.specs.rules.Contents.{Contents};
 ghost use Rattle.job_row.specs.Quotas.{row_requota_check as requota_check_lem, store_check, requoted};
@@ -11,7 +12,7 @@ ghost use Rattle.node_table.specs.Beside.{SharedTables, shape_of};
 
 use job_row::JobRow;
 use obj_id::limits::GREATEST_DEVICE_QUOTA;
-use obj_id::{Quota, Refusal};
+use obj_id::{Failure, Quota, Refusal};
 
 /// Why the job can't have this quota: `BadSize`, `Full` if what it uses isn't within it, or nothing. Takes no walk over
 /// the job's copies.
@@ -43,18 +44,18 @@ fn quota_refusal(row: &JobRow, quota: Quota) -> Option<Refusal>
 }
 
 /// A change of quota: the copies keep their places and their bytes. `BadSize`, `Full` as `requota_check` has them,
-/// and `NoMemory` last, which a narrower window never is; a refusal changes nothing.
-pub fn requota(row: &mut JobRow, quota: Quota) -> Result<(), Refusal>
+/// and out of memory last, which a narrower window never is; a failure changes nothing.
+pub fn requota(row: &mut JobRow, quota: Quota) -> Result<(), Failure>
     ensures ok { OnOk result ((node : ℕ) (beside : SharedTables) (contents : Contents) → IsShown row.old beside contents → RowStep node row.old beside contents (input.Requota quota) (only reply.Ok) row.new beside) }
     ensures row { OnOk result (row.new ≡ requoted row.old quota) }
     ensures passed { IsOk result → requota_check_lem row.old quota ≡ None }
-    ensures refused { (r : Refusal) → r ≢ NoMemory → IsErrOf result r → requota_check_lem row.old quota ≡ Some r }
-    ensures memory { IsErrOf result NoMemory → (row.old.window.quota < quota.window) × (requota_check_lem row.old quota ≡ None) }
+    ensures refused { (r : Refusal) → IsErrOf result (Refused r) → requota_check_lem row.old quota ≡ Some r }
+    ensures memory { (m : OutOfMemory) → IsErrOf result (Memory m) → (row.old.window.quota < quota.window) × (requota_check_lem row.old quota ≡ None) }
     ensures err { OnErr result (row.new ≡ row.old) }
 {
     let _copies = row.copies();
     if let Some(refusal) = quota_refusal(row, quota) {
-        return Err(refusal);
+        return Err(Failure::Refused(refusal));
     }
     row.set_quota(quota)?;
     Ok(())

@@ -31,10 +31,11 @@ use crate::get_command::{pending, refuse};
 use crate::outcome::RowOutcome;
 use crate::room::{MadeRoom, RoomPlan, plan_room, room_by};
 use job_row::{Awaited, JobRow, Placement};
+use memory_growth::OutOfMemory;
 use obj_id::limits::MOST_WORKS;
-use obj_id::{JobNo, ObjectId, Refusal, WorkKind};
+use obj_id::{Failure, JobNo, ObjectId, Refusal, WorkKind};
 use spill_work::Works;
-use std::alloc::{AllocError, Global};
+use std::alloc::Global;
 
 /// Get of a copy that is away and has no fault to tell of, if the row is this job's: room is made for it, and its bytes are asked
 /// for at the device; the answer is `Pending`. `Busy` at 8 works in flight, `TooMany` if the job has no number of works left, and
@@ -43,12 +44,12 @@ use std::alloc::{AllocError, Global};
 pub(crate) fn restore(
     row: &mut JobRow,
     alloc: Global,
-    room: Result<(), AllocError>,
+    room: Result<(), OutOfMemory>,
     node: u32,
     works: &mut Works,
     job: JobNo,
     id: &ObjectId,
-) -> Result<RowOutcome, AllocError>
+) -> Result<RowOutcome, OutOfMemory>
     requires visible { visible_state (at row.old.copies id.now) ≡ Ok (Some Away) }
     requires sound { fault_at row.old.copies id.now ≡ None }
     ensures ok { IfOk result (λ o. (session : ℕ) (grants : List StandingGrant) (bytes : ObjectId → List ℕ) (contents : Contents) → job ≡ record { 0 = row.old.job } → (id.now.job.0 == row.old.job) ≡ true
@@ -84,14 +85,14 @@ pub(crate) fn restore(
 fn restore_by(
     row: &mut JobRow,
     alloc: Global,
-    room: Result<(), AllocError>,
+    room: Result<(), OutOfMemory>,
     node: u32,
     works: &mut Works,
     job: JobNo,
     id: &ObjectId,
     len: u32,
     plan: RoomPlan,
-) -> Result<RowOutcome, AllocError>
+) -> Result<RowOutcome, OutOfMemory>
     requires visible { visible_state (at row.old.copies id.now) ≡ Ok (Some Away) }
     requires sound { fault_at row.old.copies id.now ≡ None }
     requires idle { in_flight works.old job < most_works }
@@ -124,14 +125,14 @@ fn restore_by(
 fn restore_in_place(
     row: &mut JobRow,
     alloc: Global,
-    room: Result<(), AllocError>,
+    room: Result<(), OutOfMemory>,
     node: u32,
     works: &mut Works,
     job: JobNo,
     id: &ObjectId,
     len: u32,
     placement: &Placement,
-) -> Result<RowOutcome, AllocError>
+) -> Result<RowOutcome, OutOfMemory>
     requires visible { visible_state (at row.old.copies id.now) ≡ Ok (Some Away) }
     requires sound { fault_at row.old.copies id.now ≡ None }
     requires idle { in_flight works.old job < most_works }
@@ -169,13 +170,14 @@ fn restore_in_place(
 }
 
 /// Asks for a read of the job, whose works and numbers aren't at their end. The error is out of memory, and then nothing has changed.
-fn ask_read(works: &mut Works, job: JobNo, id: ObjectId) -> Result<u64, AllocError>
+fn ask_read(works: &mut Works, job: JobNo, id: ObjectId) -> Result<u64, OutOfMemory>
     requires { ask_check works.old job ≡ None }
     ensures ok { IfOk result (λ number. AsksWork works.old (record { job = job; number = number; id = id; kind = Read }) works.new) }
     ensures err { OnErr result (works.new ≡ works.old) }
 {
     match works.ask(job, id, WorkKind::Read) {
         Ok(number) => Ok(number),
-        Err(_) => Err(AllocError),
+        Err(Failure::Memory(error)) => Err(error),
+        Err(Failure::Refused(_)) => unreachable!(),
     }
 }

@@ -20,9 +20,10 @@ ghost use Rattle.node_table.specs.Beside.{SharedTables, beside_of, shape_of};
 
 use job_row::{JobRow, Placement};
 use lru_evictor::{DeviceRoom, Plan, extents_by_offset};
+use memory_growth::OutOfMemory;
 use obj_id::{Extent, ItemList, JobNo, ObjectId, Refusal, WorkKind};
 use spill_work::Works;
-use std::alloc::{AllocError, Global};
+use std::alloc::Global;
 
 /// What is to be done for room in a window.
 #[derive(Clone, Copy, Debug)]
@@ -85,7 +86,7 @@ pub(crate) fn plan_room(row: &mut JobRow, works: &Works, job: JobNo, len: u32) -
 }
 
 /// The copies that are to be evicted for an object of `len` bytes, in this order, if that is the plan.
-fn victims(row: &JobRow, alloc: Global, len: u32) -> Result<ItemList<ObjectId>, AllocError>
+fn victims(row: &JobRow, alloc: Global, len: u32) -> Result<ItemList<ObjectId>, OutOfMemory>
     ensures victims { IfOk result (λ victims. (line : WorkLine) (grants : List StandingGrant) (bytes : ObjectId → List ℕ) (contents : Contents) → IsShown row.now (beside_of line grants bytes row.now.job) contents
         → planned_by row.now.order (shape_of row.now (beside_of line grants bytes row.now.job)) len ≡ Evict → victims ≡ listed (plan row.now.order (shape_of row.now (beside_of line grants bytes row.now.job)) len)) }
     ensures may_go { IfOk result (λ victims. MayGo row.now.copies victims) }
@@ -95,7 +96,7 @@ fn victims(row: &JobRow, alloc: Global, len: u32) -> Result<ItemList<ObjectId>, 
 }
 
 /// The first so many copies that may be spilled, the least recently used first.
-fn spillable(row: &JobRow, alloc: Global, count: usize) -> Result<ItemList<ObjectId>, AllocError>
+fn spillable(row: &JobRow, alloc: Global, count: usize) -> Result<ItemList<ObjectId>, OutOfMemory>
     ensures spillable { IfOk result (λ written. (line : WorkLine) (grants : List StandingGrant) (bytes : ObjectId → List ℕ) (contents : Contents) (n : ℕ) → IsShown row.now (beside_of line grants bytes row.now.job) contents
         → planned_by row.now.order (shape_of row.now (beside_of line grants bytes row.now.job)) n ≡ Ask count → written ≡ listed (plan row.now.order (shape_of row.now (beside_of line grants bytes row.now.job)) n)) }
     ensures bounded { IfOk result (λ written. length written ≤ count) }
@@ -113,7 +114,7 @@ pub(crate) fn room_for(
     works: &mut Works,
     job: JobNo,
     len: u32,
-) -> Result<MadeRoom, AllocError>
+) -> Result<MadeRoom, OutOfMemory>
     ensures ok { IfOk result (λ made. (grants : List StandingGrant) (bytes : ObjectId → List ℕ) (contents : Contents) → job ≡ record { 0 = row.old.job } → IsShown row.old (beside_of works.old grants bytes row.old.job) contents
         → IsRoomMade made row.old (beside_of works.old grants bytes row.old.job) contents len row.new (beside_of works.new grants bytes row.old.job)) }
     ensures place { IfOk result (λ made. WaitsForPlace made row.old works.old len row.new works.new) }
@@ -136,7 +137,7 @@ pub(crate) fn room_by(
     job: JobNo,
     len: u32,
     plan: RoomPlan,
-) -> Result<MadeRoom, AllocError>
+) -> Result<MadeRoom, OutOfMemory>
     requires fits { (offset : ℕ) → plan ≡ Fits offset → place_for row.old.window len ≡ Some offset }
     requires asks { (count : ℕ) → plan ≡ Ask count → room_for_lem works.old job count ≡ true }
     ensures ok { IfOk result (λ made. (grants : List StandingGrant) (bytes : ObjectId → List ℕ) (contents : Contents) → job ≡ record { 0 = row.old.job } → IsShown row.old (beside_of works.old grants bytes row.old.job) contents
@@ -178,7 +179,7 @@ fn place_of_victims(
     alloc: Global,
     len: u32,
     victims: ItemList<ObjectId>,
-) -> Result<MadeRoom, AllocError>
+) -> Result<MadeRoom, OutOfMemory>
     requires { MayGo row.now.copies victims }
     ensures place { IfOk result (λ made. (line : WorkLine) → WaitsForPlace made row.now line len row.now line) }
     ensures ok { IfOk result (λ made. (beside : SharedTables) (contents : Contents) → IsShown row.now beside contents
@@ -203,7 +204,7 @@ fn ask_writes(
     job: JobNo,
     works: &mut Works,
     ids: &[ObjectId],
-) -> Result<MadeRoom, AllocError>
+) -> Result<MadeRoom, OutOfMemory>
     requires { room_for_lem works.old job (length ids.now) ≡ true }
     ensures ok { IfOk result (λ made. (grants : List StandingGrant) (bytes : ObjectId → List ℕ) (contents : Contents) (n : ℕ) → job ≡ record { 0 = row.old.job } → IsShown row.old (beside_of works.old grants bytes row.old.job) contents
         → AsksWrites (make_room row.old.order (shape_of row.old (beside_of works.old grants bytes row.old.job)) n) (shape_of row.old (beside_of works.old grants bytes row.old.job)) ids.now

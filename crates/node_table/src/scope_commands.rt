@@ -11,8 +11,9 @@ ghost use Rattle.node_table.specs.Beside.{SharedTables};
 
 use crate::outcome::RowOutcome;
 use job_row::{JobRow, Mark};
-use obj_id::{ObjectId, Refusal, Reply, TaskNo};
-use std::alloc::{AllocError, Global};
+use memory_growth::OutOfMemory;
+use obj_id::{Failure, ObjectId, Refusal, Reply, TaskNo};
+use std::alloc::Global;
 
 /// Unpin: the owner task keeps its primary no longer, which is doomed unless a task borrows it. `Absent`, `NotOwner`
 /// if it is a secondary or another task asks, `NotHeld` if it isn't pinned. The error is out of memory, and then
@@ -20,11 +21,11 @@ use std::alloc::{AllocError, Global};
 pub fn unpin(
     row: &mut JobRow,
     alloc: Global,
-    room: Result<(), AllocError>,
+    room: Result<(), OutOfMemory>,
     node: u32,
     id: &ObjectId,
     task: TaskNo,
-) -> Result<RowOutcome, AllocError>
+) -> Result<RowOutcome, OutOfMemory>
     ensures ok { IfOk result (λ o. (session : ℕ) (beside : SharedTables) (contents : Contents) → (id.now.job.0 == row.old.job) ≡ true → IsShown row.old beside contents
         → RowStep node row.old beside contents (input.Call session (command.Unpin id.now task)) (row_given_of o) row.new beside) }
     ensures bounded { IfOk result (λ o. length o.messages ≤ 1) }
@@ -49,7 +50,7 @@ pub fn borrow(
     alloc: Global,
     id: &ObjectId,
     task: TaskNo,
-) -> Result<RowOutcome, AllocError>
+) -> Result<RowOutcome, OutOfMemory>
     ensures ok { IfOk result (λ o. (node session : ℕ) (beside : SharedTables) (contents : Contents) → (id.now.job.0 == row.old.job) ≡ true → IsShown row.old beside contents
         → RowStep node row.old beside contents (input.Call session (command.Borrow id.now task)) (row_given_of o) row.new beside) }
     ensures silent { IfOk result (λ o. o.messages ≡ []) }
@@ -61,8 +62,8 @@ pub fn borrow(
     }
     match row.borrow_copy(id, task) {
         Ok(()) => Ok(RowOutcome::only(alloc, Reply::Ok)),
-        Err(refusal) if refusal == Refusal::NoMemory => Err(AllocError),
-        Err(refusal) => Ok(RowOutcome::only(alloc, Reply::Refused(refusal))),
+        Err(Failure::Memory(error)) => Err(error),
+        Err(Failure::Refused(refusal)) => Ok(RowOutcome::only(alloc, Reply::Refused(refusal))),
     }
 }
 
@@ -72,11 +73,11 @@ pub fn borrow(
 pub fn give_up(
     row: &mut JobRow,
     alloc: Global,
-    room: Result<(), AllocError>,
+    room: Result<(), OutOfMemory>,
     node: u32,
     id: &ObjectId,
     task: TaskNo,
-) -> Result<RowOutcome, AllocError>
+) -> Result<RowOutcome, OutOfMemory>
     ensures ok { IfOk result (λ o. (session : ℕ) (beside : SharedTables) (contents : Contents) → (id.now.job.0 == row.old.job) ≡ true → IsShown row.old beside contents
         → RowStep node row.old beside contents (input.Call session (command.GiveUp id.now task)) (row_given_of o) row.new beside) }
     ensures bounded { IfOk result (λ o. length o.messages ≤ 1) }
@@ -98,10 +99,10 @@ pub fn give_up(
 pub fn delete(
     row: &mut JobRow,
     alloc: Global,
-    room: Result<(), AllocError>,
+    room: Result<(), OutOfMemory>,
     node: u32,
     id: &ObjectId,
-) -> Result<RowOutcome, AllocError>
+) -> Result<RowOutcome, OutOfMemory>
     ensures ok { IfOk result (λ o. (session : ℕ) (beside : SharedTables) (contents : Contents) → (id.now.job.0 == row.old.job) ≡ true → IsShown row.old beside contents
         → RowStep node row.old beside contents (input.Call session (command.Delete id.now)) (row_given_of o) row.new beside) }
     ensures bounded { IfOk result (λ o. length o.messages ≤ 1) }

@@ -17,10 +17,11 @@ use crate::ending::device_key;
 use crate::hold_commands::push_key;
 use crate::outcome::{Erase, RowOutcome};
 use job_row::{JobRow, Mark};
+use memory_growth::{OutOfMemory, lists};
 use obj_id::{
     DeviceKey, DirectoryMessage, Endpoint, ItemList, Message, ObjectId, OwnItem, Reply, TaskNo,
 };
-use std::alloc::{AllocError, Global};
+use std::alloc::Global;
 
 /// EndTask: the task is remembered, the grants of its own objects end, its copies are doomed, and its borrows given
 /// up. `Gone` if it has ended already, `TooMany` at 1,024 ended tasks. Takes walks over the job's copies, a sort,
@@ -28,10 +29,10 @@ use std::alloc::{AllocError, Global};
 pub fn end_task(
     row: &mut JobRow,
     alloc: Global,
-    room: Result<(), AllocError>,
+    room: Result<(), OutOfMemory>,
     node: u32,
     task: TaskNo,
-) -> Result<RowOutcome, AllocError>
+) -> Result<RowOutcome, OutOfMemory>
     ensures ok { IfOk result (λ o. (session : ℕ) (beside : SharedTables) (contents : Contents) → IsShown row.old beside contents
         → RowStep node row.old beside contents (input.Call session (command.EndTask task)) (row_given_of o) row.new (beside_after row.old task beside)) }
     ensures reply { IfOk result (λ o. o.reply ≡ option_map_or reply.Refused (end_task_check_lem row.old task) reply.Ok) }
@@ -46,8 +47,8 @@ pub fn end_task(
     room?;
     let items = row.copies().items(alloc)?;
     let keys = keys_with_ids(row, alloc, items.as_slice())?;
-    let mut messages = Vec::with_capacity(alloc, 2 * row.copies().len())?;
-    let mut erased = Vec::with_capacity(alloc, keys.as_slice().len())?;
+    let mut messages = lists::with_room_for_both(alloc, items.as_slice(), items.as_slice())?;
+    let mut erased = lists::with_room_for(alloc, keys.as_slice())?;
     row.remember_end(task)?;
     doom_each(row, node, task, items.as_slice(), &mut messages);
     give_up_each(row, node, task, items.as_slice(), &mut messages);
@@ -64,10 +65,10 @@ fn keys_with_ids(
     row: &JobRow,
     alloc: Global,
     items: &[OwnItem],
-) -> Result<ItemList<(ObjectId, DeviceKey)>, AllocError>
+) -> Result<ItemList<(ObjectId, DeviceKey)>, OutOfMemory>
     ensures { IfOk result (λ keys. keys ≡ keys_of_copies row.now (map (λ item. item.id) items.now)) }
 {
-    let mut keys = Vec::with_capacity(alloc, items.len())?;
+    let mut keys = lists::with_room_for(alloc, items)?;
     for item in items {
         push_last(&mut keys, key_with_id(row, &item.id));
     }
@@ -204,9 +205,8 @@ fn push_message(messages: &mut Vec<(Endpoint, Message)>, message: Option<Directo
     ensures capacity { vec_capacity messages.old ≤ vec_capacity messages.new }
 {
     if let Some(message) = message {
-        messages
-            .push((Endpoint::Directory, Message::ToDirectory(message)))
-            .unwrap();
+        let post = (Endpoint::Directory, Message::ToDirectory(message));
+        lists::push(messages, post).unwrap();
     }
 }
 
@@ -218,6 +218,6 @@ fn push_last(keys: &mut Vec<(ObjectId, DeviceKey)>, key: Option<(ObjectId, Devic
     ensures capacity { vec_capacity keys.old ≤ vec_capacity keys.new }
 {
     if let Some(key) = key {
-        keys.push(key).unwrap();
+        lists::push(keys, key).unwrap();
     }
 }

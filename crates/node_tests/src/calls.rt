@@ -3,10 +3,11 @@ ghost use Rattle.std.specs.Prelude.{◌≡◌, true};
 
 use crate::lines::event_of;
 use assertions::{holds, same};
+use memory_growth::OutOfMemory;
 use node_core::{Node, NodeOutcome};
 use obj_id::{JobKey, JobNo, ObjectId, Quota, Refusal, Reply, TaskNo, Usage};
 use private_store::Event;
-use std::alloc::{AllocError, Global};
+use std::alloc::Global;
 use std::process::Abort;
 use std::test::Fail;
 
@@ -19,12 +20,12 @@ const ZEROS: JobKey = JobKey([0; 32]);
 const LONG: usize = 65_552;
 
 /// What the event gives.
-pub(crate) fn taken(node: &mut Node, event: &Event) -> Result<NodeOutcome, AllocError> {
-    node.apply(event, Ok(()))
+pub(crate) fn taken(node: &mut Node, event: &Event) -> Result<NodeOutcome, OutOfMemory> {
+    Ok(node.apply(event, Ok(()))?)
 }
 
 /// Gives the node an event that it doesn't refuse.
-pub(crate) fn accepted(rt: &impl Abort, node: &mut Node, event: &Event) -> Result<(), AllocError> {
+pub(crate) fn accepted(rt: &impl Abort, node: &mut Node, event: &Event) -> Result<(), OutOfMemory> {
     let outcome = taken(node, event)?;
     holds!(rt; !matches!(outcome.reply, Reply::Refused(_)));
     Ok(())

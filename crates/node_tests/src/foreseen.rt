@@ -3,10 +3,11 @@ use crate::calls::taken;
 use crate::lines::event_of;
 use assertions::same;
 use bytes::Bytes;
+use memory_growth::{OutOfMemory, text_of};
 use node_core::{Node, NodeOutcome};
 use obj_id::{Command, JobNo, Reply};
 use private_store::{Event, Judged, WorkVerdict};
-use std::alloc::{AllocError, Global};
+use std::alloc::Global;
 use std::process::Abort;
 use std::test::Fail;
 
@@ -60,12 +61,12 @@ fn reply_word(reply: &Reply<Bytes>) -> &'static str {
 
 /// How many messages were foreseen at most, how many were sent, the word of the reply, the word of what the event was to
 /// its job, and what it counts: bytes of the window, the copy, or what is written or read.
-fn described(alloc: Global, most: usize, outcome: &NodeOutcome) -> Result<String, AllocError> {
+fn described(alloc: Global, most: usize, outcome: &NodeOutcome) -> Result<String, OutOfMemory> {
     let sent = outcome.messages.as_slice().len();
     let response = reply_word(&outcome.reply);
     let judged = word_of(&outcome.judged);
     let bytes = bytes_of(&outcome.judged);
-    format!(in alloc; "{most} {sent} {response} {judged} {bytes}")
+    text_of!(in alloc; "{most} {sent} {response} {judged} {bytes}")
 }
 
 /// The job whose work the reply gives: 0 if it gives none.

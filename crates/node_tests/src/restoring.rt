@@ -3,11 +3,12 @@ use crate::calls::{accepted, taken};
 use crate::lines::event_of;
 use assertions::{holds, same};
 use bytes::Bytes;
+use memory_growth::{OutOfMemory, text_of};
 use node_core::{Erase, Node};
 use obj_id::{DeviceAnswer, JobNo, ObjectId, Refusal, Reply, TaskNo, Work};
 use private_store::Event;
 use spill_device::{DeviceFault, FileDevice, SpillDevice};
-use std::alloc::{AllocError, Global};
+use std::alloc::Global;
 use std::process::{self, Abort};
 use std::rt::{Env, Files};
 use std::test::Fail;
@@ -42,7 +43,7 @@ cmd 0 1 1 seal t1.2";
 fn own_folder<R: Files + Env + AllocGlobal>(rt: &R, process: u32) -> Result<String, Fail> {
     let temporary = env::temp_dir(rt)?;
     let below = temporary.as_str();
-    let folder = format!(in rt.alloc(); "{below}/restoring-{process}")?;
+    let folder = text_of!(in rt.alloc(); "{below}/restoring-{process}")?;
     let _ = fs::remove_dir_all(rt, folder.as_str());
     Ok(folder)
 }
@@ -53,7 +54,7 @@ fn carry_out(
     alloc: Global,
     node: &mut Node,
     lines: &str,
-) -> Result<(), AllocError> {
+) -> Result<(), OutOfMemory> {
     for line in lines.lines() {
         let event = event_of(rt, alloc, line)?;
         accepted(rt, node, &event)?;
@@ -68,7 +69,7 @@ fn refuse(
     node: &mut Node,
     line: &str,
     due: Refusal,
-) -> Result<(), AllocError> {
+) -> Result<(), OutOfMemory> {
     let event = event_of(rt, alloc, line)?;
     let outcome = taken(node, &event)?;
     holds!(rt; matches!(outcome.reply, Reply::Refused(refusal) if refusal == due));
@@ -205,24 +206,24 @@ fn spill_and_restore<R: Files + Abort, D: SpillDevice>(
 }
 
 /// The same over the files of a folder.
-fn try_device<R: Files + AllocGlobal + Clone + Drop + Abort>(
+fn try_device<R: Files + AllocGlobal + Copy + Abort>(
     rt: &R,
     folder: &str,
     file: &str,
 ) -> Result<(), Fail> {
-    let mut device = FileDevice::new(rt.clone()?, folder)?;
+    let mut device = FileDevice::new(*rt, folder)?;
     let mut node = Node::new(rt.alloc(), 0, 1_024);
     spill_and_restore(rt, rt.alloc(), &mut node, &mut device, file)
 }
 
 /// The same over a folder of the process, which is empty in the end.
-fn try_files<R: Files + Env + AllocGlobal + Clone + Drop + Abort>(
+fn try_files<R: Files + Env + AllocGlobal + Copy + Abort>(
     rt: &R,
     process: u32,
 ) -> Result<(), Fail> {
     let folder = own_folder(rt, process)?;
     let below = folder.as_str();
-    let file = format!(in rt.alloc(); "{below}/{FILE}")?;
+    let file = text_of!(in rt.alloc(); "{below}/{FILE}")?;
     try_device(rt, folder.as_str(), file.as_str())?;
     fs::remove_dir(rt, folder.as_str())?;
     Ok(())

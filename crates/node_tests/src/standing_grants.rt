@@ -4,8 +4,8 @@ ghost use Rattle.grants.specs.Table.{AreFoundIn};
 
 use assertions::{holds, same};
 use grants::{EndingGrants, Grants, StandingGrant};
+use memory_growth::OutOfMemory;
 use obj_id::{ItemList, JobNo, ObjectId, Refusal, TaskNo};
-use std::alloc::AllocError;
 use std::process::Abort;
 use std::test::Fail;
 
@@ -27,7 +27,7 @@ fn withdraw(
     id: ObjectId,
     target: u32,
 ) -> Result<ItemList<StandingGrant>, Refusal> {
-    grants.withdraw(JobNo(grantor), id, JobNo(target))
+    Ok(grants.withdraw(JobNo(grantor), id, JobNo(target))?)
 }
 
 /// Whether these are the grants, each as grantor, grantee and depth.
@@ -204,18 +204,18 @@ fn the_65th_grant_of_a_grantor_is_refused(rt: HostRuntime) -> Result<(), Fail> {
 
 /// What ends with job 1.
 #[tactic(auto, using(crate::proofs::Found::found_in))]
-fn found_with_job(grants: &Grants) -> Result<EndingGrants, AllocError>
+fn found_with_job(grants: &Grants) -> Result<EndingGrants, OutOfMemory>
     ensures { IfOk result (λ ends. AreFoundIn grants.now ends) }
 {
-    grants.ends_with_job(JobNo(1))
+    Ok(grants.ends_with_job(JobNo(1))?)
 }
 
 /// What ends with the first task of job 1.
 #[tactic(auto, using(crate::proofs::Found::found_in))]
-fn found_with_task(grants: &Grants) -> Result<EndingGrants, AllocError>
+fn found_with_task(grants: &Grants) -> Result<EndingGrants, OutOfMemory>
     ensures { IfOk result (λ ends. AreFoundIn grants.now ends) }
 {
-    grants.ends_with_task(JobNo(1), TaskNo::numbered(1))
+    Ok(grants.ends_with_task(JobNo(1), TaskNo::numbered(1))?)
 }
 
 /// The end of a job ends what it gave, by depth, object, grantor and grantee.

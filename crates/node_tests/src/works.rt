@@ -1,8 +1,9 @@
 //! The device works of all jobs.
 use assertions::same;
+use memory_growth::OutOfMemory;
 use obj_id::{JobNo, ObjectId, Refusal, TaskNo, WorkKind};
 use spill_work::Works;
-use std::alloc::{AllocError, Global};
+use std::alloc::Global;
 use std::test::Fail;
 
 const ONE: JobNo = JobNo(1);
@@ -15,11 +16,11 @@ fn object(job: JobNo, index: u32) -> Result<ObjectId, Refusal> {
 
 /// Asks for a write.
 fn ask(works: &mut Works, job: JobNo, index: u32) -> Result<u64, Refusal> {
-    works.ask(job, object(job, index)?, WorkKind::Write)
+    Ok(works.ask(job, object(job, index)?, WorkKind::Write)?)
 }
 
 /// Asks for reads of both objects, if there is room for them.
-fn ask_both(alloc: Global, works: &mut Works, ids: [ObjectId; 2]) -> Result<(), AllocError> {
+fn ask_both(alloc: Global, works: &mut Works, ids: [ObjectId; 2]) -> Result<(), OutOfMemory> {
     if works.room_for(TWO, 2) {
         works.ask_all(alloc, TWO, &ids, WorkKind::Read)?;
     }

@@ -1,6 +1,8 @@
 -- The refusals' numbers and names.
 use Rattle.std.specs.Prelude.{ℕ, List, [], ◌∷◌, codes}
 use Rattle.obj_id.specs.declared.refusals.Refusal.{Refusal}
+use Rattle.obj_id.specs.declared.refusals.Failure.{Failure}
+use Rattle.obj_id.specs.declared.refusals.Failure.TheVariants.{Refused, Memory}
 use Rattle.obj_id.specs.declared.refusals.Refusal.TheVariants.{NotAdmitted, BadId, Exists, Absent, NotSealed, AlreadySealed, BadSize, OutOfBounds, Full, Pending, NotHeld, Granted, NotGranted, DeviceFailed, Damaged, Busy, TooMany, Gone, NoMemory, Malformed, NoRoom, NotOwner, NotResident, Stale}
 
 abbrev pub number_of : Refusal → ℕ
@@ -59,3 +61,8 @@ name_of Stale = codes "Stale"
 -- all of them, in the order of their numbers
 abbrev pub all_refusals : List Refusal
 all_refusals = NotAdmitted ∷ BadId ∷ Exists ∷ Absent ∷ NotSealed ∷ AlreadySealed ∷ BadSize ∷ OutOfBounds ∷ Full ∷ Pending ∷ NotHeld ∷ Granted ∷ NotGranted ∷ DeviceFailed ∷ Damaged ∷ Busy ∷ TooMany ∷ Gone ∷ NoMemory ∷ Malformed ∷ NoRoom ∷ NotOwner ∷ NotResident ∷ Stale ∷ []
+
+-- how a failure is told: want of memory is a refusal too
+abbrev pub refusal_of : Failure → Refusal
+refusal_of (Refused r) = r
+refusal_of (Memory m) = NoMemory

@@ -2,7 +2,8 @@
 ghost use Rattle.std.specs.Prelude.{◌≡◌, [], ◌∷◌, ◌++◌, OnOk, OnErr};
 ghost use Rattle.std.specs.Cmp.Lexicographic.{pointwise, lists_equiv, lists_per};
 
-use std::alloc::{AllocError, Global};
+use memory_growth::{OutOfMemory, lists};
+use std::alloc::Global;
 use std::marker::Model;
 
 /// A list that a reply or a message carries. A contract sees its items.
@@ -37,13 +38,13 @@ impl<T> ItemList<T> {
     }
 
     /// Adds an item at the end. If memory runs out, the list is as it was.
-    pub fn push(&mut self, item: T) -> Result<(), AllocError>
+    pub fn push(&mut self, item: T) -> Result<(), OutOfMemory>
     where
         T: Drop,
         ensures ok { OnOk result (self.new ≡ self.old ++ item ∷ []) }
         ensures err { OnErr result (self.new ≡ self.old) }
     {
-        self.items.push(item)?;
+        lists::push(&mut self.items, item)?;
         Ok(())
     }
 

@@ -21,5 +21,5 @@ pub use ids::{JobNo, ObjectId, TaskNo};
 pub use items::ItemList;
 pub use laws::{a_text_names_one, ids_are_ordered_as_their_bytes};
 pub use messages::{Arrival, Digest, DirectoryMessage, Endpoint, Location, Message, PeerMessage};
-pub use refusals::Refusal;
+pub use refusals::{Failure, Refusal};
 pub use works::{DeviceAnswer, DeviceKey, Extent, JobKey, Quota, Work, WorkKind};

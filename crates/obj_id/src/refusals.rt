@@ -3,7 +3,7 @@ ghost use Rattle.std.specs.Prelude.{◌≡◌, IfSome};
 ghost use Rattle.obj_id.specs.Refusals.{name_of, number_of};
 ghost use Rattle.obj_id.specs.declared.refusals.Refusal.{Refusal};
 
-use std::alloc::{AllocError, AllocFailed};
+use memory_growth::OutOfMemory;
 
 /// The 24 refusals, in the order of their numbers.
 #[derive(Clone, Copy, Debug, PartialEq, Eq, Drop)]
@@ -144,24 +144,58 @@ impl Refusal {
     }
 }
 
-impl From<AllocError> for Refusal {
+/// Why a step was not made: it is refused, or a growth of memory was. Only the first is due by the rules.
+#[derive(Debug, Drop)]
+pub enum Failure {
+    /// The rules refuse it.
+    Refused(Refusal),
+    /// There was no memory for it.
+    Memory(OutOfMemory),
+}
+
+impl From<OutOfMemory> for Refusal {
     ghost use Rattle.std.specs.Prelude.{◌≡◌};
     ghost use Rattle.obj_id.specs.declared.refusals.Refusal.TheVariants.{NoMemory};
 
     ghost from_gives = { λ _ refusal. refusal ≡ NoMemory };
 
-    fn from(_error: AllocError) -> Refusal {
+    fn from(_refused: OutOfMemory) -> Refusal {
         Refusal::NoMemory
     }
 }
 
-impl<T: Drop> From<AllocFailed<T>> for Refusal {
+impl From<Failure> for Refusal {
     ghost use Rattle.std.specs.Prelude.{◌≡◌};
-    ghost use Rattle.obj_id.specs.declared.refusals.Refusal.TheVariants.{NoMemory};
+    ghost use Rattle.obj_id.specs.Refusals.{refusal_of};
 
-    ghost from_gives = { λ _ refusal. refusal ≡ NoMemory };
+    ghost from_gives = { λ failure refusal. refusal ≡ refusal_of failure };
 
-    fn from(_error: AllocFailed<T>) -> Refusal {
-        Refusal::NoMemory
+    fn from(failure: Failure) -> Refusal {
+        match failure {
+            Failure::Refused(refusal) => refusal,
+            Failure::Memory(_) => Refusal::NoMemory,
+        }
+    }
+}
+
+impl From<Refusal> for Failure {
+    ghost use Rattle.std.specs.Prelude.{◌≡◌};
+    ghost use Rattle.obj_id.specs.declared.refusals.Failure.TheVariants.{Refused};
+
+    ghost from_gives = { λ refusal failure. failure ≡ Refused refusal };
+
+    fn from(refusal: Refusal) -> Failure {
+        Failure::Refused(refusal)
+    }
+}
+
+impl From<OutOfMemory> for Failure {
+    ghost use Rattle.std.specs.Prelude.{◌≡◌};
+    ghost use Rattle.obj_id.specs.declared.refusals.Failure.TheVariants.{Memory};
+
+    ghost from_gives = { λ refused failure. failure ≡ Memory refused };
+
+    fn from(refused: OutOfMemory) -> Failure {
+        Failure::Memory(refused)
     }
 }

@@ -11,7 +11,8 @@ use crate::ids::back;
 use crate::numbers::{read_u32, read_u64};
 use crate::{JobNo, ObjectId, Refusal, TaskNo};
 use hex::FromHex;
-use std::alloc::{AllocError, Global};
+use memory_growth::{OutOfMemory, text_of, texts};
+use std::alloc::Global;
 
 impl ObjectId {
     /// The id that the text names if the job speaks, by its short text or by its digits.
@@ -30,7 +31,7 @@ impl ObjectId {
 
     /// The text by which the id is printed if the job speaks: the short one if there is one,
     /// otherwise its digits.
-    pub fn write(&self, alloc: Global, job: JobNo) -> Result<String, AllocError>
+    pub fn write(&self, alloc: Global, job: JobNo) -> Result<String, OutOfMemory>
         ensures { IfOk result (λ text. string_bytes text ≡ id_text job.0 self.now) }
     {
         if self.has_short_text() {
@@ -63,7 +64,7 @@ impl ObjectId {
     }
 
     /// The id's short text if the job speaks.
-    pub fn write_short(&self, alloc: Global, job: JobNo) -> Result<String, AllocError>
+    pub fn write_short(&self, alloc: Global, job: JobNo) -> Result<String, OutOfMemory>
         requires { IsTrue (has_short_text self.now.task) }
         ensures { IfOk result (λ text. string_bytes text ≡ short_text job.0 self.now) }
     {
@@ -94,10 +95,10 @@ impl ObjectId {
     }
 
     /// The id's 56 digits, in lower case.
-    pub fn write_full(&self, alloc: Global) -> Result<String, AllocError>
+    pub fn write_full(&self, alloc: Global) -> Result<String, OutOfMemory>
         ensures { IfOk result (λ text. string_bytes text ≡ full_text self.now) }
     {
-        hex::encode(alloc, self.to_bytes())
+        texts::encode(alloc, self.to_bytes())
     }
 
     /// The other job's object that these texts name, if there is one.
@@ -142,12 +143,12 @@ impl TaskNo {
     }
 
     /// The text by which the task is printed: `tN` if its first 12 bytes are zero, otherwise its digits.
-    pub fn write(&self, alloc: Global) -> Result<String, AllocError>
+    pub fn write(&self, alloc: Global) -> Result<String, OutOfMemory>
         ensures { IfOk result (λ text. string_bytes text ≡ task_text self.now) }
     {
         if self.has_short_text() {
             let number = self.number();
-            format!(in alloc; "t{number}")
+            text_of!(in alloc; "t{number}")
         } else {
             self.write_full(alloc)
         }
@@ -187,10 +188,10 @@ impl TaskNo {
     }
 
     /// The task's 40 digits, in lower case.
-    pub fn write_full(&self, alloc: Global) -> Result<String, AllocError>
+    pub fn write_full(&self, alloc: Global) -> Result<String, OutOfMemory>
         ensures { IfOk result (λ text. string_bytes text ≡ full_task_text self.now) }
     {
-        hex::encode(alloc, self.0)
+        texts::encode(alloc, self.0)
     }
 
     /// The task whose short text this is, if there is one.
@@ -213,19 +214,19 @@ impl TaskNo {
 }
 
 /// `tN.I`.
-fn own_text(alloc: Global, task: u64, index: u32) -> Result<String, AllocError>
+fn own_text(alloc: Global, task: u64, index: u32) -> Result<String, OutOfMemory>
     ensures { IfOk result (λ text. string_bytes text
         ≡ codes "t" ++ decimal task ++ codes "." ++ decimal index) }
 {
-    format!(in alloc; "t{task}.{index}")
+    text_of!(in alloc; "t{task}.{index}")
 }
 
 /// `J/tN.I`.
-fn other_text(alloc: Global, owner: u32, task: u64, index: u32) -> Result<String, AllocError>
+fn other_text(alloc: Global, owner: u32, task: u64, index: u32) -> Result<String, OutOfMemory>
     ensures { IfOk result (λ text. string_bytes text
         ≡ decimal owner ++ codes "/" ++ (codes "t" ++ decimal task ++ codes "." ++ decimal index)) }
 {
-    format!(in alloc; "{owner}/t{task}.{index}")
+    text_of!(in alloc; "{owner}/t{task}.{index}")
 }
 
 /// Whether the text is the bytes in digits of lower case.

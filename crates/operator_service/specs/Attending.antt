@@ -8,7 +8,7 @@ use Rattle.private_store.specs.declared.schedules.StepAnswer.TheVariants.{Respon
 use Rattle.schedule_text.specs.declared.prefixes.Prefix.TheVariants.{Operator}
 use Rattle.schedule_text.specs.Printing.{line_text}
 use Rattle.schedule_text.specs.Reading.{is_skipped}
-use Rattle.session_threads.specs.declared.cluster.Report.{Report}
+use Rattle.node_housekeeping.specs.declared.report.Report.{Report}
 use Rattle.node_steps.specs.Witnesses.{Witness}
 use Rattle.program_lines.specs.declared.operator.Change.{Change}
 use Rattle.operator_service.specs.declared.attending.TheConstants.{ORDERS}

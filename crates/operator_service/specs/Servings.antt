@@ -10,7 +10,7 @@ use Rattle.private_store.specs.declared.schedules.Event.TheVariants as event
 use Rattle.private_store.specs.declared.schedules.StepAnswer.TheVariants.{Response}
 use Rattle.schedule_text.specs.declared.prefixes.Prefix.TheVariants.{Operator}
 use Rattle.schedule_text.specs.Printing.{line_text}
-use Rattle.session_threads.specs.declared.cluster.Report.{Report}
+use Rattle.node_housekeeping.specs.declared.report.Report.{Report}
 use Rattle.node_steps.specs.Witnesses.{Witness, IsReceiptOf}
 use Rattle.program_lines.specs.declared.fault.Fault.{Fault}
 use Rattle.program_lines.specs.declared.fault.Fault.TheVariants.{NotAStep, Input, Output, Socket, Folded, NoMemory}

@@ -10,14 +10,15 @@ ghost use Rattle.operator_service.specs.Servings.{StopsReply};
 
 use crate::looks::look_text;
 use crate::serving::{carry_out, node_at, report_line, write_out};
+use memory_growth::{OutOfMemory, text_of, texts};
+use node_housekeeping::Report;
 use private_store::StepAnswer;
 use program_lines::{
     Change, ControlLine, Fault, LineTaken, Look, Order, read_control_line, take_line,
 };
 use schedule_text::{Prefix, answer_line, is_skipped};
-use session_threads::Report;
 use shared_nodes::SharedNode;
-use std::alloc::{AllocError, Global};
+use std::alloc::Global;
 use std::io::{Read, Write};
 use std::str;
 use std::sync::ledger::Ledger;
@@ -112,7 +113,7 @@ fn answer_of<L: Ledger, R: Wait, C: Closing>(
     taken: LineTaken,
     line: &[u8],
     closing: &C,
-) -> Result<Answer, AllocError>
+) -> Result<Answer, OutOfMemory>
     ensures { IfOk result (λ answer. (text : List ℕ) → IsAnswerText taken line.now text → IsAnswered count (length nodes.now) number text answer) }
 {
     match taken {
@@ -130,7 +131,7 @@ fn answer_to<L: Ledger, R: Wait, C: Closing>(
     number: u64,
     text: &[u8],
     closing: &C,
-) -> Result<Answer, AllocError>
+) -> Result<Answer, OutOfMemory>
     ensures { IfOk result (IsAnswered count (length nodes.now) number text.now) }
 {
     if is_skipped(text) {
@@ -146,7 +147,7 @@ fn answer_to<L: Ledger, R: Wait, C: Closing>(
 }
 
 /// What the text of a line asks for.
-fn hear_asked(alloc: Global, text: &[u8], nodes: u32) -> Result<Option<ControlLine>, AllocError>
+fn hear_asked(alloc: Global, text: &[u8], nodes: u32) -> Result<Option<ControlLine>, OutOfMemory>
     ensures sound { IfOk result (λ found. IfSome found (IsControlLine nodes text.now)) }
     ensures whole { IfOk result (λ found. IsUtf8 text.now → Reads found (IsControlLine nodes text.now)) }
 {
@@ -164,7 +165,7 @@ fn answer_asked<L: Ledger, R: Wait, C: Closing>(
     number: u64,
     asked: ControlLine,
     closing: &C,
-) -> Result<Answer, AllocError>
+) -> Result<Answer, OutOfMemory>
     ensures { IfOk result (IsAnswerMade (length nodes.now) number asked) }
 {
     match asked {
@@ -182,7 +183,7 @@ fn answer_asked<L: Ledger, R: Wait, C: Closing>(
 }
 
 /// The answer to a line that is no order.
-fn no_order(alloc: Global, number: u64) -> Result<Answer, AllocError>
+fn no_order(alloc: Global, number: u64) -> Result<Answer, OutOfMemory>
     ensures { IfOk result (IsNone number) }
 {
     Ok(Answer {
@@ -192,10 +193,10 @@ fn no_order(alloc: Global, number: u64) -> Result<Answer, AllocError>
 }
 
 /// The line of that answer.
-fn no_order_line(alloc: Global, number: u64) -> Result<String, AllocError>
+fn no_order_line(alloc: Global, number: u64) -> Result<String, OutOfMemory>
     ensures { IfOk result (λ line. string_bytes line ≡ no_order_line_lem number) }
 {
-    format!(in alloc; "line {number}: not an order: the orders are {ORDERS}\n")
+    text_of!(in alloc; "line {number}: not an order: the orders are {ORDERS}\n")
 }
 
 /// Makes a change at the node of this number, and answers.
@@ -205,7 +206,7 @@ fn change_answer<L: Ledger, R: Wait>(
     shared: &SharedNode<L>,
     node: u32,
     change: Change,
-) -> Result<Answer, AllocError>
+) -> Result<Answer, OutOfMemory>
     ensures { IfOk result (λ answer. IsChangeLine node change (string_bytes answer.line) × (answer.is_last ≡ false)) }
 {
     let (reply, _looked_for) = carry_out(rt, shared, change);
@@ -222,7 +223,7 @@ fn look_answer<L: Ledger, R: Wait>(
     shared: &SharedNode<L>,
     node: u32,
     look: Look,
-) -> Result<Answer, AllocError>
+) -> Result<Answer, OutOfMemory>
     ensures { IfOk result (λ answer. IsLookText node look (string_bytes answer.line) × (answer.is_last ≡ false)) }
 {
     Ok(Answer {
@@ -232,7 +233,7 @@ fn look_answer<L: Ledger, R: Wait>(
 }
 
 /// The answer to what let the server close.
-fn last_answer(alloc: Global, report: Option<Report>) -> Result<Answer, AllocError>
+fn last_answer(alloc: Global, report: Option<Report>) -> Result<Answer, OutOfMemory>
     ensures { IfOk result (λ answer. IsClosingLine (string_bytes answer.line) × (answer.is_last ≡ true)) }
 {
     Ok(Answer {
@@ -242,11 +243,11 @@ fn last_answer(alloc: Global, report: Option<Report>) -> Result<Answer, AllocErr
 }
 
 /// The line of that answer.
-fn closing_line(alloc: Global, report: Option<Report>) -> Result<String, AllocError>
+fn closing_line(alloc: Global, report: Option<Report>) -> Result<String, OutOfMemory>
     ensures { IfOk result (λ line. string_bytes line ≡ closing_line_lem report) }
 {
     match report {
         Some(report) => report_line(alloc, &report),
-        None => String::from_str(alloc, "not done: a fault ends the server\n"),
+        None => texts::from_str(alloc, "not done: a fault ends the server\n"),
     }
 }

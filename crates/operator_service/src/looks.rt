@@ -4,13 +4,14 @@ ghost use Rattle.std.specs.String.{string_bytes};
 ghost use Rattle.operator_service.specs.Looks.{IsLookText, IsUsageReply, job_text as job_text_lem, jobs_text as jobs_text_lem, jobs_line as jobs_line_lem, sessions_line as sessions_line_lem};
 
 use bytes::Bytes;
+use memory_growth::{OutOfMemory, text_of, texts};
 use node_steps::LiveJob;
 use obj_id::{JobNo, Reply};
 use private_store::StepAnswer;
 use program_lines::Look;
 use schedule_text::{Prefix, answer_line};
 use shared_nodes::SharedNode;
-use std::alloc::{AllocError, Global};
+use std::alloc::Global;
 use std::sync::Wait;
 use std::sync::ledger::Ledger;
 
@@ -21,7 +22,7 @@ pub(crate) fn look_text<L: Ledger, R: Wait>(
     shared: &SharedNode<L>,
     node: u32,
     look: Look,
-) -> Result<String, AllocError>
+) -> Result<String, OutOfMemory>
     ensures { IfOk result (λ line. IsLookText node look (string_bytes line)) }
 {
     match look {
@@ -45,40 +46,40 @@ fn usage_reply<L: Ledger, R: Wait>(rt: &R, shared: &SharedNode<L>, job: JobNo) -
 }
 
 /// `nNODE op sessions` and their number.
-fn sessions_line(alloc: Global, node: u32, sessions: usize) -> Result<String, AllocError>
+fn sessions_line(alloc: Global, node: u32, sessions: usize) -> Result<String, OutOfMemory>
     ensures { IfOk result (λ line. string_bytes line ≡ sessions_line_lem node sessions) }
 {
-    format!(in alloc; "n{node} op sessions {sessions}\n")
+    text_of!(in alloc; "n{node} op sessions {sessions}\n")
 }
 
 /// `nNODE op jobs`, and each job with its quotas.
-fn jobs_line(alloc: Global, node: u32, jobs: &[LiveJob]) -> Result<String, AllocError>
+fn jobs_line(alloc: Global, node: u32, jobs: &[LiveJob]) -> Result<String, OutOfMemory>
     ensures { IfOk result (λ line. string_bytes line ≡ jobs_line_lem node jobs.now) }
 {
-    let mut line = format!(in alloc; "n{node} op jobs")?;
-    line.push_str(&jobs_text(alloc, jobs)?)?;
-    line.push('\n')?;
+    let mut line = text_of!(in alloc; "n{node} op jobs")?;
+    texts::push_str(&mut line, &jobs_text(alloc, jobs)?)?;
+    texts::push(&mut line, '\n')?;
     Ok(line)
 }
 
 /// Each job with its quotas, after a space.
-fn jobs_text(alloc: Global, jobs: &[LiveJob]) -> Result<String, AllocError>
+fn jobs_text(alloc: Global, jobs: &[LiveJob]) -> Result<String, OutOfMemory>
     ensures { IfOk result (λ text. string_bytes text ≡ jobs_text_lem jobs.now) }
 {
     let mut text = String::new(alloc);
     for job in jobs {
         let job = job_text(alloc, job)?;
-        text.push_str(&job)?;
+        texts::push_str(&mut text, &job)?;
     }
     Ok(text)
 }
 
 /// ` JOB:WINDOW:DEVICE`.
-fn job_text(alloc: Global, live: &LiveJob) -> Result<String, AllocError>
+fn job_text(alloc: Global, live: &LiveJob) -> Result<String, OutOfMemory>
     ensures { IfOk result (λ text. string_bytes text ≡ job_text_lem live.now) }
 {
     let job = live.job.0;
     let window = live.usage.window;
     let device = live.usage.device;
-    format!(in alloc; " {job}:{window}:{device}")
+    text_of!(in alloc; " {job}:{window}:{device}")
 }

@@ -13,14 +13,15 @@ ghost use Rattle.std.specs.String.{string_bytes};
 ghost use Rattle.operator_service.specs.Servings.{report_line, IsCarriedOut, ServedText, ServesLine, StopsOrder, Replies, StopsReply};
 
 use bytes::Bytes;
+use memory_growth::{OutOfMemory, text_of};
+use node_housekeeping::Report;
 use node_journal::Receipt;
 use obj_id::Reply;
 use private_store::StepAnswer;
 use program_lines::{Change, Fault, Order, next_line, read_order};
 use schedule_text::{Prefix, answer_line};
-use session_threads::Report;
 use shared_nodes::SharedNode;
-use std::alloc::{AllocError, Global};
+use std::alloc::Global;
 use std::io::{BufRead, Write};
 use std::str;
 use std::sync::ledger::Ledger;
@@ -87,7 +88,7 @@ fn serve_line<L: Ledger, R: Wait, O: Write>(
         return Err(Fault::NotAStep(number))
     };
     match hear_order(alloc, text, count) {
-        Err(AllocError) => Err(Fault::NoMemory),
+        Err(_) => Err(Fault::NoMemory),
         Ok(None) => Err(Fault::NotAStep(number)),
         Ok(Some(Order::Close)) => Ok(false),
         Ok(Some(Order::Change(node, change))) => match node_at(nodes, node) {
@@ -101,7 +102,7 @@ fn serve_line<L: Ledger, R: Wait, O: Write>(
 }
 
 /// What a line asks for.
-fn hear_order(alloc: Global, text: &[u8], nodes: u32) -> Result<Option<Order>, AllocError>
+fn hear_order(alloc: Global, text: &[u8], nodes: u32) -> Result<Option<Order>, OutOfMemory>
     ensures sound { IfOk result (λ found. IfSome found (IsOrder nodes text.now)) }
     ensures whole { IfOk result (λ found. IsUtf8 text.now → Reads found (IsOrder nodes text.now)) }
 {
@@ -199,7 +200,7 @@ pub fn write_report<O: Write>(alloc: Global, report: &Report, writer: &mut O) ->
 }
 
 /// The line of a report.
-pub(crate) fn report_line(alloc: Global, report: &Report) -> Result<String, AllocError>
+pub(crate) fn report_line(alloc: Global, report: &Report) -> Result<String, OutOfMemory>
     ensures { IfOk result (λ line. string_bytes line ≡ report_line report.now) }
 {
     let Report {
@@ -209,5 +210,5 @@ pub(crate) fn report_line(alloc: Global, report: &Report) -> Result<String, Allo
         lost,
         erase_failures,
     } = *report;
-    format!(in alloc; "report {entries} {receipts} {disagreeing} {lost} {erase_failures}\n")
+    text_of!(in alloc; "report {entries} {receipts} {disagreeing} {lost} {erase_failures}\n")
 }

@@ -2,7 +2,7 @@
 use Rattle.std.proofs.Common.{◌≡◌, ◌≢◌, ℕ, ◌==◌, Bool, true, false, cond, List, [], ◌∷◌, Option, Some, None, refl, sym, ap, subst, ◌∙◌, arith}
 use Rattle.std.specs.Prelude.{unwrap_or, nat_lt, IsTrue, ◌↔◌, IfOk, OnOk, OnErr, Ok, Err}
 use Rattle.std.specs.declared.result.Result.{Result}
-use Rattle.std.specs.declared.alloc.AllocError.{AllocError}
+use Rattle.memory_growth.specs.declared.OutOfMemory.{OutOfMemory}
 use Rattle.std.specs.BTreeMap.{insert_entry}
 use Rattle.std.specs.List.{cons_option}
 use Rattle.std.specs.List.Sorted.{IsStrictlySortedBy}
@@ -93,7 +93,7 @@ module _ {F : Type 0} (T : F → ObjectId → List Location → Bool → List Lo
       by false w (x ∷ xs) same response later = true_false (response.1 (λ none. absurd cc))
 
 -- a result that is what it should be
-pub ok_follows : (r : Result (List Location) AllocError) (xs ys : List Location) → IfOk r (λ items. items ≡ xs) → xs ≡ ys → IfOk r (λ items. items ≡ ys)
+pub ok_follows : (r : Result (List Location) OutOfMemory) (xs ys : List Location) → IfOk r (λ items. items ≡ xs) → xs ≡ ys → IfOk r (λ items. items ≡ ys)
 ok_follows r xs ys h e = subst (λ zs. IfOk r (λ items. items ≡ zs)) e h
 
 -- a test that fails denies what it stands for
@@ -101,14 +101,14 @@ pub true_or_not : {P : Type 0} (b : Bool) → IsTrue b ↔ P → b ≡ false →
 true_or_not b response fails p = true_false (sym fails ∙ response.1 p)
 
 -- what setting an entry among others leaves: with memory for it, and without
-pub set_ok : (id : ObjectId) (es t : Locations) (new : Location) (xs ys : List Location) (after : Locations) (r : Result (Unit {0}) AllocError)
+pub set_ok : (id : ObjectId) (es t : Locations) (new : Location) (xs ys : List Location) (after : Locations) (r : Result (Unit {0}) OutOfMemory)
     → IsStrictlySortedBy id_cmp (keys_of es) → es ≡ t → lookup (is_id id) es ≡ Some xs → after ≡ set_value (is_id id) es ys
     → OnOk r (ys ≡ entry_placed new xs) → OnOk r (after ≡ with_entries t id (entry_placed new (entries_at t id)))
 set_ok id es t new xs ys after (Ok u) sorted same found wrote h =
     wrote ∙ ap (set_value (is_id id) es) h ∙ set_found id es sorted new xs found ∙ ap (λ u. with_entries u id (entry_placed new (entries_at u id))) same
 set_ok id es t new xs ys after (Err e) sorted same found wrote h = h
 
-pub set_err : (id : ObjectId) (es t : Locations) (xs ys : List Location) (after : Locations) (r : Result (Unit {0}) AllocError)
+pub set_err : (id : ObjectId) (es t : Locations) (xs ys : List Location) (after : Locations) (r : Result (Unit {0}) OutOfMemory)
     → es ≡ t → lookup (is_id id) es ≡ Some xs → after ≡ set_value (is_id id) es ys → OnErr r (ys ≡ xs) → OnErr r (after ≡ t)
 set_err id es t xs ys after (Ok u) same found wrote h = h
 set_err id es t xs ys after (Err e) same found wrote h = wrote ∙ ap (set_value (is_id id) es) h ∙ set_value_same (is_id id) es xs found ∙ same

@@ -3,8 +3,9 @@ ghost use Rattle.std.specs.Prelude.{◌≡◌, ◌↔◌, [], false, IfOk, OnOk,
 ghost use Rattle.owner_directory.specs.Locations.{is_longer};
 ghost use Rattle.private_store.specs.rules.Directory.{entry_placed, without_node};
 
+use memory_growth::{OutOfMemory, lists};
 use obj_id::{ItemList, Location};
-use std::alloc::{AllocError, Global};
+use std::alloc::Global;
 use std::marker::Model;
 
 /// The entries of one object, by rising node and one a node. A contract sees the list.
@@ -33,7 +34,7 @@ impl Entries {
     }
 
     /// Puts the entry in its place among those of other nodes, or in that of its node's own.
-    pub fn put(&mut self, entry: Location) -> Result<(), AllocError>
+    pub fn put(&mut self, entry: Location) -> Result<(), OutOfMemory>
         ensures ok { OnOk result (self.new ≡ entry_placed entry self.old) }
         ensures succeeds { is_longer (entry_placed entry self.old) self.old ≡ false → IsOk result }
         ensures err { OnErr result (self.new ≡ self.old) }
@@ -56,20 +57,20 @@ impl Entries {
     }
 
     /// A copy of the entries.
-    pub fn to_items(&self, alloc: Global) -> Result<ItemList<Location>, AllocError>
+    pub fn to_items(&self, alloc: Global) -> Result<ItemList<Location>, OutOfMemory>
         ensures ok { IfOk result (λ items. items ≡ self.now) }
         ensures succeeds { self.now ≡ [] → IsOk result }
     {
         if self.is_empty() {
             return Ok(ItemList::new(alloc));
         }
-        let items = Vec::from_slice(alloc, &self.items)?;
+        let items = lists::copied(alloc, &self.items)?;
         Ok(ItemList::from_vec(items))
     }
 }
 
 /// Puts the entry in its place.
-fn put_entry(entries: &mut Vec<Location>, entry: Location) -> Result<(), AllocError>
+fn put_entry(entries: &mut Vec<Location>, entry: Location) -> Result<(), OutOfMemory>
     ensures ok { OnOk result (entries.new.items ≡ entry_placed entry entries.old.items) }
     ensures succeeds { is_longer (entry_placed entry entries.old.items) entries.old.items ≡ false → IsOk result }
     ensures err { OnErr result (entries.new.items ≡ entries.old.items) }
@@ -82,6 +83,6 @@ fn put_entry(entries: &mut Vec<Location>, entry: Location) -> Result<(), AllocEr
         entries[at] = entry;
         return Ok(());
     }
-    entries.insert(at, entry)?;
+    lists::insert(entries, at, entry)?;
     Ok(())
 }

@@ -13,8 +13,9 @@ mod row;
 
 use crate::row::Row;
 use indexmap::IndexMap;
+use memory_growth::{OutOfMemory, tables};
 use obj_id::{DirectoryMessage, ItemList, JobNo, Location, ObjectId};
-use std::alloc::{AllocError, Global};
+use std::alloc::Global;
 use std::marker::Model;
 
 /// What the directory answers a message.
@@ -72,7 +73,7 @@ impl Directory {
         &mut self,
         job: JobNo,
         message: DirectoryMessage,
-    ) -> Result<DirectoryReply, AllocError>
+    ) -> Result<DirectoryReply, OutOfMemory>
         ensures locations { OnOk result (Applies self.old self.new job message) }
         ensures posts { IfOk result (λ reply. answer_posts reply ≡ directory_posts (locations_of self.old job) message) }
         ensures succeeds { needs_memory message ≡ false → IsOk result }
@@ -113,7 +114,7 @@ impl Directory {
     }
 
     /// Sets the entry of its node.
-    fn add(&mut self, job: JobNo, id: ObjectId, entry: Location) -> Result<(), AllocError>
+    fn add(&mut self, job: JobNo, id: ObjectId, entry: Location) -> Result<(), OutOfMemory>
         ensures ok { OnOk result (Applies self.old self.new job (AddLocation id entry)) }
         ensures succeeds { is_longer (entry_placed entry (entries_at (locations_of self.old job) id)) (entries_at (locations_of self.old job) id) ≡ false → IsOk result }
         ensures err { OnErr result (self.new ≡ self.old) }
@@ -124,10 +125,8 @@ impl Directory {
         }
         let mut row = Row::new(self.alloc);
         row.set(self.alloc, id, entry)?;
-        match self.rows.insert(job, row) {
-            Err(_) => Err(AllocError),
-            Ok(_) => Ok(()),
-        }
+        tables::insert(&mut self.rows, job, row)?;
+        Ok(())
     }
 
     /// Takes out the node's entry of the object; a row is removed with its last one.
@@ -176,7 +175,7 @@ impl Directory {
     }
 
     /// A copy of the object's entries.
-    fn located(&self, job: JobNo, id: ObjectId) -> Result<ItemList<Location>, AllocError>
+    fn located(&self, job: JobNo, id: ObjectId) -> Result<ItemList<Location>, OutOfMemory>
         ensures ok { IfOk result (λ entries. entries ≡ entries_at (locations_of self.now job) id) }
         ensures succeeds { entries_at (locations_of self.now job) id ≡ [] → IsOk result }
     {

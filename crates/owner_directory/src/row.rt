@@ -5,8 +5,9 @@ ghost use Rattle.private_store.specs.rules.Tables.{without_entry};
 ghost use Rattle.private_store.specs.rules.Directory.{entries_at, entry_placed, with_entries, without_entries_at, without_node};
 
 use crate::entries::Entries;
+use memory_growth::{OutOfMemory, ordered};
 use obj_id::{ItemList, Location, ObjectId};
-use std::alloc::{AllocError, Global};
+use std::alloc::Global;
 use std::collections::BTreeMap;
 use std::marker::Model;
 
@@ -41,7 +42,7 @@ impl Row {
     }
 
     /// Sets the entry of its node.
-    pub fn set(&mut self, alloc: Global, id: ObjectId, entry: Location) -> Result<(), AllocError>
+    pub fn set(&mut self, alloc: Global, id: ObjectId, entry: Location) -> Result<(), OutOfMemory>
         ensures ok { OnOk result (self.new ≡ with_entries self.old id (entry_placed entry (entries_at self.old id))) }
         ensures succeeds { is_longer (entry_placed entry (entries_at self.old id)) (entries_at self.old id) ≡ false → IsOk result }
         ensures err { OnErr result (self.new ≡ self.old) }
@@ -51,7 +52,7 @@ impl Row {
         }
         let mut entries = Entries::new(alloc);
         entries.put(entry)?;
-        self.objects.insert(id, entries)?;
+        ordered::insert(&mut self.objects, id, entries)?;
         Ok(())
     }
 
@@ -98,7 +99,7 @@ impl Row {
     }
 
     /// A copy of the object's entries.
-    pub fn located(&self, alloc: Global, id: ObjectId) -> Result<ItemList<Location>, AllocError>
+    pub fn located(&self, alloc: Global, id: ObjectId) -> Result<ItemList<Location>, OutOfMemory>
         ensures ok { IfOk result (λ entries. entries ≡ entries_at self.now id) }
         ensures succeeds { entries_at self.now id ≡ [] → IsOk result }
     {

@@ -5,8 +5,9 @@ ghost use Rattle.obj_id.specs.Ids.{same_task};
 ghost use Rattle.pins_holds.specs.Pinned.{are_borrowing};
 
 use indexmap::IndexSet;
+use memory_growth::{OutOfMemory, lists, sets};
 use obj_id::{ItemList, TaskNo};
-use std::alloc::{AllocError, Global};
+use std::alloc::Global;
 use std::marker::Model;
 
 /// The tasks that borrow a copy, in the order in which they came.
@@ -68,23 +69,23 @@ impl Borrowers {
     }
 
     /// The tasks, in the order in which they came. Takes a walk over them, and memory for each.
-    pub fn tasks(&self, alloc: Global) -> Result<ItemList<TaskNo>, AllocError>
+    pub fn tasks(&self, alloc: Global) -> Result<ItemList<TaskNo>, OutOfMemory>
         ensures { IfOk result (λ tasks. tasks ≡ self.now) }
     {
         let mut tasks = Vec::new(alloc);
         for task in &self.tasks {
-            tasks.push(*task)?;
+            lists::push(&mut tasks, *task)?;
         }
         Ok(ItemList::from_vec(tasks))
     }
 
     /// The task comes last. A failure changes nothing.
-    pub fn add(&mut self, task: TaskNo) -> Result<(), AllocError>
+    pub fn add(&mut self, task: TaskNo) -> Result<(), OutOfMemory>
         requires { list_any (same_task task) self.old ≡ false }
         ensures ok { OnOk result (self.new ≡ self.old ++ task ∷ []) }
         ensures err { OnErr result (self.new ≡ self.old) }
     {
-        self.tasks.insert(task)?;
+        sets::insert(&mut self.tasks, task)?;
         Ok(())
     }
 

@@ -6,8 +6,9 @@ ghost use Rattle.private_store.specs.rules.Marks.{without_session};
 ghost use Rattle.private_store.specs.laws.Invariants.{are_held};
 ghost use Rattle.pins_holds.specs.Sessions.{AreHolds, count_of, with_count, sessions_total};
 
+use memory_growth::{OutOfMemory, lists, ordered};
 use obj_id::ItemList;
-use std::alloc::{AllocError, Global};
+use std::alloc::Global;
 use std::collections::BTreeMap;
 use std::marker::Model;
 
@@ -60,12 +61,12 @@ impl Holds {
     }
 
     /// How many each session has, by rising session. Takes a walk over them, and memory for each.
-    pub fn by_session(&self, alloc: Global) -> Result<ItemList<(u32, u32)>, AllocError>
+    pub fn by_session(&self, alloc: Global) -> Result<ItemList<(u32, u32)>, OutOfMemory>
         ensures { IfOk result (λ held. held ≡ self.now) }
     {
         let mut held = Vec::new(alloc);
         for (session, count) in &self.by_session {
-            held.push((*session, *count))?;
+            lists::push(&mut held, (*session, *count))?;
         }
         Ok(ItemList::from_vec(held))
     }
@@ -78,7 +79,7 @@ impl Holds {
     }
 
     /// One more of the session. A failure changes nothing, and there is none if the session has one already.
-    pub fn add(&mut self, session: u32) -> Result<(), AllocError>
+    pub fn add(&mut self, session: u32) -> Result<(), OutOfMemory>
         requires { sessions_total self.old < 64 }
         ensures ok { OnOk result (self.new ≡ with_count self.old session (count_of self.old session + 1)) }
         ensures succeeds { 0 < count_of self.old session → IsOk result }
@@ -125,7 +126,7 @@ fn insert_into(
     by_session: &mut BTreeMap<u32, u32>,
     session: u32,
     count: u32,
-) -> Result<(), AllocError>
+) -> Result<(), OutOfMemory>
     requires { IsTrue (is_sorted nat_cmp by_session.old.entries) }
     ensures ok { OnOk result (by_session.new.entries ≡ put nat_cmp session count by_session.old.entries) }
     ensures succeeds { 0 < count_of by_session.old.entries session → IsOk result }
@@ -135,7 +136,7 @@ fn insert_into(
         set_in(by_session, session, count);
         return Ok(());
     }
-    by_session.insert(session, count)?;
+    ordered::insert(by_session, session, count)?;
     Ok(())
 }
 

@@ -2,9 +2,10 @@
 //! it. A contract sees it as a record with the parts that a copy of the private store has.
 #![tactic(auto)]
 
-ghost use Rattle.std.specs.Prelude.{◌≡◌, ◌≢◌, ◌+◌, ◌-◌, ◌<◌, true, false, Some, None, IfOk, OnOk, OnErr, IsOk, IsErrOf};
+ghost use Rattle.std.specs.Prelude.{◌≡◌, ◌+◌, ◌-◌, ◌<◌, true, false, Some, None, IfOk, OnOk, OnErr, IsOk, IsErrOf};
+ghost use Rattle.memory_growth.specs.declared.OutOfMemory.{OutOfMemory};
+ghost use Rattle.obj_id.specs.declared.refusals.Failure.TheVariants.{Refused, Memory};
 ghost use Rattle.obj_id.specs.declared.refusals.Refusal.{Refusal};
-ghost use Rattle.obj_id.specs.declared.refusals.Refusal.TheVariants.{NoMemory};
 ghost use Rattle.obj_id.specs.Kinds.{is_primary as is_primary_lem};
 ghost use Rattle.pins_holds.specs.Sessions.{AreHolds};
 ghost use Rattle.pins_holds.specs.Pinned.{unheld, pins_in_scope as in_scope_lem, pins_are_held as is_held_lem, pins_holds_of as holds_of_lem, pins_have_borrower, pins_with_holds, with_borrower, pins_without_borrower, pins_unpin_check as unpin_check_lem, pins_borrow_check as borrow_check_lem, pins_give_up_check as give_up_check_lem, hold_check as hold_check_lem, pins_release_check as release_check_lem, IsPinned};
@@ -14,9 +15,10 @@ mod holds;
 
 use borrowers::Borrowers;
 use holds::Holds;
+use memory_growth::OutOfMemory;
 use obj_id::limits::{MOST_BORROWERS, MOST_HOLDS};
-use obj_id::{ItemList, Kind, Refusal, TaskNo};
-use std::alloc::{AllocError, Global};
+use obj_id::{Failure, ItemList, Kind, Refusal, TaskNo};
+use std::alloc::Global;
 use std::marker::Model;
 
 /// Pin, borrowers and holds of one copy.
@@ -108,14 +110,14 @@ impl Pins {
     }
 
     /// The tasks that borrow it, in the order in which they came. Takes a walk over them, and memory for each.
-    pub fn borrowers(&self, alloc: Global) -> Result<ItemList<TaskNo>, AllocError>
+    pub fn borrowers(&self, alloc: Global) -> Result<ItemList<TaskNo>, OutOfMemory>
         ensures { IfOk result (λ tasks. tasks ≡ self.now.borrowers) }
     {
         self.borrowers.tasks(alloc)
     }
 
     /// How many holds each session has, by rising session. Takes a walk over them, and memory for each.
-    pub fn holds(&self, alloc: Global) -> Result<ItemList<(u32, u32)>, AllocError>
+    pub fn holds(&self, alloc: Global) -> Result<ItemList<(u32, u32)>, OutOfMemory>
         ensures { IfOk result (λ held. held ≡ self.now.holds) }
     {
         self.holds.by_session(alloc)
@@ -180,16 +182,16 @@ impl Pins {
     }
 
     /// The task borrows it, as the last one. `NotOwner` for a secondary, `Exists` if the task borrows
-    /// it, `TooMany` at 64 borrowers, `NoMemory` last. A refusal changes nothing.
-    pub fn borrow(&mut self, task: TaskNo) -> Result<(), Refusal>
+    /// it, `TooMany` at 64 borrowers; out of memory comes last. A failure changes nothing.
+    pub fn borrow(&mut self, task: TaskNo) -> Result<(), Failure>
         ensures ok { OnOk result (self.new ≡ with_borrower self.old task) }
         ensures passed { IsOk result → borrow_check_lem self.old task ≡ None }
-        ensures refused { (r : Refusal) → r ≢ NoMemory → IsErrOf result r → borrow_check_lem self.old task ≡ Some r }
-        ensures memory { IsErrOf result NoMemory → borrow_check_lem self.old task ≡ None }
+        ensures refused { (r : Refusal) → IsErrOf result (Refused r) → borrow_check_lem self.old task ≡ Some r }
+        ensures memory { (m : OutOfMemory) → IsErrOf result (Memory m) → borrow_check_lem self.old task ≡ None }
         ensures err { OnErr result (self.new ≡ self.old) }
     {
         if let Some(refusal) = self.borrow_check(task) {
-            return Err(refusal);
+            return Err(Failure::Refused(refusal));
         }
         self.borrowers.add(task)?;
         Ok(())
@@ -248,18 +250,18 @@ impl Pins {
         self.borrowers.remove(task);
     }
 
-    /// One hold more of the session. `TooMany` at 64 holds of all sessions, `NoMemory` last. A refusal
+    /// One hold more of the session. `TooMany` at 64 holds of all sessions; out of memory comes last. A failure
     /// changes nothing. Takes no memory if the session holds it already.
-    pub fn hold(&mut self, session: u32) -> Result<(), Refusal>
+    pub fn hold(&mut self, session: u32) -> Result<(), Failure>
         ensures ok { OnOk result (self.new ≡ pins_with_holds self.old session (holds_of_lem self.old session + 1)) }
         ensures passed { IsOk result → hold_check_lem self.old ≡ None }
-        ensures refused { (r : Refusal) → r ≢ NoMemory → IsErrOf result r → hold_check_lem self.old ≡ Some r }
-        ensures memory { IsErrOf result NoMemory → hold_check_lem self.old ≡ None }
+        ensures refused { (r : Refusal) → IsErrOf result (Refused r) → hold_check_lem self.old ≡ Some r }
+        ensures memory { (m : OutOfMemory) → IsErrOf result (Memory m) → hold_check_lem self.old ≡ None }
         ensures succeeds { 0 < holds_of_lem self.old session → hold_check_lem self.old ≡ None → IsOk result }
         ensures err { OnErr result (self.new ≡ self.old) }
     {
         if let Some(refusal) = self.hold_check() {
-            return Err(refusal);
+            return Err(Failure::Refused(refusal));
         }
         self.holds.add(session)?;
         Ok(())

@@ -7,9 +7,9 @@ ghost use Rattle.private_store.specs.rules.Commands.{borrow, delete, give_up, is
 use crate::marks::Mark;
 use crate::predicates::{is_created, same_task};
 use crate::store::PlainStore;
+use memory_growth::{OutOfMemory, lists};
 use obj_id::limits::{MOST_BORROWERS, MOST_BYTES};
 use obj_id::{CopyState, ObjectId, Refusal, Reply, TaskNo};
-use std::alloc::AllocError;
 
 /// Whether no sealed bytes were ever here.
 fn is_unsealed(state: CopyState) -> bool
@@ -81,7 +81,7 @@ impl PlainStore {
     }
 
     /// Release: one hold of the session less. The error is out of memory.
-    pub(crate) fn release(&mut self, session: u32, id: ObjectId) -> Result<Reply<u64>, AllocError>
+    pub(crate) fn release(&mut self, session: u32, id: ObjectId) -> Result<Reply<u64>, OutOfMemory>
         ensures reply { IfOk result (λ reply. reply ≡ (release self.old.shape session id).reply) }
         ensures store { OnOk result (self.new ≡ record self.old { shape = (release self.old.shape session id).shape }) }
         ensures used { (release self.old.shape session id).used ≡ None }
@@ -118,7 +118,7 @@ impl PlainStore {
     }
 
     /// Borrow: the task refers to the object. The error is out of memory.
-    pub(crate) fn borrow(&mut self, id: ObjectId, task: TaskNo) -> Result<Reply<u64>, AllocError>
+    pub(crate) fn borrow(&mut self, id: ObjectId, task: TaskNo) -> Result<Reply<u64>, OutOfMemory>
         ensures reply { IfOk result (λ reply. reply ≡ (borrow self.old.shape id task).reply) }
         ensures store { OnOk result (self.new ≡ record self.old { shape = (borrow self.old.shape id task).shape }) }
         ensures used { (borrow self.old.shape id task).used ≡ None }
@@ -139,7 +139,7 @@ impl PlainStore {
             return Ok(Reply::Refused(Refusal::TooMany));
         }
         if let Some(copy) = self.copy_mut(id) {
-            copy.borrowers.push(task)?;
+            lists::push(&mut copy.borrowers, task)?;
         }
         Ok(Reply::Ok)
     }

@@ -10,10 +10,11 @@ use crate::copies::PlainCopy;
 use crate::predicates::same_task;
 use crate::response::Response;
 use crate::store::PlainStore;
+use memory_growth::OutOfMemory;
 use obj_id::limits::{LONGEST_OBJECT, MOST_COPIES};
 use obj_id::{CopyState, Kind, ObjectId, Refusal, Reply, TaskNo};
 use private_store::rounded;
-use std::alloc::{AllocError, Global};
+use std::alloc::Global;
 
 impl PlainStore {
     /// Whether an object of `length` bytes may be in the window.
@@ -58,7 +59,7 @@ impl PlainStore {
         id: ObjectId,
         kind: Kind,
         length: u32,
-    ) -> Result<Response, AllocError>
+    ) -> Result<Response, OutOfMemory>
         requires { is_quota self.old.shape.quota ≡ true }
         ensures reply { IfOk result (λ response. response.reply ≡ (create self.old.order self.old.shape id kind length).reply) }
         ensures used { IfOk result (λ response. response.used ≡ (create self.old.order self.old.shape id kind length).used) }

@@ -8,8 +8,8 @@ ghost use Rattle.private_store.specs.rules.Change.{doomed, settled};
 
 use crate::marks::Mark;
 use crate::store::PlainStore;
+use memory_growth::OutOfMemory;
 use obj_id::ObjectId;
-use std::alloc::AllocError;
 
 impl PlainStore {
     /// The copy is removed if it is doomed and idle. Takes no memory.
@@ -41,7 +41,7 @@ impl PlainStore {
         id: ObjectId,
         session: u32,
         count: u32,
-    ) -> Result<(), AllocError>
+    ) -> Result<(), OutOfMemory>
         ensures { OnOk result (self.new ≡ record self.old { shape = store_changed (marked (mark.held session count)) self.old.shape id }) }
     {
         let Some(copy) = self.copy_mut(id) else {

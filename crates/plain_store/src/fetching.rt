@@ -15,10 +15,11 @@ ghost use Rattle.plain_store.specs.Fetches.{next_step_of, get_fetch, get_sized, 
 use crate::copies::{FetchPhase, PlainCopy};
 use crate::response::Response;
 use crate::store::PlainStore;
+use memory_growth::{OutOfMemory, lists};
 use obj_id::limits::CHUNK_SIZE;
 use obj_id::{NodeNo, ObjectId, Refusal};
 use private_store::FetchFault;
-use std::alloc::{AllocError, Global};
+use std::alloc::Global;
 
 /// What the next Get of a fetch does.
 enum NextStep {
@@ -48,7 +49,7 @@ impl PlainStore {
         id: ObjectId,
         source: NodeNo,
         offset: u32,
-    ) -> Result<(), AllocError>
+    ) -> Result<(), OutOfMemory>
         ensures { OnOk result (self.new ≡ record self.old { shape = pulled self.old.shape id source offset }) }
     {
         let Some(copy) = self.copy_mut(id) else {
@@ -68,7 +69,7 @@ impl PlainStore {
         alloc: Global,
         id: ObjectId,
         source: NodeNo,
-    ) -> Result<Response, AllocError>
+    ) -> Result<Response, OutOfMemory>
         requires kept { IsReplayStateKept self.old }
         requires live { is_live self.old.shape ≡ true }
         requires unsealed { (copy : Copy) → at self.old.shape.copies id ≡ Some copy → is_sealed copy.state ≡ false }
@@ -101,7 +102,7 @@ impl PlainStore {
         &mut self,
         alloc: Global,
         id: ObjectId,
-    ) -> Result<Response, AllocError>
+    ) -> Result<Response, OutOfMemory>
         requires kept { IsReplayStateKept self.old }
         requires live { is_live self.old.shape ≡ true }
         requires unsealed { (copy : Copy) → at self.old.shape.copies id ≡ Some copy → is_sealed copy.state ≡ false }
@@ -146,13 +147,13 @@ fn chunk_count(length: u32) -> u32
 }
 
 /// The indexes of all chunks of `length` bytes. The error is out of memory.
-fn all_chunks(alloc: Global, length: u32) -> Result<Vec<u32>, AllocError>
+fn all_chunks(alloc: Global, length: u32) -> Result<Vec<u32>, OutOfMemory>
     ensures { IfOk result (λ chunks. chunks.items ≡ counted 0 (chunk_count_lem length)) }
 {
     let count = chunk_count(length);
     let mut chunks = Vec::new(alloc);
     for index in 0..count {
-        chunks.push(index)?;
+        lists::push(&mut chunks, index)?;
     }
     Ok(chunks)
 }

@@ -15,8 +15,9 @@ use crate::copies::{FetchPhase, PlainCopy, PlainFetch};
 use crate::marks::Mark;
 use crate::response::Response;
 use crate::store::PlainStore;
+use memory_growth::OutOfMemory;
 use obj_id::{CopyState, FetchNo, Kind, ObjectId, Refusal, Reply};
-use std::alloc::{AllocError, Global};
+use std::alloc::Global;
 
 impl PlainStore {
     /// Whether another number of a fetch is left.
@@ -29,7 +30,7 @@ impl PlainStore {
     /// A copy that isn't here is fetched: the answer is `Pending`. `TooMany` at 1,024 copies, and if no number of a fetch is
     /// left. The error is out of memory.
     #[tactic(auto, unfolding(private_store::specs::rules::Change::checked, private_store::specs::rules::Change::sending))]
-    fn begin_fetch(&mut self, alloc: Global, id: ObjectId) -> Result<Response, AllocError>
+    fn begin_fetch(&mut self, alloc: Global, id: ObjectId) -> Result<Response, OutOfMemory>
         ensures reply { IfOk result (λ response. response.reply ≡ (begin_fetch self.old.shape id).reply) }
         ensures used { IfOk result (λ response. response.used ≡ (begin_fetch self.old.shape id).used) }
         ensures store { OnOk result (self.new ≡ record self.old { shape = (begin_fetch self.old.shape id).shape }) }
@@ -47,7 +48,7 @@ impl PlainStore {
     }
 
     /// One more hold of the session on the copy, if there is one. The error is out of memory.
-    fn hold(&mut self, id: ObjectId, session: u32) -> Result<(), AllocError>
+    fn hold(&mut self, id: ObjectId, session: u32) -> Result<(), OutOfMemory>
         requires { (copy : Copy) → at self.old.shape.copies id ≡ Some copy → holds_of copy session + 1 < 2 ^ 32 }
         ensures { OnOk result (self.new ≡ record self.old { shape = held_more self.old.shape id session }) }
     {
@@ -60,7 +61,7 @@ impl PlainStore {
     /// Get of a sealed copy: one more hold of the session, and the copy is the most recently used one. `TooMany` at 64 holds,
     /// `Absent` if there is no copy. The error is out of memory.
     #[tactic(auto, using(crate::proofs::RoomLeaves::holds_fit), unfolding(private_store::specs::rules::Change::checked, private_store::specs::rules::Change::needing, private_store::specs::rules::Change::sending))]
-    fn get_sealed(&mut self, session: u32, id: ObjectId) -> Result<Response, AllocError>
+    fn get_sealed(&mut self, session: u32, id: ObjectId) -> Result<Response, OutOfMemory>
         ensures reply { IfOk result (λ response. response.reply ≡ (needing self.old.shape (at self.old.shape.copies id) Absent (get_sealed self.old.shape session id)).reply) }
         ensures used { IfOk result (λ response. response.used ≡ (needing self.old.shape (at self.old.shape.copies id) Absent (get_sealed self.old.shape session id)).used) }
         ensures store { OnOk result (self.new ≡ record self.old { shape = (needing self.old.shape (at self.old.shape.copies id) Absent (get_sealed self.old.shape session id)).shape }) }
@@ -82,7 +83,7 @@ impl PlainStore {
     /// Get of a copy that is away: its fault is the answer, once; otherwise it is read back. `DeviceFailed`, `Damaged`, and as
     /// `restore`. The error is out of memory.
     #[tactic(auto, unfolding(private_store::specs::rules::Change::needing))]
-    fn get_away(&mut self, alloc: Global, id: ObjectId) -> Result<Response, AllocError>
+    fn get_away(&mut self, alloc: Global, id: ObjectId) -> Result<Response, OutOfMemory>
         requires kept { IsReplayStateKept self.old }
         requires live { is_live self.old.shape ≡ true }
         requires unsealed { (copy : Copy) → at self.old.shape.copies id ≡ Some copy → is_sealed copy.state ≡ false }
@@ -110,7 +111,7 @@ impl PlainStore {
         alloc: Global,
         session: u32,
         id: ObjectId,
-    ) -> Result<Response, AllocError>
+    ) -> Result<Response, OutOfMemory>
         requires kept { IsReplayStateKept self.old }
         requires live { is_live self.old.shape ≡ true }
         ensures reply { IfOk result (λ response. response.reply ≡ (get self.old.order self.old.shape session id).reply) }

@@ -13,8 +13,9 @@ ghost use Rattle.plain_store.specs.Granted.{store_with_seen, without_seen, with_
 use crate::job_grants::{GivenGrant, SeenObject, TakenGrant};
 use crate::predicates::same_id;
 use crate::store::PlainStore;
+use memory_growth::{OutOfMemory, lists, ordered};
 use obj_id::{JobNo, ObjectId, Reply};
-use std::alloc::{AllocError, Global};
+use std::alloc::Global;
 
 impl TakenGrant {
     /// Whether the grantor gave it at this depth.
@@ -92,10 +93,10 @@ impl PlainStore {
     }
 
     /// The object as it is seen, in place of what was seen of it. The error is out of memory.
-    pub(crate) fn insert_seen(&mut self, id: ObjectId, seen: SeenObject) -> Result<(), AllocError>
+    pub(crate) fn insert_seen(&mut self, id: ObjectId, seen: SeenObject) -> Result<(), OutOfMemory>
         ensures { OnOk result (self.new ≡ store_with_seen self.old id seen) }
     {
-        self.received.insert(id, seen)?;
+        ordered::insert(&mut self.received, id, seen)?;
         Ok(())
     }
 
@@ -116,7 +117,7 @@ impl PlainStore {
         length: u32,
         grantor: JobNo,
         depth: u32,
-    ) -> Result<Reply<u64>, AllocError>
+    ) -> Result<Reply<u64>, OutOfMemory>
         ensures reply { IfOk result (λ reply. reply ≡ (received self.old.shape id length grantor.0 depth).reply) }
         ensures store { OnOk result (self.new ≡ record self.old { shape = (received self.old.shape id length grantor.0 depth).shape }) }
         ensures used { (received self.old.shape id length grantor.0 depth).used ≡ None }
@@ -127,7 +128,7 @@ impl PlainStore {
             return Ok(Reply::Ok);
         }
         let mut grants = Vec::new(alloc);
-        grants.push(grant)?;
+        lists::push(&mut grants, grant)?;
         self.insert_seen(id, SeenObject { length, grants })?;
         Ok(Reply::Ok)
     }

@@ -9,9 +9,9 @@ use crate::copies::PlainCopy;
 use crate::job_grants::GivenGrant;
 use crate::predicates::{is_sealed, same_id};
 use crate::store::PlainStore;
+use memory_growth::{OutOfMemory, lists};
 use obj_id::limits::{GREATEST_DEPTH, MOST_BYTES, MOST_GRANTS};
 use obj_id::{JobNo, ObjectId, Refusal, Reply};
-use std::alloc::AllocError;
 
 impl PlainCopy {
     /// Whether it is a sealed primary in memory.
@@ -31,10 +31,15 @@ impl PlainStore {
     }
 
     /// The grant is given, as the youngest. The error is out of memory.
-    fn give(&mut self, id: ObjectId, target: JobNo, parent: Option<JobNo>) -> Result<(), AllocError>
+    fn give(
+        &mut self,
+        id: ObjectId,
+        target: JobNo,
+        parent: Option<JobNo>,
+    ) -> Result<(), OutOfMemory>
         ensures { OnOk result (self.new ≡ record self.old { shape = record self.old.shape { given = self.old.shape.given ++ record { id = id; target = target.0; parent = option_map (λ grantor. grantor.0) parent } ∷ [] } }) }
     {
-        self.given.push(GivenGrant { id, target, parent })?;
+        lists::push(&mut self.given, GivenGrant { id, target, parent })?;
         Ok(())
     }
 
@@ -43,7 +48,7 @@ impl PlainStore {
         &mut self,
         id: ObjectId,
         target: JobNo,
-    ) -> Result<Reply<u64>, AllocError>
+    ) -> Result<Reply<u64>, OutOfMemory>
         ensures reply { IfOk result (λ reply. reply ≡ (grant_own self.old.shape id target.0).reply) }
         ensures store { OnOk result (self.new ≡ record self.old { shape = (grant_own self.old.shape id target.0).shape }) }
         ensures used { (grant_own self.old.shape id target.0).used ≡ None }
@@ -75,7 +80,7 @@ impl PlainStore {
         &mut self,
         id: ObjectId,
         target: JobNo,
-    ) -> Result<Reply<u64>, AllocError>
+    ) -> Result<Reply<u64>, OutOfMemory>
         ensures reply { IfOk result (λ reply. reply ≡ (grant_foreign self.old.shape id target.0).reply) }
         ensures store { OnOk result (self.new ≡ record self.old { shape = (grant_foreign self.old.shape id target.0).shape }) }
         ensures used { (grant_foreign self.old.shape id target.0).used ≡ None }
@@ -98,7 +103,7 @@ impl PlainStore {
     }
 
     /// Grant: the target may peek, whether or not it lives. The error is out of memory.
-    pub(crate) fn grant(&mut self, id: ObjectId, target: JobNo) -> Result<Reply<u64>, AllocError>
+    pub(crate) fn grant(&mut self, id: ObjectId, target: JobNo) -> Result<Reply<u64>, OutOfMemory>
         ensures reply { IfOk result (λ reply. reply ≡ (grant self.old.shape id target.0).reply) }
         ensures store { OnOk result (self.new ≡ record self.old { shape = (grant self.old.shape id target.0).shape }) }
         ensures used { (grant self.old.shape id target.0).used ≡ None }

@@ -9,8 +9,8 @@ ghost use Rattle.private_store.specs.rules.Commands.{holds_of as holds_of_lem, a
 ghost use Rattle.plain_store.specs.Sessions.{IsHoldPlace};
 
 use crate::copies::PlainCopy;
+use memory_growth::{OutOfMemory, lists};
 use obj_id::limits::MOST_HOLDS;
-use std::alloc::AllocError;
 
 impl PlainCopy {
     /// The holds of the session. Takes a walk over the sessions.
@@ -28,7 +28,7 @@ impl PlainCopy {
     }
 
     /// The session has this many holds, at least one. The error is out of memory.
-    pub(crate) fn set_holds(&mut self, session: u32, count: u32) -> Result<(), AllocError>
+    pub(crate) fn set_holds(&mut self, session: u32, count: u32) -> Result<(), OutOfMemory>
         requires { 1 ≤ count }
         ensures { OnOk result (self.new ≡ with_holds self.old session count) }
     {
@@ -43,7 +43,7 @@ impl PlainCopy {
     }
 
     /// One more hold of the session. The error is out of memory.
-    pub(crate) fn hold(&mut self, session: u32) -> Result<(), AllocError>
+    pub(crate) fn hold(&mut self, session: u32) -> Result<(), OutOfMemory>
         requires { holds_of_lem self.old session + 1 < 2 ^ 32 }
         ensures { OnOk result (self.new ≡ with_holds self.old session (holds_of_lem self.old session + 1)) }
     {
@@ -87,7 +87,7 @@ fn place_of(holds: &[(u32, u32)], session: u32) -> usize
 }
 
 /// The session has `count` holds. The error is out of memory.
-fn put_holds(holds: &mut Vec<(u32, u32)>, session: u32, count: u32) -> Result<(), AllocError>
+fn put_holds(holds: &mut Vec<(u32, u32)>, session: u32, count: u32) -> Result<(), OutOfMemory>
     ensures { OnOk result (holds.new.items ≡ put nat_cmp session count holds.old.items) }
 {
     let place = place_of(holds, session);
@@ -95,6 +95,6 @@ fn put_holds(holds: &mut Vec<(u32, u32)>, session: u32, count: u32) -> Result<()
         holds[place] = (session, count);
         return Ok(());
     }
-    holds.insert(place, (session, count))?;
+    lists::insert(holds, place, (session, count))?;
     Ok(())
 }

@@ -1,8 +1,8 @@
 //! The grants that a job gave and was given.
 ghost use Rattle.std.specs.Prelude.{◌≡◌, ◌++◌, ◌∷◌, [], OnOk};
 
+use memory_growth::{OutOfMemory, lists};
 use obj_id::{JobNo, ObjectId};
-use std::alloc::AllocError;
 use std::marker::Model;
 
 /// A grant that the job gave. A contract sees the private store's.
@@ -58,10 +58,10 @@ impl Model for SeenObject {
 
 impl SeenObject {
     /// Another grant of the object, the youngest, and the object's length in bytes.
-    pub fn add(&mut self, grant: TakenGrant, length: u32) -> Result<(), AllocError>
+    pub fn add(&mut self, grant: TakenGrant, length: u32) -> Result<(), OutOfMemory>
         ensures { OnOk result (self.new ≡ record { length = length; grants = self.old.grants ++ grant ∷ [] }) }
     {
-        self.grants.push(grant)?;
+        lists::push(&mut self.grants, grant)?;
         self.length = length;
         Ok(())
     }

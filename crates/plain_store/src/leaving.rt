@@ -10,16 +10,17 @@ ghost use Rattle.plain_store.specs.Changing.{task_over};
 use crate::marks::Mark;
 use crate::predicates::same_task;
 use crate::store::PlainStore;
+use memory_growth::{OutOfMemory, lists};
 use obj_id::limits::MOST_ENDED_TASKS;
 use obj_id::{ObjectId, Refusal, Reply, TaskNo};
-use std::alloc::{AllocError, Global};
+use std::alloc::Global;
 
 impl PlainStore {
     /// The ids of the copies, in order. The error is out of memory.
-    fn ids(&self, alloc: Global) -> Result<Vec<ObjectId>, AllocError>
+    fn ids(&self, alloc: Global) -> Result<Vec<ObjectId>, OutOfMemory>
         ensures { IfOk result (λ ids. ids.items ≡ ids_of self.now.shape.copies) }
     {
-        self.copies.keys().copied().collect(alloc)
+        lists::collected(alloc, self.copies.keys().copied())
     }
 
     /// The session has no holds on the copy, if there is one. Takes no memory.
@@ -43,7 +44,7 @@ impl PlainStore {
     }
 
     /// Leave: all holds of the session end. The error is out of memory, and leaves the store as it was.
-    pub(crate) fn leave(&mut self, alloc: Global, session: u32) -> Result<Reply<u64>, AllocError>
+    pub(crate) fn leave(&mut self, alloc: Global, session: u32) -> Result<Reply<u64>, OutOfMemory>
         ensures reply { IfOk result (λ reply. reply ≡ (leave self.old.shape session).reply) }
         ensures store { OnOk result (self.new ≡ record self.old { shape = (leave self.old.shape session).shape }) }
         ensures used { OnOk result ((leave self.old.shape session).used ≡ None) }
@@ -54,10 +55,10 @@ impl PlainStore {
     }
 
     /// The task is remembered as ended, and what it had granted ends. The error is out of memory.
-    fn task_ended(&mut self, task: TaskNo) -> Result<(), AllocError>
+    fn task_ended(&mut self, task: TaskNo) -> Result<(), OutOfMemory>
         ensures { OnOk result (self.new ≡ record self.old { shape = task_ended self.old.shape task }) }
     {
-        self.ended_tasks.push(task)?;
+        lists::push(&mut self.ended_tasks, task)?;
         let job = self.job;
         self.given.retain(|grant| !(grant.id.job().0 == job.0
             && same_task(&task, &grant.id.task())));
@@ -97,7 +98,7 @@ impl PlainStore {
     }
 
     /// The task's copies are doomed, and its borrows given up. The error is out of memory.
-    fn task_over(&mut self, alloc: Global, task: TaskNo) -> Result<(), AllocError>
+    fn task_over(&mut self, alloc: Global, task: TaskNo) -> Result<(), OutOfMemory>
         ensures reply { OnOk result ((task_over self.old.shape task).reply ≡ Reply.Ok) }
         ensures store { OnOk result (self.new ≡ record self.old { shape = (task_over self.old.shape task).shape }) }
         ensures used { OnOk result ((task_over self.old.shape task).used ≡ None) }
@@ -111,7 +112,11 @@ impl PlainStore {
     }
 
     /// EndTask: the task's copies are doomed, and its borrows given up. The error is out of memory.
-    pub(crate) fn end_task(&mut self, alloc: Global, task: TaskNo) -> Result<Reply<u64>, AllocError>
+    pub(crate) fn end_task(
+        &mut self,
+        alloc: Global,
+        task: TaskNo,
+    ) -> Result<Reply<u64>, OutOfMemory>
         ensures reply { IfOk result (λ reply. reply ≡ (end_task self.old.shape task).reply) }
         ensures store { OnOk result (self.new ≡ record self.old { shape = (end_task self.old.shape task).shape }) }
         ensures used { OnOk result ((end_task self.old.shape task).used ≡ None) }
@@ -128,11 +133,12 @@ impl PlainStore {
 }
 
 /// Those of the ids that are of the task's objects. The error is out of memory.
-fn of_task_in(alloc: Global, task: TaskNo, ids: &[ObjectId]) -> Result<Vec<ObjectId>, AllocError>
+fn of_task_in(alloc: Global, task: TaskNo, ids: &[ObjectId]) -> Result<Vec<ObjectId>, OutOfMemory>
     ensures { IfOk result (λ own. own.items ≡ of_task task ids.now) }
 {
-    ids.iter()
+    let own = ids
+        .iter()
         .copied()
-        .filter(|id| same_task(&task, &id.task()))
-        .collect(alloc)
+        .filter(|id| same_task(&task, &id.task()));
+    lists::collected(alloc, own)
 }

@@ -6,19 +6,19 @@ ghost use Rattle.private_store.specs.rules.Step.{is_used, reordered};
 use crate::copies::PlainCopy;
 use crate::predicates::same_id;
 use crate::store::PlainStore;
+use memory_growth::{OutOfMemory, lists};
 use obj_id::ObjectId;
-use std::alloc::AllocError;
 use std::collections::BTreeMap;
 
 impl PlainStore {
     /// The order of use after an input that left these copies: of those that are there, and what the input used stands last.
     /// Takes a walk over the order with a look-up each. The error is out of memory.
-    pub(crate) fn use_order(&mut self, used: Option<ObjectId>) -> Result<(), AllocError>
+    pub(crate) fn use_order(&mut self, used: Option<ObjectId>) -> Result<(), OutOfMemory>
         ensures { OnOk result (self.new ≡ record self.old { order = reordered self.old.order self.old.shape.copies used }) }
     {
         keep_others(&mut self.order, &self.copies, &used);
         if let Some(used) = &used {
-            self.order.push(*used)?;
+            lists::push(&mut self.order, *used)?;
         }
         Ok(())
     }

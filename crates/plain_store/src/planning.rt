@@ -7,8 +7,9 @@ ghost use Rattle.private_store.specs.rules.Room.{in_order as in_order_lem, plan 
 ghost use Rattle.plain_store.specs.Plans.{chosen_by, shown_plan, evict_plan, works_plan, spill_or_wait};
 
 use crate::store::PlainStore;
+use memory_growth::{OutOfMemory, lists};
 use obj_id::ObjectId;
-use std::alloc::{AllocError, Global};
+use std::alloc::Global;
 
 /// What a walk of the order of use looks for.
 #[derive(Clone, Copy, Debug, PartialEq, Eq)]
@@ -50,13 +51,13 @@ impl PlainStore {
     }
 
     /// The copies that are chosen, least recently used first. The error is out of memory.
-    fn in_order(&self, alloc: Global, choice: Choice) -> Result<Vec<ObjectId>, AllocError>
+    fn in_order(&self, alloc: Global, choice: Choice) -> Result<Vec<ObjectId>, OutOfMemory>
         ensures { IfOk result (λ ids. ids.items ≡ in_order_lem self.now.shape self.now.order (chosen_by choice self.now.shape)) }
     {
         let mut ids = Vec::new(alloc);
         for id in &self.order {
             if self.is_chosen(choice, *id) {
-                ids.push(*id)?;
+                lists::push(&mut ids, *id)?;
             }
         }
         Ok(ids)
@@ -64,7 +65,7 @@ impl PlainStore {
 
     /// How room for an object of `length` bytes is made. Takes at most as many tries as there are copies, and each at most
     /// the square of their number. The error is out of memory.
-    pub(crate) fn plan(&self, alloc: Global, length: u32) -> Result<Plan, AllocError>
+    pub(crate) fn plan(&self, alloc: Global, length: u32) -> Result<Plan, OutOfMemory>
         requires { is_quota self.now.shape.quota ≡ true }
         ensures { IfOk result (λ p. shown_plan p ≡ plan_lem self.now.order self.now.shape length) }
     {
@@ -82,13 +83,13 @@ impl PlainStore {
         alloc: Global,
         length: u32,
         evictable: Vec<ObjectId>,
-    ) -> Result<Plan, AllocError>
+    ) -> Result<Plan, OutOfMemory>
         requires quota { is_quota self.now.shape.quota ≡ true }
         requires evictable { evictable.items ≡ in_order_lem self.now.shape self.now.order (chosen_by Choice.Evictable self.now.shape) }
         ensures { IfOk result (λ p. shown_plan p ≡ works_plan self.now.order self.now.shape length) }
     {
         let mut passing = evictable;
-        passing.extend_from_slice(&self.in_order(alloc, Choice::Passing)?)?;
+        lists::extend_from_slice(&mut passing, &self.in_order(alloc, Choice::Passing)?)?;
         let spillable = self.in_order(alloc, Choice::Spillable)?;
         match self.shortest(alloc, length, &passing, &spillable)? {
             Some(ids) => Ok(self.spilling(ids)),

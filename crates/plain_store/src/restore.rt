@@ -17,13 +17,14 @@ use crate::marks::Mark;
 use crate::planning::Plan;
 use crate::response::Response;
 use crate::store::PlainStore;
+use memory_growth::OutOfMemory;
 use obj_id::{ObjectId, Refusal};
-use std::alloc::{AllocError, Global};
+use std::alloc::Global;
 
 impl PlainStore {
     /// Whether there would be room for an object of `length` bytes at once. Takes what `plan` takes. The error is out of
     /// memory.
-    fn has_room(&self, alloc: Global, length: u32) -> Result<bool, AllocError>
+    fn has_room(&self, alloc: Global, length: u32) -> Result<bool, OutOfMemory>
         requires { is_quota self.now.shape.quota ≡ true }
         ensures { IfOk result (λ has. has ≡ is_ok (make_room self.now.order self.now.shape length).offset) }
     {
@@ -35,7 +36,7 @@ impl PlainStore {
     }
 
     /// Why a copy of `length` bytes can't be restored, before there is room for it. The error is out of memory.
-    fn restore_check(&self, alloc: Global, length: u32) -> Result<Option<Refusal>, AllocError>
+    fn restore_check(&self, alloc: Global, length: u32) -> Result<Option<Refusal>, OutOfMemory>
         requires { is_quota self.now.shape.quota ≡ true }
         ensures { IfOk result (λ refusal. refusal ≡ first_refusal (restore_checks self.now.order self.now.shape length)) }
     {
@@ -49,7 +50,7 @@ impl PlainStore {
     }
 
     /// The copy, if there is one, is at the offset again, and its bytes are asked for. The error is out of memory.
-    fn begin_restore(&mut self, id: ObjectId, offset: u32) -> Result<(), AllocError>
+    fn begin_restore(&mut self, id: ObjectId, offset: u32) -> Result<(), OutOfMemory>
         requires { self.old.shape.works_asked + 1 < 2 ^ 64 }
         ensures { OnOk result (self.new ≡ record self.old { shape = restored self.old.shape id offset }) }
     {
@@ -63,7 +64,7 @@ impl PlainStore {
     /// A copy that is away is read back, if there is room for it: the answer is `Pending` then. `Busy` at 8 works, `TooMany`
     /// if no numbers of works are left, `Absent` if there is no copy, and as `make_room`. The error is out of memory.
     #[tactic(auto, using(crate::proofs::RoomLeaves::room_leaves, crate::proofs::RoomLeaves::room_numbers, crate::proofs::RoomLeaves::quota_kept), unfolding(private_store::specs::rules::Change::checked, private_store::specs::rules::Change::needing, private_store::specs::rules::Change::in_room, private_store::specs::rules::Change::sending))]
-    pub(crate) fn restore(&mut self, alloc: Global, id: ObjectId) -> Result<Response, AllocError>
+    pub(crate) fn restore(&mut self, alloc: Global, id: ObjectId) -> Result<Response, OutOfMemory>
         requires kept { IsReplayStateKept self.old }
         requires live { is_live self.old.shape ≡ true }
         requires unsealed { (copy : Copy) → at self.old.shape.copies id ≡ Some copy → is_sealed copy.state ≡ false }

@@ -11,13 +11,14 @@ use crate::copies::PlainWork;
 use crate::marks::Mark;
 use crate::planning::Plan;
 use crate::store::PlainStore;
+use memory_growth::{OutOfMemory, lists};
 use obj_id::limits::MOST_WORKS;
 use obj_id::{ObjectId, Refusal};
 use private_store::rounded;
-use std::alloc::{AllocError, Global};
+use std::alloc::Global;
 
 /// Where an object goes, or why it has no room, unless memory runs out.
-pub(crate) type Room = Result<Result<u32, Refusal>, AllocError>;
+pub(crate) type Room = Result<Result<u32, Refusal>, OutOfMemory>;
 
 impl PlainStore {
     /// The copy is evicted, if there is one: a secondary is removed, and a primary is away. Takes two look-ups and no memory.
@@ -51,18 +52,18 @@ impl PlainStore {
     }
 
     /// A work for the copy is asked for, under the next number. The error is out of memory.
-    pub(crate) fn ask(&mut self, writes: bool, id: ObjectId) -> Result<(), AllocError>
+    pub(crate) fn ask(&mut self, writes: bool, id: ObjectId) -> Result<(), OutOfMemory>
         requires { self.old.shape.works_asked + 1 < 2 ^ 64 }
         ensures { OnOk result (self.new ≡ record self.old { shape = asked writes self.old.shape id }) }
     {
         let number = self.works_asked + 1;
-        self.works.push(PlainWork { number, id, writes })?;
+        lists::push(&mut self.works, PlainWork { number, id, writes })?;
         self.works_asked = number;
         Ok(())
     }
 
     /// Works for these copies are asked for, one after the other. The error is out of memory.
-    pub(crate) fn ask_all(&mut self, writes: bool, ids: &[ObjectId]) -> Result<(), AllocError>
+    pub(crate) fn ask_all(&mut self, writes: bool, ids: &[ObjectId]) -> Result<(), OutOfMemory>
         requires { self.old.shape.works_asked + length ids.now < 2 ^ 64 }
         ensures { OnOk result (self.new ≡ record self.old { shape = fold (asked writes) self.old.shape ids.now }) }
     {
@@ -85,7 +86,7 @@ impl PlainStore {
 
     /// Works that spill these copies are asked for, unless a spill failed since room was last refused for it, or their
     /// numbers run out: and why there is no room yet. The error is out of memory.
-    fn spill_room(&mut self, ids: &[ObjectId]) -> Result<Refusal, AllocError>
+    fn spill_room(&mut self, ids: &[ObjectId]) -> Result<Refusal, OutOfMemory>
         ensures refusal { IfOk result (λ refusal. Err refusal ≡ (spill_room self.old.shape ids.now).offset) }
         ensures store { OnOk result (self.new ≡ record self.old { shape = (spill_room self.old.shape ids.now).shape }) }
     {

@@ -9,9 +9,10 @@ ghost use Rattle.plain_store.specs.Steps.{is_foreign as is_foreign_lem, is_timel
 
 use crate::response::Response;
 use crate::store::PlainStore;
+use memory_growth::OutOfMemory;
 use obj_id::{ChunkIndex, Command, CopyState, FetchNo, NodeNo, ObjectId, Refusal, Reply};
 use private_store::Judged;
-use std::alloc::{AllocError, Global};
+use std::alloc::Global;
 use std::mem;
 
 impl PlainStore {
@@ -20,7 +21,11 @@ impl PlainStore {
     ///
     /// Takes a walk over the order of use; room costs at most the square of the copies. The error is out of memory, and then the
     /// store is gone.
-    pub fn step(self, alloc: Global, input: &Judged) -> Result<(PlainStore, Reply<u64>), AllocError>
+    pub fn step(
+        self,
+        alloc: Global,
+        input: &Judged,
+    ) -> Result<(PlainStore, Reply<u64>), OutOfMemory>
         requires kept { IsReplayStateKept self }
         ensures reply { IfOk result (λ r. r.1 ≡ (replay_step self input.now).reply) }
         ensures store { IfOk result (λ r. r.0 ≡ replay_after self input.now) }
@@ -33,7 +38,7 @@ impl PlainStore {
 
     /// The same, but for the order of use.
     #[tactic(auto, unfolding(private_store::specs::rules::Change::checked, private_store::specs::rules::Change::needing, private_store::specs::rules::Change::sending))]
-    fn take(&mut self, alloc: Global, input: &Judged) -> Result<Response, AllocError>
+    fn take(&mut self, alloc: Global, input: &Judged) -> Result<Response, OutOfMemory>
         requires kept { IsReplayStateKept self.old }
         ensures reply { IfOk result (λ response. response.reply ≡ (step self.old.order self.old.shape input.now).reply) }
         ensures used { IfOk result (λ response. response.used ≡ (step self.old.order self.old.shape input.now).used) }
@@ -63,7 +68,7 @@ impl PlainStore {
 
     /// A change of quota, the end, or a message: `Stale` unless the job is live.
     #[tactic(auto, unfolding(private_store::specs::rules::Change::checked, private_store::specs::rules::Change::needing, private_store::specs::rules::Change::sending))]
-    fn take_if_live(&mut self, alloc: Global, input: &Judged) -> Result<Response, AllocError>
+    fn take_if_live(&mut self, alloc: Global, input: &Judged) -> Result<Response, OutOfMemory>
         requires kept { IsReplayStateKept self.old }
         requires timely { is_timely input.now ≡ true }
         ensures reply { IfOk result (λ response. response.reply ≡ (step self.old.order self.old.shape input.now).reply) }
@@ -109,7 +114,7 @@ impl PlainStore {
         alloc: Global,
         session: u32,
         command: &Command<u64>,
-    ) -> Result<Response, AllocError>
+    ) -> Result<Response, OutOfMemory>
         requires kept { IsReplayStateKept self.old }
         ensures reply { IfOk result (λ response. response.reply ≡ (step self.old.order self.old.shape (Judged.Call session command.now)).reply) }
         ensures used { IfOk result (λ response. response.used ≡ (step self.old.order self.old.shape (Judged.Call session command.now)).used) }
@@ -140,7 +145,7 @@ impl PlainStore {
         alloc: Global,
         session: u32,
         command: &Command<u64>,
-    ) -> Result<Response, AllocError>
+    ) -> Result<Response, OutOfMemory>
         requires kept { IsReplayStateKept self.old }
         requires live { is_live_lem self.old.shape ≡ true }
         ensures reply { IfOk result (λ response. response.reply ≡ (own_command self.old.order self.old.shape session command.now).reply) }
@@ -160,7 +165,7 @@ impl PlainStore {
         alloc: Global,
         session: u32,
         command: &Command<u64>,
-    ) -> Result<Reply<u64>, AllocError>
+    ) -> Result<Reply<u64>, OutOfMemory>
         requires kept { IsReplayStateKept self.old }
         requires plain { uses_none command.now ≡ true }
         ensures reply { IfOk result (λ reply. reply ≡ (own_command self.old.order self.old.shape session command.now).reply) }
@@ -199,7 +204,7 @@ impl PlainStore {
         alloc: Global,
         id: ObjectId,
         matches: bool,
-    ) -> Result<Response, AllocError>
+    ) -> Result<Response, OutOfMemory>
         requires kept { IsReplayStateKept self.old }
         requires live { is_live_lem self.old.shape ≡ true }
         ensures reply { IfOk result (λ response. response.reply ≡ (pull_arrived self.old.order self.old.shape id matches).reply) }

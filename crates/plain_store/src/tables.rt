@@ -9,8 +9,9 @@ ghost use Rattle.private_store.specs.rules.Room.{set_copy, drop_copy};
 
 use crate::copies::PlainCopy;
 use crate::store::PlainStore;
+use memory_growth::{OutOfMemory, ordered};
 use obj_id::ObjectId;
-use std::alloc::{AllocError, Global};
+use std::alloc::Global;
 use std::collections::BTreeMap;
 
 impl PlainStore {
@@ -32,7 +33,7 @@ impl PlainStore {
     }
 
     /// The copy under its id, in place of what was there. Takes a look-up. The error is out of memory.
-    pub(crate) fn insert(&mut self, id: ObjectId, copy: PlainCopy) -> Result<(), AllocError>
+    pub(crate) fn insert(&mut self, id: ObjectId, copy: PlainCopy) -> Result<(), OutOfMemory>
         ensures { OnOk result (self.new ≡ record self.old { shape = set_copy self.old.shape id copy }) }
     {
         put(&mut self.copies, id, copy)
@@ -52,7 +53,7 @@ impl PlainStore {
 pub fn copies_by_id(
     alloc: Global,
     copies: Vec<(ObjectId, PlainCopy)>,
-) -> Result<BTreeMap<ObjectId, PlainCopy>, AllocError>
+) -> Result<BTreeMap<ObjectId, PlainCopy>, OutOfMemory>
     requires { IsTrue (is_sorted id_cmp copies.items) }
     ensures { IfOk result (λ by_id. by_id.entries ≡ copies.items) }
 {
@@ -68,9 +69,9 @@ fn put(
     copies: &mut BTreeMap<ObjectId, PlainCopy>,
     id: ObjectId,
     copy: PlainCopy,
-) -> Result<(), AllocError>
+) -> Result<(), OutOfMemory>
     ensures { OnOk result (copies.new.entries ≡ with_entry copies.old.entries id copy) }
 {
-    copies.insert(id, copy)?;
+    ordered::insert(copies, id, copy)?;
     Ok(())
 }

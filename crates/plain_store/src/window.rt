@@ -13,8 +13,9 @@ ghost use Rattle.plain_store.specs.Fits.{extents_left as extents_left_lem, is_ro
 use crate::copies::PlainCopy;
 use crate::first_fit::first;
 use crate::store::PlainStore;
+use memory_growth::{OutOfMemory, lists};
 use obj_id::{Extent, ObjectId};
-use std::alloc::{AllocError, Global};
+use std::alloc::Global;
 use std::collections::BTreeMap;
 
 /// Whether the id is one of these.
@@ -39,25 +40,24 @@ fn extents_left(
     alloc: Global,
     copies: &BTreeMap<ObjectId, PlainCopy>,
     out: &[ObjectId],
-) -> Result<Vec<Extent>, AllocError>
+) -> Result<Vec<Extent>, OutOfMemory>
     ensures { IfOk result (λ extents. extents.items ≡ extents_left_lem out.now copies.now.entries) }
 {
     let mut extents = Vec::new(alloc);
     for (id, copy) in copies {
         if let Some(extent) = extent_left(out, *id, copy) {
-            extents.push(extent)?;
+            lists::push(&mut extents, extent)?;
         }
     }
     Ok(extents)
 }
 
-/// The extents by rising offset. The error is out of memory.
-fn sort_extents(extents: &mut Vec<Extent>) -> Result<(), AllocError>
+/// The extents by rising offset. Takes no memory.
+fn sort_extents(extents: &mut Vec<Extent>)
     ensures permutation { IsPermutation extents.old.items extents.new.items }
-    ensures rising { OnOk result (IsNonDecreasingBy (λ (e : Extent). e.offset) extents.new.items) }
+    ensures rising { IsNonDecreasingBy (λ (e : Extent). e.offset) extents.new.items }
 {
-    extents.sort_by_key(|extent| extent.offset)?;
-    Ok(())
+    extents.sort_unstable_by_key(|extent| extent.offset);
 }
 
 impl PlainStore {
@@ -68,12 +68,12 @@ impl PlainStore {
         alloc: Global,
         length: u32,
         out: &[ObjectId],
-    ) -> Result<Option<u32>, AllocError>
+    ) -> Result<Option<u32>, OutOfMemory>
         requires { self.now.shape.quota.window ≤ widest_window }
         ensures { IfOk result (λ offset. offset ≡ offset_without self.now.shape length out.now) }
     {
         let mut extents = extents_left(alloc, &self.copies, out)?;
-        sort_extents(&mut extents)?;
+        sort_extents(&mut extents);
         Ok(first(&extents, self.quota.window, length))
     }
 
@@ -85,18 +85,18 @@ impl PlainStore {
         length: u32,
         out: &[ObjectId],
         ids: &[ObjectId],
-    ) -> Result<Option<Vec<ObjectId>>, AllocError>
+    ) -> Result<Option<Vec<ObjectId>>, OutOfMemory>
         requires { self.now.shape.quota.window ≤ widest_window }
         ensures { IfOk result (λ taken. option_map (λ v. v.items) taken ≡ shortest_lem (is_room_without self.now.shape length out.now) ids.now) }
     {
         let mut taken = Vec::new(alloc);
-        let mut gone = out.to_vec(alloc)?;
+        let mut gone = lists::copied(alloc, out)?;
         for id in ids {
             if self.offset_without(alloc, length, &gone)?.is_some() {
                 return Ok(Some(taken));
             }
-            taken.push(*id)?;
-            gone.push(*id)?;
+            lists::push(&mut taken, *id)?;
+            lists::push(&mut gone, *id)?;
         }
         if self.offset_without(alloc, length, &gone)?.is_some() {
             return Ok(Some(taken));

@@ -5,9 +5,10 @@ ghost use Rattle.schedule_text.specs.Reading.{IsNodeAlone};
 ghost use Rattle.program_lines.specs.ControlLines.{IsControlLine, IsJobLook, IsLookAfter, IsLookLine};
 
 use crate::operator::{Order, read_order};
+use memory_growth::OutOfMemory;
 use obj_id::JobNo;
 use schedule_text::{fields, fields_of};
-use std::alloc::{AllocError, Global};
+use std::alloc::Global;
 
 /// What the operator wants to see of a node.
 #[derive(Clone, Copy, Debug, PartialEq, Eq)]
@@ -37,7 +38,7 @@ pub fn read_control_line(
     alloc: Global,
     text: &str,
     nodes: u32,
-) -> Result<Option<ControlLine>, AllocError>
+) -> Result<Option<ControlLine>, OutOfMemory>
     ensures { IfOk result (λ found. Reads found (IsControlLine nodes text.now)) }
 {
     if text == "close now" {

@@ -2,6 +2,7 @@
 ghost use Rattle.std.specs.Prelude.{◌≡◌};
 ghost use Rattle.program_lines.specs.Endings.{status_of as status_of_lem};
 
+use memory_growth::OutOfMemory;
 use std::error::Error;
 use std::fmt;
 use std::fmt::{Display, Formatter};
@@ -43,6 +44,17 @@ impl Display for Fault {
 }
 
 impl Error for Fault {}
+
+impl From<OutOfMemory> for Fault {
+    ghost use Rattle.std.specs.Prelude.{◌≡◌};
+    ghost use Rattle.program_lines.specs.declared.fault.Fault.TheVariants.{NoMemory};
+
+    ghost from_gives = { λ _ fault. fault ≡ NoMemory };
+
+    fn from(_refused: OutOfMemory) -> Fault {
+        Fault::NoMemory
+    }
+}
 
 /// The status with which the process ends: 0 after a run to the end of its input, 1 after a fault.
 pub fn status_of(outcome: &Result<(), Fault>) -> u8

@@ -3,10 +3,11 @@ ghost use Rattle.std.specs.Prelude.{◌≡◌, IfOk, map};
 ghost use Rattle.schedule_text.specs.Fields.{Reads};
 ghost use Rattle.program_lines.specs.Orders.{IsAdmission, IsAdmissionAfter, IsAdmissionFields, IsAdmissionLine, IsKey, IsOrder, admission_order, order_of as order_of_lem};
 
+use memory_growth::OutOfMemory;
 use obj_id::{JobKey, JobNo, Quota};
 use private_store::{Event, Step};
 use schedule_text::{Line, fields, fields_of, quota, read_line};
-use std::alloc::{AllocError, Global};
+use std::alloc::Global;
 
 /// What is to become of a job at a node.
 #[derive(Clone, Copy, Debug, PartialEq, Eq)]
@@ -34,7 +35,7 @@ pub enum Order {
 
 /// What the text of a line, without its line feed, asks of a cluster with this number of nodes: `admit NODE JOB WINDOW DEVICE
 /// KEY`, `quota NODE JOB WINDOW DEVICE`, `end NODE JOB` or `close`. `None` exactly if it is no such line.
-pub fn read_order(alloc: Global, text: &str, nodes: u32) -> Result<Option<Order>, AllocError>
+pub fn read_order(alloc: Global, text: &str, nodes: u32) -> Result<Option<Order>, OutOfMemory>
     ensures { IfOk result (λ found. Reads found (IsOrder nodes text.now)) }
 {
     if text == "close" {
@@ -93,7 +94,7 @@ fn admission_line(
     alloc: Global,
     fields: &[&str],
     nodes: u32,
-) -> Result<Option<Admission>, AllocError>
+) -> Result<Option<Admission>, OutOfMemory>
     ensures { IfOk result (λ found. Reads found (IsAdmissionLine nodes (map (λ field. field.now) fields.now))) }
 {
     let [first, fields @ ..] = fields else {
@@ -108,7 +109,7 @@ fn admission_after(
     word: &str,
     fields: &[&str],
     nodes: u32,
-) -> Result<Option<Admission>, AllocError>
+) -> Result<Option<Admission>, OutOfMemory>
     ensures { IfOk result (λ found. Reads found (IsAdmissionAfter nodes word.now (map (λ field. field.now) fields.now))) }
 {
     if word == "admit" {
@@ -123,7 +124,7 @@ fn admission_fields(
     alloc: Global,
     fields: &[&str],
     nodes: u32,
-) -> Result<Option<Admission>, AllocError>
+) -> Result<Option<Admission>, OutOfMemory>
     ensures { IfOk result (λ found. Reads found (IsAdmissionFields nodes (map (λ field. field.now) fields.now))) }
 {
     let [node, job, window, device, key] = fields else {
@@ -141,7 +142,7 @@ fn read_admission(
     device: &str,
     digits: &str,
     nodes: u32,
-) -> Result<Option<Admission>, AllocError>
+) -> Result<Option<Admission>, OutOfMemory>
     ensures { IfOk result (λ found. Reads found (IsAdmission nodes at.now name.now window.now device.now digits.now)) }
 {
     let Some(node) = fields::node(at, nodes) else {
@@ -165,7 +166,7 @@ fn read_admission(
 }
 
 /// A key of 64 lower-case hexadecimal digits.
-fn read_key(alloc: Global, digits: &str) -> Result<Option<JobKey>, AllocError>
+fn read_key(alloc: Global, digits: &str) -> Result<Option<JobKey>, OutOfMemory>
     ensures { IfOk result (λ key. Reads key (IsKey digits.now)) }
 {
     let Some(bytes) = fields::bytes(alloc, digits)? else {

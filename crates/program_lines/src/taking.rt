@@ -6,6 +6,7 @@ ghost use Rattle.program_lines.specs.TakenLines.{HasTakenPart, IsKeptByte, IsLin
 ghost use Rattle.program_lines.specs.declared.fault.Fault.TheVariants.{NoMemory};
 
 use crate::Fault;
+use memory_growth::{OutOfMemory, lists};
 use std::io::{ErrorKind, Read};
 
 /// The bytes that a line of a control connection has at most, without its line feed.
@@ -68,7 +69,7 @@ fn keep_byte(line: &mut Vec<u8>, is_long: bool, byte: u8) -> Result<bool, Fault>
     if is_long || line.len() >= LONGEST_LINE {
         return Ok(true);
     }
-    match line.push(byte) {
+    match lists::push(line, byte) {
         Ok(()) => Ok(false),
         Err(_) => Err(Fault::NoMemory),
     }

@@ -1,5 +1,6 @@
 //! Runs over streams of which one call fails, and what is kept of their output.
 use assertions::same;
+use memory_growth::lists;
 use program_lines::Fault;
 use schedule_runs::{Keep, RunJournal, run_text};
 use session_engine::FaultyStream;
@@ -27,7 +28,7 @@ fn run(alloc: Global, read: u64, write: u64) -> io::Result<Result<(), Fault>> {
     let mut reader = BufReader::new(alloc, FaultyStream::new(SCHEDULE.as_bytes(), read))?;
     let mut writer = BufWriter::new(
         alloc,
-        FaultyStream::new(Vec::with_capacity(alloc, ROOM)?, write),
+        FaultyStream::new(lists::with_capacity(alloc, ROOM)?, write),
     )?;
     let mut journal = RunJournal::new(alloc, Keep::Nothing)?;
     Ok(run_text(alloc, SHAPE, &mut reader, &mut writer, &mut journal))

@@ -12,8 +12,9 @@ ghost use Rattle.grant_laws.specs.Telling.{heard_where_due, counting, ShowsAlike
 ghost use Rattle.world_core.specs.Worlds.{is_shape, is_within};
 ghost use Rattle.world_core.specs.Runs.{IsRun};
 
+use memory_growth::OutOfMemory;
 use private_store::Step;
-use std::alloc::{AllocError, Global};
+use std::alloc::Global;
 use world_core::{ClusterSize, Trace, run};
 
 /// The laws of grants hold at every moment of every run: the standing grants of a node are a table; a job sees an object
@@ -42,7 +43,7 @@ pub fn run_two(
     shape: ClusterSize,
     first: Vec<Step>,
     second: Vec<Step>,
-) -> Result<(Trace, Trace), AllocError>
+) -> Result<(Trace, Trace), OutOfMemory>
     requires shape { is_shape shape ≡ true }
     requires first { list_all (is_within shape.nodes) first.items ≡ true }
     requires second { list_all (is_within shape.nodes) second.items ≡ true }

@@ -54,7 +54,7 @@ module _ (nodes : ℕ) (bytes text : List ℕ) (old new : Hosting) (crew_old cre
             crew = λ history crew.
                 subst (λ c. IsCrewAfter nodes c (record { step = step; answer = ran.answer } ∷ history)) (sym ran.noted)
                 (after_step nodes crew_old history crew ran.answer step (said_apart nodes text step said));
-            keeps = ran.keeps;
+            keeps = (ran.keeps, ran.last);
             journal = ran.journal;
             written = ran.written;
           }
@@ -84,7 +84,7 @@ module _ (nodes : ℕ) (bytes text : List ℕ) (old new : Hosting) (crew_old cre
             crew = λ history is_crew.
                 subst (λ c. IsCrewAfter nodes c (record { step = step; answer = ran.answer } ∷ history)) (sym ran.noted)
                 (after_handing nodes crew_old history is_crew ran.answer node job number answer crew calls);
-            keeps = ran.keeps;
+            keeps = (ran.keeps, ran.last);
             journal = ran.journal;
             written = ran.written;
           }

@@ -1,5 +1,5 @@
 -- A run of a text: the lines that were read, a world that took their steps, and what was printed.
-use Rattle.std.specs.Prelude.{◌≡◌, ℕ, suc, Bool, List, [], ◌∷◌, ◌++◌, length, Option, None, Some, IfSome, Result, Ok, Err, OnOk, ⊤}
+use Rattle.std.specs.Prelude.{◌≡◌, ℕ, suc, Bool, true, List, [], ◌∷◌, ◌++◌, length, Option, None, Some, IfSome, Result, Ok, Err, OnOk, ⊤}
 use Rattle.std.specs.Io.KnownBytes.{Appends, Consumes, Keeps}
 use Rattle.private_store.specs.declared.schedules.Step.{Step}
 use Rattle.private_store.specs.declared.schedules.StepAnswer.{StepAnswer}
@@ -8,6 +8,8 @@ use Rattle.schedule_text.specs.Prefixes.{prefix_of}
 use Rattle.schedule_text.specs.Printing.{line_text}
 use Rattle.journal_text.specs.declared.saved.JournalItem.{JournalItem}
 use Rattle.journal_text.specs.Saved.{Saved}
+use Rattle.private_store.specs.rules.Trace.{is_no_memory}
+use Rattle.world_core.specs.MemoryLast.{IsMemoryLastIn}
 use Rattle.world_core.specs.Noting.{IsNoted}
 use Rattle.world_core.specs.Worlds.{Hosting, IsAfter}
 use Rattle.program_lines.specs.declared.fault.Fault.{Fault}
@@ -17,11 +19,16 @@ use Rattle.schedule_runs.specs.SavedRuns.{SavedStep, IsSavedStep, KeepsStep}
 use Rattle.schedule_runs.specs.Lines.{LineRead, AreHeard, IsAnswered, IsNoLine, with_answered, with_heard, items_of_lines, history_of, input_of, output_of, printed}
 use Rattle.schedule_text.specs.Lines.{IsNextLine, with_line_feed}
 
+-- the step was answered that there is no memory only if no other refusal was due
+abbrev pub IsLast : Hosting → Step → StepAnswer → Type 0
+IsLast old step answer = (nodes memory : ℕ) (history : List Traced) → IsAfter nodes memory old history → is_no_memory answer ≡ true → IsMemoryLastIn old step
+
 -- the world takes the step, the line is that of its answer, the workers note it, and the journal keeps what it was to the jobs
 pub record Answers (old : Hosting) (crew_old : Crew) (journal_old : Option Saved) (step : Step) (line : List ℕ) (new : Hosting) (crew_new : Crew) (journal_new : Option Saved) : Type 0 where
   pub answer : StepAnswer
   pub is_line : line ≡ line_text (prefix_of step) answer
   pub after : (nodes memory : ℕ) (history : List Traced) → IsAfter nodes memory old history → IsAfter nodes memory new (record { step = step; answer = answer } ∷ history)
+  pub last : IsLast old step answer
   pub noted : crew_new ≡ crew_noted step answer crew_old
   pub kept : SavedStep
   pub keeps : IsNoted old new kept.judged kept.notes step answer
@@ -31,6 +38,7 @@ pub record Answers (old : Hosting) (crew_old : Crew) (journal_old : Option Saved
 pub record RunsStep (old : Hosting) (crew_old : Crew) (journal_old : Option Saved) (step : Step) (new : Hosting) (crew_new : Crew) (journal_new : Option Saved) (written_old written_new : Option (List ℕ)) : Type 0 where
   pub answer : StepAnswer
   pub after : (nodes memory : ℕ) (history : List Traced) → IsAfter nodes memory old history → IsAfter nodes memory new (record { step = step; answer = answer } ∷ history)
+  pub last : IsLast old step answer
   pub noted : crew_new ≡ crew_noted step answer crew_old
   pub kept : SavedStep
   pub keeps : IsNoted old new kept.judged kept.notes step answer
@@ -46,10 +54,10 @@ StopsStep written_old written_new Socket = ⊥
 StopsStep written_old written_new Folded = ⊥
 StopsStep written_old written_new NoMemory = Keeps written_old written_new
 
--- what a line's step was to the jobs, if it has one; else the world is as it was
+-- what a line's step was to the jobs, if it has one, and why it found no memory, if it did; else the world is as it was
 abbrev pub KeepsHeard : Hosting → Hosting → Option Traced → SavedStep → Type 0
 KeepsHeard old new None kept = new ≡ old
-KeepsHeard old new (Some entry) kept = IsNoted old new kept.judged kept.notes entry.step entry.answer
+KeepsHeard old new (Some entry) kept = IsNoted old new kept.judged kept.notes entry.step entry.answer × IsLast old entry.step entry.answer
 
 -- a whole line is read, its step taken, and its answer written
 pub record RunsLine (nodes : ℕ) (bytes : List ℕ) (old : Hosting) (crew_old : Crew) (journal_old : Option Saved) (new : Hosting) (crew_new : Crew) (journal_new : Option Saved) (written_old written_new : Option (List ℕ)) : Type 0 where

@@ -7,7 +7,7 @@ use clap::builder::ValueParser;
 use clap::error::ErrorKind;
 use clap::{Arg, ArgAction, ArgMatches, Command, Error};
 use obj_id::limits::{LARGEST_MEMORY, MOST_NODES};
-use std::alloc::{AllocError, Global};
+use std::alloc::Global;
 use world_core::ClusterSize;
 
 /// What the words of a command line ask for.
@@ -69,14 +69,15 @@ pub fn read_task<'a>(alloc: Global, words: &'a [String]) -> Result<Task<'a>, Err
 }
 
 /// `store`, with its commands.
-fn store_command<'a>(alloc: Global) -> Result<Command<'a>, AllocError> {
-    Command::new(alloc, "store")
+fn store_command<'a>(alloc: Global) -> Result<Command<'a>, Error> {
+    let command = Command::new(alloc, "store")
         .bin_name("store")?
-        .version("0.4.0")
+        .version("0.4.1")
         .about("The shared, immutable object store of a node, used by many jobs at once")
         .subcommand(run_command(alloc)?)?
         .subcommand(serve_command(alloc)?)?
-        .subcommand(replay_command(alloc)?)
+        .subcommand(replay_command(alloc)?)?;
+    Ok(command)
 }
 
 /// The status of a process whose words ask for no run: 0 after help or the version, 2 after a mistake.
@@ -87,8 +88,8 @@ pub fn status_of_error(error: &Error) -> u8
 }
 
 /// `run`, with its options.
-fn run_command<'a>(alloc: Global) -> Result<Command<'a>, AllocError> {
-    Command::new(alloc, "run")
+fn run_command<'a>(alloc: Global) -> Result<Command<'a>, Error> {
+    let command = Command::new(alloc, "run")
         .about("Runs the schedule on standard input, and prints a line for each step")
         .arg(nodes_option(alloc).default_value("1"))?
         .arg(memory_option(alloc).default_value("1048576"))?
@@ -97,12 +98,13 @@ fn run_command<'a>(alloc: Global) -> Result<Command<'a>, AllocError> {
                 .required(false)
                 .value_name("PATH")
                 .help("The file in which the journal of the run is saved"),
-        )
+        )?;
+    Ok(command)
 }
 
 /// `serve`, with its options.
-fn serve_command<'a>(alloc: Global) -> Result<Command<'a>, AllocError> {
-    Command::new(alloc, "serve")
+fn serve_command<'a>(alloc: Global) -> Result<Command<'a>, Error> {
+    let command = Command::new(alloc, "serve")
         .about("Serves sessions on Unix sockets, and fetches objects between the nodes")
         .arg(
             path_option(alloc, "socket")
@@ -127,12 +129,13 @@ fn serve_command<'a>(alloc: Global) -> Result<Command<'a>, AllocError> {
                 .long("overcommit")
                 .action(ArgAction::SetTrue)
                 .help("Serve also if the machine has less memory than the nodes in all"),
-        )
+        )?;
+    Ok(command)
 }
 
 /// `replay`, with its path.
-fn replay_command<'a>(alloc: Global) -> Result<Command<'a>, AllocError> {
-    Command::new(alloc, "replay")
+fn replay_command<'a>(alloc: Global) -> Result<Command<'a>, Error> {
+    let command = Command::new(alloc, "replay")
         .about(
             "Replays a saved journal, and prints the first answer that isn't the one that is due",
         )
@@ -142,7 +145,8 @@ fn replay_command<'a>(alloc: Global) -> Result<Command<'a>, AllocError> {
                 .action(ArgAction::Set)
                 .required(true)
                 .help("The file of the saved journal"),
-        )
+        )?;
+    Ok(command)
 }
 
 /// An option whose value is a path, and that is needed.

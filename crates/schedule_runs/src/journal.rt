@@ -8,12 +8,13 @@ ghost use Rattle.schedule_runs.specs.SavedRuns.{located_entries, entry_mark, ent
 
 use bytes::Bytes;
 use journal_text::{Answered, JournalItem, LineInput, SavedJournal};
+use memory_growth::{OutOfMemory, lists};
 use node_core::Note;
 use obj_id::{Endpoint, ItemList, JobNo, Location, Message, Refusal, Reply};
 use private_store::{Event, Judged, Step, StepAnswer, work_without_payload};
 use program_lines::Fault;
 use schedule_text::JobAt;
-use std::alloc::{AllocError, Global};
+use std::alloc::Global;
 use std::marker::Model;
 
 /// Whether a journal is kept.
@@ -41,7 +42,7 @@ impl Model for RunJournal {
 
 impl RunJournal {
     /// Of a run without a step.
-    pub fn new(alloc: Global, keep: Keep) -> Result<RunJournal, AllocError>
+    pub fn new(alloc: Global, keep: Keep) -> Result<RunJournal, OutOfMemory>
         ensures asked { IfOk result (λ journal. is_some journal ≡ is_asked keep) }
         ensures kept { IfOk result (λ journal. IsSavedStep (is_some journal) journal []) }
     {
@@ -59,7 +60,7 @@ impl RunJournal {
         answer: &StepAnswer,
         judged: Option<Judged>,
         notes: ItemList<Note>,
-    ) -> Result<(), AllocError>
+    ) -> Result<(), OutOfMemory>
         ensures { OnOk result (KeepsStep self.old step.now answer.now (record { judged = judged; notes = notes }) self.new) }
     {
         let RunJournal { alloc, saved } = self;
@@ -96,7 +97,7 @@ fn add_notes(
     saved: &mut SavedJournal,
     node: u32,
     notes: ItemList<Note>,
-) -> Result<(), AllocError>
+) -> Result<(), OutOfMemory>
     ensures { OnOk result ((marks : List JournalItem) → IsSaved saved.old marks → IsSaved saved.new (with_notes node notes marks)) }
 {
     for note in notes.into_vec() {
@@ -167,7 +168,7 @@ fn entry_mark(
     place: JobAt,
     answer: &StepAnswer,
     judged: Option<Judged>,
-) -> Result<JournalItem, AllocError>
+) -> Result<JournalItem, OutOfMemory>
     ensures { IfOk result (λ mark. mark ≡ entry_mark place answer.now judged) }
 {
     let Some(judged) = judged else {
@@ -182,7 +183,7 @@ fn entry_mark(
 }
 
 /// The entries of the directory's message that was handed over.
-fn located_entries(alloc: Global, answer: &StepAnswer) -> Result<ItemList<Location>, AllocError>
+fn located_entries(alloc: Global, answer: &StepAnswer) -> Result<ItemList<Location>, OutOfMemory>
     ensures { IfOk result (λ entries. entries ≡ located_entries answer.now) }
 {
     match answer {
@@ -195,10 +196,10 @@ fn located_entries(alloc: Global, answer: &StepAnswer) -> Result<ItemList<Locati
 }
 
 /// A copy of the items.
-fn copied<T: Copy>(alloc: Global, items: &[T]) -> Result<ItemList<T>, AllocError>
+fn copied<T: Copy>(alloc: Global, items: &[T]) -> Result<ItemList<T>, OutOfMemory>
     ensures { IfOk result (λ copy. copy ≡ items.now) }
 {
-    Ok(ItemList::from_vec(Vec::from_slice(alloc, items)?))
+    Ok(ItemList::from_vec(lists::copied(alloc, items)?))
 }
 
 /// What a line says of an input, where these are the entries of the directory's message. Takes no memory.
@@ -257,7 +258,7 @@ fn line_input(entries: ItemList<Location>, judged: Judged) -> LineInput
 }
 
 /// What a line says of an answer.
-fn reply_said(alloc: Global, answer: &StepAnswer) -> Result<Reply<u64>, AllocError>
+fn reply_said(alloc: Global, answer: &StepAnswer) -> Result<Reply<u64>, OutOfMemory>
     ensures { IfOk result (λ said. said ≡ reply_said answer.now) }
 {
     match answer {
@@ -267,7 +268,7 @@ fn reply_said(alloc: Global, answer: &StepAnswer) -> Result<Reply<u64>, AllocErr
 }
 
 /// The reply without contents: bytes as their number.
-fn reply_without_payload(alloc: Global, reply: &Reply<Bytes>) -> Result<Reply<u64>, AllocError>
+fn reply_without_payload(alloc: Global, reply: &Reply<Bytes>) -> Result<Reply<u64>, OutOfMemory>
     ensures { IfOk result (λ said. said ≡ reply_without_payload reply.now) }
 {
     match reply {

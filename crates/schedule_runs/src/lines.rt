@@ -4,10 +4,11 @@ ghost use Rattle.private_store.specs.declared.schedules.Event.{Event};
 ghost use Rattle.private_store.specs.declared.schedules.Step.{Step};
 ghost use Rattle.schedule_runs.specs.Lines.{IsSaid};
 
+use memory_growth::OutOfMemory;
 use obj_id::{DeviceAnswer, JobNo};
 use private_store::{Event, Step};
 use schedule_text::{FinishWord, Line, is_skipped, read_line};
-use std::alloc::{AllocError, Global};
+use std::alloc::Global;
 use std::str;
 
 /// What a line says to the program.
@@ -30,7 +31,7 @@ pub enum LineMeaning {
 }
 
 /// What the text of a line, without its line feed, says to a world with this number of nodes.
-pub fn parse_line(alloc: Global, text: &[u8], nodes: u32) -> Result<LineMeaning, AllocError>
+pub fn parse_line(alloc: Global, text: &[u8], nodes: u32) -> Result<LineMeaning, OutOfMemory>
     ensures { IfOk result (λ said. IsSaid nodes text.now said) }
 {
     // before its bytes are asked to be a text, since a comment may hold any

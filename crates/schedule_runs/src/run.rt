@@ -11,10 +11,11 @@ ghost use Rattle.schedule_runs.specs.Runs.{Answers, Ran, RunsLine, RunsStep, Sto
 use crate::journal::RunJournal;
 use crate::lines::{LineMeaning, finish, parse_line};
 use crate::workers::Workers;
+use memory_growth::OutOfMemory;
 use private_store::Step;
 use program_lines::{Fault, next_line};
 use schedule_text::{Prefix, answer_line};
-use std::alloc::{AllocError, Global};
+use std::alloc::Global;
 use std::io::{BufRead, Write};
 use world_core::{ClusterSize, Stepped, World};
 
@@ -107,7 +108,7 @@ fn run_line<W: Write>(
         return Err(Fault::NotAStep(number))
     };
     match parse_line(alloc, text, nodes) {
-        Err(AllocError) => Err(Fault::NoMemory),
+        Err(_) => Err(Fault::NoMemory),
         Ok(LineMeaning::Nothing) => Ok(()),
         Ok(LineMeaning::NoStep) => Err(Fault::NotAStep(number)),
         Ok(LineMeaning::Step(step)) => run_step(alloc, world, workers, journal, &step, writer),
@@ -163,7 +164,7 @@ fn answered(
     workers: &mut Workers,
     journal: &mut RunJournal,
     step: &Step,
-) -> Result<String, AllocError>
+) -> Result<String, OutOfMemory>
     requires { is_within (length world.old.nodes) step.now ≡ true }
     ensures { IfOk result (λ line. Answers world.old workers.old journal.old step.now (string_bytes line) world.new workers.new journal.new) }
 {

@@ -5,11 +5,13 @@ ghost use Rattle.spill_device.specs.Held.{held_bytes_at};
 ghost use Rattle.schedule_runs.specs.Workers.{Calls, IsCrewAfter, call_answer, called, damaged_answer as damaged_lem, handed_in, held_by, is_taken_at as is_at_lem, noted, bytes_after, written_for};
 
 use bytes::Bytes;
+use memory_growth::{OutOfMemory, lists, shared};
 use obj_id::{DeviceAnswer, JobNo, Refusal, Reply, Work};
 use private_store::{Event, Step, StepAnswer};
+use program_lines::Fault;
 use schedule_text::FinishWord;
 use spill_device::{DeviceFault, MemoryDevice, SpillDevice};
-use std::alloc::{AllocError, Global};
+use std::alloc::Global;
 use std::marker::Model;
 
 /// A work that a line took at a node.
@@ -37,12 +39,12 @@ impl Model for Workers {
 
 impl Workers {
     /// Workers of so many nodes, whose devices keep nothing.
-    pub(crate) fn new(alloc: Global, nodes: u32) -> Result<Workers, AllocError>
+    pub(crate) fn new(alloc: Global, nodes: u32) -> Result<Workers, OutOfMemory>
         ensures { IfOk result (λ workers. IsCrewAfter nodes workers []) }
     {
         let mut devices = Vec::new(alloc);
         for _ in 0..nodes {
-            devices.push(MemoryDevice::new(alloc))?;
+            lists::push(&mut devices, MemoryDevice::new(alloc))?;
         }
         Ok(Workers {
             alloc,
@@ -59,7 +61,7 @@ impl Workers {
         job: JobNo,
         number: u64,
         outcome: FinishWord,
-    ) -> Result<DeviceAnswer, AllocError>
+    ) -> Result<DeviceAnswer, Fault>
         requires { node < length self.old.devices }
         ensures answer { IfOk result (λ answer. answer ≡ handed_in self.old.taken (held_by self.old.devices) node job number outcome) }
         ensures calls { IfOk result (λ answer. Calls self.old node job number answer self.new) }
@@ -69,13 +71,13 @@ impl Workers {
             FinishWord::Ok => self.call(node, job, number),
             FinishWord::Damage => {
                 let answer = self.call(node, job, number)?;
-                damaged(self.alloc, answer)
+                Ok(damaged(self.alloc, answer)?)
             }
         }
     }
 
     /// The answer of the node's device to the work.
-    fn call(&mut self, node: u32, job: JobNo, number: u64) -> Result<DeviceAnswer, AllocError>
+    fn call(&mut self, node: u32, job: JobNo, number: u64) -> Result<DeviceAnswer, Fault>
         requires { node < length self.old.devices }
         ensures answer { IfOk result (λ answer. answer ≡ called (held_by self.old.devices) node (find (is_at_lem node job number) self.old.taken)) }
         ensures calls { IfOk result (λ answer. Calls self.old node job number answer self.new) }
@@ -92,12 +94,12 @@ impl Workers {
     }
 
     /// What the step was answered: a work that it gave is kept, and one that it finished is not kept any longer.
-    pub(crate) fn note(&mut self, step: &Step, answer: StepAnswer) -> Result<(), AllocError>
+    pub(crate) fn note(&mut self, step: &Step, answer: StepAnswer) -> Result<(), OutOfMemory>
         ensures { OnOk result (self.new ≡ noted step.now answer self.old) }
     {
         match (step, answer) {
             (Step::At(node, Event::Take), StepAnswer::Response(Reply::Work(work))) => {
-                self.taken.push(InService { node: *node, work })?;
+                lists::push(&mut self.taken, InService { node: *node, work })?;
             }
             (
                 Step::At(_, Event::Finish { .. }),
@@ -142,7 +144,7 @@ fn is_at(taken: &InService, node: u32, job: JobNo, number: u64) -> bool
 
 /// What the device answers to the work, which is called: a write's bytes are kept under its key, and a read's are
 /// those that are. The error is out of memory.
-fn answer_of(device: &mut MemoryDevice, work: &Work<Bytes>) -> Result<DeviceAnswer, AllocError>
+fn answer_of(device: &mut MemoryDevice, work: &Work<Bytes>) -> Result<DeviceAnswer, Fault>
     ensures answer { IfOk result (λ answer. answer ≡ call_answer (held_bytes_at device.old work.now.key) work.now) }
     ensures holds { OnOk result ((key : DeviceKey) → held_bytes_at device.new key ≡ bytes_after (written_for work.now key) (held_bytes_at device.old key)) }
 {
@@ -153,21 +155,20 @@ fn answer_of(device: &mut MemoryDevice, work: &Work<Bytes>) -> Result<DeviceAnsw
     match answer {
         Ok(answer) => Ok(answer),
         Err(DeviceFault::Failed) => Ok(DeviceAnswer::Failed),
-        Err(DeviceFault::NoMemory) => Err(AllocError),
+        Err(DeviceFault::NoMemory) => Err(Fault::NoMemory),
     }
 }
 
 /// The answer, with the low bit of its first byte turned, if it has bytes.
-fn damaged(alloc: Global, answer: DeviceAnswer) -> Result<DeviceAnswer, AllocError>
+fn damaged(alloc: Global, answer: DeviceAnswer) -> Result<DeviceAnswer, OutOfMemory>
     ensures { IfOk result (λ a. a ≡ damaged_lem answer) }
 {
     let DeviceAnswer::Bytes(bytes) = answer else {
         return Ok(answer);
     };
-    let mut copied = Vec::new(alloc);
-    copied.extend_from_slice(&bytes)?;
+    let mut copied = lists::copied(alloc, &bytes)?;
     if let Some(first) = copied.first_mut() {
         *first ^= 1;
     }
-    Ok(DeviceAnswer::Bytes(Bytes::from_vec(copied)?))
+    Ok(DeviceAnswer::Bytes(shared::from_vec(copied)?))
 }

@@ -6,8 +6,9 @@ ghost use Rattle.schedule_text.specs.Reading.{IsCommand, IsCommandText, IsPlainC
 use crate::fields::{alone, id, id_bytes, id_job, id_number, id_span, id_task, one_task};
 use crate::words::Word;
 use bytes::Bytes;
+use memory_growth::OutOfMemory;
 use obj_id::{Command, JobNo, Kind};
-use std::alloc::{AllocError, Global};
+use std::alloc::Global;
 
 /// The command that a field and those after it spell, for the job that speaks.
 pub(crate) fn command(
@@ -15,7 +16,7 @@ pub(crate) fn command(
     first: &str,
     fields: &[&str],
     job: JobNo,
-) -> Result<Option<Command<Bytes>>, AllocError>
+) -> Result<Option<Command<Bytes>>, OutOfMemory>
     ensures { IfOk result (λ command. Reads command
         (IsCommandText job.0 first.now (map (λ field. field.now) fields.now))) }
 {
@@ -31,7 +32,7 @@ fn command_of(
     word: Word,
     fields: &[&str],
     job: JobNo,
-) -> Result<Option<Command<Bytes>>, AllocError>
+) -> Result<Option<Command<Bytes>>, OutOfMemory>
     ensures { IfOk result (λ command. Reads command
         (IsCommand job.0 word (map (λ field. field.now) fields.now))) }
 {

@@ -4,9 +4,10 @@ ghost use Rattle.hex.specs.Hex.{decode_sized, encode_lower};
 ghost use Rattle.schedule_text.specs.Fields.{IsAlone, IsBytesField, IsId1, IsIdBytes, IsIdJob, IsIdNumber, IsIdSpan, IsIdTask, IsJob, IsLongNumber, IsNode, IsNumber, IsObject, IsTarget, IsTask1, IsTaskField, Reads};
 
 use bytes::Bytes;
+use memory_growth::{OutOfMemory, lists, shared, texts};
 use obj_id::numbers::{read_u32, read_u64};
 use obj_id::{JobNo, ObjectId, TaskNo};
-use std::alloc::{AllocError, Global};
+use std::alloc::Global;
 
 /// A number of 32 bits.
 pub fn number(field: &str) -> Option<u32>
@@ -52,7 +53,7 @@ pub fn task(field: &str) -> Option<TaskNo>
 }
 
 /// Bytes as digits in lower case, and `-` for none.
-pub fn bytes(alloc: Global, field: &str) -> Result<Option<Bytes>, AllocError>
+pub fn bytes(alloc: Global, field: &str) -> Result<Option<Bytes>, OutOfMemory>
     ensures { IfOk result (λ bytes. Reads bytes (IsBytesField field.now)) }
 {
     if field == "-" {
@@ -129,7 +130,7 @@ pub fn id_bytes(
     alloc: Global,
     fields: &[&str],
     job: JobNo,
-) -> Result<Option<((ObjectId, u32), Bytes)>, AllocError>
+) -> Result<Option<((ObjectId, u32), Bytes)>, OutOfMemory>
     ensures { IfOk result (λ read. Reads read
         (IsIdBytes job.0 (map (λ field. field.now) fields.now))) }
 {
@@ -161,11 +162,12 @@ pub fn alone<X: Drop>(fields: &[&str], meant: X) -> Option<X>
 }
 
 /// Bytes as digits in lower case, two for each, of a byte at least.
-fn digits(alloc: Global, field: &str) -> Result<Option<Bytes>, AllocError>
+fn digits(alloc: Global, field: &str) -> Result<Option<Bytes>, OutOfMemory>
     requires { field.now ≢ codes "-" }
     ensures { IfOk result (λ bytes. Reads bytes (IsBytesField field.now)) }
 {
-    let mut bytes = vec![in alloc; 0; field.len() / 2]?;
+    // of any values: each is written
+    let mut bytes = lists::copied(alloc, &field.as_bytes()[..field.len() / 2])?;
     if decode_into(field, &mut bytes) {
         as_printed(alloc, bytes, field)
     } else {
@@ -184,24 +186,24 @@ fn decode_into(field: &str, bytes: &mut [u8]) -> bool
 }
 
 /// The bytes of a field, if there are any and it is spelled as they are printed.
-fn as_printed(alloc: Global, bytes: Vec<u8>, field: &str) -> Result<Option<Bytes>, AllocError>
+fn as_printed(alloc: Global, bytes: Vec<u8>, field: &str) -> Result<Option<Bytes>, OutOfMemory>
     requires decoded { decode_sized field.now (length field.now / 2) ≡ Ok bytes.items }
     requires other { field.now ≢ codes "-" }
     ensures { IfOk result (λ bytes. Reads bytes (IsBytesField field.now)) }
 {
     if is_printed(alloc, &bytes, field)? {
-        Ok(Some(Bytes::from_vec(bytes)?))
+        Ok(Some(shared::from_vec(bytes)?))
     } else {
         Ok(None)
     }
 }
 
 /// Whether the field is what is printed for the bytes, and they are some.
-fn is_printed(alloc: Global, bytes: &[u8], field: &str) -> Result<bool, AllocError>
+fn is_printed(alloc: Global, bytes: &[u8], field: &str) -> Result<bool, OutOfMemory>
     ensures bytes { (i : ℕ) → slice_index bytes.now i < 256 }
     ensures same { IfOk result (λ same.
         IsTrue same ↔ ((0 < length field.now) × (encode_lower bytes.now ≡ field.now))) }
 {
-    let printed = hex::encode(alloc, bytes)?;
+    let printed = texts::encode(alloc, bytes)?;
     Ok(!field.is_empty() && printed.as_str() == field)
 }

@@ -7,9 +7,10 @@ use crate::commands::command;
 use crate::fields::{job, long_number, node, number};
 use crate::line::{FinishWord, Line};
 use crate::words::{Verb, read_outcome};
+use memory_growth::{OutOfMemory, lists};
 use obj_id::{Endpoint, JobKey, JobNo, Quota};
 use private_store::{Event, Step};
-use std::alloc::{AllocError, Global};
+use std::alloc::Global;
 
 /// A job at a node.
 #[derive(Clone, Copy, Debug, PartialEq, Eq, Hash)]
@@ -27,7 +28,7 @@ struct Speaker {
 
 /// What a line of a schedule says to a world with this number of nodes, which are numbered from 0. The
 /// text is the line's without its line feed. `None` if it isn't a step.
-pub fn read_line(alloc: Global, text: &str, nodes: u32) -> Result<Option<Line>, AllocError>
+pub fn read_line(alloc: Global, text: &str, nodes: u32) -> Result<Option<Line>, OutOfMemory>
     ensures { IfOk result (λ line. Reads line (IsLine nodes text.now)) }
 {
     if is_skipped(text.as_bytes()) {
@@ -45,21 +46,16 @@ pub fn is_skipped(line: &[u8]) -> bool
     matches!(line, [] | [b'#', ..])
 }
 
-/// Few lines have more fields.
-const USUAL_FIELDS: usize = 8;
-
 /// What stands between the spaces of a line, in order: one field at least.
-pub fn fields_of(alloc: Global, text: &str) -> Result<Vec<&str>, AllocError>
+pub fn fields_of(alloc: Global, text: &str) -> Result<Vec<&str>, OutOfMemory>
     ensures { IfOk result (λ fields.
         map (λ field. field.now) fields.items ≡ fields_of_lem text.now) }
 {
-    let mut fields = Vec::with_capacity(alloc, USUAL_FIELDS)?;
-    fields.extend(text.split(' '))?;
-    Ok(fields)
+    lists::collected(alloc, text.split(' '))
 }
 
 /// The step that fields spell.
-fn step_line(alloc: Global, fields: &[&str], nodes: u32) -> Result<Option<Line>, AllocError>
+fn step_line(alloc: Global, fields: &[&str], nodes: u32) -> Result<Option<Line>, OutOfMemory>
     ensures { IfOk result (λ line. Reads line
         (IsStepLine nodes (map (λ field. field.now) fields.now))) }
 {
@@ -78,7 +74,7 @@ fn step_of(
     verb: Verb,
     fields: &[&str],
     nodes: u32,
-) -> Result<Option<Line>, AllocError>
+) -> Result<Option<Line>, OutOfMemory>
     ensures { IfOk result (λ line. Reads line
         (IsStep nodes verb (map (λ field. field.now) fields.now))) }
 {
@@ -194,7 +190,7 @@ fn session_of(at: &str, name: &str, session: &str, nodes: u32) -> Option<Speaker
 }
 
 /// `NODE JOB SESSION` and a command.
-fn call(alloc: Global, fields: &[&str], nodes: u32) -> Result<Option<Line>, AllocError>
+fn call(alloc: Global, fields: &[&str], nodes: u32) -> Result<Option<Line>, OutOfMemory>
     ensures { IfOk result (λ line. Reads line
         (IsCallLine nodes (map (λ field. field.now) fields.now))) }
 {
@@ -213,7 +209,7 @@ fn call_line(
     first: &str,
     fields: &[&str],
     nodes: u32,
-) -> Result<Option<Line>, AllocError>
+) -> Result<Option<Line>, OutOfMemory>
     ensures { IfOk result (λ line. Reads line (IsCall nodes at.now name.now session.now first.now
         (map (λ field. field.now) fields.now))) }
 {

@@ -4,9 +4,10 @@ ghost use Rattle.std.specs.String.{string_bytes};
 ghost use Rattle.schedule_text.specs.Prefixes.{prefix_at as prefix_at_lem, prefix_of, prefix_text, speaker as speaker_lem};
 
 use itoa::Buffer;
+use memory_growth::{OutOfMemory, text_of, texts};
 use obj_id::JobNo;
 use private_store::{Event, Step};
-use std::alloc::{AllocError, Global};
+use std::alloc::Global;
 
 /// Who is answered, and at which node: what the line of an answer begins with.
 #[derive(Clone, Copy, Debug, PartialEq, Eq)]
@@ -43,14 +44,14 @@ impl Prefix {
     }
 
     /// `nNODE op`, `nNODE jJOB sSESSION`, `nNODE dev` or `net`.
-    pub fn text(self, alloc: Global) -> Result<String, AllocError>
+    pub fn text(self, alloc: Global) -> Result<String, OutOfMemory>
         ensures { IfOk result (λ text. string_bytes text ≡ prefix_text self) }
     {
         match self {
-            Prefix::Operator(node) => format!(in alloc; "n{node} op"),
+            Prefix::Operator(node) => text_of!(in alloc; "n{node} op"),
             Prefix::Session { node, job, session } => session_text(alloc, node, job.0, session),
-            Prefix::Device(node) => format!(in alloc; "n{node} dev"),
-            Prefix::Network => String::from_str(alloc, "net"),
+            Prefix::Device(node) => text_of!(in alloc; "n{node} dev"),
+            Prefix::Network => texts::from_str(alloc, "net"),
         }
     }
 }
@@ -74,24 +75,24 @@ fn prefix_at(node: u32, event: &Event) -> Prefix
 const USUAL_LINE: usize = 64;
 
 /// `nNODE jJOB sSESSION`.
-fn session_text(alloc: Global, node: u32, job: u32, session: u32) -> Result<String, AllocError>
+fn session_text(alloc: Global, node: u32, job: u32, session: u32) -> Result<String, OutOfMemory>
     ensures { IfOk result (λ text. string_bytes text
         ≡ codes "n" ++ decimal node ++ codes " j" ++ decimal job ++ codes " s" ++ decimal session) }
 {
-    let mut text = String::with_capacity(alloc, USUAL_LINE)?;
-    text.push_str("n")?;
+    let mut text = texts::with_capacity(alloc, USUAL_LINE)?;
+    texts::push_str(&mut text, "n")?;
     push_number(&mut text, node)?;
-    text.push_str(" j")?;
+    texts::push_str(&mut text, " j")?;
     push_number(&mut text, job)?;
-    text.push_str(" s")?;
+    texts::push_str(&mut text, " s")?;
     push_number(&mut text, session)?;
     Ok(text)
 }
 
 /// Adds a number as it is printed.
-pub(crate) fn push_number(text: &mut String, number: u32) -> Result<(), AllocError>
+pub(crate) fn push_number(text: &mut String, number: u32) -> Result<(), OutOfMemory>
     ensures { OnOk result (string_bytes text.new ≡ string_bytes text.old ++ decimal number) }
 {
     let mut buffer = Buffer::new();
-    text.push_str(buffer.format(number))
+    texts::push_str(text, buffer.format(number))
 }

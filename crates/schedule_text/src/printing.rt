@@ -7,24 +7,29 @@ use crate::Prefix;
 use crate::items::list_text;
 use crate::prefixes::push_number;
 use bytes::Bytes;
+use memory_growth::{OutOfMemory, text_of, texts};
 use obj_id::{JobNo, Refusal, Reply, Usage, Work, WorkKind};
 use private_store::StepAnswer;
-use std::alloc::{AllocError, Global};
+use std::alloc::Global;
 
 /// The line of an answered step, with its line feed. A step that found no memory is printed as the
 /// refusal `NoMemory`, as a response.
-pub fn answer_line(alloc: Global, prefix: Prefix, answer: &StepAnswer) -> Result<String, AllocError>
+pub fn answer_line(
+    alloc: Global,
+    prefix: Prefix,
+    answer: &StepAnswer,
+) -> Result<String, OutOfMemory>
     ensures { IfOk result (λ line. string_bytes line ≡ line_text prefix answer.now) }
 {
     let mut line = prefix.text(alloc)?;
-    line.push_str(" ")?;
+    texts::push_str(&mut line, " ")?;
     push_answer(alloc, &mut line, prefix.speaker(), answer)?;
-    line.push_str("\n")?;
+    texts::push_str(&mut line, "\n")?;
     Ok(line)
 }
 
 /// The text of an answer, with ids as the job names them.
-pub fn answer_text(alloc: Global, job: JobNo, answer: &StepAnswer) -> Result<String, AllocError>
+pub fn answer_text(alloc: Global, job: JobNo, answer: &StepAnswer) -> Result<String, OutOfMemory>
     ensures { IfOk result (λ text. string_bytes text ≡ answer_text_lem job.0 answer.now) }
 {
     let mut text = String::new(alloc);
@@ -38,13 +43,13 @@ fn push_answer(
     text: &mut String,
     job: JobNo,
     answer: &StepAnswer,
-) -> Result<(), AllocError>
+) -> Result<(), OutOfMemory>
     ensures { OnOk result (string_bytes text.new ≡ string_bytes text.old ++ answer_text_lem job.0 answer.now) }
 {
     match answer {
         StepAnswer::Response(reply) => push_reply(alloc, text, job, reply),
-        StepAnswer::HandedOver(_) => text.push_str("ok"),
-        StepAnswer::NoMessage => text.push_str("none"),
+        StepAnswer::HandedOver(_) => texts::push_str(text, "ok"),
+        StepAnswer::NoMessage => texts::push_str(text, "none"),
     }
 }
 
@@ -54,26 +59,29 @@ fn push_reply(
     text: &mut String,
     job: JobNo,
     reply: &Reply<Bytes>,
-) -> Result<(), AllocError>
+) -> Result<(), OutOfMemory>
     ensures { OnOk result (string_bytes text.new ≡ string_bytes text.old ++ reply_text_lem job.0 reply.now) }
 {
     match reply {
-        Reply::Ok => text.push_str("ok"),
+        Reply::Ok => texts::push_str(text, "ok"),
         Reply::Placed(offset, extent) => push_placed(text, *offset, *extent),
         Reply::Got(length) => push_got(text, *length),
-        Reply::Bytes(bytes) => text.push_str(&bytes_reply(alloc, bytes)?),
+        Reply::Bytes(bytes) => texts::push_str(text, &bytes_reply(alloc, bytes)?),
         Reply::List(own, granted) => {
-            text.push_str(&list_text(alloc, job, own.as_slice(), granted.as_slice())?)
+            texts::push_str(
+                text,
+                &list_text(alloc, job, own.as_slice(), granted.as_slice())?,
+            )
         }
-        Reply::Usage(usage) => text.push_str(&usage_text(alloc, *usage)?),
-        Reply::Work(work) => text.push_str(&work_text(alloc, work)?),
-        Reply::NoWork => text.push_str("none"),
-        Reply::Refused(refusal) => text.push_str(&refusal_text(alloc, *refusal)?),
+        Reply::Usage(usage) => texts::push_str(text, &usage_text(alloc, *usage)?),
+        Reply::Work(work) => texts::push_str(text, &work_text(alloc, work)?),
+        Reply::NoWork => texts::push_str(text, "none"),
+        Reply::Refused(refusal) => texts::push_str(text, &refusal_text(alloc, *refusal)?),
     }
 }
 
 /// `placed OFF EXT`.
-pub fn placed_text(alloc: Global, offset: u32, extent: u32) -> Result<String, AllocError>
+pub fn placed_text(alloc: Global, offset: u32, extent: u32) -> Result<String, OutOfMemory>
     ensures { IfOk result (λ text. string_bytes text
         ≡ codes "placed " ++ decimal offset ++ codes " " ++ decimal extent) }
 {
@@ -83,47 +91,47 @@ pub fn placed_text(alloc: Global, offset: u32, extent: u32) -> Result<String, Al
 }
 
 /// Adds `placed OFF EXT`.
-fn push_placed(text: &mut String, offset: u32, extent: u32) -> Result<(), AllocError>
+fn push_placed(text: &mut String, offset: u32, extent: u32) -> Result<(), OutOfMemory>
     ensures { OnOk result (string_bytes text.new
         ≡ string_bytes text.old ++ (codes "placed " ++ decimal offset ++ codes " " ++ decimal extent)) }
 {
-    text.push_str("placed ")?;
+    texts::push_str(text, "placed ")?;
     push_number(text, offset)?;
-    text.push_str(" ")?;
+    texts::push_str(text, " ")?;
     push_number(text, extent)
 }
 
 /// Adds `got LEN`.
-fn push_got(text: &mut String, length: u32) -> Result<(), AllocError>
+fn push_got(text: &mut String, length: u32) -> Result<(), OutOfMemory>
     ensures { OnOk result (string_bytes text.new
         ≡ string_bytes text.old ++ (codes "got " ++ decimal length)) }
 {
-    text.push_str("got ")?;
+    texts::push_str(text, "got ")?;
     push_number(text, length)
 }
 
 /// `refused N Name`.
-pub fn refusal_text(alloc: Global, refusal: Refusal) -> Result<String, AllocError>
+pub fn refusal_text(alloc: Global, refusal: Refusal) -> Result<String, OutOfMemory>
     ensures { IfOk result (λ text. string_bytes text ≡ refusal_text_lem refusal) }
 {
     let number = refusal.number();
     let name = refusal.name();
-    format!(in alloc; "refused {number} {name}")
+    text_of!(in alloc; "refused {number} {name}")
 }
 
 /// `bytes HEX`, and `bytes -` for none.
-fn bytes_reply(alloc: Global, bytes: &Bytes) -> Result<String, AllocError>
+fn bytes_reply(alloc: Global, bytes: &Bytes) -> Result<String, OutOfMemory>
     ensures { IfOk result (λ text. string_bytes text ≡ codes "bytes " ++ bytes_text_lem bytes.now) }
 {
     if bytes.is_empty() {
-        return String::from_str(alloc, "bytes -");
+        return texts::from_str(alloc, "bytes -");
     }
-    let digits = hex::encode(alloc, bytes.as_slice())?;
-    format!(in alloc; "bytes {digits}")
+    let digits = texts::encode(alloc, bytes.as_slice())?;
+    text_of!(in alloc; "bytes {digits}")
 }
 
 /// `usage` and the six numbers.
-pub fn usage_text(alloc: Global, usage: Usage) -> Result<String, AllocError>
+pub fn usage_text(alloc: Global, usage: Usage) -> Result<String, OutOfMemory>
     ensures { IfOk result (λ text. string_bytes text ≡ usage_text_lem usage) }
 {
     let Usage {
@@ -134,18 +142,18 @@ pub fn usage_text(alloc: Global, usage: Usage) -> Result<String, AllocError>
         copies,
         works,
     } = usage;
-    format!(in alloc; "usage {window} {window_used} {device} {device_used} {copies} {works}")
+    text_of!(in alloc; "usage {window} {window_used} {device} {device_used} {copies} {works}")
 }
 
 /// `work JOB NUMBER write LEN`, or `read`.
-fn work_text(alloc: Global, work: &Work<Bytes>) -> Result<String, AllocError>
+fn work_text(alloc: Global, work: &Work<Bytes>) -> Result<String, OutOfMemory>
     ensures { IfOk result (λ text. string_bytes text ≡ work_text_lem work.now) }
 {
     let job = work.job.0;
     let number = work.number;
     let word = work_word(work.kind);
     let length = work.length;
-    format!(in alloc; "work {job} {number} {word} {length}")
+    text_of!(in alloc; "work {job} {number} {word} {length}")
 }
 
 fn work_word(kind: WorkKind) -> &'static str

@@ -10,20 +10,18 @@ ghost use Rattle.schedules.specs.Vectors.{VectorCalls, IsCommandFrame, IsFrameAl
 use crate::digits::{are_digits_of, cut_at};
 use crate::vectors::Fault;
 use bytes::Bytes;
+use memory_growth::{OutOfMemory, text_of};
 use obj_id::{Command, JobKey, JobNo, Refusal};
 use private_store::{Awaited, Event, Item, Step};
 use schedule_text::fields::job;
 use schedule_text::{Line, fields_of, read_line};
-use std::alloc::{AllocError, Global};
+use std::alloc::Global;
+use std::io;
 use wire_frames::{Reader, encode_command};
 
 /// What differs between the digits of a command's frame and its text. `None` only if the text spells a command whose
 /// frame has these digits, and from the frame comes one item, which has that frame.
-pub(crate) fn command_fault(
-    alloc: Global,
-    digits: &str,
-    text: &str,
-) -> Result<Option<Fault>, AllocError>
+pub(crate) fn command_fault(alloc: Global, digits: &str, text: &str) -> io::Result<Option<Fault>>
     ensures { IfOk result (λ fault. fault ≡ None → IsCommandFrame digits.now text.now) }
 {
     match item_of(alloc, text)? {
@@ -33,7 +31,7 @@ pub(crate) fn command_fault(
 }
 
 /// What differs between these digits and the item's frame, or the item and what is read from its frame.
-fn item_fault(alloc: Global, digits: &str, item: &Item) -> Result<Option<Fault>, AllocError>
+fn item_fault(alloc: Global, digits: &str, item: &Item) -> io::Result<Option<Fault>>
     ensures { IfOk result (λ fault. fault ≡ None → IsFrameOf digits.now item.now) }
 {
     if !is_framed(item) {
@@ -51,7 +49,7 @@ fn item_fault(alloc: Global, digits: &str, item: &Item) -> Result<Option<Fault>,
 }
 
 /// What a session of job 1 says by a text.
-fn item_of(alloc: Global, text: &str) -> Result<Option<Item>, AllocError>
+fn item_of(alloc: Global, text: &str) -> Result<Option<Item>, OutOfMemory>
     ensures { IfOk result (λ item. IfSome item (λ item. VectorSays text.now item)) }
 {
     if let Some((job, key)) = hello(alloc, text)? {
@@ -64,7 +62,7 @@ fn item_of(alloc: Global, text: &str) -> Result<Option<Item>, AllocError>
 }
 
 /// `hello JOB KEY`.
-fn hello(alloc: Global, text: &str) -> Result<Option<(JobNo, JobKey)>, AllocError>
+fn hello(alloc: Global, text: &str) -> Result<Option<(JobNo, JobKey)>, OutOfMemory>
     ensures { IfOk result (λ hello. IfSome hello (IsHello (fields_of_lem text.now))) }
 {
     let fields = fields_of(alloc, text)?;
@@ -72,7 +70,7 @@ fn hello(alloc: Global, text: &str) -> Result<Option<(JobNo, JobKey)>, AllocErro
 }
 
 /// The same, by its fields.
-fn hello_of(alloc: Global, fields: &[&str]) -> Result<Option<(JobNo, JobKey)>, AllocError>
+fn hello_of(alloc: Global, fields: &[&str]) -> Result<Option<(JobNo, JobKey)>, OutOfMemory>
     ensures { IfOk result (λ hello. IfSome hello (IsHello (map (λ field. field.now) fields.now))) }
 {
     let [word, number, digits] = fields else {
@@ -96,7 +94,7 @@ fn job_and_key(
     alloc: Global,
     number: &str,
     digits: &str,
-) -> Result<Option<(JobNo, JobKey)>, AllocError>
+) -> Result<Option<(JobNo, JobKey)>, OutOfMemory>
     ensures { IfOk result (λ read. IfSome read (IsJobAndKey number.now digits.now)) }
 {
     let Some(job) = job(number) else {
@@ -109,7 +107,7 @@ fn job_and_key(
 }
 
 /// A key of 32 bytes.
-fn key(alloc: Global, digits: &str) -> Result<Option<JobKey>, AllocError>
+fn key(alloc: Global, digits: &str) -> Result<Option<JobKey>, OutOfMemory>
     ensures { IfOk result (λ key. IfSome key (λ key. encode_lower key.0 ≡ digits.now)) }
 {
     let mut key = [0u8; 32];
@@ -124,11 +122,11 @@ fn key(alloc: Global, digits: &str) -> Result<Option<JobKey>, AllocError>
 }
 
 /// The command that is tried again, if it is one that can be, by its word and what stands after that.
-fn awaited(alloc: Global, word: &str, rest: &str) -> Result<Option<Awaited>, AllocError>
+fn awaited(alloc: Global, word: &str, rest: &str) -> Result<Option<Awaited>, OutOfMemory>
     ensures { IfOk result (λ awaited. IfSome awaited
         (λ awaited. VectorCalls (word.now ++ codes " " ++ rest.now) (tried awaited))) }
 {
-    let text = format!(in alloc; "{word} {rest}")?;
+    let text = text_of!(in alloc; "{word} {rest}")?;
     match command_of(alloc, text.as_str())? {
         None => Ok(None),
         Some(command) => Ok(awaiting(&command)),
@@ -151,7 +149,7 @@ fn awaiting(command: &Command<Bytes>) -> Option<Awaited>
 }
 
 /// The command of a schedule's line, in which session 1 of job 1 speaks at node 0.
-fn command_of(alloc: Global, text: &str) -> Result<Option<Command<Bytes>>, AllocError>
+fn command_of(alloc: Global, text: &str) -> Result<Option<Command<Bytes>>, OutOfMemory>
     ensures { IfOk result (λ command. IfSome command (λ command. VectorCalls text.now command)) }
 {
     let line = line_of(alloc, text)?;
@@ -163,10 +161,10 @@ fn command_of(alloc: Global, text: &str) -> Result<Option<Command<Bytes>>, Alloc
 }
 
 /// The line of a schedule, without its line feed.
-fn line_of(alloc: Global, text: &str) -> Result<String, AllocError>
+fn line_of(alloc: Global, text: &str) -> Result<String, OutOfMemory>
     ensures { IfOk result (λ line. string_bytes line ≡ codes "cmd 0 1 1 " ++ text.now) }
 {
-    format!(in alloc; "cmd 0 1 1 {text}")
+    text_of!(in alloc; "cmd 0 1 1 {text}")
 }
 
 /// The command of a line, if the line is one of session 1 of job 1 at node 0.
@@ -230,19 +228,19 @@ fn fits(length: usize) -> bool
 }
 
 /// Whether one item comes from the bytes, and they are its frame.
-fn is_read_back(alloc: Global, frame: &[u8]) -> Result<bool, AllocError>
+fn is_read_back(alloc: Global, frame: &[u8]) -> io::Result<bool>
     ensures { IfOk result (λ same. IsTrue same → IsReadBack frame.now) }
 {
     let mut reader = Reader::new(alloc);
     match reader.feed(alloc, frame) {
-        Ok(items) => is_frame_of(alloc, &items, frame),
-        Err(Refusal::NoMemory) => Err(AllocError),
+        Ok(items) => Ok(is_frame_of(alloc, &items, frame)?),
+        Err(Refusal::NoMemory) => Err(io::Error::other("no memory to read a frame")),
         Err(_) => Ok(false),
     }
 }
 
 /// Whether there is one item, and the bytes are its frame.
-fn is_frame_of(alloc: Global, items: &[Item], frame: &[u8]) -> Result<bool, AllocError>
+fn is_frame_of(alloc: Global, items: &[Item], frame: &[u8]) -> Result<bool, OutOfMemory>
     ensures { IfOk result (λ same. IsTrue same → IsFrameAlone items.now frame.now) }
 {
     let [item] = items else { return Ok(false) };

@@ -2,7 +2,8 @@
 ghost use Rattle.std.specs.Prelude.{◌≡◌, ◌++◌, IfOk, IfSome, IsTrue};
 ghost use Rattle.hex.specs.Hex.{encode_lower};
 
-use std::alloc::{AllocError, Global};
+use memory_growth::{OutOfMemory, texts};
+use std::alloc::Global;
 
 /// What stands before the mark, where it first occurs, and after it.
 pub(crate) fn cut_at<'a>(text: &'a str, mark: &'static str) -> Option<(&'a str, &'a str)>
@@ -12,9 +13,9 @@ pub(crate) fn cut_at<'a>(text: &'a str, mark: &'static str) -> Option<(&'a str, 
 }
 
 /// Whether these are the digits of the bytes, in lower case.
-pub(crate) fn are_digits_of(alloc: Global, digits: &str, bytes: &[u8]) -> Result<bool, AllocError>
+pub(crate) fn are_digits_of(alloc: Global, digits: &str, bytes: &[u8]) -> Result<bool, OutOfMemory>
     ensures { IfOk result (λ same. IsTrue same → encode_lower bytes.now ≡ digits.now) }
 {
-    let printed = hex::encode(alloc, bytes)?;
+    let printed = texts::encode(alloc, bytes)?;
     Ok(printed.as_str() == digits)
 }

@@ -1,7 +1,8 @@
 //! The files of worked schedules, journals and frames.
 use crate::repeated::written_out;
+use memory_growth::{OutOfMemory, lists, text_of, texts};
 use schedule_text::is_skipped;
-use std::alloc::{AllocError, Global};
+use std::alloc::Global;
 use std::{fs, io};
 
 /// A schedule or a saved journal, with what it is run by and what is expected of it.
@@ -17,16 +18,16 @@ impl Case {
     /// Reads the files of this name, which has no ending.
     pub fn read(rt: &HostRuntime, name: &str) -> io::Result<Case> {
         let alloc = rt.alloc();
-        let (text, usual) = match fs::read(rt, format!(in alloc; "{name}.schedule")?.as_str()) {
+        let (text, usual) = match fs::read(rt, text_of!(in alloc; "{name}.schedule")?.as_str()) {
             Ok(text) => (text, "run\n"),
             Err(error) if error.kind() == io::ErrorKind::NotFound => (
-                fs::read(rt, format!(in alloc; "{name}.journal")?.as_str())?,
+                fs::read(rt, text_of!(in alloc; "{name}.journal")?.as_str())?,
                 "replay\njournal\n",
             ),
             Err(error) => return Err(error),
         };
-        let expected = fs::read(rt, format!(in alloc; "{name}.expected")?.as_str())?;
-        let words = match fs::read_to_string(rt, format!(in alloc; "{name}.args")?.as_str()) {
+        let expected = fs::read(rt, text_of!(in alloc; "{name}.expected")?.as_str())?;
+        let words = match fs::read_to_string(rt, text_of!(in alloc; "{name}.args")?.as_str()) {
             Ok(text) => words_of(alloc, text.as_str())?,
             Err(error) if error.kind() == io::ErrorKind::NotFound => words_of(alloc, usual)?,
             Err(error) => return Err(error),
@@ -40,11 +41,11 @@ impl Case {
 }
 
 /// The program's name, and the text's lines.
-fn words_of(alloc: Global, text: &str) -> Result<Vec<String>, AllocError> {
+fn words_of(alloc: Global, text: &str) -> Result<Vec<String>, OutOfMemory> {
     let mut words = Vec::new(alloc);
-    words.push(String::from_str(alloc, "store")?)?;
+    lists::push(&mut words, texts::from_str(alloc, "store")?)?;
     for word in text.lines() {
-        words.push(String::from_str(alloc, word)?)?;
+        lists::push(&mut words, texts::from_str(alloc, word)?)?;
     }
     Ok(words)
 }
@@ -63,9 +64,9 @@ pub struct FrameLine {
 pub fn schedules_in(rt: &HostRuntime, folder: &str) -> io::Result<Vec<String>> {
     let mut names = names_in(rt, folder, ".schedule")?;
     for name in names_in(rt, folder, ".journal")? {
-        names.push(name)?;
+        lists::push(&mut names, name)?;
     }
-    names.sort()?;
+    names.sort_unstable();
     Ok(names)
 }
 
@@ -81,18 +82,21 @@ pub fn frames_in(rt: &HostRuntime, folder: &str) -> io::Result<Vec<FrameLine>> {
 /// Adds the lines of the file of this name.
 fn add_frames(rt: &HostRuntime, file: &str, lines: &mut Vec<FrameLine>) -> io::Result<()> {
     let alloc = rt.alloc();
-    let text = fs::read_to_string(rt, format!(in alloc; "{file}.vectors")?.as_str())?;
+    let text = fs::read_to_string(rt, text_of!(in alloc; "{file}.vectors")?.as_str())?;
     let mut number: u64 = 0;
     for line in text.lines() {
         number = number.saturating_add(1);
         if is_skipped(line.as_bytes()) {
             continue;
         }
-        lines.push(FrameLine {
-            file: String::from_str(alloc, file)?,
-            number,
-            text: String::from_str(alloc, line)?,
-        })?;
+        lists::push(
+            lines,
+            FrameLine {
+                file: texts::from_str(alloc, file)?,
+                number,
+                text: texts::from_str(alloc, line)?,
+            },
+        )?;
     }
     Ok(())
 }
@@ -104,9 +108,9 @@ fn names_in(rt: &HostRuntime, folder: &str, ending: &str) -> io::Result<Vec<Stri
     for entry in fs::read_dir(rt, folder)? {
         let entry = entry?;
         if let Some(name) = entry.file_name().strip_suffix(ending) {
-            names.push(format!(in alloc; "{folder}/{name}")?)?;
+            lists::push(&mut names, text_of!(in alloc; "{folder}/{name}")?)?;
         }
     }
-    names.sort()?;
+    names.sort_unstable();
     Ok(names)
 }

@@ -23,6 +23,7 @@ ghost use Rattle.schedules.specs.Vectors.{IsFrameLine};
 
 use compare::{Tally, first_difference, line_at};
 use files::{Case, FrameLine, frames_in, schedules_in};
+use memory_growth::lists;
 use std::alloc::Global;
 use std::process::ExitCode;
 use std::{env, io};
@@ -30,15 +31,15 @@ use transcript::transcript_of;
 use vectors::fault_of;
 
 fn main(rt: HostRuntime) -> io::Result<ExitCode> {
-    let folders: Vec<String> = env::args(&rt)?.skip(1).collect(rt.alloc())?;
+    let folders: Vec<String> = lists::collected(rt.alloc(), env::args(&rt)?.skip(1))?;
     let mut names = Vec::new(rt.alloc());
     let mut frames = Vec::new(rt.alloc());
     for folder in folders.iter() {
         for name in schedules_in(&rt, folder.as_str())? {
-            names.push(name)?;
+            lists::push(&mut names, name)?;
         }
         for line in frames_in(&rt, folder.as_str())? {
-            frames.push(line)?;
+            lists::push(&mut frames, line)?;
         }
     }
     let schedules = run_all(&rt, names.as_slice())?;

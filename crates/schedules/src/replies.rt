@@ -10,11 +10,12 @@ use crate::digits::are_digits_of;
 use crate::vectors::Fault;
 use bytes::Bytes;
 use journal_text::{Version, read_line};
+use memory_growth::{OutOfMemory, text_of};
 use obj_id::{GrantedItem, JobNo, OwnItem, Reply};
 use private_store::StepAnswer;
 use schedule_text::answer_text;
 use schedule_text::fields::bytes;
-use std::alloc::{AllocError, Global};
+use std::alloc::Global;
 use wire_frames::encode_reply;
 
 /// What differs between the digits of a reply's frame and its text. `None` only if the text is that of a reply to job 1
@@ -23,7 +24,7 @@ pub(crate) fn reply_fault(
     alloc: Global,
     digits: &str,
     text: &str,
-) -> Result<Option<Fault>, AllocError>
+) -> Result<Option<Fault>, OutOfMemory>
     ensures { IfOk result (λ fault. fault ≡ None → IsReplyFrame digits.now text.now) }
 {
     let Some(reply) = reply_of(alloc, text)? else {
@@ -38,7 +39,7 @@ fn told_fault(
     digits: &str,
     text: &str,
     answer: &StepAnswer,
-) -> Result<Option<Fault>, AllocError>
+) -> Result<Option<Fault>, OutOfMemory>
     ensures { IfOk result (λ fault. fault ≡ None → IsReplyFrame digits.now text.now) }
 {
     let StepAnswer::Response(reply) = answer else {
@@ -57,11 +58,11 @@ fn told_fault(
 
 /// A reply that may have this text: it is printed again, so nothing is promised of it. Bytes are spelled as in a schedule,
 /// all else also as in a journal.
-fn reply_of(alloc: Global, text: &str) -> Result<Option<Reply<Bytes>>, AllocError> {
+fn reply_of(alloc: Global, text: &str) -> Result<Option<Reply<Bytes>>, OutOfMemory> {
     if let Some(digits) = text.strip_prefix("bytes ") {
         return Ok(bytes(alloc, digits)?.map(Reply::Bytes));
     }
-    let line = format!(in alloc; "n0 j1 1 s1 usage = {text}")?;
+    let line = text_of!(in alloc; "n0 j1 1 s1 usage = {text}")?;
     match read_line(alloc, line.as_str(), Version::Three)? {
         None => Ok(None),
         Some(entry) => Ok(without_bytes(entry.reply)),

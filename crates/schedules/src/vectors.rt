@@ -5,7 +5,8 @@ ghost use Rattle.schedules.specs.Vectors.{IsFrameLine};
 use crate::commands::command_fault;
 use crate::digits::cut_at;
 use crate::replies::reply_fault;
-use std::alloc::{AllocError, Global};
+use std::alloc::Global;
+use std::io;
 
 /// What is wrong with a line of a file of frames.
 #[derive(Clone, Copy)]
@@ -31,14 +32,14 @@ impl Fault {
 
 /// What is wrong with a line, `DIGITS TEXT`. `None` only if the text is that of a command or of a reply, and the digits are
 /// those of its frame.
-pub fn fault_of(alloc: Global, line: &str) -> Result<Option<Fault>, AllocError>
+pub fn fault_of(alloc: Global, line: &str) -> io::Result<Option<Fault>>
     ensures { IfOk result (λ fault. fault ≡ None → IsFrameLine line.now) }
 {
     let Some((digits, text)) = cut_at(line, " ") else {
         return Ok(Some(Fault::Text))
     };
     if is_reply(digits.as_bytes()) {
-        reply_fault(alloc, digits, text)
+        Ok(reply_fault(alloc, digits, text)?)
     } else {
         command_fault(alloc, digits, text)
     }

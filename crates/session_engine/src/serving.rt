@@ -8,6 +8,7 @@ ghost use Rattle.session_engine.specs.Sessions.{session_state};
 use crate::sending::{flush, flush_before, send};
 use crate::session::{SessionId, answer, leave};
 use crate::{Ended, Gate, SessionFault};
+use memory_growth::lists;
 use obj_id::{Refusal, Reply};
 use private_store::Item;
 use std::alloc::Global;
@@ -96,7 +97,7 @@ impl Session {
             (session_state gate.new self.new.session_id (W.contents writer.new))
             (R.remaining reader.old) (R.remaining reader.new) result }
     {
-        let Ok(buffer) = vec![in self.alloc; 0u8; FIRST_PIECE_SIZE] else {
+        let Ok(buffer) = lists::filled(self.alloc, 0u8, FIRST_PIECE_SIZE) else {
             return Err(SessionFault::Memory)
         };
         self.answer_pieces(reader, writer, gate, buffer)
@@ -143,7 +144,7 @@ impl Session {
         if self.session_id.is_none() || buffer.len() == PIECE_SIZE {
             return;
         }
-        if let Ok(wider) = vec![in self.alloc; 0u8; PIECE_SIZE] {
+        if let Ok(wider) = lists::filled(self.alloc, 0u8, PIECE_SIZE) {
             *buffer = wider;
         }
     }

@@ -3,11 +3,11 @@ use crate::desk::Desk;
 use crate::sessions::{CREATE, GET, GET_WAIT, HELLO, NO_KIND, ROOM, SEAL, bytes_of};
 use assertions::same;
 use bytes::Bytes;
-use hex::FromHexError;
+use memory_growth::{OutOfMemory, lists};
 use obj_id::{Command, JobKey, JobNo, Refusal, Reply};
 use private_store::Awaited;
 use session_engine::{Ended, Gate, SessionFault, serve};
-use std::alloc::{AllocError, Global};
+use std::alloc::Global;
 use std::cell::Cell;
 use std::io::{self, ErrorKind, Write};
 use std::process::Abort;
@@ -82,10 +82,10 @@ struct Seen {
     at_wait: Option<usize>,
 }
 
-fn watched(alloc: Global, mut input: &[u8], failing: u32) -> Result<Seen, AllocError> {
+fn watched(alloc: Global, mut input: &[u8], failing: u32) -> Result<Seen, OutOfMemory> {
     let handed_over = Cell::new(0);
     let mut parcel = Parcel {
-        written: Vec::with_capacity(alloc, ROOM)?,
+        written: lists::with_capacity(alloc, ROOM)?,
         handed_over: &handed_over,
         flushes: 0,
         failing,
@@ -120,7 +120,7 @@ fn look(
     input: &[&str],
     failing: u32,
     wanted: Seen,
-) -> Result<(), FromHexError> {
+) -> Result<(), Fail> {
     let input = bytes_of(alloc, input)?;
     same!(rt; watched(alloc, &input, failing)?, wanted);
     Ok(())

@@ -2,7 +2,7 @@
 use crate::desk::Desk;
 use crate::sessions::{GET, HELLO, HELLO_WITH_ANOTHER_KEY, NO_KIND, bytes_of};
 use assertions::same;
-use hex::FromHexError;
+use memory_growth::lists;
 use session_engine::{Ended, SessionFault, serve};
 use std::alloc::Global;
 use std::io::{self, Read, Write};
@@ -126,10 +126,10 @@ fn little_is_read_at_once_until_a_hello_is_accepted(rt: HostRuntime) -> Result<(
 }
 
 /// The bytes of these frames, and then 2,000 Leaves.
-fn with_leaves(alloc: Global, texts: &[&str]) -> Result<Vec<u8>, FromHexError> {
+fn with_leaves(alloc: Global, texts: &[&str]) -> Result<Vec<u8>, Fail> {
     let mut bytes = bytes_of(alloc, texts)?;
     for _ in 0..2_000 {
-        bytes.extend_from_slice(&LEAVE_FRAME)?;
+        lists::extend_from_slice(&mut bytes, &LEAVE_FRAME)?;
     }
     Ok(bytes)
 }

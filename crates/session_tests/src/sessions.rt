@@ -1,9 +1,9 @@
 //! Sessions over memory.
 use crate::desk::{Desk, PAGE};
 use assertions::{holds, same};
-use hex::FromHexError;
+use memory_growth::{OutOfMemory, lists, text_of};
 use session_engine::{Ended, FaultyStream, SessionFault, serve};
-use std::alloc::{AllocError, Global};
+use std::alloc::Global;
 use std::io::{self, ErrorKind, Read, Write};
 use std::process::Abort;
 use std::test::Fail;
@@ -63,11 +63,11 @@ const BYTES: &str = "000007d183";
 const MALFORMED: &str = "000000028f14";
 
 /// The bytes of all texts, one after another.
-pub(crate) fn bytes_of(alloc: Global, texts: &[&str]) -> Result<Vec<u8>, FromHexError> {
+pub(crate) fn bytes_of(alloc: Global, texts: &[&str]) -> Result<Vec<u8>, Fail> {
     let mut bytes = Vec::new(alloc);
     for text in texts {
         let part = hex::decode(alloc, *text)?;
-        bytes.extend_from_slice(&part)?;
+        lists::extend_from_slice(&mut bytes, &part)?;
     }
     Ok(bytes)
 }
@@ -135,9 +135,9 @@ struct Outbox {
 }
 
 impl Outbox {
-    fn new(alloc: Global) -> Result<Outbox, AllocError> {
+    fn new(alloc: Global) -> Result<Outbox, OutOfMemory> {
         Ok(Outbox {
-            written: Vec::with_capacity(alloc, ROOM)?,
+            written: lists::with_capacity(alloc, ROOM)?,
             handed_over: 0,
         })
     }
@@ -180,7 +180,7 @@ impl Write for Sips {
     }
 }
 
-fn session_over(alloc: Global, input: &[u8], way: Way) -> Result<Session, AllocError> {
+fn session_over(alloc: Global, input: &[u8], way: Way) -> Result<Session, OutOfMemory> {
     let cut = way.cut.min(input.len());
     let pieces = Read::chain(&input[..cut], &input[cut..]);
     let drip = Drip {
@@ -210,11 +210,11 @@ fn served(
     input: &[u8],
     way: Way,
     whole: &[u8],
-) -> Result<Session, AllocError> {
+) -> Result<Session, Fail> {
     let session = session_over(alloc, input, way)?;
     look_at(rt, &session, whole);
     if session.outcome == Err(SessionFault::Memory) {
-        return Err(AllocError);
+        return Err(Fail::new("no memory for the session"));
     }
     Ok(session)
 }
@@ -334,11 +334,11 @@ fn is_border(come: usize) -> bool {
     BORDERS.iter().any(|border| border.0 == come)
 }
 
-fn worked_session(alloc: Global) -> Result<Vec<u8>, FromHexError> {
+fn worked_session(alloc: Global) -> Result<Vec<u8>, Fail> {
     bytes_of(alloc, &[HELLO, CREATE, SEAL, GET])
 }
 
-fn worked_answers(alloc: Global) -> Result<Vec<u8>, FromHexError> {
+fn worked_answers(alloc: Global) -> Result<Vec<u8>, Fail> {
     bytes_of(alloc, &[OK, PLACED, OK, GOT])
 }
 
@@ -395,7 +395,7 @@ fn fail_writes(
     whole: &[u8],
     writes: &[(u64, usize)],
     plain: Way,
-) -> Result<(), AllocError> {
+) -> Result<(), Fail> {
     for (turn, written) in writes {
         let way = Way {
             failing_write: *turn,
@@ -461,9 +461,9 @@ fn an_answer_goes_on_after_short_writes(rt: HostRuntime) -> Result<(), Fail> {
 }
 
 /// The answers to a Hello and a Read.
-fn long_answers(alloc: Global) -> Result<Vec<u8>, FromHexError> {
+fn long_answers(alloc: Global) -> Result<Vec<u8>, Fail> {
     let mut whole = bytes_of(alloc, &[OK, BYTES])?;
-    whole.extend_from_slice(&PAGE)?;
+    lists::extend_from_slice(&mut whole, &PAGE)?;
     Ok(whole)
 }
 
@@ -497,7 +497,7 @@ fn faults_are_told_in_words(rt: HostRuntime) -> Result<(), Fail> {
         (SessionFault::Memory, "no memory for the session"),
     ];
     for (fault, text) in texts {
-        let response = format!(in alloc; "{fault}")?;
+        let response = text_of!(in alloc; "{fault}")?;
         same!(rt; response.as_str(), text);
     }
     Ok(())

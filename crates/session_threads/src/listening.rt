@@ -1,9 +1,10 @@
 //! Listeners, and the sessions of the streams that they accept.
 use crate::Session;
+use memory_growth::{OutOfMemory, boxes};
 use node_housekeeping::Pause;
 use session_engine::serve;
 use shared_nodes::SharedNode;
-use std::alloc::{AllocError, Global};
+use std::alloc::Global;
 use std::io::BufWriter;
 use std::net::Shutdown;
 use std::os::fd::OwnedFd;
@@ -85,8 +86,8 @@ fn start_session<
     alloc: Global,
     node: &Arc<SharedNode<L, P>>,
     stream: UnixStream,
-) -> Result<(), AllocError> {
-    let theirs = Arc::try_clone(node)?;
+) -> Result<(), OutOfMemory> {
+    let theirs = boxes::another(node)?;
     let upkeep = node.housekeeping();
     if !upkeep.streams.have_spare(&stream) || !upkeep.sessions.begin(&rt) {
         return Ok(());

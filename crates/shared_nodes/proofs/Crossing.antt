@@ -29,7 +29,7 @@ use Rattle.node_journal.proofs.logs.Logs.TheSendSync.{the_send as logs_send}
 use Rattle.std.specs.declared.sync.ledger.Ledger.{Ghosts}
 use Rattle.std.proofs.sync.ledger.Share.TheSendSync.{the_send as share_send}
 use Rattle.node_housekeeping.proofs.housekeeping.Housekeeping.TheSendSync.{the_send as upkeep_send, the_sync as upkeep_sync}
-use Rattle.shared_nodes.proofs.posting.Outbox.TheSendSync.{the_send as ways_send, the_sync as ways_sync}
+use Rattle.node_links.proofs.outbox.Outbox.TheSendSync.{the_send as ways_send, the_sync as ways_sync}
 use Rattle.shared_nodes.specs.contracts.shared.SharedNode as Shared
 
 pub row_send : IsSend JobRow.the_row

@@ -11,7 +11,6 @@ mod refusing;
 mod shared;
 mod working;
 
-pub use posting::{Inbox, Outbox};
 pub use receipt_buffer::ReceiptBuffer;
 pub use refusing::out_of_memory;
 pub use shared::SharedNode;

@@ -3,10 +3,10 @@ ghost use Rattle.std.specs.Prelude.{◌≡◌, IfErr};
 ghost use Rattle.obj_id.specs.declared.refusals.Refusal.TheVariants.{NotAdmitted};
 
 use crate::SharedNode;
+use memory_growth::OutOfMemory;
 use node_housekeeping::Pause;
 use node_steps::{LiveJob, live_jobs_of};
 use obj_id::{JobNo, Refusal, Usage};
-use std::alloc::AllocError;
 use std::net::Shutdown;
 use std::sync::Wait;
 use std::sync::ledger::Ledger;
@@ -20,7 +20,7 @@ impl<L: Ledger, P: Pause> SharedNode<L, P> {
     }
 
     /// The live jobs, by rising number. The error is out of memory.
-    pub fn live_jobs<R: Wait>(&self, rt: &R) -> Result<Vec<LiveJob>, AllocError> {
+    pub fn live_jobs<R: Wait>(&self, rt: &R) -> Result<Vec<LiveJob>, OutOfMemory> {
         live_jobs_of(self.housekeeping.alloc, &*self.kept.lock(rt))
     }
 

@@ -6,6 +6,7 @@ use crate::SharedNode;
 use bytes::Bytes;
 use hashed_bytes::Hashed;
 use job_region::Zeros;
+use memory_growth::{lists, shared};
 use node_core::Prepared;
 use node_housekeeping::Pause;
 use node_journal::{Kept, Posted};
@@ -88,16 +89,19 @@ impl<L: Ledger, P: Pause> SharedNode<L, P> {
             chunk.index,
             chunk.bytes.len(),
         )?;
-        let mut whole = Vec::with_capacity(self.housekeeping.alloc, len as usize).ok()?;
+        if len > LONGEST_OBJECT {
+            return None;
+        }
+        let mut whole = lists::with_capacity(self.housekeeping.alloc, len as usize).ok()?;
         for index in 0..len.div_ceil(CHUNK_SIZE) {
             let part = if index == chunk.index.0 {
-                chunk.bytes.clone().ok()?
+                shared::again(chunk.bytes).ok()?
             } else {
                 self.part_of_copy(rt, job, chunk.id, index)?
             };
-            whole.extend_from_slice(part.as_slice()).ok()?;
+            lists::extend_from_slice(&mut whole, part.as_slice()).ok()?;
         }
-        Some(Hashed::new(Bytes::from_vec(whole).ok()?))
+        Some(Hashed::new(shared::from_vec(whole).ok()?))
     }
 
     /// The bytes of the chunk of this index. The node is locked for these alone.
@@ -128,7 +132,7 @@ pub(crate) fn prepare_finish(alloc: Global, event: &Event) -> (JobNo, Prepared) 
         return (JobNo(0), Prepared::nothing());
     };
     let prepared = Prepared {
-        hashed: bytes.clone().ok().map(Hashed::new),
+        hashed: shared::again(bytes).ok().map(Hashed::new),
         filled: filled(alloc, bytes),
         ..Prepared::nothing()
     };
@@ -138,13 +142,13 @@ pub(crate) fn prepare_finish(alloc: Global, event: &Event) -> (JobNo, Prepared) 
 /// The bytes with zeros up to the end of an extent, if they don't fill one by themselves.
 fn filled(alloc: Global, bytes: &Bytes) -> Option<Bytes> {
     let len = bytes.len().next_multiple_of(UNIT as usize);
-    if len == bytes.len() {
+    if len == bytes.len() || len > LONGEST_OBJECT as usize {
         return None;
     }
-    let mut filled = Vec::with_capacity(alloc, len).ok()?;
-    filled.extend_from_slice(bytes.as_slice()).ok()?;
-    filled.resize(len, 0).ok()?;
-    Bytes::from_vec(filled).ok()
+    let mut filled = lists::with_capacity(alloc, len).ok()?;
+    lists::extend_from_slice(&mut filled, bytes.as_slice()).ok()?;
+    lists::resize(&mut filled, len, 0).ok()?;
+    shared::from_vec(filled).ok()
 }
 
 /// Whether a step of the command may take copies out of the job's window.

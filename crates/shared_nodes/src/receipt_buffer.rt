@@ -4,10 +4,11 @@ ghost use Rattle.shared_nodes.specs.Gathering.{receipts_in_order};
 ghost use Rattle.shared_nodes.specs.declared.receipt_buffer.TheConstants.{MOST_RECEIPTS};
 
 use crate::SharedNode;
+use memory_growth::{OutOfMemory, lists};
 use node_housekeeping::Pause;
 use node_journal::Receipt;
 use node_steps::audit;
-use std::alloc::{AllocError, Global};
+use std::alloc::Global;
 use std::sync::Wait;
 use std::sync::ledger::Ledger;
 
@@ -41,7 +42,7 @@ impl<L: Ledger> ReceiptBuffer<L> {
         &mut self,
         rt: &R,
         node: &SharedNode<L, P>,
-    ) -> Result<(), AllocError>
+    ) -> Result<(), OutOfMemory>
         ensures last { self.new.last ≡ self.old.last }
         ensures earlier { self.new.earlier.items ≡ (if vec_len self.old.earlier + 1 == MOST_RECEIPTS then [] else self.old.earlier.items) }
         ensures memory { OnOk result (vec_len self.new.earlier < vec_capacity self.new.earlier) }
@@ -57,7 +58,7 @@ impl<L: Ledger> ReceiptBuffer<L> {
             );
             self.earlier.clear();
         }
-        self.earlier.reserve(1)
+        lists::reserve(&mut self.earlier, 1)
     }
 
     /// Adds the receipt of a step, for which there is room.

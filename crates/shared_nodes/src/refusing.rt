@@ -4,11 +4,11 @@ ghost use Rattle.obj_id.specs.declared.commands.Reply.TheVariants as reply;
 ghost use Rattle.obj_id.specs.declared.refusals.Refusal.TheVariants.{NoMemory};
 
 use bytes::Bytes;
+use memory_growth::OutOfMemory;
 use obj_id::{Refusal, Reply};
-use std::alloc::AllocError;
 
 /// The answer to what found no memory. Nothing else of these threads makes one.
-pub fn out_of_memory(error: AllocError) -> Reply<Bytes>
+pub fn out_of_memory(error: OutOfMemory) -> Reply<Bytes>
     ensures { result ≡ reply.Refused NoMemory }
 {
     Reply::Refused(Refusal::from(error))

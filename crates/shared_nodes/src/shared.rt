@@ -14,21 +14,22 @@ ghost use Rattle.shared_nodes.specs.Gathering.{receipts_in_order};
 ghost use Rattle.node_steps.specs.Witnesses.{IsCalled, IsArrived, IsReceiptOf, witness_of};
 ghost use Rattle.private_store.specs.rules.Frames.{tried};
 
-use crate::posting::Outbox;
 use crate::preparing::{may_remove, prepare_finish, spent_by};
 use crate::receipt_buffer::ReceiptBuffer;
 use crate::refusing::out_of_memory;
 use bytes::Bytes;
+use memory_growth::OutOfMemory;
 use node_core::Prepared;
 use node_housekeeping::{Housekeeping, NoPause, Pause, Versions, Waiting, is_gone};
 use node_journal::{Access, Entered, Keeper, Kept, Posted, Receipt};
+use node_links::Outbox;
 use node_steps::{
     Stepped, audit, may_reach_others, step_arrival, step_call, step_call_after, step_end,
     step_event, step_located, step_order, step_take, sweep_after,
 };
 use obj_id::{Command, JobKey, JobNo, ObjectId, Quota, Refusal, Reply};
 use private_store::{Awaited, Event};
-use std::alloc::{AllocError, Global};
+use std::alloc::Global;
 use std::hint::spin_loop;
 use std::os::unix::net::UnixStream;
 use std::slice;
@@ -115,7 +116,7 @@ impl<L: Ledger, P: Pause> SharedNode<L, P> {
         job: JobNo,
         session: u32,
         command: Command<Bytes>,
-    ) -> Result<Stepped<L>, AllocError>
+    ) -> Result<Stepped<L>, OutOfMemory>
         ensures called { IfOk result (λ s. (wants_memory s.reply ≡ false) × IsCalled job session command s.reply (witness_of s.receipt)) }
         ensures small { IfOk result (λ s. is_small_reply s.reply ≡ true) }
     {
@@ -176,7 +177,7 @@ impl<L: Ledger, P: Pause> SharedNode<L, P> {
         job: JobNo,
         session: u32,
         command: Command<Bytes>,
-    ) -> Result<Stepped<L>, AllocError>
+    ) -> Result<Stepped<L>, OutOfMemory>
         ensures called { IfOk result (λ s. (wants_memory s.reply ≡ false) × IsCalled job session command s.reply (witness_of s.receipt)) }
         ensures small { IfOk result (λ s. is_small_reply s.reply ≡ true) }
     {
@@ -198,7 +199,7 @@ impl<L: Ledger, P: Pause> SharedNode<L, P> {
         job: JobNo,
         session: u32,
         id: ObjectId,
-    ) -> Result<Stepped<L>, AllocError>
+    ) -> Result<Stepped<L>, OutOfMemory>
         ensures called { IfOk result (λ s. (wants_memory s.reply ≡ false) × IsCalled job session (command.Seal id) s.reply (witness_of s.receipt)) }
         ensures small { IfOk result (λ s. is_small_reply s.reply ≡ true) }
     {
@@ -218,7 +219,7 @@ impl<L: Ledger, P: Pause> SharedNode<L, P> {
         job: JobNo,
         session: u32,
         command: Command<Bytes>,
-    ) -> Result<Stepped<L>, AllocError>
+    ) -> Result<Stepped<L>, OutOfMemory>
         ensures called { IfOk result (λ s. (wants_memory s.reply ≡ false) × IsCalled job session command s.reply (witness_of s.receipt)) }
         ensures small { IfOk result (λ s. is_small_reply s.reply ≡ true) }
     {
@@ -355,7 +356,7 @@ impl<L: Ledger, P: Pause> SharedNode<L, P> {
         job: JobNo,
         session: u32,
         awaited: &Awaited,
-    ) -> (Result<Stepped<L>, AllocError>, Versions)
+    ) -> (Result<Stepped<L>, OutOfMemory>, Versions)
         ensures called { IfOk result.0 (λ s. (wants_memory s.reply ≡ false) × IsCalled job session (tried awaited.now) s.reply (record { job = s.receipt.job; entry = s.receipt.entry; asked = s.receipt.asked.value; whole = s.receipt.whole.value })) }
         ensures small { IfOk result.0 (λ s. is_small_reply s.reply ≡ true) }
     {
@@ -533,7 +534,7 @@ impl<L: Ledger, P: Pause> SharedNode<L, P> {
     fn answer<R: Wait>(
         &self,
         rt: &R,
-        stepped: Result<Stepped<L>, AllocError>,
+        stepped: Result<Stepped<L>, OutOfMemory>,
     ) -> (Reply<Bytes>, Option<Receipt<L>>)
         ensures { MatchResult stepped (λ s. (result.0 ≡ s.reply) × (result.1 ≡ Some s.receipt)) (λ _. (result.0 ≡ reply.Refused NoMemory) × (result.1 ≡ None)) }
     {

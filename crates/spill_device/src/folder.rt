@@ -2,8 +2,8 @@
 ghost use Rattle.std.specs.Prelude.{◌≡◌, IfOk};
 ghost use Rattle.std.specs.String.{string_bytes};
 
-use std::alloc::AllocError;
-use std::fs::{self, DirBuilder, File, TryLockError};
+use memory_growth::{OutOfMemory, text_of, texts};
+use std::fs::{self, DirBuilder, File, Metadata, TryLockError};
 use std::io::{self, ErrorKind};
 use std::os::unix::fs::{DirBuilderExt, MetadataExt};
 use std::rt::Files;
@@ -15,12 +15,18 @@ const FOLDER_MODE: u32 = 0o700;
 /// What a folder's mode has if others may use it.
 const OTHERS: u32 = 0o077;
 
+/// Why nothing is done in a folder whose path has become another's, or nobody's.
+const MOVED: &str = "the folder was moved or removed";
+
 /// Why a folder can't be used for a device.
 #[derive(Debug, Drop, Error)]
 pub enum FolderFault {
     /// It isn't there, and it can't be made.
     #[error("the folder `{folder}` can't be made: {error}")]
     NotMade { folder: String, error: io::Error },
+    /// It belongs to another user than the process.
+    #[error("the folder `{folder}` is another user's")]
+    NotOwn { folder: String },
     /// Others than its owner may use it.
     #[error("the folder `{folder}` is not its owner's alone (chmod 700)")]
     NotPrivate { folder: String },
@@ -32,7 +38,24 @@ pub enum FolderFault {
     Unusable { folder: String, error: io::Error },
     /// The process has no memory for the device.
     #[error("no memory")]
-    NoMemory(#[from(alloc)] AllocError),
+    NoMemory(#[from] OutOfMemory),
+}
+
+/// Which file or folder it is, whatever its path: its device, and its number there.
+#[derive(Clone, Copy, Debug, PartialEq, Eq)]
+pub(crate) struct Identity {
+    device: u64,
+    inode: u64,
+}
+
+impl Identity {
+    /// Of what the system says this.
+    pub(crate) fn of(there: &Metadata) -> Identity {
+        Identity {
+            device: there.dev(),
+            inode: there.ino(),
+        }
+    }
 }
 
 /// A folder of spilled objects that one server has, until this is dropped: the folder is locked. No contract promises anything of the
@@ -41,67 +64,106 @@ pub enum FolderFault {
 pub struct SpillFolder {
     host: HostRuntime,
     path: String,
+    identity: Identity,
     lock: File,
 }
 
 impl SpillFolder {
-    /// The folder of this path, which is made if it isn't there, and its parents with it, for its owner alone. Spilled objects that an
-    /// earlier server left in it are removed.
+    /// The folder of this path, which is made if it isn't there, and its parents with it, for its owner alone, who is the process' own
+    /// user. Spilled objects that an earlier server left in it are removed.
     pub fn take(host: HostRuntime, path: &str) -> Result<SpillFolder, FolderFault>
         ensures { IfOk result (λ folder. string_bytes folder.path ≡ path.now) }
     {
-        let folder = String::from_str(host.alloc(), path)?;
+        let folder = texts::from_str(host.alloc(), path)?;
         if let Err(error) = make_folder(&host, path) {
             return Err(FolderFault::NotMade { folder, error });
         }
-        let lock = match File::open(&host, path) {
-            Ok(lock) => lock,
+        // what isn't a folder has nothing inside: the system doesn't wait for a pipe here
+        let inside = text_of!(in host.alloc(); "{path}/.")?;
+        let (lock, there) = match opened(&host, inside.as_str()) {
+            Ok(opened) => opened,
             Err(error) => return Err(FolderFault::Unusable { folder, error }),
         };
-        match is_shared(&lock) {
-            Err(error) => return Err(FolderFault::Unusable { folder, error }),
-            Ok(true) => return Err(FolderFault::NotPrivate { folder }),
-            Ok(false) => {}
+        if there.uid() != libc::geteuid() {
+            return Err(FolderFault::NotOwn { folder });
+        }
+        if there.mode() & OTHERS != 0 {
+            return Err(FolderFault::NotPrivate { folder });
         }
         match lock.try_lock() {
             Ok(()) => {}
             Err(TryLockError::WouldBlock) => return Err(FolderFault::InUse { folder }),
             Err(TryLockError::Error(error)) => return Err(FolderFault::Unusable { folder, error }),
         }
-        match remove_spilled(&host, path) {
+        let identity = Identity::of(&there);
+        match sweep(&host, path, identity) {
             Ok(()) => Ok(SpillFolder {
                 host,
                 path: folder,
+                identity,
                 lock,
             }),
             Err(error) => Err(FolderFault::Unusable { folder, error }),
         }
     }
 
-    /// Removes the spilled objects that are left in the folder: at the end of a server.
+    /// Removes the spilled objects that are left in the folder: at the end of a server. If the folder isn't in its place any more,
+    /// nothing is removed there, and that is the error.
     pub fn clear(&self) -> io::Result<()> {
-        remove_spilled(&self.host, self.path.as_str())
+        sweep(&self.host, self.path.as_str(), self.identity)
     }
+
+    /// Its path.
+    pub(crate) fn path(&self) -> &str
+        ensures { result.now ≡ string_bytes self.now.path }
+    {
+        self.path.as_str()
+    }
+
+    /// Which folder it is.
+    pub(crate) fn identity(&self) -> Identity {
+        self.identity
+    }
+}
+
+/// The opened folder, and what the system says of it.
+fn opened(host: &HostRuntime, path: &str) -> io::Result<(File, Metadata)> {
+    let folder = File::open(host, path)?;
+    let there = folder.metadata()?;
+    Ok((folder, there))
+}
+
+/// Removes the spilled objects of the folder, if its path names it.
+fn sweep(host: &HostRuntime, path: &str, folder: Identity) -> io::Result<()> {
+    check_place(host, path, folder)?;
+    remove_spilled(host, path)
+}
+
+/// An error if the path doesn't name this folder.
+pub(crate) fn check_place<R: Files>(rt: &R, path: &str, folder: Identity) -> io::Result<()> {
+    match identity_at(rt, path) {
+        Ok(there) if there == folder => Ok(()),
+        Err(error) if error.kind() != ErrorKind::NotFound => Err(error),
+        _ => Err(io::Error::new(ErrorKind::Other, MOVED)),
+    }
+}
+
+/// What there is of this path.
+fn identity_at<R: Files>(rt: &R, path: &str) -> io::Result<Identity> {
+    Ok(Identity::of(&fs::metadata(rt, path)?))
+}
+
+/// Makes the folder as `make_folder` does. Which one it is.
+pub(crate) fn made_folder<R: Files>(rt: &R, path: &str) -> io::Result<Identity> {
+    make_folder(rt, path)?;
+    identity_at(rt, path)
 }
 
 /// Makes the folder, and its parents with it, for their owner alone.
-pub(crate) fn make_folder<R: Files>(rt: &R, path: &str) -> io::Result<()> {
+fn make_folder<R: Files>(rt: &R, path: &str) -> io::Result<()> {
     let mut builder = DirBuilder::new();
     let _ = builder.recursive(true).mode(FOLDER_MODE);
     builder.create(rt, path)
-}
-
-/// Whether there is something of this path that isn't a regular file: a link, a pipe or a folder.
-pub(crate) fn is_foreign<R: Files>(rt: &R, path: &str) -> bool {
-    match fs::symlink_metadata(rt, path) {
-        Ok(there) => !there.is_file(),
-        Err(_) => false,
-    }
-}
-
-/// Whether others than its owner may use the folder.
-fn is_shared(folder: &File) -> io::Result<bool> {
-    Ok(folder.metadata()?.mode() & OTHERS != 0)
 }
 
 /// Removes each regular file of the folder whose name is a spilled object's. Other files stay.

@@ -9,15 +9,16 @@ ghost use Rattle.spill_device.specs.Faults.{count_after, last_count, next_count}
 mod faulty;
 mod file;
 mod folder;
+mod key_file;
 mod memory;
 
 use bytes::Bytes;
 pub use faulty::FaultyDevice;
-pub use file::FileDevice;
+pub use file::{FileDevice, no_two_keys_share_a_file};
 pub use folder::{FolderFault, SpillFolder};
 pub use memory::MemoryDevice;
+use memory_growth::OutOfMemory;
 use obj_id::DeviceKey;
-use std::alloc::{AllocError, AllocFailed};
 use thiserror::Error;
 
 /// Why a device didn't do what it was asked.
@@ -31,24 +32,13 @@ pub enum DeviceFault {
     NoMemory,
 }
 
-impl From<AllocError> for DeviceFault {
+impl From<OutOfMemory> for DeviceFault {
     ghost use Rattle.std.specs.Prelude.{◌≡◌};
     ghost use Rattle.spill_device.specs.declared.DeviceFault.TheVariants.{NoMemory};
 
     ghost from_gives = { λ _ fault. fault ≡ NoMemory };
 
-    fn from(_error: AllocError) -> DeviceFault {
-        DeviceFault::NoMemory
-    }
-}
-
-impl<T: Drop> From<AllocFailed<T>> for DeviceFault {
-    ghost use Rattle.std.specs.Prelude.{◌≡◌};
-    ghost use Rattle.spill_device.specs.declared.DeviceFault.TheVariants.{NoMemory};
-
-    ghost from_gives = { λ _ fault. fault ≡ NoMemory };
-
-    fn from(_error: AllocFailed<T>) -> DeviceFault {
+    fn from(_refused: OutOfMemory) -> DeviceFault {
         DeviceFault::NoMemory
     }
 }

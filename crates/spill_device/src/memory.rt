@@ -3,6 +3,7 @@ ghost use Rattle.std.specs.Prelude.{◌≡◌, []};
 
 use crate::{DeviceFault, SpillDevice};
 use bytes::Bytes;
+use memory_growth::{ordered, shared};
 use obj_id::DeviceKey;
 use std::alloc::Global;
 use std::collections::BTreeMap;
@@ -50,8 +51,8 @@ impl SpillDevice for MemoryDevice {
     ghost erase_gives = { Erases };
 
     fn write(&mut self, key: DeviceKey, bytes: &[u8]) -> Result<(), DeviceFault> {
-        let copied = Bytes::copy_from_slice(self.alloc, bytes)?;
-        self.held.insert(key, copied)?;
+        let copied = shared::copied(self.alloc, bytes)?;
+        ordered::insert(&mut self.held, key, copied)?;
         Ok(())
     }
 
@@ -59,7 +60,7 @@ impl SpillDevice for MemoryDevice {
         if let Some(bytes) = self.held.get(&key)
             && bytes.len() == len as usize
         {
-            return Ok(bytes.clone()?);
+            return Ok(shared::again(bytes)?);
         }
         self.failures = self.failures.saturating_add(1);
         Err(DeviceFault::Failed)

@@ -6,8 +6,10 @@ ghost use Rattle.spill_work.specs.Turns.{marked_at, with_row, all_of, front_from
 use crate::queue::{IoRequest, Queued};
 use crate::row::{Row, Timed};
 use indexmap::IndexMap;
+use memory_growth::counters::Counter;
+use memory_growth::{OutOfMemory, tables};
 use obj_id::{ItemList, JobNo, ObjectId, WorkKind};
-use std::alloc::{AllocError, Global};
+use std::alloc::Global;
 use std::marker::Model;
 
 /// The works of all jobs. A contract sees them in the order asked; a call looks at its own job's alone, but for
@@ -17,7 +19,7 @@ pub(crate) struct ByJob {
     alloc: Global,
     rows: IndexMap<JobNo, Row>,
     // Of the work that is asked for next: what was asked for earlier has an earlier one.
-    turn: u64,
+    turn: Counter,
 }
 
 impl Model for ByJob {
@@ -40,7 +42,7 @@ impl ByJob {
         ByJob {
             alloc,
             rows: IndexMap::new(alloc),
-            turn: 0,
+            turn: Counter::new(),
         }
     }
 
@@ -65,7 +67,7 @@ impl ByJob {
     }
 
     /// What the job's works ask, in their order. Takes a walk over them, and memory for each.
-    pub(crate) fn asked_of(&self, job: JobNo) -> Result<ItemList<IoRequest>, AllocError>
+    pub(crate) fn asked_of(&self, job: JobNo) -> Result<ItemList<IoRequest>, OutOfMemory>
         ensures { IfOk result (λ asked. asked ≡ map (λ work. work.asked) (filter (is_of job) self.now)) }
     {
         match self.rows.get(&job) {
@@ -129,19 +131,17 @@ impl ByJob {
         kind: WorkKind,
         last: u64,
         ids: &[ObjectId],
-    ) -> Result<(), AllocError>
+    ) -> Result<(), OutOfMemory>
         requires { last + length ids.now < 2 ^ 64 }
         ensures ok { OnOk result (self.new ≡ self.old ++ numbered job kind last ids.now) }
         ensures err { OnErr result (self.new ≡ self.old) }
     {
-        let Some(turn) = self.turn.checked_add(ids.len() as u64) else {
-            return Err(AllocError);
-        };
+        let turn = self.turn.after(ids)?;
         enter(&mut self.rows, self.alloc, job)?;
         let Some(row) = self.rows.get_mut(&job) else {
             unreachable!()
         };
-        row.ask(job, kind, last, self.turn, ids)?;
+        row.ask(job, kind, last, self.turn.value(), ids)?;
         self.turn = turn;
         Ok(())
     }
@@ -159,12 +159,12 @@ fn front(rows: &IndexMap<JobNo, Row>) -> Option<Timed>
 }
 
 /// The job has a row, with nothing in it if it is new. A failure changes nothing.
-fn enter(rows: &mut IndexMap<JobNo, Row>, alloc: Global, job: JobNo) -> Result<(), AllocError>
+fn enter(rows: &mut IndexMap<JobNo, Row>, alloc: Global, job: JobNo) -> Result<(), OutOfMemory>
     ensures ok { OnOk result (rows.new.entries ≡ with_row job rows.old.entries) }
     ensures err { OnErr result (rows.new.entries ≡ rows.old.entries) }
 {
     if !rows.contains_key(&job) {
-        rows.insert(job, Row::new(alloc))?;
+        tables::insert(rows, job, Row::new(alloc))?;
     }
     Ok(())
 }

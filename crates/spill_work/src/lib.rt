@@ -7,7 +7,8 @@ ghost use Rattle.std.specs.Prelude.{◌≡◌, ◌≢◌, ◌+◌, ◌≤◌, �
 ghost use Rattle.std.specs.Map.{lookup, set_value, remove_entry};
 ghost use Rattle.indexmap.specs.IndexMap.{insert_entry, Updates};
 ghost use Rattle.obj_id.specs.declared.refusals.Refusal.{Refusal};
-ghost use Rattle.obj_id.specs.declared.refusals.Refusal.TheVariants.{NoMemory};
+ghost use Rattle.obj_id.specs.declared.refusals.Failure.TheVariants.{Refused, Memory};
+ghost use Rattle.memory_growth.specs.declared.OutOfMemory.{OutOfMemory};
 ghost use Rattle.spill_work.specs.Line.{WorkLine, same_work_job, shown, works_of, used_by, in_flight as in_flight_lem, works_taken_by, room_for as room_for_lem, ask_check as ask_check_lem, AsksWork, TakesBack, AsksAll, front_of, Takes, MarksTaken, finish_check as finish_check_lem, Finishes, Drops};
 ghost use Rattle.spill_work.specs.Numbers.{entry_of};
 
@@ -17,10 +18,11 @@ mod row;
 
 use by_job::ByJob;
 use indexmap::IndexMap;
+use memory_growth::{OutOfMemory, tables};
 use obj_id::limits::MOST_WORKS;
-use obj_id::{ItemList, JobNo, ObjectId, Refusal, WorkKind};
+use obj_id::{Failure, ItemList, JobNo, ObjectId, Refusal, WorkKind};
 pub use queue::{IoRequest, Queued};
-use std::alloc::{AllocError, Global};
+use std::alloc::Global;
 use std::marker::Model;
 
 /// The works in flight of all jobs.
@@ -77,7 +79,7 @@ impl Works {
     }
 
     /// The job's works in flight, in the order asked. Takes a walk over them, and memory for each.
-    pub fn asked_of(&self, job: JobNo) -> Result<ItemList<IoRequest>, AllocError>
+    pub fn asked_of(&self, job: JobNo) -> Result<ItemList<IoRequest>, OutOfMemory>
         ensures { IfOk result (λ asked. map shown asked ≡ works_of self.now job) }
     {
         Ok(self.line.asked_of(job)?)
@@ -101,17 +103,17 @@ impl Works {
     }
 
     /// Asks for a work of the job on the object, under the job's next number, which it gives. `Busy` at
-    /// 8 works in flight, `TooMany` if no number is left, `NoMemory` last. A refusal uses no number
+    /// 8 works in flight, `TooMany` if no number is left, out of memory last. A refusal uses no number
     /// and changes nothing.
-    pub fn ask(&mut self, job: JobNo, id: ObjectId, kind: WorkKind) -> Result<u64, Refusal>
+    pub fn ask(&mut self, job: JobNo, id: ObjectId, kind: WorkKind) -> Result<u64, Failure>
         ensures ok { IfOk result (λ number. AsksWork self.old (record { job = job; number = number; id = id; kind = kind }) self.new) }
         ensures passed { IsOk result → ask_check_lem self.old job ≡ None }
-        ensures refused { (r : Refusal) → r ≢ NoMemory → IsErrOf result r → ask_check_lem self.old job ≡ Some r }
-        ensures memory { IsErrOf result NoMemory → ask_check_lem self.old job ≡ None }
+        ensures refused { (r : Refusal) → IsErrOf result (Refused r) → ask_check_lem self.old job ≡ Some r }
+        ensures memory { (m : OutOfMemory) → IsErrOf result (Memory m) → ask_check_lem self.old job ≡ None }
         ensures err { OnErr result (self.new ≡ self.old) }
     {
         if let Some(refusal) = self.ask_check(job) {
-            return Err(refusal);
+            return Err(Failure::Refused(refusal));
         }
         let number = self.asked(job) + 1;
         self.append(job, &[id], kind)?;
@@ -139,7 +141,7 @@ impl Works {
         job: JobNo,
         ids: &[ObjectId],
         kind: WorkKind,
-    ) -> Result<(), AllocError>
+    ) -> Result<(), OutOfMemory>
         requires { room_for_lem self.old job (length ids.now) ≡ true }
         ensures ok { OnOk result (AsksAll self.old job kind ids.now self.new) }
         ensures succeeds { ids.now ≡ [] → IsOk result }
@@ -215,7 +217,7 @@ impl Works {
 
     /// A work on each of these objects comes last in the line, under the job's next numbers. A failure
     /// changes nothing.
-    fn append(&mut self, job: JobNo, ids: &[ObjectId], kind: WorkKind) -> Result<(), AllocError>
+    fn append(&mut self, job: JobNo, ids: &[ObjectId], kind: WorkKind) -> Result<(), OutOfMemory>
         requires room { room_for_lem self.old job (length ids.now) ≡ true }
         requires some { 1 ≤ length ids.now }
         ensures ok { OnOk result (AsksAll self.old job kind ids.now self.new) }
@@ -224,7 +226,7 @@ impl Works {
     {
         let last = self.asked(job);
         // nothing after the line's growth can fail
-        self.used.reserve(1)?;
+        tables::reserve(&mut self.used, 1)?;
         self.line.ask(job, kind, last, ids)?;
         self.used.insert(job, last + ids.len() as u64).unwrap();
         Ok(())

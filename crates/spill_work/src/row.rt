@@ -4,8 +4,9 @@ ghost use Rattle.std.specs.Option.{option_map};
 ghost use Rattle.spill_work.specs.Turns.{has_number, with_mark, timed, earlier as earlier_lem, front_from};
 
 use crate::queue::{IoRequest, Queued};
+use memory_growth::{OutOfMemory, lists};
 use obj_id::{ItemList, JobNo, ObjectId, WorkKind};
-use std::alloc::{AllocError, Global};
+use std::alloc::Global;
 use std::marker::Model;
 
 /// A work, and its turn among those of all jobs.
@@ -55,12 +56,12 @@ impl Row {
     }
 
     /// What each asks, in their order. Takes a walk over them, and memory for each.
-    pub(crate) fn asked(&self, alloc: Global) -> Result<ItemList<IoRequest>, AllocError>
+    pub(crate) fn asked(&self, alloc: Global) -> Result<ItemList<IoRequest>, OutOfMemory>
         ensures { IfOk result (λ asked. asked ≡ map (λ t. t.work.asked) self.now) }
     {
         let mut asked = Vec::new(alloc);
         for timed in &self.works {
-            asked.push(timed.work.asked)?;
+            lists::push(&mut asked, timed.work.asked)?;
         }
         Ok(ItemList::from_vec(asked))
     }
@@ -115,13 +116,13 @@ impl Row {
         last: u64,
         turn: u64,
         ids: &[ObjectId],
-    ) -> Result<(), AllocError>
+    ) -> Result<(), OutOfMemory>
         requires numbers { last + length ids.now < 2 ^ 64 }
         requires turns { turn + length ids.now < 2 ^ 64 }
         ensures ok { OnOk result (self.new ≡ self.old ++ timed job kind last turn ids.now) }
         ensures err { OnErr result (self.new ≡ self.old) }
     {
-        self.works.reserve(ids.len())?;
+        lists::reserve_for(&mut self.works, ids)?;
         push_timed(&mut self.works, job, kind, last, turn, ids);
         Ok(())
     }

@@ -4,19 +4,12 @@
 ghost use Rattle.std.specs.Prelude.{◌≡◌, true};
 ghost use Rattle.world_core.specs.Worlds.{is_shape};
 
-mod connecting;
-mod control;
-mod machine;
-mod patient;
-mod serve_fault;
 mod serving;
-mod sockets;
-mod telling;
 
 use journal_replay::{ReplayFault, Verdict, replay_text, status_of as status_of_replay};
 use program_lines::{Fault, status_of};
 use schedule_runs::{Keep, RunJournal, ScheduleRun, Task, read_task, run_text, status_of_error};
-use serve_fault::PrintedFault;
+use server_host::PrintedFault;
 use serving::serve;
 use std::fs::File;
 use std::io::{BufReader, BufWriter, ErrorKind};

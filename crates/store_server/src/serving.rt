@@ -2,20 +2,21 @@
 ghost use Rattle.std.specs.Prelude.{◌≡◌, true};
 ghost use Rattle.world_core.specs.Worlds.{is_shape};
 
-use crate::connecting::{Connecting, connect_control, take_input};
-use crate::machine::{machine_memory, most_descriptors};
-use crate::patient::Patient;
-use crate::serve_fault::{PrintedFault, ServeFault};
-use crate::sockets::{SocketFile, bind};
-use crate::telling::{Telling, TellingDevice};
-use node_housekeeping::NoPause;
+use cluster_threads::{Cluster, Working, work};
+use control_socket::{Connecting, connect_control, take_input};
+use memory_growth::{MOST_ROOM, OutOfMemory, boxes, lists, text_of};
+use node_housekeeping::{NoPause, Report};
 use operator_service::{serve_text, write_report};
 use program_lines::Fault;
 use schedule_runs::Serving;
-use session_threads::{Cluster, Listening, Report, Working, listen, work};
+use server_host::{
+    Patient, PrintedFault, ServeFault, SocketFile, Telling, TellingDevice, bind, machine_memory,
+    most_descriptors,
+};
+use session_threads::{Listening, listen};
 use shared_nodes::SharedNode;
 use spill_device::SpillFolder;
-use std::alloc::{AllocError, Global};
+use std::alloc::Global;
 use std::fs::Files;
 use std::io::{BufRead, BufReader, Read, Write};
 use std::marker::Brand;
@@ -200,7 +201,7 @@ fn take_orders<
         };
     };
     let connecting = connect_control(rt, host.alloc(), nodes, count, path)?;
-    let control = Arc::try_clone(&connecting.control)?;
+    let control = boxes::another(&connecting.control)?;
     served.control = Some(connecting);
     say_ready(host);
     take_input(rt, host, &control)?;
@@ -219,13 +220,13 @@ fn say_ready(host: HostRuntime) {
 fn nodes_of<L: Ledger>(
     alloc: Global,
     cluster: &Cluster<L>,
-) -> Result<Vec<Arc<SharedNode<L>>>, AllocError> {
+) -> Result<Vec<Arc<SharedNode<L>>>, OutOfMemory> {
     let mut nodes = Vec::new(alloc);
     for number in 0..u32::MAX {
         let Some(node) = cluster.node(number) else {
             break;
         };
-        nodes.push(Arc::try_clone(node)?)?;
+        lists::push(&mut nodes, boxes::another(node)?)?;
     }
     Ok(nodes)
 }
@@ -241,9 +242,10 @@ fn open_nodes<
     serving: Serving<'_>,
     served: &mut Served<L>,
 ) -> Result<(), ServeFault> {
-    served.folders.reserve(serving.shape.nodes as usize)?;
-    served.workers.reserve(serving.shape.nodes as usize)?;
-    served.listeners.reserve(serving.shape.nodes as usize)?;
+    let room = (serving.shape.nodes as usize).min(MOST_ROOM);
+    lists::reserve(&mut served.folders, room)?;
+    lists::reserve(&mut served.workers, room)?;
+    lists::reserve(&mut served.listeners, room)?;
     let telling = Telling::new(host.alloc())?;
     let most = most_descriptors(&host);
     for number in 0..serving.shape.nodes {
@@ -253,20 +255,13 @@ fn open_nodes<
         if let Some(most) = most {
             node.housekeeping().streams.bound(most);
         }
-        let folder = format!(in host.alloc(); "{}/{number}", serving.spill)?;
-        let _ = served
-            .folders
-            .push(SpillFolder::take(host, folder.as_str())?);
-        let _ = served.workers.push(start_worker(
-            rt,
-            host,
-            node,
-            number,
-            folder.as_str(),
-            telling.share()?,
-        )?);
+        let path = text_of!(in host.alloc(); "{}/{number}", serving.spill)?;
+        let folder = SpillFolder::take(host, path.as_str())?;
+        let worker = start_worker(rt, host, node, number, &folder, telling.share()?)?;
+        let _ = lists::push(&mut served.folders, folder);
+        let _ = lists::push(&mut served.workers, worker);
         let door = open_listener(rt, host.alloc(), node, serving.socket, number)?;
-        let _ = served.listeners.push(door);
+        let _ = lists::push(&mut served.listeners, door);
     }
     Ok(())
 }
@@ -281,10 +276,10 @@ fn start_worker<
     host: HostRuntime,
     node: &Arc<SharedNode<L>>,
     number: u32,
-    folder: &str,
+    folder: &SpillFolder,
     telling: Telling,
 ) -> Result<Working<L>, ServeFault> {
-    let node = Arc::try_clone(node)?;
+    let node = boxes::another(node)?;
     let device = TellingDevice::new(rt, host, number, folder, telling)?;
     match work(rt, node, device) {
         Ok(working) => Ok(working),
@@ -303,8 +298,8 @@ fn open_listener<
     socket: &str,
     number: u32,
 ) -> Result<NodeListener, ServeFault> {
-    let node = Arc::try_clone(node)?;
-    let path = format!(in alloc; "{socket}.{number}")?;
+    let node = boxes::another(node)?;
+    let path = text_of!(in alloc; "{socket}.{number}")?;
     let listener = match bind(&rt, path.as_str()) {
         Ok(listener) => listener,
         Err(error) => return Err(ServeFault::Socket { path, error }),

@@ -1,7 +1,8 @@
 //! Lines of a saved journal as they are read, and written again. A table is one text: the prover reads each element of an array.
 use assertions::same;
 use journal_text::{Version, answer_of, read_head, read_line, write_line};
-use std::alloc::{AllocError, Global};
+use memory_growth::OutOfMemory;
+use std::alloc::Global;
 use std::process::Abort;
 use std::test::Fail;
 
@@ -60,7 +61,7 @@ n0 j2 8 withdrawn 1/t1.1 = ok > n0 j2 8 withdrawn 1/t1.1 1 1 = ok
 n0 j9 5 s1 list = list 1/t1.1:granted:4 > n0 j9 5 s1 list = list 1/t1.1:granted:4:1";
 
 /// What is written for the line once it is read; empty if it is no entry.
-fn written(alloc: Global, text: &str, version: Version) -> Result<String, AllocError> {
+fn written(alloc: Global, text: &str, version: Version) -> Result<String, OutOfMemory> {
     match read_line(alloc, text, version)? {
         Some(entry) => write_line(alloc, &entry),
         None => Ok(String::new(alloc)),
@@ -74,14 +75,14 @@ fn gives(
     text: &str,
     version: Version,
     line: &str,
-) -> Result<(), AllocError> {
+) -> Result<(), OutOfMemory> {
     let written = written(alloc, text, version)?;
     same!(rt; written.as_str(), line);
     Ok(())
 }
 
 /// Checks the answer in a line.
-fn answers(rt: &impl Abort, alloc: Global, text: &str, answer: &str) -> Result<(), AllocError> {
+fn answers(rt: &impl Abort, alloc: Global, text: &str, answer: &str) -> Result<(), OutOfMemory> {
     let response = answer_of(alloc, text)?;
     same!(rt; response.as_str(), answer);
     Ok(())

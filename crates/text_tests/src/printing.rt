@@ -1,13 +1,14 @@
 //! Answers as they are printed.
 use assertions::same;
 use bytes::Bytes;
+use memory_growth::OutOfMemory;
 use obj_id::{
     CopyState, DeviceKey, Endpoint, GrantedItem, ItemList, JobKey, JobNo, Kind, Message, ObjectId,
     OwnItem, PeerMessage, Quota, Refusal, Reply, TaskNo, Usage, Work, WorkKind,
 };
 use private_store::{Event, Step, StepAnswer};
 use schedule_text::{Prefix, answer_line};
-use std::alloc::{AllocError, Global};
+use std::alloc::Global;
 use std::process::Abort;
 use std::test::Fail;
 
@@ -28,7 +29,7 @@ fn is_line(
     prefix: Prefix,
     answer: StepAnswer,
     text: &str,
-) -> Result<(), AllocError> {
+) -> Result<(), OutOfMemory> {
     let line = answer_line(alloc, prefix, &answer)?;
     same!(rt; line.as_str(), text);
     Ok(())
@@ -41,7 +42,7 @@ fn prints(
     prefix: Prefix,
     reply: Reply<Bytes>,
     text: &str,
-) -> Result<(), AllocError> {
+) -> Result<(), OutOfMemory> {
     is_line(rt, alloc, prefix, StepAnswer::Response(reply), text)
 }
 
@@ -55,7 +56,7 @@ fn own(
     id: ObjectId,
     state: CopyState,
     kind: Kind,
-) -> Result<ItemList<OwnItem>, AllocError> {
+) -> Result<ItemList<OwnItem>, OutOfMemory> {
     let mut items = ItemList::new(alloc);
     items.push(OwnItem {
         id,
@@ -70,7 +71,7 @@ fn own_and_granted(
     alloc: Global,
     id: ObjectId,
     granted: ObjectId,
-) -> Result<Reply<Bytes>, AllocError> {
+) -> Result<Reply<Bytes>, OutOfMemory> {
     let mut items = own(alloc, id, CopyState::Fetching, Kind::Secondary)?;
     items.push(OwnItem {
         id,

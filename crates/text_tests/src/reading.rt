@@ -1,8 +1,9 @@
 //! Lines as they are read, if there are two nodes. A table is one text: the prover reads each element of an array.
 use assertions::same;
+use memory_growth::{OutOfMemory, text_of, texts};
 use obj_id::{JobKey, JobNo, ObjectId, Refusal, TaskNo};
 use schedule_text::{Line, Prefix, read_line};
-use std::alloc::{AllocError, Global};
+use std::alloc::Global;
 use std::fmt::Debug;
 use std::process::Abort;
 use std::test::Fail;
@@ -46,7 +47,7 @@ usage = Usage
 leave = Leave";
 
 /// What the line says. Unlike `read_line` it promises nothing.
-fn read(alloc: Global, text: &str) -> Result<Option<Line>, AllocError> {
+fn read(alloc: Global, text: &str) -> Result<Option<Line>, OutOfMemory> {
     read_line(alloc, text, 2)
 }
 
@@ -56,9 +57,15 @@ fn named<T: Debug + Drop>(
     text: &str,
     value: T,
     name: &str,
-) -> Result<String, AllocError> {
-    let long = format!(in alloc; "{value:?}")?;
-    text.replace(alloc, long.as_str(), name)
+) -> Result<String, OutOfMemory> {
+    let long = text_of!(in alloc; "{value:?}")?;
+    let mut parts = text.split(long.as_str());
+    let mut shorter = texts::from_str(alloc, parts.next().unwrap_or(""))?;
+    for part in parts {
+        texts::push_str(&mut shorter, name)?;
+        texts::push_str(&mut shorter, part)?;
+    }
+    Ok(shorter)
 }
 
 /// What the line says, with names for what is long.
@@ -66,7 +73,7 @@ fn said(alloc: Global, line: &str) -> Result<String, Refusal> {
     let first = ObjectId::new(TaskNo::numbered(1), JobNo(1), 1)?;
     let foreign = ObjectId::new(TaskNo::numbered(9), JobNo(2), 9)?;
     let line = read(alloc, line)?;
-    let text = format!(in alloc; "{line:?}")?;
+    let text = text_of!(in alloc; "{line:?}")?;
     let text = named(alloc, text.as_str(), first, "FIRST")?;
     let text = named(alloc, text.as_str(), foreign, "FOREIGN")?;
     let text = named(
@@ -80,9 +87,9 @@ fn said(alloc: Global, line: &str) -> Result<String, Refusal> {
     Ok(text)
 }
 
-fn joined(alloc: Global, parts: [&str; 3]) -> Result<String, AllocError> {
+fn joined(alloc: Global, parts: [&str; 3]) -> Result<String, OutOfMemory> {
     let [before, text, after] = parts;
-    format!(in alloc; "{before}{text}{after}")
+    text_of!(in alloc; "{before}{text}{after}")
 }
 
 /// Checks what a line says.

@@ -3,11 +3,12 @@ use crate::objects::{admit, is_hello, object, response, seal_hello};
 use crate::trials::{Trial, try_out};
 use assertions::{holds, same};
 use bytes::Bytes;
+use memory_growth::OutOfMemory;
+use node_housekeeping::Report;
 use node_journal::Receipt;
 use obj_id::{Command, JobNo, Quota, Reply};
-use session_threads::Report;
 use shared_nodes::SharedNode;
-use std::alloc::{AllocError, Global};
+use std::alloc::Global;
 use std::process::Abort;
 use std::sync::Wait;
 use std::sync::ledger::Ledger;
@@ -31,7 +32,7 @@ pub(crate) fn six_commands<L: Ledger, R: Wait + Abort>(
     rt: &R,
     alloc: Global,
     node: &SharedNode<L>,
-) -> Result<Receipt<L>, AllocError> {
+) -> Result<Receipt<L>, OutOfMemory> {
     let id = object(rt, JOB, 1);
     admit(rt, node, JOB, QUOTA);
     seal_hello(rt, alloc, node, id)?;

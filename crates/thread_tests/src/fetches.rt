@@ -2,10 +2,11 @@
 use crate::objects::{admit, is_hello, object, response, seal_hello};
 use crate::trials::{Trial, try_out};
 use assertions::{holds, same};
+use memory_growth::OutOfMemory;
 use obj_id::{Command, JobNo, Quota, Refusal, Reply};
 use private_store::Awaited;
 use shared_nodes::SharedNode;
-use std::alloc::{AllocError, Global};
+use std::alloc::Global;
 use std::process::Abort;
 use std::sync::Wait;
 use std::sync::ledger::Ledger;
@@ -40,7 +41,7 @@ fn begin<L: Ledger, R: Wait + Abort>(
     alloc: Global,
     sealing: &SharedNode<L>,
     fetching: &SharedNode<L>,
-) -> Result<(), AllocError> {
+) -> Result<(), OutOfMemory> {
     admit(rt, sealing, JOB, QUOTA);
     admit(rt, fetching, JOB, QUOTA);
     seal_hello(rt, alloc, sealing, object(rt, JOB, 1))
@@ -52,7 +53,7 @@ pub(crate) fn fetch<L: Ledger, R: Wait + Clock + Abort>(
     alloc: Global,
     sealing: &SharedNode<L>,
     fetching: &SharedNode<L>,
-) -> Result<(), AllocError> {
+) -> Result<(), OutOfMemory> {
     begin(rt, alloc, sealing, fetching)?;
     get_and_read(rt, fetching);
     Ok(())
@@ -73,7 +74,7 @@ pub(crate) fn ask_beside<L: Ledger, R: Wait + Abort>(
     alloc: Global,
     sealing: &SharedNode<L>,
     fetching: &SharedNode<L>,
-) -> Result<(), AllocError> {
+) -> Result<(), OutOfMemory> {
     begin(rt, alloc, sealing, fetching)?;
     ask_often(rt, fetching);
     Ok(())

@@ -5,11 +5,12 @@ use crate::objects::{admit, object, response, seal_hello};
 use crate::trials::{Trial, try_out};
 use assertions::{holds, same};
 use bytes::Bytes;
+use memory_growth::{OutOfMemory, boxes};
 use node_housekeeping::WorkDone;
 use obj_id::{Command, JobNo, Kind, Quota, Refusal, Reply};
 use shared_nodes::SharedNode;
 use spill_device::{FaultyDevice, MemoryDevice, SpillDevice};
-use std::alloc::{AllocError, Global};
+use std::alloc::Global;
 use std::process::Abort;
 use std::sync::ledger::Ledger;
 use std::sync::{Arc, Wait};
@@ -73,8 +74,8 @@ fn round_with<L: Ledger + Send + Sync + 'static, R: Threads + Wait + Abort + Cop
     call: DeviceCall,
 ) -> io::Result<(WorkDone, Device)> {
     let is_kept = device.kept == call;
-    let gate = Arc::try_clone(&device.gate)?;
-    let working = start_round(rt, Arc::try_clone(node)?, device)?;
+    let gate = boxes::another(&device.gate)?;
+    let working = start_round(rt, boxes::another(node)?, device)?;
     let is_as_due = !is_kept || is_answered_beside(&rt, node, &gate);
     let ended = working.join(&rt);
     holds!(rt; is_as_due);
@@ -86,7 +87,7 @@ fn begin<L: Ledger, R: Wait + Abort>(
     rt: &R,
     alloc: Global,
     node: &SharedNode<L>,
-) -> Result<(), AllocError> {
+) -> Result<(), OutOfMemory> {
     admit(rt, node, SPILLED, ONE);
     admit(rt, node, OTHER, ONE);
     seal_hello(rt, alloc, node, object(rt, OTHER, 1))
@@ -177,7 +178,7 @@ pub(crate) fn call_beside<
     let device = KeptDevice {
         inner: FaultyDevice::new(MemoryDevice::new(alloc), failing),
         kept,
-        gate: Arc::new(alloc, Gate::new())?,
+        gate: boxes::counted(alloc, Gate::new())?,
     };
     let device = write_and_read(rt, node, device, failing > 0)?;
     ask_for_erase(&rt, node);

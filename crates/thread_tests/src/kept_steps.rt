@@ -4,10 +4,11 @@ ghost use Rattle.std.specs.Prelude.{◌≡◌};
 use crate::gates::Gate;
 use crate::objects::admit;
 use assertions::same;
-use node_housekeeping::Pause;
+use cluster_threads::Cluster;
+use memory_growth::boxes;
+use node_housekeeping::{Pause, Report};
 use obj_id::{Command, JobNo, Quota, Reply};
 use private_store::Event;
-use session_threads::{Cluster, Report};
 use shared_nodes::SharedNode;
 use std::alloc::Global;
 use std::marker::Brand;
@@ -71,7 +72,7 @@ fn step_beside<
     let other = cluster.node(1).expect(&rt, "a node");
     admit(&rt, kept, JOB, QUOTA);
     admit(&rt, other, JOB, QUOTA);
-    let calling = start_usage(rt, Arc::try_clone(kept)?, JOB)?;
+    let calling = start_usage(rt, boxes::another(kept)?, JOB)?;
     let is_reached = gate.await_arrival();
     let beside = usage_at(&rt, other, JOB);
     let is_kept = gate.open();
@@ -90,9 +91,9 @@ fn try_at<L: Ledger + Send + Sync + 'static, R: Threads + Wait + Abort + Copy + 
     requires parts { blank.parts ≡ L.parts }
     requires count { blank.parts ≡ 2 }
 {
-    let gate = Arc::new(alloc, Gate::new())?;
+    let gate = boxes::counted(alloc, Gate::new())?;
     let pause = KeptCommands {
-        gate: Arc::try_clone(&gate)?,
+        gate: boxes::another(&gate)?,
     };
     let (_book, seats) = blank.open::<L>();
     let cluster = Cluster::start(alloc, 2, 1024, seats, pause)?;

@@ -1,10 +1,11 @@
 //! Jobs and their objects at a node, called as a direct caller does.
 use assertions::holds;
 use bytes::Bytes;
+use memory_growth::{OutOfMemory, lists, shared};
 use node_housekeeping::Pause;
 use obj_id::{Command, JobKey, JobNo, Kind, ObjectId, Quota, Reply, TaskNo};
 use shared_nodes::SharedNode;
-use std::alloc::{AllocError, Global};
+use std::alloc::Global;
 use std::process::Abort;
 use std::sync::Wait;
 use std::sync::ledger::Ledger;
@@ -43,8 +44,8 @@ pub(crate) fn seal_hello<L: Ledger, R: Wait + Abort>(
     alloc: Global,
     node: &SharedNode<L>,
     id: ObjectId,
-) -> Result<(), AllocError> {
-    let hello = Bytes::from_vec(Vec::from_slice(alloc, b"Hello")?)?;
+) -> Result<(), OutOfMemory> {
+    let hello = shared::from_vec(lists::copied(alloc, b"Hello")?)?;
     let job = id.job();
     holds!(rt; matches!(response(rt, node, job, Command::Create { id, kind: Kind::Primary, length: 20 }), Reply::Placed(_, 32)));
     holds!(rt; matches!(response(rt, node, job, Command::Write { id, offset: 0, bytes: hello }), Reply::Ok));

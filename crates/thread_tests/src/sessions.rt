@@ -2,11 +2,12 @@
 use crate::objects::{KEY, admit, is_hello, object, seal_hello};
 use crate::trials::{Trial, try_out};
 use assertions::{holds, same};
+use memory_growth::OutOfMemory;
 use obj_id::{Command, JobNo, Quota, Refusal, Reply};
 use session_engine::Gate;
 use session_threads::Session;
 use shared_nodes::SharedNode;
-use std::alloc::{AllocError, Global};
+use std::alloc::Global;
 use std::process::Abort;
 use std::sync::Wait;
 use std::sync::ledger::Ledger;
@@ -47,7 +48,7 @@ pub(crate) fn two_sessions<L: Ledger, R: Wait + Clock + Abort>(
     rt: &R,
     alloc: Global,
     node: &SharedNode<L>,
-) -> Result<(), AllocError> {
+) -> Result<(), OutOfMemory> {
     admit(rt, node, JOB, QUOTA);
     seal_hello(rt, alloc, node, object(rt, JOB, 1))?;
     let mut holding = Session::new(rt, node);

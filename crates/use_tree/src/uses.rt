@@ -8,8 +8,9 @@ ghost use Rattle.use_tree.specs.Uses.{turn_of, IsAnyUse, AreClassesOf, use_in_cl
 
 use crate::classes::{VictimClass, VictimClasses};
 use augmented_tree::{Keyed, Marked, Tree, summary};
+use memory_growth::OutOfMemory;
 use obj_id::ObjectId;
-use std::alloc::{AllocError, Global};
+use std::alloc::Global;
 use std::marker::Model;
 
 /// A use of a copy.
@@ -78,7 +79,7 @@ impl Drop for SpareNode {
 
 impl SpareNode {
     /// Takes the memory of one use. Which one stands in it until then doesn't matter.
-    pub fn new(alloc: Global, here: Use) -> Result<SpareNode, AllocError> {
+    pub fn new(alloc: Global, here: Use) -> Result<SpareNode, OutOfMemory> {
         Ok(SpareNode {
             node: augmented_tree::SpareNode::new(alloc, here)?,
         })

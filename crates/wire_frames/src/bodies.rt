@@ -6,9 +6,10 @@ ghost use Rattle.wire_frames.specs.Filled.{HasPayload, filled_item, option_fille
 
 use crate::kinds::{FrameKind, ObjectKind};
 use bytes::Bytes;
+use memory_growth::{OutOfMemory, shared};
 use obj_id::{Command, JobKey, JobNo, Kind, ObjectId, TaskNo};
 use private_store::{Awaited, Item};
-use std::alloc::{AllocError, Global};
+use std::alloc::Global;
 
 /// How many bytes of a write's body stand before its payload.
 const BEFORE_PAYLOAD: usize = 32;
@@ -23,14 +24,14 @@ pub(crate) enum FrameBody {
 
 impl FrameBody {
     /// The item, with the payload copied out of the body.
-    pub(crate) fn copied(self, alloc: Global, body: &[u8]) -> Result<Item, AllocError>
+    pub(crate) fn copied(self, alloc: Global, body: &[u8]) -> Result<Item, OutOfMemory>
         requires { HasPayload self body.now }
         ensures { IfOk result (λ item. item ≡ filled_item self body.now) }
     {
         match self {
             FrameBody::Item(item) => Ok(item),
             FrameBody::Write(id, offset) => {
-                let payload = Bytes::copy_from_slice(alloc, &body[BEFORE_PAYLOAD..])?;
+                let payload = shared::copied(alloc, &body[BEFORE_PAYLOAD..])?;
                 Ok(Item::Command(Command::Write {
                     id,
                     offset,

@@ -5,12 +5,13 @@ ghost use Rattle.obj_id.specs.Ids.{id_bytes};
 ghost use Rattle.wire_frames.specs.Writing.{has_command_frame};
 
 use bytes::Bytes;
+use memory_growth::{MOST_ROOM, OutOfMemory, lists};
 use obj_id::{Command, Kind, ObjectId};
 use private_store::{Awaited, Item};
-use std::alloc::{AllocError, Global};
+use std::alloc::Global;
 
 /// The frame of an item. `BadId` has none, and neither has a write of more than 65,567 bytes.
-pub fn encode_command(alloc: Global, item: &Item) -> Result<Vec<u8>, AllocError>
+pub fn encode_command(alloc: Global, item: &Item) -> Result<Vec<u8>, OutOfMemory>
     requires { IsTrue (has_command_frame item.now) }
     ensures { IfOk result (λ frame. frame.items ≡ item_frame item.now) }
 {
@@ -26,7 +27,7 @@ pub fn encode_command(alloc: Global, item: &Item) -> Result<Vec<u8>, AllocError>
 }
 
 /// The frame of a command.
-fn command_frame(alloc: Global, command: &Command<Bytes>) -> Result<Vec<u8>, AllocError>
+fn command_frame(alloc: Global, command: &Command<Bytes>) -> Result<Vec<u8>, OutOfMemory>
     requires { IsTrue (is_command_length (length (command_body command.now))) }
     ensures { IfOk result (λ f. f.items ≡ frame (command_body command.now)) }
 {
@@ -52,7 +53,7 @@ fn command_frame(alloc: Global, command: &Command<Bytes>) -> Result<Vec<u8>, All
 }
 
 /// A frame whose body is an object's id and what stands after it.
-fn about(alloc: Global, kind: u8, id: ObjectId, rest: &[u8]) -> Result<Vec<u8>, AllocError>
+fn about(alloc: Global, kind: u8, id: ObjectId, rest: &[u8]) -> Result<Vec<u8>, OutOfMemory>
     requires { length rest.now < 65536 }
     ensures { IfOk result (λ f. f.items ≡ frame (kind ∷ id_bytes id ++ rest.now)) }
 {
@@ -60,7 +61,7 @@ fn about(alloc: Global, kind: u8, id: ObjectId, rest: &[u8]) -> Result<Vec<u8>, 
 }
 
 /// The frame of written bytes.
-fn write(alloc: Global, id: ObjectId, offset: u32, bytes: &[u8]) -> Result<Vec<u8>, AllocError>
+fn write(alloc: Global, id: ObjectId, offset: u32, bytes: &[u8]) -> Result<Vec<u8>, OutOfMemory>
     requires { length bytes.now < 65600 }
     ensures { IfOk result (λ f. f.items ≡ frame (0x03 ∷ id_bytes id ++ be4 offset ++ bytes.now)) }
 {
@@ -74,7 +75,7 @@ fn range(
     id: ObjectId,
     offset: u32,
     count: u32,
-) -> Result<Vec<u8>, AllocError>
+) -> Result<Vec<u8>, OutOfMemory>
     ensures { IfOk result (λ f. f.items ≡ frame (kind ∷ range_body id offset count)) }
 {
     frame_of(
@@ -91,7 +92,7 @@ fn create(
     id: ObjectId,
     copy: Kind,
     length: u32,
-) -> Result<Vec<u8>, AllocError>
+) -> Result<Vec<u8>, OutOfMemory>
     ensures { IfOk result (λ f. f.items ≡ frame (kind ∷ create_body id copy length)) }
 {
     frame_of(
@@ -112,16 +113,16 @@ pub(crate) fn kind_byte(kind: Kind) -> u8
 }
 
 /// The frame of a kind and a body in parts, which are copied once.
-pub(crate) fn frame_of(alloc: Global, kind: u8, parts: &[&[u8]]) -> Result<Vec<u8>, AllocError>
+pub(crate) fn frame_of(alloc: Global, kind: u8, parts: &[&[u8]]) -> Result<Vec<u8>, OutOfMemory>
     requires { 1 + length (flat_map (λ part. part.now) parts.now) < 2 ^ 32 }
     ensures { IfOk result (λ f. f.items ≡ frame (kind ∷ flat_map (λ part. part.now) parts.now)) }
 {
     let size = 1 + total_length(parts);
-    let mut frame = Vec::with_capacity(alloc, 4 + size)?;
-    frame.extend_from_slice(&(size as u32).to_be_bytes())?;
-    frame.push(kind)?;
+    let mut frame = lists::with_capacity(alloc, (4 + size).min(MOST_ROOM))?;
+    lists::extend_from_slice(&mut frame, &(size as u32).to_be_bytes())?;
+    lists::push(&mut frame, kind)?;
     for part in parts {
-        frame.extend_from_slice(part)?;
+        lists::extend_from_slice(&mut frame, part)?;
     }
     Ok(frame)
 }

@@ -6,8 +6,9 @@ ghost use Rattle.wire_frames.specs.Heads.{StandsAtHead, stream_from, stream_read
 
 use crate::bodies::{FrameBody, number_at, read_body};
 use crate::kinds::FrameKind;
+use memory_growth::{OutOfMemory, lists};
 use private_store::Item;
-use std::alloc::{AllocError, Global};
+use std::alloc::Global;
 
 /// The most bytes that a command's frame has after its length.
 const MOST_BYTES: u32 = 65_600;
@@ -37,7 +38,7 @@ pub(crate) struct Frames {
 }
 
 /// Reads whole frames up to one that isn't whole, or to a fault.
-pub(crate) fn read_frames(alloc: Global, bytes: &[u8]) -> Result<Frames, AllocError>
+pub(crate) fn read_frames(alloc: Global, bytes: &[u8]) -> Result<Frames, OutOfMemory>
     ensures stream { IfOk result (λ f. stream_of bytes.now ≡ stream_read f.items.items f.faulty (drop f.used bytes.now)) }
     ensures used { IfOk result (λ f. f.used ≤ length bytes.now) }
 {
@@ -61,7 +62,7 @@ pub(crate) fn read_frames(alloc: Global, bytes: &[u8]) -> Result<Frames, AllocEr
                 });
             }
             Head::Frame(said, size) => {
-                items.push(said.copied(alloc, &rest[BEFORE_BODY..size])?)?;
+                lists::push(&mut items, said.copied(alloc, &rest[BEFORE_BODY..size])?)?;
                 used += size;
             }
         }

@@ -8,9 +8,10 @@ ghost use Rattle.wire_frames.specs.Reading.{failed, unfinished, fed, fed_by, rea
 use crate::bodies::{FrameBody, number_at};
 use crate::frames::{BEFORE_BODY, Frames, Head, is_command_length, read_frames, read_head};
 use bytes::BytesMut;
+use memory_growth::{OutOfMemory, buffers, lists};
 use obj_id::Refusal;
 use private_store::Item;
-use std::alloc::{AllocError, Global};
+use std::alloc::Global;
 use std::marker::Model;
 
 /// Reads the frames of a stream, whatever the pieces in which it comes. Between two pieces it keeps the bytes of a
@@ -101,7 +102,7 @@ impl Reader {
 
 /// Reads the whole frames of what was kept and of the piece after it, and keeps what is left. If nothing was
 /// kept they are read from the piece itself. If memory runs out, what was kept stays.
-fn read_on(alloc: Global, kept: &mut BytesMut, piece: &[u8]) -> Result<Gain, AllocError>
+fn read_on(alloc: Global, kept: &mut BytesMut, piece: &[u8]) -> Result<Gain, OutOfMemory>
     requires { IsPart kept.old.items }
     ensures fed { IfOk result (λ g. fed (unfinished kept.old.items) piece.now ≡ fed_by g.items.items g.faulty kept.new.items) }
     ensures err { OnErr result (kept.new.items ≡ kept.old.items) }
@@ -124,7 +125,7 @@ fn read_on(alloc: Global, kept: &mut BytesMut, piece: &[u8]) -> Result<Gain, All
 
 /// Reads on if a part of a frame is kept. The piece gives what that frame lacks; once it is whole the piece is
 /// read after it. If memory runs out, bytes of the piece may be left after what was kept.
-fn finish_frame(alloc: Global, kept: &mut BytesMut, piece: &[u8]) -> Result<Gain, AllocError>
+fn finish_frame(alloc: Global, kept: &mut BytesMut, piece: &[u8]) -> Result<Gain, OutOfMemory>
     requires { IsPart kept.old.items }
     ensures fed { IfOk result (λ g. fed (unfinished kept.old.items) piece.now ≡ fed_by g.items.items g.faulty kept.new.items) }
     ensures err { OnErr result (take (length kept.old.items) kept.new.items ≡ kept.old.items) }
@@ -150,7 +151,7 @@ fn read_after(
     said: FrameBody,
     kept: &mut BytesMut,
     following: &[u8],
-) -> Result<Gain, AllocError>
+) -> Result<Gain, OutOfMemory>
     requires { IsWholeFrame said kept.old.items }
     ensures fed { IfOk result (λ g. fed (unfinished kept.old.items) following.now ≡ fed_by g.items.items g.faulty kept.new.items) }
     ensures err { OnErr result (kept.new.items ≡ kept.old.items) }
@@ -160,18 +161,18 @@ fn read_after(
         used,
         faulty,
     } = read_frames(alloc, following)?;
-    items.reserve(1)?;
+    lists::reserve(&mut items, 1)?;
     let left = beginning(alloc, &following[used..])?;
-    let mut body = kept.freeze_to(kept.len())?;
+    let mut body = buffers::freeze_to(kept, kept.len())?;
     body.advance(BEFORE_BODY);
     *kept = left;
-    items.insert(0, said.shared(body))?;
+    lists::insert(&mut items, 0, said.shared(body))?;
     Ok(Gain { items, faulty })
 }
 
 /// Adds to a part of a frame what the frame lacks of the piece: first what its length lacks, which says how long it
 /// is. How many bytes of the piece were taken: all, if the frame isn't whole then.
-fn complete(kept: &mut BytesMut, piece: &[u8]) -> Result<usize, AllocError>
+fn complete(kept: &mut BytesMut, piece: &[u8]) -> Result<usize, OutOfMemory>
     requires { IsPart kept.old.items }
     ensures ok { IfOk result (λ taken. IsCompleted kept.old.items piece.now taken kept.new.items) }
     ensures err { OnErr result (take (length kept.old.items) kept.new.items ≡ kept.old.items) }
@@ -185,27 +186,27 @@ fn complete(kept: &mut BytesMut, piece: &[u8]) -> Result<usize, AllocError>
         return Ok(taken);
     }
     let length = 4 + size as usize;
-    kept.reserve(length.saturating_sub(kept.len()))?;
+    buffers::reserve(kept, length.saturating_sub(kept.len()))?;
     Ok(taken + fill_to(length, kept, &piece[taken..])?)
 }
 
 /// Adds bytes of the piece until so many are kept, or the piece ends. How many were taken.
-fn fill_to(goal: usize, kept: &mut BytesMut, piece: &[u8]) -> Result<usize, AllocError>
+fn fill_to(goal: usize, kept: &mut BytesMut, piece: &[u8]) -> Result<usize, OutOfMemory>
     ensures ok { IfOk result (λ taken. IsFilled goal kept.old.items piece.now taken kept.new.items) }
     ensures err { OnErr result (kept.new.items ≡ kept.old.items) }
 {
     let taken = goal.saturating_sub(kept.len()).min(piece.len());
-    kept.extend_from_slice(&piece[..taken])?;
+    buffers::extend_from_slice(kept, &piece[..taken])?;
     Ok(taken)
 }
 
 /// The beginning of a frame, to be kept. It has room for all of the frame that is known, so that no growth copies what
 /// of its body is there.
-fn beginning(alloc: Global, bytes: &[u8]) -> Result<BytesMut, AllocError>
+fn beginning(alloc: Global, bytes: &[u8]) -> Result<BytesMut, OutOfMemory>
     ensures { IfOk result (λ kept. kept.items ≡ bytes.now) }
 {
-    let mut kept = BytesMut::with_capacity(alloc, known_length(bytes))?;
-    kept.extend_from_slice(bytes)?;
+    let mut kept = buffers::with_capacity(alloc, known_length(bytes))?;
+    buffers::extend_from_slice(&mut kept, bytes)?;
     Ok(kept)
 }
 

@@ -6,12 +6,13 @@ ghost use Rattle.wire_frames.specs.Writing.{has_reply_frame};
 
 use crate::encode::{frame_of, kind_byte};
 use bytes::Bytes;
+use memory_growth::{OutOfMemory, lists};
 use obj_id::{CopyState, GrantedItem, OwnItem, Reply, Usage};
-use std::alloc::{AllocError, Global};
+use std::alloc::Global;
 
 /// The frame of a reply, of at most 262,144 bytes after its length. What a device worker is answered has none,
 /// and a granted item's depth is below 256.
-pub fn encode_reply(alloc: Global, reply: &Reply<Bytes>) -> Result<Vec<u8>, AllocError>
+pub fn encode_reply(alloc: Global, reply: &Reply<Bytes>) -> Result<Vec<u8>, OutOfMemory>
     requires { IsTrue (has_reply_frame reply.now) }
     ensures { IfOk result (λ frame. frame.items ≡ reply_frame reply.now) }
 {
@@ -36,7 +37,7 @@ fn list_frame(
     alloc: Global,
     own: &[OwnItem],
     granted: &[GrantedItem],
-) -> Result<Vec<u8>, AllocError>
+) -> Result<Vec<u8>, OutOfMemory>
     requires own_fits { length (flat_map own_bytes_lem own.now) < 2 ^ 20 }
     requires granted_fits { length (flat_map granted_bytes_lem granted.now) < 2 ^ 20 }
     requires depths { IsTrue (list_all (λ i. nat_lt i.depth 256) granted.now) }
@@ -60,29 +61,29 @@ fn list_frame(
 }
 
 /// The own copies: id, state, kind and length of each.
-fn own_bytes(alloc: Global, own: &[OwnItem]) -> Result<Vec<u8>, AllocError>
+fn own_bytes(alloc: Global, own: &[OwnItem]) -> Result<Vec<u8>, OutOfMemory>
     ensures { IfOk result (λ v. v.items ≡ flat_map own_bytes_lem own.now) }
 {
     let mut bytes = Vec::new(alloc);
     for item in own {
-        bytes.extend_from_slice(&item.id.to_bytes())?;
-        bytes.push(state_byte(item.state))?;
-        bytes.push(kind_byte(item.kind))?;
-        bytes.extend_from_slice(&item.length.to_be_bytes())?;
+        lists::extend_from_slice(&mut bytes, &item.id.to_bytes())?;
+        lists::push(&mut bytes, state_byte(item.state))?;
+        lists::push(&mut bytes, kind_byte(item.kind))?;
+        lists::extend_from_slice(&mut bytes, &item.length.to_be_bytes())?;
     }
     Ok(bytes)
 }
 
 /// The granted objects: id, length and depth of each.
-fn granted_bytes(alloc: Global, granted: &[GrantedItem]) -> Result<Vec<u8>, AllocError>
+fn granted_bytes(alloc: Global, granted: &[GrantedItem]) -> Result<Vec<u8>, OutOfMemory>
     requires { IsTrue (list_all (λ i. nat_lt i.depth 256) granted.now) }
     ensures { IfOk result (λ v. v.items ≡ flat_map granted_bytes_lem granted.now) }
 {
     let mut bytes = Vec::new(alloc);
     for item in granted {
-        bytes.extend_from_slice(&item.id.to_bytes())?;
-        bytes.extend_from_slice(&item.length.to_be_bytes())?;
-        bytes.push(item.depth as u8)?;
+        lists::extend_from_slice(&mut bytes, &item.id.to_bytes())?;
+        lists::extend_from_slice(&mut bytes, &item.length.to_be_bytes())?;
+        lists::push(&mut bytes, item.depth as u8)?;
     }
     Ok(bytes)
 }
@@ -101,7 +102,7 @@ fn state_byte(state: CopyState) -> u8
 }
 
 /// The frame of the six numbers.
-fn usage_frame(alloc: Global, usage: &Usage) -> Result<Vec<u8>, AllocError>
+fn usage_frame(alloc: Global, usage: &Usage) -> Result<Vec<u8>, OutOfMemory>
     ensures { IfOk result (λ f. f.items ≡ frame (0x85 ∷ be8 usage.now.window ++ be8 usage.now.window_used
         ++ be8 usage.now.device ++ be8 usage.now.device_used ++ be8 usage.now.copies ++ be8 usage.now.works)) }
 {

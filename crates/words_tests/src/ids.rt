@@ -1,8 +1,9 @@
 //! Ids, their texts, and the refusals. A table is one text: the prover reads each element of an array.
 use assertions::{holds, same};
+use memory_growth::OutOfMemory;
 use obj_id::numbers::{read_u32, read_u64};
 use obj_id::{ItemList, JobNo, ObjectId, Refusal, TaskNo};
-use std::alloc::{AllocError, Global};
+use std::alloc::Global;
 use std::process::Abort;
 use std::test::Fail;
 
@@ -233,7 +234,7 @@ fn each_refusal_has_its_number_and_name(rt: HostRuntime) -> Result<(), Fail> {
 }
 
 /// Adds the item, once more if memory ran out. Whether it is then the last, and nothing had changed before.
-fn pushed(items: &mut ItemList<JobNo>, job: JobNo) -> Result<bool, AllocError> {
+fn pushed(items: &mut ItemList<JobNo>, job: JobNo) -> Result<bool, OutOfMemory> {
     let had = items.as_slice().len();
     let mut kept = had;
     if items.push(job).is_err() {

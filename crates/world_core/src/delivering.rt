@@ -22,11 +22,11 @@ use crate::World;
 use crate::on_the_way::{answers, arrival, as_it_arrives, for_directory, handed, message_of};
 use crate::stepped::{Given, Stepped};
 use bytes::Bytes;
+use memory_growth::OutOfMemory;
 use node_core::NodeOutcome;
 use obj_id::{Arrival, DirectoryMessage, Endpoint, JobNo, Message, Refusal, Reply};
 use owner_directory::DirectoryReply;
 use private_store::StepAnswer;
-use std::alloc::AllocError;
 
 impl World {
     /// The job's message of this number, from 1, that was sent from the one place to the other is handed over, damaged or
@@ -38,7 +38,7 @@ impl World {
         to: Endpoint,
         number: u64,
         damaged: bool,
-    ) -> Result<Stepped, AllocError>
+    ) -> Result<Stepped, OutOfMemory>
         requires { is_place (length self.old.nodes) to ≡ true }
         ensures ok { IfOk result (λ s. WorldStep self.old self.new (steps.Deliver job from to number damaged) s.answer) }
         ensures answered { IfOk result (λ s. (nodes memory : ℕ) (history : List Traced) → IsAfter nodes memory self.old history → is_no_memory s.answer ≡ false) }
@@ -83,7 +83,7 @@ impl World {
         from: Endpoint,
         place: u32,
         message: Message,
-    ) -> Result<Stepped, AllocError>
+    ) -> Result<Stepped, OutOfMemory>
         requires { place < length self.old.nodes }
         ensures ok { IfOk result (λ s. IsDelivered self.old job from message self.new (places.Node place) s.answer) }
         ensures kept { IfOk result (λ s. (number : ℕ) (damaged : Bool) → IsNoted self.old self.new s.judged s.notes (steps.Deliver job from (places.Node place) number damaged) s.answer) }
@@ -107,7 +107,7 @@ impl World {
     }
 
     /// The job's message arrives at the node of the place.
-    fn arrive(&mut self, job: JobNo, place: u32, arrival: &Arrival) -> Result<Given, AllocError>
+    fn arrive(&mut self, job: JobNo, place: u32, arrival: &Arrival) -> Result<Given, OutOfMemory>
         requires { place < length self.old.nodes }
         ensures ok { IfOk result (λ given. Arrives self.old place job arrival.now given.reply self.new) }
         ensures memory_last { OnErr result (IsMemoryLastAt self.old place (Arrive job arrival.now)) }
@@ -152,7 +152,7 @@ impl World {
         job: JobNo,
         from: Endpoint,
         message: Message,
-    ) -> Result<StepAnswer, AllocError>
+    ) -> Result<StepAnswer, OutOfMemory>
         ensures ok { IfOk result (λ response. IsDelivered self.old job from message self.new places.Directory response) }
         ensures err { OnErr result (self.new ≡ self.old) }
     {
@@ -165,7 +165,7 @@ impl World {
     }
 
     /// The directory takes a message of the job, and what it answers is sent.
-    fn tell_directory(&mut self, job: JobNo, message: DirectoryMessage) -> Result<(), AllocError>
+    fn tell_directory(&mut self, job: JobNo, message: DirectoryMessage) -> Result<(), OutOfMemory>
         ensures ok { OnOk result (MovesDirectory self.old job message self.new) }
         ensures err { OnErr result (self.new ≡ self.old) }
     {

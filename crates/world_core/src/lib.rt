@@ -20,13 +20,14 @@ mod runs;
 mod stepped;
 mod within;
 
+use memory_growth::{OutOfMemory, lists};
 use messages::Messages;
 use node_core::{Node, NodeOutcome};
 use obj_id::{Endpoint, JobNo};
 use owner_directory::Directory;
 use private_store::{Event, Step, StepAnswer};
 pub use runs::{Trace, run};
-use std::alloc::{AllocError, Global};
+use std::alloc::Global;
 use std::marker::Model;
 use stepped::Given;
 pub use stepped::Stepped;
@@ -70,7 +71,7 @@ impl Model for World {
 
 impl World {
     /// A world in which nothing has happened. The error is out of memory.
-    pub fn new(alloc: Global, shape: ClusterSize) -> Result<World, AllocError>
+    pub fn new(alloc: Global, shape: ClusterSize) -> Result<World, OutOfMemory>
         requires { is_shape shape ≡ true }
         ensures ok { IfOk result (λ world. IsAfter shape.nodes shape.memory world []) }
     {
@@ -115,7 +116,7 @@ impl World {
     }
 
     /// The same, and out of memory is an error.
-    fn turn(&mut self, step: &Step) -> Result<Stepped, AllocError>
+    fn turn(&mut self, step: &Step) -> Result<Stepped, OutOfMemory>
         requires { is_within_lem (length self.old.nodes) step.now ≡ true }
         ensures ok { IfOk result (λ s. WorldStep self.old self.new step.now s.answer) }
         ensures answered { IfOk result (λ s. (nodes memory : ℕ) (history : List Traced) → IsAfter nodes memory self.old history → is_no_memory s.answer ≡ false) }
@@ -144,7 +145,7 @@ impl World {
     }
 
     /// An event at the node of the place. The error is out of memory, and then nothing has changed.
-    fn apply(&mut self, place: u32, event: &Event) -> Result<Given, AllocError>
+    fn apply(&mut self, place: u32, event: &Event) -> Result<Given, OutOfMemory>
         requires { place < length self.old.nodes }
         ensures ok { IfOk result (λ given. EventStep self.old place event.now given.reply self.new) }
         ensures memory_last { OnErr result (IsMemoryLastAt self.old place (Own event.now)) }
@@ -173,13 +174,13 @@ impl World {
 }
 
 /// Nodes in which nothing has happened, by number.
-fn new_nodes(alloc: Global, shape: ClusterSize) -> Result<Vec<Node>, AllocError>
+fn new_nodes(alloc: Global, shape: ClusterSize) -> Result<Vec<Node>, OutOfMemory>
     requires { is_shape shape ≡ true }
     ensures { IfOk result (λ nodes. AreNew shape.memory shape.nodes nodes.items) }
 {
     let mut nodes = Vec::new(alloc);
     for number in 0..shape.nodes {
-        nodes.push(Node::new(alloc, number, shape.memory))?;
+        lists::push(&mut nodes, Node::new(alloc, number, shape.memory))?;
     }
     Ok(nodes)
 }

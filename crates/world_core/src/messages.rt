@@ -5,8 +5,9 @@ ghost use Rattle.private_store.specs.rules.Cluster.{posted};
 ghost use Rattle.world_core.specs.Logs.{messages_of, sent_of, message_in, count_over, has_places, has_room};
 
 use indexmap::IndexMap;
+use memory_growth::{OutOfMemory, tables};
 use obj_id::{Endpoint, ItemList, JobNo, Message};
-use std::alloc::{AllocError, Global};
+use std::alloc::Global;
 use std::marker::Model;
 use std::mem;
 
@@ -56,12 +57,12 @@ impl JobLog {
     }
 
     /// Makes room for so many messages more.
-    fn reserve(&mut self, most: usize) -> Result<(), AllocError>
+    fn reserve(&mut self, most: usize) -> Result<(), OutOfMemory>
         ensures sent { self.new.sent ≡ self.old.sent }
         ensures room { OnOk result (has_places most self.new ≡ true) }
     {
-        self.counts.reserve(most)?;
-        self.messages.reserve(most)
+        tables::reserve_any(&mut self.counts, most)?;
+        tables::reserve_any(&mut self.messages, most)
     }
 
     /// How many messages went over the link.
@@ -92,11 +93,9 @@ impl JobLog {
         // so that the next number is one
         prove!(count <= self.messages.len() as u64);
         let number = count + 1;
-        let _ = self.counts.insert(link, number).unwrap();
-        let _ = self
-            .messages
-            .insert(Numbered { link, number }, message)
-            .unwrap();
+        let _ = tables::insert(&mut self.counts, link, number).unwrap();
+        let numbered = Numbered { link, number };
+        let _ = tables::insert(&mut self.messages, numbered, message).unwrap();
     }
 }
 
@@ -135,7 +134,7 @@ impl Messages {
 
     /// Makes room for no more than `most` messages of the job. What was sent stays, whatever the result; a step that sends
     /// none takes no memory.
-    pub fn reserve(&mut self, job: JobNo, most: usize) -> Result<(), AllocError>
+    pub fn reserve(&mut self, job: JobNo, most: usize) -> Result<(), OutOfMemory>
         ensures sent { messages_of self.new.logs ≡ messages_of self.old.logs }
         ensures room { OnOk result ((n : ℕ) → 1 ≤ n → n ≤ most → has_room self.new job n ≡ true) }
         ensures free { most ≡ 0 → IsOk result }
@@ -147,7 +146,7 @@ impl Messages {
     }
 
     /// Makes room for so many messages of the job.
-    fn grow(&mut self, job: JobNo, most: usize) -> Result<(), AllocError>
+    fn grow(&mut self, job: JobNo, most: usize) -> Result<(), OutOfMemory>
         ensures sent { messages_of self.new.logs ≡ messages_of self.old.logs }
         ensures room { OnOk result (has_room self.new job most ≡ true) }
     {
@@ -156,7 +155,7 @@ impl Messages {
             return Ok(());
         }
         self.fresh.reserve(most)?;
-        self.logs.reserve(1)
+        tables::reserve(&mut self.logs, 1)
     }
 
     /// The message of this number, from 1, that the job sent from the one place to the other.
@@ -181,7 +180,7 @@ impl Messages {
         }
         let mut log = mem::replace(&mut self.fresh, JobLog::new(self.alloc));
         log.push(link, message);
-        let _ = self.logs.insert(job, log).unwrap();
+        let _ = tables::insert(&mut self.logs, job, log).unwrap();
     }
 
     /// Adds the messages that a step sent for the job from the place. There is room for them: this takes no memory.

@@ -6,9 +6,10 @@ ghost use Rattle.owner_directory.specs.Locations.{Locations};
 ghost use Rattle.world_core.specs.WorldSteps.{as_damaged, for_directory as for_directory_lem, handed as handed_lem, message_of as message_of_lem};
 
 use bytes::Bytes;
+use memory_growth::{OutOfMemory, lists, shared};
 use obj_id::{Arrival, DirectoryMessage, Endpoint, ItemList, Message, PeerMessage, Reply};
 use private_store::StepAnswer;
-use std::alloc::{AllocError, Global};
+use std::alloc::Global;
 
 /// A copy of the message, as it arrives. The bytes of a chunk are shared, unless they are damaged: then the low bit of the
 /// first is turned. Nothing else shows damage.
@@ -16,7 +17,7 @@ pub(crate) fn as_it_arrives(
     alloc: Global,
     message: &Message,
     damaged: bool,
-) -> Result<Message, AllocError>
+) -> Result<Message, OutOfMemory>
     ensures { IfOk result (λ m. m ≡ as_damaged damaged message.now) }
 {
     match message {
@@ -26,7 +27,7 @@ pub(crate) fn as_it_arrives(
             number,
             entries,
         } => {
-            let copied = Vec::from_slice(alloc, entries.as_slice())?;
+            let copied = lists::copied(alloc, entries.as_slice())?;
             Ok(Message::Located {
                 id: *id,
                 number: *number,
@@ -38,7 +39,11 @@ pub(crate) fn as_it_arrives(
 }
 
 /// The same of a message between nodes.
-fn peer_copy(alloc: Global, message: &PeerMessage, damaged: bool) -> Result<PeerMessage, AllocError>
+fn peer_copy(
+    alloc: Global,
+    message: &PeerMessage,
+    damaged: bool,
+) -> Result<PeerMessage, OutOfMemory>
     ensures { IfOk result (λ m. m ≡ (if damaged then damaged_peer message.now else message.now)) }
 {
     match message {
@@ -53,7 +58,7 @@ fn peer_copy(alloc: Global, message: &PeerMessage, damaged: bool) -> Result<Peer
             number: *number,
             length: *length,
             digest: *digest,
-            indexes: ItemList::from_vec(Vec::from_slice(alloc, indexes.as_slice())?),
+            indexes: ItemList::from_vec(lists::copied(alloc, indexes.as_slice())?),
         }),
         PeerMessage::Chunk {
             id,
@@ -64,7 +69,7 @@ fn peer_copy(alloc: Global, message: &PeerMessage, damaged: bool) -> Result<Peer
             let arriving = if damaged {
                 turned(alloc, bytes)?
             } else {
-                bytes.clone()?
+                shared::again(bytes)?
             };
             Ok(PeerMessage::Chunk {
                 id: *id,
@@ -78,14 +83,14 @@ fn peer_copy(alloc: Global, message: &PeerMessage, damaged: bool) -> Result<Peer
 }
 
 /// The bytes, with the low bit of the first turned.
-fn turned(alloc: Global, bytes: &[u8]) -> Result<Bytes, AllocError>
+fn turned(alloc: Global, bytes: &[u8]) -> Result<Bytes, OutOfMemory>
     ensures { IfOk result (λ b. b ≡ damaged_bytes bytes.now) }
 {
-    let mut copied = Vec::from_slice(alloc, bytes)?;
+    let mut copied = lists::copied(alloc, bytes)?;
     if let Some(first) = copied.first_mut() {
         *first ^= 1;
     }
-    Ok(Bytes::from_vec(copied)?)
+    shared::from_vec(copied)
 }
 
 /// A copy of what the directory is sent. Takes no memory.

@@ -7,8 +7,9 @@ ghost use Rattle.world_core.specs.Worlds.{is_shape, is_within};
 ghost use Rattle.world_core.specs.Runs.{all_replied};
 
 use crate::{ClusterSize, World};
+use memory_growth::{OutOfMemory, lists};
 use private_store::{Step, Traced};
-use std::alloc::{AllocError, Global};
+use std::alloc::Global;
 use std::marker::Model;
 
 /// The steps of a schedule, each with its answer.
@@ -37,11 +38,11 @@ impl Trace {
     }
 
     /// Adds a step with its answer. If memory runs out, the trace is as it was.
-    fn push(&mut self, entry: Traced) -> Result<(), AllocError>
+    fn push(&mut self, entry: Traced) -> Result<(), OutOfMemory>
         ensures ok { OnOk result (self.new ≡ self.old ++ entry ∷ []) }
         ensures err { OnErr result (self.new ≡ self.old) }
     {
-        self.entries.push(entry)?;
+        lists::push(&mut self.entries, entry)?;
         Ok(())
     }
 
@@ -59,7 +60,7 @@ impl Trace {
 /// its private cluster, which nobody else uses, on its own inputs; and what neighbours share is answered
 /// as it is due. The error is out of memory for the world or the trace; a step that is out of memory is
 /// answered `NoMemory`.
-pub fn run(alloc: Global, shape: ClusterSize, schedule: Vec<Step>) -> Result<Trace, AllocError>
+pub fn run(alloc: Global, shape: ClusterSize, schedule: Vec<Step>) -> Result<Trace, OutOfMemory>
     requires shape { is_shape shape ≡ true }
     requires places { list_all (is_within shape.nodes) schedule.items ≡ true }
     ensures steps { IfOk result (λ trace. map (λ entry. entry.step) trace ≡ schedule.items) }

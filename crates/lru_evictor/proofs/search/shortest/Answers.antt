@@ -17,7 +17,7 @@ returns-then-is_some g c =
 pub returns-in-Some-2 : goal.returns-in-Some-2
 returns-in-Some-2 g c =
     let facts = g.C.CopyLookup.facts c.args.copies.now in
-    let ids = c.push.new.self.items in
+    let ids = c.push.new.list.items in
     let rest = chosen facts Evictable c.next.new.self in
     let all = chosen facts Evictable c.args.candidates in
     let whole = whole-pushed facts Evictable c.loop-id.ids.items ids c.in-Some.id c.in_ok-push.ensures.items c.loop-id.id-iterator c.next.new.self all c.in-Some.ensures.steps c.if-not-is_evictable.ensures c.loop-id.invariant.whole in
@@ -44,7 +44,7 @@ needed-requires-clause-few g c =
 pub loop-id-preserved-then-left-eq0 : goal.loop-id-preserved-then-left-eq0
 loop-id-preserved-then-left-eq0 g c =
     let facts = g.C.CopyLookup.facts c.args.copies.now in
-    let items = c.push.new.self.items in
+    let items = c.push.new.list.items in
     let long = ap length c.in_ok-push.ensures.items in
     let more = length-append c.loop-id.ids.items (c.in-Some.id ∷ []) in
     let none : fits_without c.args.window.now facts c.args.len items ≡ false = rw (← c.deref.ensures.value) (rw c.in_default.is at c.in_ok-count.ensures.none) in
@@ -58,7 +58,7 @@ loop-id-preserved-then-left-eq0 g c =
 pub loop-id-preserved : goal.loop-id-preserved
 loop-id-preserved g c =
     let facts = g.C.CopyLookup.facts c.args.copies.now in
-    let items = c.push.new.self.items in
+    let items = c.push.new.list.items in
     let long = ap length c.in_ok-push.ensures.items in
     let more = length-append c.loop-id.ids.items (c.in-Some.id ∷ []) in
     record {

@@ -4,4 +4,4 @@ use Rattle.lru_evictor.specs.declared.search.Leaving.{Leaving}
 use Rattle.lru_evictor.proofs.search.sort_leaving.Goals as goal
 
 pub returns-clause-rising : goal.returns-clause-rising
-returns-clause-rising c = IsNonDecreasingBy-from_sort_by_key (λ (l : Leaving). l.extent.offset) _ c.in_ok-sort_by_key.ensures.sorted (λ a r q k. search rules)
+returns-clause-rising c = IsNonDecreasingBy-from_sort_by_key (λ (l : Leaving). l.extent.offset) _ c.sort_unstable_by_key.ensures.sorted (λ a r q k. search rules)

@@ -69,19 +69,19 @@ returns-in_err-notes-clause-err c =
     always_err c.from_residual.result
     (ap (node_of c.self.inside.number c.self.inside.admission c.self.inside.works c.self.inside.grants) (wrote.0 ∙ set_value_same (same_job c.args.job) rows c.in-Some.row.now found) ∙ c.self.view_is)
 
-pub returns-in_default-grant-clause-memory_last : goal.returns-in_default-grant-clause-memory_last
-returns-in_default-grant-clause-memory_last c =
+pub returns-in-Err-Memory-clause-memory_last : goal.returns-in-Err-Memory-clause-memory_last
+returns-in-Err-Memory-clause-memory_last c =
     let row = c.in-Some.row.now in
     let passed = ap (grant_refusal row c.args.job.0 c.args.id.now c.args.target.0) (sym c.grant_check-table.ensures) ∙ sym c.grant_refusal.ensures ∙ c.in_default-grant_refusal.is in
     unrefused c.self.inside.number c.self.inside.admission c.self.inside.works c.self.inside.grants c.self.invariant.table c.args.job c.args.session (command.Grant c.args.id.now c.args.target)
     c.self.inside.rows.entries row c.args.self.now c.self.view_is (sym c.get_mut.ensures.value ∙ ap option_copied_mut c.in-Some.is) (record { own = refl; passed = refl; grows = refl }) passed (λ own. tt)
 
-pub returns-in_default-grant-clause-err : goal.returns-in_default-grant-clause-err
-returns-in_default-grant-clause-err c =
+pub returns-in-Err-Memory-clause-err : goal.returns-in-Err-Memory-clause-err
+returns-in-Err-Memory-clause-err c =
     let rows = c.self.inside.rows.entries in
     let found = sym c.get_mut.ensures.value ∙ ap option_copied_mut c.in-Some.is in
     let same = (c.get_mut.follows.holds c.in-Some.row.now).0 ∙ set_value_same (same_job c.args.job) rows c.in-Some.row.now found in
-    (λ i. node_of c.self.inside.number c.self.inside.admission c.self.inside.works (c.in_default-grant.ensures.err i) (same i)) ∙ c.self.view_is
+    (λ i. node_of c.self.inside.number c.self.inside.admission c.self.inside.works (c.in-Err-Memory.ensures.err i) (same i)) ∙ c.self.view_is
 
 pub give-outcome-requires : goal.give-outcome-requires
 give-outcome-requires c = sym c.grant_refusal.ensures ∙ c.in_default-grant_refusal.is

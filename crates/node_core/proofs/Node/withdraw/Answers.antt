@@ -68,24 +68,25 @@ returns-in_err-notes-clause-err c =
     always_err c.from_residual.result
     (ap (node_of c.self.inside.number c.self.inside.admission c.self.inside.works c.self.inside.grants) (wrote.0 ∙ set_value_same (same_job c.args.job) rows c.in-Some.row.now found) ∙ c.self.view_is)
 
-pub returns-in_default-withdraw-clause-memory_last : goal.returns-in_default-withdraw-clause-memory_last
-returns-in_default-withdraw-clause-memory_last c =
+pub returns-in-Err-Memory-clause-memory_last : goal.returns-in-Err-Memory-clause-memory_last
+returns-in-Err-Memory-clause-memory_last c =
     let stands = ap (λ b. cond b None (Some NotGranted)) (sym c.has_given.ensures ∙ c.if-not-has_given.false) in
     unrefused c.self.inside.number c.self.inside.admission c.self.inside.works c.self.inside.grants c.self.invariant.table c.args.job c.args.session (command.Withdraw c.args.id.now c.args.target)
     c.self.inside.rows.entries c.in-Some.row.now c.args.self.now c.self.view_is (sym c.get_mut.ensures.value ∙ ap option_copied_mut c.in-Some.is) (record { own = refl; passed = refl; grows = refl }) stands (λ own. tt)
 
-pub returns-in_default-withdraw-clause-err : goal.returns-in_default-withdraw-clause-err
-returns-in_default-withdraw-clause-err c =
+pub returns-in-Err-Memory-clause-err : goal.returns-in-Err-Memory-clause-err
+returns-in-Err-Memory-clause-err c =
     let rows = c.self.inside.rows.entries in
     let found = sym c.get_mut.ensures.value ∙ ap option_copied_mut c.in-Some.is in
     let same = (c.get_mut.follows.holds c.in-Some.row.now).0 ∙ set_value_same (same_job c.args.job) rows c.in-Some.row.now found in
-    (λ i. node_of c.self.inside.number c.self.inside.admission c.self.inside.works (c.in_default-withdraw.ensures.err i) (same i)) ∙ c.self.view_is
+    (λ i. node_of c.self.inside.number c.self.inside.admission c.self.inside.works (c.in-Err-Memory.ensures.err i) (same i)) ∙ c.self.view_is
 
 pub with_ends-requires-clause-room : goal.with_ends-requires-clause-room
 with_ends-requires-clause-room c =
     let few = few_end (is_withdrawn c.args.job.0 c.args.id.now c.args.target.0) c.self.inside.grants in
-    let same = ap length (c.as_slice.ensures ∙ c.in-Ok.ensures.response) in
-    omega (arith, few, same, c.in_ok-notes.ensures.len, c.in_ok-notes.ensures.capacity, c.len.ensures)
+    let same = ap length (c.as_slice-2.ensures ∙ c.in-Ok.ensures.response) in
+    let all = ap length c.as_slice.ensures in
+    omega (arith, few, same, all, c.in_ok-notes.ensures.len, c.in_ok-notes.ensures.capacity)
 
 pub invariant_of-self-2 : goal.invariant_of-self-2
 invariant_of-self-2 c =
@@ -110,7 +111,7 @@ returns-clause-ok c =
     let test = is_withdrawn c.args.job.0 c.args.id.now c.args.target.0 in
     let given = with_ends (row_given_of c.let_go-outcome.result) (grants_ended test c.self.inside.grants) in
     let all : List StandingGrant → Hosted = λ grants. node_of c.self.inside.number c.self.inside.admission c.self.inside.works grants new in
-    subst (λ given. NodeStep c.args.self.now e given (all c.withdraw.new.self)) (sym (c.with_ends.ensures.given ∙ ap (with_ends (row_given_of c.let_go-outcome.result)) (c.as_slice.ensures ∙ c.in-Ok.ensures.response)))
+    subst (λ given. NodeStep c.args.self.now e given (all c.withdraw.new.self)) (sym (c.with_ends.ensures.given ∙ ap (with_ends (row_given_of c.let_go-outcome.result)) (c.as_slice-2.ensures ∙ c.in-Ok.ensures.response)))
     (subst (λ grants. NodeStep c.args.self.now e given (all grants)) (sym c.in-Ok.ensures.ok)
     (subst (λ old. NodeStep old e given (all (grants_left test c.self.inside.grants))) c.self.view_is
     (withdraw_steps c.self.inside.number c.self.inside.admission c.self.inside.works c.self.inside.grants c.self.invariant.table c.args.job c.args.session c.args.id.now c.args.target
@@ -121,5 +122,5 @@ returns-clause-grantees c =
     let e = event.Call c.args.job c.args.session (command.Withdraw c.args.id.now c.args.target) in
     let test = is_withdrawn c.args.job.0 c.args.id.now c.args.target.0 in
     subst (λ response. AreTakers c.args.self.now.grants e response (map (λ (note : Note). note.job) c.with_ends.result.notes)) (sym (ap (λ g. g.reply) c.with_ends.ensures.given ∙ c.let_go-outcome.ensures.reply))
-    (grantees_noted c.with_ends.result.notes c.as_slice.result.now (ap (λ g. g.notes) c.with_ends.ensures.given)
-    ∙ ap grantees_in (c.as_slice.ensures ∙ c.in-Ok.ensures.response ∙ ap (λ (n : Hosted). grants_ended test n.grants) c.self.view_is))
+    (grantees_noted c.with_ends.result.notes c.as_slice-2.result.now (ap (λ g. g.notes) c.with_ends.ensures.given)
+    ∙ ap grantees_in (c.as_slice-2.ensures ∙ c.in-Ok.ensures.response ∙ ap (λ (n : Hosted). grants_ended test n.grants) c.self.view_is))

@@ -21,7 +21,8 @@ returns-clause-logs g c = λ job.
     let number = c.args.count.now + 1 in
     let own = c.args.job.0 == job in
     let outcome = c.in_ok-outcome.outcome in
-    let made = c.entry_of.ensures ∙ ap (λ named. entry_for number named outcome.judged outcome.reply) c.name_of_arrival-named.ensures in
+    let number_is = c.value-made.ensures ∙ c.in_ok-next.ensures.ok in
+    let made = c.entry_of.ensures ∙ (λ i. entry_for (number_is i) (c.name_of_arrival-named.ensures i) outcome.judged outcome.reply) in
     let entry = line.Entry (entry_for number (event_name (Arrive c.args.job c.args.arrival.now)) outcome.judged outcome.reply) in
     let notes = notes_for number (inputs_noted outcome.notes) job in
     let kept = c.in_ok-reserve.ensures.journals job in

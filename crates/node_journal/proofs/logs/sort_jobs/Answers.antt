@@ -4,4 +4,4 @@ use Rattle.obj_id.specs.declared.ids.JobNo.{JobNo}
 use Rattle.node_journal.proofs.logs.sort_jobs.Goals as goal
 
 pub returns-clause-rising : goal.returns-clause-rising
-returns-clause-rising c = IsNonDecreasingBy-from_sort_by_key (λ (job : JobNo). job.0) _ c.in_ok-sort_by_key.ensures.sorted (λ a r q k. search rules)
+returns-clause-rising c = IsNonDecreasingBy-from_sort_by_key (λ (job : JobNo). job.0) _ c.sort_unstable_by_key.ensures.sorted (λ a r q k. search rules)

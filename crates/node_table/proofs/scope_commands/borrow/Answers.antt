@@ -1,11 +1,10 @@
-use Rattle.std.proofs.Common.{Some, cond, ◌||◌, refl, sym, ap, subst, ◌∙◌}
+use Rattle.std.proofs.Common.{Some, Err, cond, ◌||◌, refl, sym, ap, subst, ◌∙◌}
 use Rattle.obj_id.specs.declared.ids.TaskNo.{TaskNo}
 use Rattle.obj_id.specs.declared.commands.Command.TheVariants as command
 use Rattle.obj_id.specs.declared.commands.Reply.TheVariants as reply
 use Rattle.obj_id.specs.declared.refusals.Refusal.TheVariants.{Gone}
 use Rattle.private_store.specs.declared.inputs.Input.TheVariants as input
 use Rattle.private_store.specs.laws.Invariants.{is_remembered}
-use Rattle.store_facts.proofs.Tests.{true_false}
 use Rattle.job_row.specs.Checks.{borrow_check}
 use Rattle.node_table.specs.Shown.{only, RowStep}
 use Rattle.node_table.proofs.Scoping.{borrow_refused, borrow_done_so}
@@ -27,11 +26,11 @@ returns-in-Ok-clause-ok c node session beside contents mine h =
     (ap (λ (t : TaskNo). is_remembered c.args.row.now.ended_tasks t || is_remembered c.args.row.now.ended_tasks c.args.task) (sym c.task.ensures) ∙ sym c.has_either_ended.ensures ∙ c.if-has_either_ended.false)
     ∙ c.in-Ok.ensures.passed refl)))
 
-pub returns-in-Err-2-clause-ok : goal.returns-in-Err-2-clause-ok
-returns-in-Err-2-clause-ok c node session beside contents mine h =
-    subst (λ response. RowStep node c.args.row.now beside contents (input.Call session (command.Borrow c.args.id.now c.args.task)) response c.borrow_copy.new.self beside) (sym c.only-in-Err-2.ensures)
-    (subst (λ r. RowStep node c.args.row.now beside contents (input.Call session (command.Borrow c.args.id.now c.args.task)) (only (reply.Refused c.in-Err.refusal)) r beside) (sym c.in-Err.ensures.err)
-    (borrow_refused node c.args.row.now beside contents session c.args.id.now mine h c.args.task c.in-Err.refusal
+pub returns-in-Err-Refused-clause-ok : goal.returns-in-Err-Refused-clause-ok
+returns-in-Err-Refused-clause-ok c node session beside contents mine h =
+    subst (λ response. RowStep node c.args.row.now beside contents (input.Call session (command.Borrow c.args.id.now c.args.task)) response c.borrow_copy.new.self beside) (sym c.only-in-Err-Refused.ensures)
+    (subst (λ r. RowStep node c.args.row.now beside contents (input.Call session (command.Borrow c.args.id.now c.args.task)) (only (reply.Refused c.in-Err-Refused.refusal)) r beside) (sym c.in-Err-Refused.ensures.err)
+    (borrow_refused node c.args.row.now beside contents session c.args.id.now mine h c.args.task c.in-Err-Refused.refusal
     (ap (λ b. cond b (Some Gone) (borrow_check c.args.row.now.copies c.args.id.now c.args.task))
     (ap (λ (t : TaskNo). is_remembered c.args.row.now.ended_tasks t || is_remembered c.args.row.now.ended_tasks c.args.task) (sym c.task.ensures) ∙ sym c.has_either_ended.ensures ∙ c.if-has_either_ended.false)
-    ∙ c.in-Err.ensures.refused c.in-Err.refusal (λ e. true_false (sym c.if-eq.false ∙ c.eq.ensures ∙ rw e)) refl)))
+    ∙ c.in-Err-Refused.ensures.refused c.in-Err-Refused.refusal (ap Err c.in-Err-Refused.field-0-is))))

@@ -33,9 +33,9 @@ returns-clause-ok c =
     let m = AddLocation c.args.id c.args.entry in
     let first = c.in_ok-set-2.ensures.ok ∙ ap (λ t. locations_after t m) c.new-row.ensures in
     let at_first = ap (λ r. r.entries) c.get_mut.follows.holds-at-none in
-    let updated = c.in-Ok.ensures.updates.0 in
-    subst (λ old. Applies old c.insert.new.self.entries c.args.job m) (at_first ∙ c.self.view_is)
-    (applied c.args.job c.get_mut.follows.lender-at-none.entries c.insert.new.self.entries m [] c.set-2.new.self
+    let updated = c.in_ok-insert.ensures.updates.0 in
+    subst (λ old. Applies old c.insert.new.table.entries c.args.job m) (at_first ∙ c.self.view_is)
+    (applied c.args.job c.get_mut.follows.lender-at-none.entries c.insert.new.table.entries m [] c.set-2.new.self
     (no_row c.args.job _ (ap (lookup (same_job c.args.job)) at_first ∙ none)) first updated)
 
 pub returns-in_err-set-clause-succeeds : goal.returns-in_err-set-clause-succeeds
@@ -51,8 +51,8 @@ returns-in_err-set-2-clause-succeeds c =
     let same = ap (λ t. locations_of t c.args.job) (sym c.self.view_is) ∙ no_row c.args.job c.self.inside.rows.entries none in
     λ short. absurd (first_is_longer c.args.entry _ (ap (λ (t : Locations). entries_at t c.args.id) same) short)
 
-pub returns-in-Err-clause-succeeds : goal.returns-in-Err-clause-succeeds
-returns-in-Err-clause-succeeds c =
+pub returns-in_err-insert-clause-succeeds : goal.returns-in_err-insert-clause-succeeds
+returns-in_err-insert-clause-succeeds c =
     let none = sym c.get_mut.ensures.value ∙ ap option_copied_mut c.in_default.is in
     let same = ap (λ t. locations_of t c.args.job) (sym c.self.view_is) ∙ no_row c.args.job c.self.inside.rows.entries none in
     λ short. absurd (first_is_longer c.args.entry _ (ap (λ (t : Locations). entries_at t c.args.id) same) short)

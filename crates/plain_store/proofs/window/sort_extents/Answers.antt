@@ -4,4 +4,4 @@ use Rattle.obj_id.specs.declared.works.Extent.{Extent}
 use Rattle.plain_store.proofs.window.sort_extents.Goals as goal
 
 pub returns-clause-rising : goal.returns-clause-rising
-returns-clause-rising c = IsNonDecreasingBy-from_sort_by_key (λ (e : Extent). e.offset) _ c.in_ok-sort_by_key.ensures.sorted (λ a r q k. search rules)
+returns-clause-rising c = IsNonDecreasingBy-from_sort_by_key (λ (e : Extent). e.offset) _ c.sort_unstable_by_key.ensures.sorted (λ a r q k. search rules)

@@ -7,6 +7,7 @@ returns c =
       answer = c.step_noted-answer.result.answer;
       is_line = search rules;
       after = c.step_noted-answer.ensures.after;
+      last = c.step_noted-answer.ensures.memory_last;
       noted = search rules;
       kept = record { judged = c.step_noted-answer.result.judged; notes = c.step_noted-answer.result.notes };
       keeps = c.step_noted-answer.ensures.kept;

@@ -28,12 +28,12 @@ invariant_of-self-2 c =
     (taken-either c.borrow.result (after_borrow c.args.task) c.in-Some.copy.now c.borrow.new.self c.borrow.ensures.ok c.borrow.ensures.err refl) c.self.invariant
 
 pub returns-in_default-clause-refused : goal.returns-in_default-clause-refused
-returns-in_default-clause-refused c r late e =
+returns-in_default-clause-refused c r e =
     checked_absent (check c.args.task) c.args.id.now c.self.inside.by_id.entries c.args.self.now c.self.view_is (sym c.get_mut.ensures.value ∙ ap option_copied_mut c.in_default.is)
     ∙ cc
 
 pub returns-then-doomed-clause-refused : goal.returns-then-doomed-clause-refused
-returns-then-doomed-clause-refused c r late e =
+returns-then-doomed-clause-refused c r e =
     checked_there (check c.args.task) c.args.id.now c.self.inside.by_id.entries c.args.self.now c.in-Some.copy.now c.self.view_is (sym c.get_mut.ensures.value ∙ ap option_copied_mut c.in-Some.is)
     ∙ ap (λ b. cond b (Some Absent) (borrow_check_of c.in-Some.copy.now c.args.task)) (sym c.doomed.ensures ∙ c.if-doomed.true)
     ∙ cc
@@ -53,16 +53,16 @@ returns-clause-passed c ok =
     ∙ c.borrow.ensures.passed ok
 
 pub returns-clause-refused : goal.returns-clause-refused
-returns-clause-refused c r late e =
+returns-clause-refused c r e =
     checked_there (check c.args.task) c.args.id.now c.self.inside.by_id.entries c.args.self.now c.in-Some.copy.now c.self.view_is (sym c.get_mut.ensures.value ∙ ap option_copied_mut c.in-Some.is)
     ∙ ap (λ b. cond b (Some Absent) (borrow_check_of c.in-Some.copy.now c.args.task)) (sym c.doomed.ensures ∙ c.if-doomed.false)
-    ∙ c.borrow.ensures.refused r late e
+    ∙ c.borrow.ensures.refused r e
 
 pub returns-clause-memory : goal.returns-clause-memory
-returns-clause-memory c e =
+returns-clause-memory c m e =
     checked_there (check c.args.task) c.args.id.now c.self.inside.by_id.entries c.args.self.now c.in-Some.copy.now c.self.view_is (sym c.get_mut.ensures.value ∙ ap option_copied_mut c.in-Some.is)
     ∙ ap (λ b. cond b (Some Absent) (borrow_check_of c.in-Some.copy.now c.args.task)) (sym c.doomed.ensures ∙ c.if-doomed.false)
-    ∙ c.borrow.ensures.memory e
+    ∙ c.borrow.ensures.memory m e
 
 pub returns-clause-err : goal.returns-clause-err
 returns-clause-err c =

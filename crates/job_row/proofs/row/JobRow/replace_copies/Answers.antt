@@ -19,19 +19,19 @@ use Rattle.job_row.proofs.Waiting.{unused}
 use Rattle.job_row.proofs.row.JobRow.replace_copies.Goals as goal
 use Rattle.job_row.proofs.row.JobRow.replace_copies.Goals.{then-entered, else-entered}
 
-pub invariant_of-self-in_default : goal.invariant_of-self-in_default
-invariant_of-self-in_default c =
+pub invariant_of-self-in-Err : goal.invariant_of-self-in-Err
+invariant_of-self-in-Err c =
     let none : at c.self.inside.copies c.args.id.now ≡ None = ap (λ r. at r.copies c.args.id.now) c.self.view_is ∙ c.requires.absent in
     let back = c.remove.ensures ∙ ap (λ t. without_entry t c.args.id.now) c.in_ok-insert.ensures.ok ∙ put_back c.args.id.now c.self.inside.copies _ none in (
       subst (λ t. ArePlaced c.self.inside.window.placed (place_of t)) (sym back) c.self.invariant.0,
-      subst (λ t. InSync t c.enter_new.new.self) (sym back) (subst (InSync c.self.inside.copies) (sym c.in_default.ensures.err) c.self.invariant.1),
+      subst (λ t. InSync t c.enter_new.new.self) (sym back) (subst (InSync c.self.inside.copies) (sym c.in-Err.ensures.err) c.self.invariant.1),
     )
 
-pub returns-in_default-clause-err : goal.returns-in_default-clause-err
-returns-in_default-clause-err c =
+pub returns-in-Err-clause-err : goal.returns-in-Err-clause-err
+returns-in-Err-clause-err c =
     let none : at c.self.inside.copies c.args.id.now ≡ None = ap (λ r. at r.copies c.args.id.now) c.self.view_is ∙ c.requires.absent in
     let back = c.remove.ensures ∙ ap (λ t. without_entry t c.args.id.now) c.in_ok-insert.ensures.ok ∙ put_back c.args.id.now c.self.inside.copies _ none in
-    (λ i. row_of (back i) (order_ids (c.in_default.ensures.err i))) ∙ c.self.view_is
+    (λ i. row_of (back i) (order_ids (c.in-Err.ensures.err i))) ∙ c.self.view_is
   where
     row_of : ById CopyView → List ObjectId → Row
     row_of copies order = record { job = c.self.inside.job.0; window = c.self.inside.window; device = c.self.inside.device_quota; copies = copies; order = order; fetches_begun = c.self.inside.fetches_begun; spill_failed = c.self.inside.spill_failed; ended_tasks = c.self.inside.ended_tasks.keys }
@@ -39,10 +39,10 @@ returns-in_default-clause-err c =
 pub invariant_of-self-then-entered : goal.invariant_of-self-then-entered
 invariant_of-self-then-entered c =
     let none : at c.self.inside.copies c.args.id.now ≡ None = ap (λ r. at r.copies c.args.id.now) c.self.view_is ∙ c.requires.absent in
-    let back = c.remove-in-Err.ensures ∙ ap (λ t. without_entry t c.args.id.now) c.in_ok-insert.ensures.ok ∙ put_back c.args.id.now c.self.inside.copies _ none in (
-      subst (λ (w : Region). ArePlaced w.placed (place_of c.remove-in-Err.new.self)) (sym c.in-Err.ensures.err) (subst (λ t. ArePlaced c.self.inside.window.placed (place_of t)) (sym back) c.self.invariant.0),
-      c.forget.ensures.infos (is_in_sync c.remove-in-Err.new.self)
-          (others_still c.args.id.now c.insert.new.self c.remove-in-Err.new.self (removed_but c.insert.new.self c.remove-in-Err.new.self c.args.id.now c.remove-in-Err.ensures) c.enter_new.new.self
+    let back = c.remove-in-Err-replace.ensures ∙ ap (λ t. without_entry t c.args.id.now) c.in_ok-insert.ensures.ok ∙ put_back c.args.id.now c.self.inside.copies _ none in (
+      subst (λ (w : Region). ArePlaced w.placed (place_of c.remove-in-Err-replace.new.self)) (sym c.in-Err-replace.ensures.err) (subst (λ t. ArePlaced c.self.inside.window.placed (place_of t)) (sym back) c.self.invariant.0),
+      c.forget.ensures.infos (is_in_sync c.remove-in-Err-replace.new.self)
+          (others_still c.args.id.now c.insert.new.self c.remove-in-Err-replace.new.self (removed_but c.insert.new.self c.remove-in-Err-replace.new.self c.args.id.now c.remove-in-Err-replace.ensures) c.enter_new.new.self
           (one_spared c.args.id.now c.insert.new.self c.enter_new.new.self
           (entered_unknown c.args.id.now c.self.inside.copies c.insert.new.self (put_but c.self.inside.copies c.insert.new.self c.args.id.now _ c.in_ok-insert.ensures.ok) none c.self.inside.order c.enter_new.new.self
           (c.in-Ok.ensures.infos c.if-entered.true) c.self.invariant.1))),
@@ -51,23 +51,23 @@ invariant_of-self-then-entered c =
 pub invariant_of-self-else-entered : goal.invariant_of-self-else-entered
 invariant_of-self-else-entered c =
     let none : at c.self.inside.copies c.args.id.now ≡ None = ap (λ r. at r.copies c.args.id.now) c.self.view_is ∙ c.requires.absent in
-    let back = c.remove-in-Err.ensures ∙ ap (λ t. without_entry t c.args.id.now) c.in_ok-insert.ensures.ok ∙ put_back c.args.id.now c.self.inside.copies _ none in (
-      subst (λ (w : Region). ArePlaced w.placed (place_of c.remove-in-Err.new.self)) (sym c.in-Err.ensures.err) (subst (λ t. ArePlaced c.self.inside.window.placed (place_of t)) (sym back) c.self.invariant.0),
+    let back = c.remove-in-Err-replace.ensures ∙ ap (λ t. without_entry t c.args.id.now) c.in_ok-insert.ensures.ok ∙ put_back c.args.id.now c.self.inside.copies _ none in (
+      subst (λ (w : Region). ArePlaced w.placed (place_of c.remove-in-Err-replace.new.self)) (sym c.in-Err-replace.ensures.err) (subst (λ t. ArePlaced c.self.inside.window.placed (place_of t)) (sym back) c.self.invariant.0),
       subst (λ t. InSync t c.enter_new.new.self) (sym back) (subst (InSync c.self.inside.copies) (sym (c.in-Ok.ensures.same c.if-entered.false)) c.self.invariant.1),
     )
 
 pub returns-after-entered-clause-err : goal.returns-after-entered-clause-err
 returns-after-entered-clause-err c =
     let none : at c.self.inside.copies c.args.id.now ≡ None = ap (λ r. at r.copies c.args.id.now) c.self.view_is ∙ c.requires.absent in
-    let back = c.remove-in-Err.ensures ∙ ap (λ t. without_entry t c.args.id.now) c.in_ok-insert.ensures.ok ∙ put_back c.args.id.now c.self.inside.copies _ none in
+    let back = c.remove-in-Err-replace.ensures ∙ ap (λ t. without_entry t c.args.id.now) c.in_ok-insert.ensures.ok ∙ put_back c.args.id.now c.self.inside.copies _ none in
     let undone : c.if-entered.self ≡ c.args.self.now = elim c.if-entered.branch [
       | then-entered w ↦
           let unlisted = not_true (is_among (order_ids c.self.inside.order) c.args.id.now) (sym c.in-Ok.ensures.entered ∙ w.if-entered.true) in
           let order = w.forget.ensures.ids ∙ ap (without_id c.args.id.now) (c.in-Ok.ensures.ids w.if-entered.true) ∙ forgotten c.args.id.now (order_ids c.self.inside.order) unlisted in
-          w.self-is ∙ (λ i. row_of (c.in-Err.ensures.err i) (back i) (order i)) ∙ c.self.view_is
+          w.self-is ∙ (λ i. row_of (c.in-Err-replace.ensures.err i) (back i) (order i)) ∙ c.self.view_is
       | else-entered w ↦
           let order = ap order_ids (c.in-Ok.ensures.same w.if-entered.false) in
-          w.self-is ∙ (λ i. row_of (c.in-Err.ensures.err i) (back i) (order i)) ∙ c.self.view_is
+          w.self-is ∙ (λ i. row_of (c.in-Err-replace.ensures.err i) (back i) (order i)) ∙ c.self.view_is
     ] in
     undone
   where

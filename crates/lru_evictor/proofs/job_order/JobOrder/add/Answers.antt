@@ -13,19 +13,19 @@ invariant_of-self-2 c =
     let view = c.next_turn-turn.ensures.same ∙ c.self.view_is in
     let none = not-there c.args.id es (ap (λ ids. is_among ids c.args.id) (sym (order-shown es) ∙ ap order_ids view) ∙ c.requires) in
     let cap = c.next_turn-turn.ensures.cap ∙ c.self.invariant.0 in
-    let is = ap (λ a. a.entries) c.in_ok-put.ensures.entries ∙ put-absent c.args.id c.next_turn-turn.new.slots _ none (omega (arith, cap, c.len.ensures.len, c.len.ensures.fits)) in (
+    let is = ap (λ a. a.entries) c.in_ok-put.ensures.entries ∙ put-absent c.args.id c.next_turn-turn.new.slots _ none (omega (arith, cap, c.in_ok-check_countable.ensures.fewer)) in (
       ap (λ a. a.cap) c.in_ok-put.ensures.entries ∙ cap,
       subst (λ xs. IsIndexOf xs c.add.new.self) (sym is) (subst (λ s. IsIndexOf ((c.args.id, record { turn = c.next_turn-turn.result; eviction_info = s }) ∷ es) c.add.new.self) (sym c.nowhere-eviction_info.ensures) (c.add.ensures es c.next_turn-turn.ensures.of)),
-      subst (λ xs. length xs < 4611686018427387904) (sym is) (omega (arith, c.if-len-ge-MOST_IDS.false, c.len.ensures.len)),
+      subst (λ xs. length xs < 4611686018427387904) (sym is) (omega (arith, c.in_ok-check_countable.ensures.fewer)),
     )
 
 pub returns-clause-ids : goal.returns-clause-ids
 returns-clause-ids c =
     let view = c.next_turn-turn.ensures.same ∙ c.self.view_is in
     let cap = c.next_turn-turn.ensures.cap ∙ c.self.invariant.0 in
-    order-shown c.put.new.self.entries
+    order-shown c.put.new.cache.entries
     ∙ ap (λ a. reverse (keys_of a.entries)) c.in_ok-put.ensures.entries
-    ∙ order-put c.args.id c.next_turn-turn.new.slots _ c.len.ensures.valid.0 (omega (arith, cap, c.len.ensures.len, c.len.ensures.fits))
+    ∙ order-put c.args.id c.next_turn-turn.new.slots _ c.in_ok-check_countable.ensures.valid.0 (omega (arith, cap, c.in_ok-check_countable.ensures.fewer))
     ∙ ap (last_used c.args.id) (sym (order-shown c.next_turn-turn.new.slots.entries) ∙ ap order_ids view)
 
 pub returns-clause-infos : goal.returns-clause-infos
@@ -34,5 +34,5 @@ returns-clause-infos c f but here =
     let view = c.next_turn-turn.ensures.same ∙ c.self.view_is in
     let none = not-there c.args.id es (ap (λ ids. is_among ids c.args.id) (sym (order-shown es) ∙ ap order_ids view) ∙ c.requires) in
     let cap = c.next_turn-turn.ensures.cap ∙ c.self.invariant.0 in
-    let is = ap (λ a. a.entries) c.in_ok-put.ensures.entries ∙ put-absent c.args.id c.next_turn-turn.new.slots _ none (omega (arith, cap, c.len.ensures.len, c.len.ensures.fits)) in
+    let is = ap (λ a. a.entries) c.in_ok-put.ensures.entries ∙ put-absent c.args.id c.next_turn-turn.new.slots _ none (omega (arith, cap, c.in_ok-check_countable.ensures.fewer)) in
     subst (λ es. AllPass f (shown_order es)) (sym is) (ap (f c.args.id) c.nowhere-eviction_info.ensures ∙ here, absent-passes c.args.id f es none (subst (OthersPass c.args.id f) (sym view) but))

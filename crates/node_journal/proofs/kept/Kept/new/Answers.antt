@@ -1,5 +1,5 @@
 use Rattle.std.proofs.Common.{◌≡◌, ℕ, ap, subst, sym, length, ◌≤◌, arith}
-use Rattle.node_journal.specs.Journals.{Journal, fresh, most_lines}
+use Rattle.node_journal.specs.Journals.{AreEntriesNumbered, Journal, fresh, most_lines}
 use Rattle.node_journal.specs.Logs.{journal_of}
 use Rattle.node_journal.proofs.Telling.{told_at_first}
 use Rattle.node_journal.proofs.Numbering.{none_numbered}
@@ -12,7 +12,7 @@ invariant_of-result g c =
       seated = c.requires.ledger_share.0;
       blank = c.requires.ledger_share.1;
       named = c.new.ensures.number;
-      numbered = λ job. none_numbered job _ (none job);
+      numbered = λ job. subst (λ n. AreEntriesNumbered n (journal_of c.new-2.result job)) (sym c.new-3.ensures) (none_numbered job _ (none job));
       few = λ job. subst (λ (j : Journal). length j.list ≤ most_lines) (sym (none job)) (omega arith);
       response = told_at_first c.new.result _ c.new.ensures.works c.new.ensures.shows none;
     }

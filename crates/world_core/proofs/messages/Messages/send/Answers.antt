@@ -50,7 +50,7 @@ returns-clause-sent c = λ other.
     let at_first = ap (λ m. m.entries) c.get_mut.follows.holds-at-none in
     let none = ap (lookup (same_job c.args.job)) at_first ∙ sym c.get_mut.ensures.value ∙ ap option_copied_mut c.in_default.is in
     let updates = rw c.unwrap.ensures at c.insert.ensures.updates in
-    sent_more c.args.job c.get_mut.follows.lender-at-none.entries c.insert.new.self.entries c.push-2.new.self more updates.0
+    sent_more c.args.job c.get_mut.follows.lender-at-none.entries c.insert.new.table.entries c.push-2.new.self more updates.0
     (c.push-2.ensures.sent ∙ ap (λ sent. sent ++ more) (ap (λ (log : Log). log.sent) c.replace-log.ensures.value ∙ c.self.invariant) ∙ ap (λ o. unwrap_or (option_map (λ (log : Log). log.sent) o) [] ++ more) (sym none)) other
     ∙ ap (λ es. if c.args.job.0 == other then sent_of (messages_of es) other ++ more else sent_of (messages_of es) other) (at_first ∙ ap (λ m. m.logs) c.self.view_is)
 
@@ -58,7 +58,7 @@ pub returns-clause-room : goal.returns-clause-room
 returns-clause-room c = λ n room.
     let none = ap (λ m. lookup (same_job c.args.job) m.logs) (sym c.self.view_is) ∙ sym c.get_mut.ensures.value ∙ ap option_copied_mut c.in_default.is in
     let updates = rw c.unwrap.ensures at c.insert.ensures.updates in
-    room_in c.insert.new.self.entries c.args.job n c.push-2.new.self _
+    room_in c.insert.new.table.entries c.args.job n c.push-2.new.self _
     (updates.0 c.args.job ∙ ap (λ t. cond t (Some c.push-2.new.self) (lookup (same_job c.args.job) c.get_mut.follows.lender-at-none.entries)) (itself c.args.job.0))
     (places_left n c.replace-log.result c.push-2.new.self c.push-2.ensures.spare c.push-2.ensures.links
     (subst (λ log. has_places (n + 1) log ≡ true) (ap (λ m. m.fresh) (sym c.self.view_is) ∙ sym c.replace-log.ensures.value) (fresh_room c.args.self.now c.args.job (n + 1) room none)))

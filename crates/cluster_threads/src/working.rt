@@ -1,0 +1,71 @@
+//! The threads of workers.
+use memory_growth::boxes;
+use node_housekeeping::{NoPause, Pause, WorkDone, WorkerBell};
+use shared_nodes::{ReceiptBuffer, SharedNode};
+use spill_device::SpillDevice;
+use std::sync::ledger::Ledger;
+use std::sync::{Arc, Wait};
+use std::thread::{JoinHandle, Threads};
+use std::time::{Clock, Duration};
+use std::{io, thread};
+
+/// How long a worker rests after a step that found no memory, in milliseconds.
+const REST: u64 = 10;
+
+/// A worker of a node in a thread.
+#[derive(Drop)]
+pub struct Working<L: Ledger, P = NoPause> {
+    node: Arc<SharedNode<L, P>>,
+    thread: JoinHandle<()>,
+}
+
+impl<L: Ledger, P: Pause> Working<L, P> {
+    /// Waits for the worker, which erases the keys that wait. Works that nobody has taken by then are left.
+    pub fn end<R: Threads + Wait>(self, rt: &R) {
+        let Working { node, thread } = self;
+        node.housekeeping().bell.end(rt);
+        thread.join(rt);
+    }
+}
+
+/// Lets a worker carry out the works of the node on the device, in a thread of its own, until it is ended.
+pub fn work<
+    L: Ledger + Send + Sync + 'static,
+    R: Threads + Wait + Clock + Copy + Send + 'static,
+    P: Pause + Send + Sync + 'static,
+    D: SpillDevice + Drop + Send + 'static,
+>(rt: R, node: Arc<SharedNode<L, P>>, device: D) -> io::Result<Working<L, P>> {
+    let theirs = boxes::another(&node)?;
+    let job = move || work_all(&rt, &*theirs, device);
+    let thread = thread::spawn(&rt, job)?;
+    Ok(Working { node, thread })
+}
+
+/// Carries out the works of the node until the worker is to end, and erases the keys that are left.
+fn work_all<L: Ledger, P: Pause, R: Wait + Clock, D: SpillDevice + Drop>(
+    rt: &R,
+    node: &SharedNode<L, P>,
+    device: D,
+) {
+    let mut device = device;
+    let mut receipts = ReceiptBuffer::new(node.housekeeping().alloc);
+    for _ in rt.forever() {
+        if !node.housekeeping().bell.await_round(rt) {
+            break;
+        }
+        let done = node.round(rt, &mut device, &mut receipts);
+        go_on(rt, &node.housekeeping().bell, done);
+    }
+    node.housekeeping().erase_keys(rt, &mut device);
+    receipts.audit_all(rt, node);
+}
+
+/// Asks for another round after one that came to something: more may wait. One that found no memory rests first.
+fn go_on<R: Wait + Clock>(rt: &R, bell: &WorkerBell, done: WorkDone) {
+    if done == WorkDone::NoMemory {
+        thread::sleep(rt, Duration::from_millis(REST));
+    }
+    if done != WorkDone::Nothing {
+        bell.ask(rt);
+    }
+}

@@ -1,0 +1,93 @@
+//! The ways out of a node: to the directory and to each other node.
+use crate::inbox::Inbox;
+use crate::lanes::OutLanes;
+use memory_growth::{boxes, lists};
+use node_journal::Posted;
+use obj_id::Endpoint;
+use owner_directory::Directory;
+use std::alloc::Global;
+use std::io;
+use std::sync::ledger::Ledger;
+use std::sync::{Arc, Mutex, Wait};
+
+/// The directory of the cluster, and a way to each other node, by number.
+pub struct Outbox<L: Ledger> {
+    directory: Arc<Mutex<Directory>>,
+    nodes: Vec<Option<OutLanes<L>>>,
+}
+
+// By hand, so that it is proved here and not in each crate above.
+impl<L: Ledger> Drop for Outbox<L> {
+    fn drop(self) {
+        let Outbox {
+            directory: _directory,
+            nodes: _nodes,
+        } = self;
+    }
+}
+
+impl<L: Ledger> Outbox<L> {
+    /// The ways out of the node of this number, one to each other node that has an inbox.
+    pub fn open(
+        alloc: Global,
+        number: u32,
+        directory: &Arc<Mutex<Directory>>,
+        inboxes: &mut [Inbox<L>],
+    ) -> io::Result<Outbox<L>> {
+        let mut nodes = Vec::new(alloc);
+        for (node, inbox) in inboxes.iter_mut().enumerate() {
+            if node == number as usize {
+                lists::push(&mut nodes, None)?;
+            } else {
+                let turns = boxes::another(&inbox.turns)?;
+                let (way_out, way_in) = OutLanes::open(alloc, number, turns)?;
+                lists::push(&mut nodes, Some(way_out))?;
+                lists::push(&mut inbox.ways, way_in)?;
+            }
+        }
+        Ok(Outbox {
+            directory: boxes::another(directory)?,
+            nodes,
+        })
+    }
+
+    /// The way to the node of this number, if there is one.
+    fn way(&self, node: u32) -> Option<&OutLanes<L>> {
+        self.nodes.get(node as usize)?.as_ref()
+    }
+
+    /// Hands a message over to its place.
+    pub fn deliver<R: Wait>(&self, rt: &R, posted: Posted<L>) -> Delivery<L> {
+        match posted.to() {
+            Endpoint::Directory => match posted.through(&mut *self.directory.lock(rt)) {
+                Err(_) => Delivery::Lost,
+                Ok(None) => Delivery::Over,
+                Ok(Some(located)) => Delivery::Answered(located),
+            },
+            Endpoint::Node(node) => match self.way(node) {
+                Some(way) if way.send(rt, posted) => Delivery::Over,
+                _ => Delivery::Lost,
+            },
+        }
+    }
+
+    /// Closes the ways out to other nodes: what was accepted is still received.
+    pub fn close<R: Wait>(&self, rt: &R) {
+        for way in &self.nodes {
+            if let Some(way) = way {
+                way.close(rt);
+            }
+        }
+    }
+}
+
+/// What became of a message that was handed over.
+#[derive(Drop)]
+pub enum Delivery<L: Ledger> {
+    /// It came to its place, or is on its way.
+    Over,
+    /// It didn't come there.
+    Lost,
+    /// The directory's answer to it.
+    Answered(Posted<L>),
+}

@@ -1,0 +1,188 @@
+//! A device over files that tells which of its calls failed, and why.
+ghost use Rattle.std.specs.Prelude.{◌≡◌};
+
+use bytes::Bytes;
+use memory_growth::{OutOfMemory, boxes, text_of};
+use obj_id::DeviceKey;
+use program_lines::{DeviceCall, FailedCall, SaidCalls};
+use spill_device::{DeviceFault, FileDevice, FolderFault, SpillDevice, SpillFolder};
+use std::alloc::Global;
+use std::sync::atomic::{AtomicBool, Ordering};
+use std::sync::{Arc, Mutex, Wait};
+use std::thread::Threads;
+use std::time::{Clock, Instant};
+use std::{io, thread};
+
+/// What the devices of all nodes share: what was said of their calls, and whether a line is being written.
+#[derive(Drop)]
+pub struct Telling {
+    said: Arc<Mutex<SaidCalls>>,
+    is_writing: Arc<AtomicBool>,
+}
+
+impl Telling {
+    /// Nothing was said.
+    pub fn new(alloc: Global) -> Result<Telling, OutOfMemory> {
+        Ok(Telling {
+            said: boxes::counted(alloc, Mutex::new(SaidCalls::new()))?,
+            is_writing: boxes::counted(alloc, AtomicBool::new(false))?,
+        })
+    }
+
+    /// The same, for one more device.
+    pub fn share(&self) -> Result<Telling, OutOfMemory> {
+        Ok(Telling {
+            said: boxes::another(&self.said)?,
+            is_writing: boxes::another(&self.is_writing)?,
+        })
+    }
+}
+
+/// A device over files in a folder. Of its calls that failed, and those of all devices with which it shares what was said, it tells one in
+/// a second at most on standard error. No call is answered otherwise or later for it, whoever reads standard error or doesn't.
+#[derive(Drop)]
+pub struct TellingDevice<R: Threads + Wait + Clock + Drop> {
+    device: FileDevice<HostRuntime>,
+    rt: R,
+    host: HostRuntime,
+    node: u32,
+    telling: Telling,
+}
+
+/// A line that is to be written.
+#[derive(Drop)]
+struct Line {
+    node: u32,
+    key: DeviceKey,
+    call: DeviceCall,
+    reason: String,
+    unsaid: u64,
+}
+
+impl<R: Threads + Wait + Clock + Drop> TellingDevice<R> {
+    /// The device of the node of this number, in its folder.
+    pub fn new(
+        rt: R,
+        host: HostRuntime,
+        node: u32,
+        folder: &SpillFolder,
+        telling: Telling,
+    ) -> Result<TellingDevice<R>, FolderFault> {
+        Ok(TellingDevice {
+            device: FileDevice::of(host, folder)?,
+            rt,
+            host,
+            node,
+            telling,
+        })
+    }
+
+    /// Tells of a call that was answered so, if it failed.
+    fn tell<T>(&mut self, call: DeviceCall, key: DeviceKey, answer: &Result<T, DeviceFault>)
+        ensures { self.new.device ≡ self.old.device }
+    {
+        if let Err(DeviceFault::Failed) = answer
+            && let Some(error) = self.device.take_reason()
+        {
+            self.tell_failure(call, key, error);
+        }
+    }
+
+    /// Tells of a call that failed now, if its line is due. Otherwise it is one of those that the next line tells of.
+    fn tell_failure(&self, call: DeviceCall, key: DeviceKey, error: io::Error) {
+        let Some(unsaid) = self.due() else {
+            return;
+        };
+        let is_begun = match text_of!(in self.host.alloc(); "{error}") {
+            Ok(reason) => self.begin(Line {
+                node: self.node,
+                key,
+                call,
+                reason,
+                unsaid,
+            }),
+            Err(_) => false,
+        };
+        if !is_begun {
+            let more = unsaid.saturating_add(1);
+            self.telling.said.lock(&self.rt).skip(more);
+        }
+    }
+
+    /// How many calls failed without a line, if one that failed now gets one.
+    fn due(&self) -> Option<u64> {
+        let is_writing = self.telling.is_writing.load(Ordering::SeqCst);
+        let now = Instant::now(&self.rt);
+        let mut said = self.telling.said.lock(&self.rt);
+        match now {
+            Ok(now) if !is_writing => said.fail(now),
+            _ => {
+                said.skip(1);
+                None
+            }
+        }
+    }
+
+    /// Writes the line in a thread of its own, which nobody waits for: it may wait for who reads standard error. False if there is no
+    /// thread for it.
+    fn begin(&self, line: Line) -> bool {
+        let Ok(is_writing) = boxes::another(&self.telling.is_writing) else {
+            return false;
+        };
+        is_writing.store(true, Ordering::SeqCst);
+        let host = self.host;
+        let job = move || write_line(host, &line, &is_writing);
+        let is_begun = thread::spawn(&self.rt, job).is_ok();
+        if !is_begun {
+            self.telling.is_writing.store(false, Ordering::SeqCst);
+        }
+        is_begun
+    }
+}
+
+/// Writes the line. Who reads no standard error is served all the same.
+fn write_line(host: HostRuntime, line: &Line, is_writing: &AtomicBool) {
+    let _ = host.eprintln(FailedCall {
+        node: line.node,
+        key: line.key,
+        call: line.call,
+        reason: line.reason.as_str(),
+        unsaid: line.unsaid,
+    });
+    is_writing.store(false, Ordering::SeqCst);
+}
+
+impl<R: Threads + Wait + Clock + Drop> SpillDevice for TellingDevice<R> {
+    ghost use Rattle.std.specs.Prelude.{◌≡◌};
+
+    ghost failures_of = { λ d. d.device.failures };
+
+    // the folder stays
+    ghost write_gives = { λ old _ _ _ new. new.device.name ≡ old.device.name };
+
+    ghost read_gives = { λ old _ _ _ new. new.device.name ≡ old.device.name };
+
+    ghost erase_gives = { λ old _ _ new. new.device.name ≡ old.device.name };
+
+    fn write(&mut self, key: DeviceKey, bytes: &[u8]) -> Result<(), DeviceFault> {
+        let written = self.device.write(key, bytes);
+        self.tell(DeviceCall::Write, key, &written);
+        written
+    }
+
+    fn read(&mut self, key: DeviceKey, len: u32) -> Result<Bytes, DeviceFault> {
+        let read = self.device.read(key, len);
+        self.tell(DeviceCall::Read, key, &read);
+        read
+    }
+
+    fn erase(&mut self, key: DeviceKey) -> Result<(), DeviceFault> {
+        let erased = self.device.erase(key);
+        self.tell(DeviceCall::Erase, key, &erased);
+        erased
+    }
+
+    fn failures(&self) -> u64 {
+        self.device.failures()
+    }
+}
