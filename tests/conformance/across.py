@@ -11,12 +11,15 @@ from typing import Callable, List, Tuple
 
 sys.path.insert(0, str(Path(__file__).resolve().parent.parent))
 
-from serving import PATIENCE, frame, receive  # noqa: E402
+from store_testing import PATIENCE  # noqa: E402
+from store_testing.frames import exchange, frame, hello  # noqa: E402
 
 from at_server import served  # noqa: E402
 from dialogue import Fault, Job, key_of  # noqa: E402
 from with_client import Client, run_driver  # noqa: E402
 
+# what is asked of objects in parts; a client that can't be asked all of it knows no parts
+ASKED = frozenset({"putwhole", "takewhole", "deletewhole"})
 # more than the window, so that it goes in parts of a sixteenth of it, and other parts are on the device
 _JOB = Job(1, 4096, 1 << 20)
 _LENGTH, _PART = 5000, 256
@@ -27,9 +30,10 @@ _WHOLE, _WHOLE_BYTES = "t1.1", bytes(19) + b"\1" + bytes(3) + b"\1" + bytes(3) +
 
 
 def plays(clients: List[Client], words: List[str]) -> List[Callable[[], None]]:
-    """One play for each client that puts. The client after it deletes."""
-    pairs = list(zip(clients, [*clients[1:], clients[0]]))
-    return [partial(_play, pair, clients, words) for pair in pairs]
+    """One play for each client that puts parts. The client after it deletes."""
+    knowing = [client for client in clients if not ASKED & set(client.without)]
+    pairs = zip(knowing, [*knowing[1:], *knowing[:1]])
+    return [partial(_play, pair, knowing, words) for pair in pairs]
 
 
 def _play(pair: Tuple[Client, Client], clients: List[Client], words: List[str]) -> None:
@@ -58,7 +62,7 @@ def _read(path: str, data: bytes) -> bytes:
     with socket.socket(socket.AF_UNIX) as stream:
         stream.settimeout(PATIENCE)
         stream.connect(path)
-        _ask(stream, frame(0x01, _JOB.number.to_bytes(4, "big") + key_of(_JOB.number)))
+        _ask(stream, hello(_JOB.number, key_of(_JOB.number)))
         manifest = _object(stream, _WHOLE_BYTES)
         ids = [manifest[at : at + _ID_BYTES] for at in range(len(_HEAD), len(manifest), _ID_BYTES)]
         if not manifest.startswith(_HEAD) or len(ids) != -(-len(data) // _PART) or len(set(ids)) != len(ids):
@@ -77,11 +81,9 @@ def _object(stream: socket.socket, name: bytes) -> bytes:
 def _ask(stream: socket.socket, command: bytes) -> bytes:
     """The body of the reply. `Fault` if it is a refusal."""
     try:
-        stream.sendall(command)
-        length = int.from_bytes(receive(stream, 4), "big")
-        reply = receive(stream, length)
+        reply = exchange(stream, command)
     except OSError as error:
         raise Fault(f"to {command[:40].hex()} the server answered nothing: {error}") from None
-    if reply[:1] == b"\x8f" or len(reply) != length or not reply:
+    if len(reply) < 5 or len(reply) != 4 + int.from_bytes(reply[:4], "big") or reply[4] == 0x8F:
         raise Fault(f"to {command[:40].hex()} the server answered {reply.hex()}")
-    return reply[1:]
+    return reply[5:]

@@ -12,7 +12,9 @@ from typing import Dict, Iterator, List
 
 sys.path.insert(0, str(Path(__file__).resolve().parent.parent))
 
-from serving import PATIENCE, READY, receive, report_of, start, tell  # noqa: E402
+from store_testing import PATIENCE  # noqa: E402
+from store_testing.frames import receive  # noqa: E402
+from store_testing.server import Server  # noqa: E402
 
 from dialogue import Act, Dialogue, Fault, Job, Step, key_of  # noqa: E402
 
@@ -24,26 +26,18 @@ def served(words: List[str], jobs: List[Job]) -> Iterator[str]:
     """The socket of a server that has these jobs. At the end it has to say that its journal is right."""
     with tempfile.TemporaryDirectory() as folder:
         try:
-            program = start(words, folder, nodes=1, memory=_MEMORY, errors=subprocess.PIPE)
+            server = Server(words, folder, nodes=1, memory=_MEMORY, key_of=key_of)
         except OSError as error:
             raise Fault(f"the server can't be started: {error}") from None
-        try:
-            assert program.stderr
-            ready = program.stderr.readline()
-            if ready != READY:
-                raise Fault(f"the server said {ready!r}, and {READY!r} is due")
-            for job in sorted(jobs):
-                tell(program, f"admit 0 {job.number} {job.window} {job.device} {key_of(job.number).hex()}", "n0 op ok")
-            yield f"{folder}/store.0"
-            out, err = program.communicate("close\n", timeout=PATIENCE)
-            if program.returncode or err:
-                raise Fault(f"the server ended with {program.returncode}, and said {err!r}")
-            report_of(out)
-        except (AssertionError, subprocess.TimeoutExpired) as error:
-            raise Fault(f"the server: {error}") from None
-        finally:
-            program.kill()
-            program.wait()
+        with server:
+            try:
+                server.await_ready()
+                for job in sorted(jobs):
+                    server.admit(0, job.number, job.window, job.device)
+                yield server.path()
+                server.close()
+            except (AssertionError, subprocess.TimeoutExpired) as error:
+                raise Fault(f"the server: {error}") from None
 
 
 class _Sessions:

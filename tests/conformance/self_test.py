@@ -12,6 +12,7 @@ import textwrap
 from pathlib import Path
 from typing import Any, Callable, Dict, Iterator, List, Tuple
 
+import across
 import at_server
 import with_client
 from dialogue import Act, Dialogue, Fault, exchanges, parse
@@ -22,8 +23,6 @@ _PUPPET = str(_HERE / "drivers/puppet")
 _PAGE = _HERE / "README.md"
 # seconds for a command that the page shows
 _SHOWN = 300
-# what across.py asks, and no dialogue
-_ACROSS = {"putwhole", "deletewhole"}
 Play = Dict[str, Any]
 
 # texts of files that can't be read, and what is told of each
@@ -166,7 +165,7 @@ def page(dialogues: List[Dialogue]) -> List[str]:
         faults.append("it doesn't show the dialogue absent as it is")
     table = text.partition("| It reads | It does |")[2].partition("\n\n")[0]
     listed = {word for row in re.findall(r"^\| `[a-z][^|]*\|", table, re.MULTILINE) for word in re.findall(r"`([a-z]+)", row)}
-    asked = {line.split()[0] for one in dialogues if one.is_for_clients for line in one.asked()} | _ACROSS
+    asked = {line.split()[0] for one in dialogues if one.is_for_clients for line in one.asked()} | across.ASKED
     if listed != asked:
         faults.append(f"of {sorted(listed ^ asked)} either it alone has a row, or the dialogues alone ask")
     for command, due in re.findall(r"^\$ (.*)\n((?:[^$\n].*\n)+)", "".join(shown), re.MULTILINE):

@@ -16,7 +16,8 @@ from typing import List, NamedTuple, Optional
 
 sys.path.insert(0, str(Path(__file__).resolve().parent.parent))
 
-from serving import PATIENCE, receive  # noqa: E402
+from store_testing import PATIENCE  # noqa: E402
+from store_testing.frames import read_frame  # noqa: E402
 
 from at_server import shown  # noqa: E402
 from dialogue import Dialogue, Exchange, Fault, exchanges, key_of  # noqa: E402
@@ -72,7 +73,7 @@ class _Script:
 
     def _serve(self, stream: socket.socket) -> None:
         while self._due:
-            frame = _frame(stream)
+            frame = read_frame(stream)
             if not frame and all(one.command.is_optional for one in self._due):
                 return
             exchange = self._take(frame)
@@ -111,12 +112,6 @@ class _Script:
         self._thread.join()
         if self.fault:
             raise Fault(self.fault)
-
-
-def _frame(stream: socket.socket) -> bytes:
-    """The next frame, as far as it came; none at the end."""
-    head = receive(stream, 4)
-    return head + receive(stream, int.from_bytes(head, "big") if len(head) == 4 else 0)
 
 
 def run_driver(words: List[str], path: str, job: int, asked: List[str]) -> List[str]:
