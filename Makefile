@@ -87,7 +87,7 @@ go-client-test:
 conformance:
 	tests/conformance/run
 
-# All of the clients' tests, with numpy, mypy, gcc and whatever else they can use; what is missing is
+# All of the clients' tests, with numpy, mypy, gcc, clang and whatever else they can use; what is missing is
 # said. It takes some minutes.
 client-check:
 	clients/check

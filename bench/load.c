@@ -21,8 +21,8 @@
  * is a server that answers each of these commands at once and keeps no object: its replies have the lengths of the store's, and the bytes
  * that are due. It says that it is ready in a line on standard output.
  *
- * Connections enter, and refusals are named, by the C client; whose calls ask one command at a time, in several writes. Here a command is
- * one write, and is made before it is timed. The kind and length of each reply are looked at, of the bytes of each first get all, and of
+ * Connections enter, and refusals are named, by the C client; its calls make their commands while they are timed. Here a command is one write,
+ * and is made before it is timed. The kind and length of each reply are looked at, of the bytes of each first get all, and of
  * later ones some. What is wrong ends all with status 1, and a line that says what.
  */
 #define _GNU_SOURCE
@@ -30,6 +30,7 @@
 
 #include <arpa/inet.h>
 #include <errno.h>
+#include <fcntl.h>
 #include <pthread.h>
 #include <signal.h>
 #include <stdarg.h>
@@ -428,6 +429,9 @@ static void enter(struct client *client)
     int result = store_connect(&client->store, client->path, client->job, client->key);
     if (result)
         fail("job %u at %s: %s", client->job, client->path, store_result_name(result));
+    /* the client's own calls don't block; these do, for so long at most */
+    if (fcntl(client->store.socket, F_SETFL, 0))
+        fail("job %u: the socket can't block: %s", client->job, strerror(errno));
     setsockopt(client->store.socket, SOL_SOCKET, SO_RCVTIMEO, &patience, sizeof patience);
     setsockopt(client->store.socket, SOL_SOCKET, SO_SNDTIMEO, &patience, sizeof patience);
     for (int index = 0; index < client->timed.count; index++)

@@ -5,7 +5,6 @@ from __future__ import annotations
 import contextlib
 import itertools
 import socket
-import struct
 import subprocess
 import sys
 import tempfile
@@ -17,11 +16,11 @@ from typing import Any, Callable, Dict, Iterator, List, NamedTuple, Sequence, Tu
 ROOT = Path(__file__).resolve().parent.parent
 sys.path[:0] = [str(ROOT / place) for place in ("tests", "clients/python", "clients/python/tests")]
 
-from serving import close, enter, receive, start, tell  # noqa: E402
-from serving import key as key_of  # noqa: E402
 from spelling import read_bytes, spelled  # noqa: E402
 from store_client import ObjectId, ProtocolError, Task  # noqa: E402
 from store_client.requests import Request, Requests  # noqa: E402
+from store_testing.frames import enter, exchange  # noqa: E402
+from store_testing.server import Server  # noqa: E402
 
 JOB, OTHER = 1, 2
 # of the job, in bytes, and of the other one, whose sessions fill more than they have
@@ -117,9 +116,7 @@ def spell(said: Said, reply: bytes) -> str:
 
 def ask(stream: socket.socket, sent: bytes) -> bytes:
     """The frame that answers a command's frame."""
-    stream.sendall(sent)
-    head = receive(stream, 4)
-    reply = head + receive(stream, struct.unpack(">I", head)[0]) if len(head) == 4 else b""
+    reply = exchange(stream, sent)
     if len(reply) < 5:
         raise SessionFault("the program ended a session")
     return reply
@@ -194,15 +191,11 @@ def _sent(request: Request[Any]) -> bytes:
 def _served(program: str, jobs: Dict[int, Tuple[int, int]]) -> Iterator[str]:
     """The path of a server's socket, with these jobs: their windows and devices."""
     with tempfile.TemporaryDirectory() as folder:
-        server = start([program], folder, 1, sum(window for window, _ in jobs.values()))
-        try:
+        with Server([program], folder, 1, sum(window for window, _ in jobs.values())) as server:
             for job, (window, device) in jobs.items():
-                tell(server, f"admit 0 {job} {window} {device} {key_of(job).hex()}", "n0 op ok")
-            yield f"{folder}/store.0"
-            close(server)
-        finally:
-            server.kill()
-            server.wait()
+                server.admit(0, job, window, device)
+            yield server.path()
+            server.close()
 
 
 def _replies(path: str, session: Sequence[Said], before: Callable[[], None]) -> List[bytes]:

@@ -14,18 +14,20 @@ A figure is the median of the rounds, the longest get that of all of them. The r
 that does nothing else; each row says whether its goal is met.
 """
 
+import argparse
 import contextlib
-import itertools
 import shutil
 import statistics
 import subprocess
 import tempfile
 import time
 from pathlib import Path
-from typing import Callable, Dict, List, NamedTuple, Optional
+from typing import Callable, Dict, Iterator, List, NamedTuple, Optional, Sequence, Tuple
 
 from drawing import bytes_text
-from serving import ROOT, close, key, start, tell
+from store_testing import ROOT
+from store_testing.frames import key
+from store_testing.server import Server
 
 SOURCES = (ROOT / "bench/load.c", ROOT / "clients/c/store_client.c")
 ROUNDS = 5
@@ -67,14 +69,14 @@ class Side(NamedTuple):
 class Told(NamedTuple):
     """By load.c: how often it was done, and in how many seconds; if there are neighbours, milliseconds of a get beside them."""
 
-    count: float
+    times: float
     seconds: float
     median: float = 0
     percentile_99: float = 0
     longest: float = 0
 
 
-Figure = Callable[[List[Told]], float]
+Figure = Callable[[Sequence[Told]], float]
 
 
 class Goal(NamedTuple):
@@ -96,29 +98,28 @@ class Row(NamedTuple):
 
 
 @contextlib.contextmanager
-def serving(words, folder, nodes, admitted):
+def serving(words: Sequence[str], folder: str, nodes: int, admitted: Sequence[Admitted]) -> Iterator[None]:
     """A cluster where these are admitted. Its report has to be right."""
     memory = max(sum(one.window for one in admitted if one.node == node) for node in range(nodes))
-    server = start(words, folder, nodes, memory)
-    try:
-        for one in admitted:
-            tell(server, f"admit {one.node} {one.job} {one.window} {one.device} {key(one.job).hex()}", f"n{one.node} op ok")
-        yield
-        close(server)
-    finally:
-        # after a fault, which is told already, nothing is said of the report
-        if server.poll() is None:
-            with contextlib.suppress(OSError, ValueError, subprocess.TimeoutExpired):
-                server.communicate("close\n", timeout=PATIENCE)
-            server.kill()
-            server.wait()
+    with Server(words, folder, nodes, memory, patience=PATIENCE) as server:
+        try:
+            for one in admitted:
+                server.admit(*one)
+            yield
+            server.close()
+        finally:
+            # after a fault, which is told already, nothing is said of the report
+            if server.process.poll() is None:
+                with contextlib.suppress(OSError, ValueError, subprocess.TimeoutExpired):
+                    server.ending("close\n")
 
 
 @contextlib.contextmanager
-def floor(load, folder):
+def floor(load: str, folder: str) -> Iterator[None]:
     """The server that load.c is."""
     server = subprocess.Popen([load, "floor", f"{folder}/floor"], stdin=subprocess.DEVNULL, stdout=subprocess.PIPE, text=True)
     try:
+        assert server.stdout
         if server.stdout.readline() != "ready\n":
             raise ValueError("the floor doesn't serve")
         yield
@@ -127,7 +128,7 @@ def floor(load, folder):
         server.communicate()
 
 
-def compiled(compiler, folder):
+def compiled(compiler: str, folder: str) -> str:
     load = f"{folder}/load"
     words = ["-O2", "-std=c11", "-Wall", "-Wextra", "-pthread", f"-I{SOURCES[1].parent}", "-o", load, *map(str, SOURCES)]
     subprocess.run([compiler, *words], check=True, timeout=PATIENCE)
@@ -137,14 +138,14 @@ def compiled(compiler, folder):
 # ---- what is measured
 
 
-def clients_of(side):
+def clients_of(side: Side) -> List[Tuple[int, int]]:
     """Jobs of the side's connections, and their nodes."""
     if side.word in (*NEIGHBOURS, "reads"):
         return [(VICTIM, 0), *((job, 0) for job in (WIDE if side.word == "spills" else NARROW))]
     return [(job, client % side.nodes) for client, job in enumerate(NARROW[: side.connections])]
 
 
-def told_by(load, side, seconds, folder):
+def told_by(load: str, side: Side, seconds: float, folder: str) -> Told:
     """What load.c says of a run. Its faults end all."""
     words = [side.word, str(side.size), f"{seconds:g}"]
     for job, node in clients_of(side):
@@ -156,23 +157,25 @@ def told_by(load, side, seconds, folder):
     return Told(*map(float, done.stdout.split()))
 
 
-def measure(load, sides, folder, asked):
+def measure(load: str, sides: Sequence[Side], folder: str, asked: argparse.Namespace) -> Dict[Side, List[Told]]:
     """What each side told in each round. The sides take turns, so that whatever else the machine does meets all of them."""
     told: Dict[Side, List[Told]] = {side: [] for side in sides}
     began = time.monotonic()
-    for done in itertools.count():
+    for done in range(asked.rounds or ROUNDS):
         passed = time.monotonic() - began
-        if done == (asked.rounds or ROUNDS) or done and not asked.rounds and passed * (done + 1) / done > LIMIT:
-            return told
+        if done and not asked.rounds and passed * (done + 1) / done > LIMIT:
+            break
         for side in sides:
             # a get beside neighbours may be a long one
             seconds = asked.seconds * (2 if VICTIM in dict(clients_of(side)) else 1)
             told[side].append(told_by(load, side, seconds, folder))
+    return told
 
 
-def write_calls(load, strace, program):
+def write_calls(load: str, strace: str, program: str) -> Optional[float]:
     """Those of the server for commands at once: by how many calls two runs of different lengths differ. None if strace can't trace."""
-    counts, calls = [], []
+    counts: List[float] = []
+    calls: List[int] = []
     for seconds in (0, TRACED_SECONDS):
         with tempfile.TemporaryDirectory() as folder:
             log = Path(folder, "calls")
@@ -180,7 +183,7 @@ def write_calls(load, strace, program):
             if subprocess.run([*words, "true"], capture_output=True, check=False, timeout=PATIENCE).returncode:
                 return None
             with serving([*words, program], folder, 1, [Admitted(0, NARROW[0], MIB)]):
-                counts.append(told_by(load, Side("together", KIB), seconds, folder).count)
+                counts.append(told_by(load, Side("together", KIB), seconds, folder).times)
             # what another call interrupts has a second line, of its end
             calls.append(sum("resumed>" not in line and "(" in line for line in log.read_text().splitlines()))
     return (calls[1] - calls[0]) / (counts[1] - counts[0]) if counts[1] > counts[0] else None
@@ -189,28 +192,28 @@ def write_calls(load, strace, program):
 # ---- the rows
 
 
-def speed(told):
+def speed(told: Sequence[Told]) -> float:
     """How often a second."""
-    return statistics.median(one.count / one.seconds for one in told)
+    return statistics.median(one.times / one.seconds for one in told)
 
 
-def megabytes(size) -> Figure:
+def megabytes(size: int) -> Figure:
     return lambda told: speed(told) * size / 1e6
 
 
-def at_least(bound):
+def at_least(bound: float) -> Goal:
     return Goal(f"at least {bound:g}", lambda _, ratio: ratio is not None and ratio >= bound)
 
 
-def at_most(bound):
+def at_most(bound: float) -> Goal:
     return Goal(f"at most {bound:g}", lambda _, ratio: ratio is not None and ratio <= bound)
 
 
-def figure_at_most(bound, unit):
+def figure_at_most(bound: float, unit: str) -> Goal:
     return Goal(f"at most {bound:g} {unit}", lambda figure, _: figure <= bound)
 
 
-def rows_of_objects():
+def rows_of_objects() -> Iterator[Row]:
     for size in (64 * KIB, MIB):
         sides = Side("put", size, CONNECTIONS), Side("put", size)
         yield Row(f"put {bytes_text(size)}, one node: four connections to one, MB/s", megabytes(size), *sides, at_least(2.5))
@@ -221,16 +224,16 @@ def rows_of_objects():
     yield Row("get 1 MiB, one connection: to the floor, MB/s", megabytes(MIB), *sides, at_least(0.9))
 
 
-def row_of_bursts():
-    def commands(told):
+def row_of_bursts() -> Row:
+    def commands(told: Sequence[Told]) -> float:
         return speed(told) * AT_ONCE
 
     return Row(f"{AT_ONCE} commands: at once to one by one, a second", commands, Side("together", KIB), Side("apart", KIB), at_least(3))
 
 
-def rows_of_neighbours():
+def rows_of_neighbours() -> Iterator[Row]:
     """Of each trouble the gets beside it, to those beside reads."""
-    figures = (
+    figures: Tuple[Tuple[str, Figure, Optional[Goal]], ...] = (
         ("p50", lambda told: statistics.median(one.median for one in told), None),
         ("p99", lambda told: statistics.median(one.percentile_99 for one in told), at_most(3)),
         ("longest", lambda told: max(one.longest for one in told), figure_at_most(15, "ms")),
@@ -240,19 +243,19 @@ def rows_of_neighbours():
             yield Row(f"1 KiB beside four that {text}, to four that read: {name}, ms", figure, Side(word, LARGEST), Side("reads", LARGEST), goal)
 
 
-def print_row(name, figure, other, goal):
+def print_row(name: str, figure: float, other: Optional[float], goal: Optional[Goal]) -> None:
     ratio = figure / other if other else None
     met = f"{goal.text}: {'met' if goal.is_met(figure, ratio) else 'missed'}" if goal else "-"
     cells = [name, number_text(figure), "-" if other is None else number_text(other), "-" if ratio is None else f"{ratio:.2f}", met]
     print(f"| {' | '.join(cells)} |", flush=True)
 
 
-def number_text(number):
+def number_text(number: float) -> str:
     """With three digits at least, and no more than tell something."""
     return f"{number:,.0f}" if number >= 1000 else f"{number:.1f}" if number >= 10 else f"{number:.3f}"
 
 
-def run_rows(compiler, asked):
+def run_rows(compiler: str, asked: argparse.Namespace) -> List[str]:
     """Measures all rows and prints them. What was left out is given."""
     program, strace = str(asked.program.resolve()), shutil.which("strace")
     rows = [*rows_of_objects(), row_of_bursts(), *rows_of_neighbours()]

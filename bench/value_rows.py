@@ -6,15 +6,21 @@ over a pipe of multiprocessing to a process that keeps the array, and gives it b
 redis-server are there. What is missing is left out, and numpy has to be there. All ways take turns, and each keeps its best run.
 """
 
+from __future__ import annotations
+
 import contextlib
 import importlib.util
 import multiprocessing
-import multiprocessing.shared_memory
 import pickle
 import time
-from typing import Any, Callable, NamedTuple
+from multiprocessing.connection import Connection
+from multiprocessing.shared_memory import SharedMemory
+from typing import TYPE_CHECKING, Callable, Dict, Iterator, NamedTuple, Optional, Tuple
 
 import store_client
+
+if TYPE_CHECKING:
+    import numpy
 
 ARRAY_BYTES = 1 << 24
 # of the job that puts the arrays: one is there while the next is put
@@ -25,17 +31,21 @@ STORE, SHARED, PIPE, REDIS = "the store", "shared memory and a copy", "a pickle 
 class Way(NamedTuple):
     """How an array is put, and got again; what is put is there for all gets."""
 
-    put: Callable[[], Any]
-    get: Callable[[], Any]
+    put: Callable[[], object]
+    get: Callable[[], object]
+
+
+# of each way the best seconds of a put and of a get
+Best = Dict[str, Tuple[float, float]]
 
 
 @contextlib.contextmanager
-def by_store(array, path, job, key):
+def by_store(array: numpy.ndarray, path: str, job: int, key: bytes) -> Iterator[Way]:
     """A pool's connections to a node."""
     with store_client.Pool(path, job, key) as pool:
         there = pool.put_value(array)
 
-        def put():
+        def put() -> None:
             pool.delete_value(pool.put_value(array))
 
         yield Way(put, lambda: pool.get_value(there))
@@ -43,26 +53,26 @@ def by_store(array, path, job, key):
 
 
 @contextlib.contextmanager
-def by_shared_memory(array):
+def by_shared_memory(array: numpy.ndarray) -> Iterator[Way]:
     """A block for each put, and one that is read."""
     import numpy
 
-    def put_into(block):
+    def put_into(block: SharedMemory) -> SharedMemory:
         numpy.ndarray(array.shape, array.dtype, block.buf)[...] = array
         return block
 
-    def put():
-        block = put_into(multiprocessing.shared_memory.SharedMemory(create=True, size=array.nbytes))
+    def put() -> None:
+        block = put_into(SharedMemory(create=True, size=array.nbytes))
         block.close()
         block.unlink()
 
-    def get():
-        block = multiprocessing.shared_memory.SharedMemory(there.name)
+    def get() -> numpy.ndarray:
+        block = SharedMemory(there.name)
         copied = numpy.ndarray(array.shape, array.dtype, block.buf).copy()
         block.close()
         return copied
 
-    there = put_into(multiprocessing.shared_memory.SharedMemory(create=True, size=array.nbytes))
+    there = put_into(SharedMemory(create=True, size=array.nbytes))
     try:
         yield Way(put, get)
     finally:
@@ -70,7 +80,7 @@ def by_shared_memory(array):
         there.unlink()
 
 
-def keep(line, other_end):
+def keep(line: Connection, other_end: Connection) -> None:
     """The other process: it keeps the array that comes, and gives it if it is asked by None, until the other end is closed."""
     other_end.close()
     kept = None
@@ -85,18 +95,18 @@ def keep(line, other_end):
 
 
 @contextlib.contextmanager
-def by_pipe(array):
+def by_pipe(array: numpy.ndarray) -> Iterator[Way]:
     """A process that keeps the array."""
     line, its_line = multiprocessing.Pipe()
     process = multiprocessing.get_context("fork").Process(target=keep, args=(its_line, line), daemon=True)
     process.start()
     its_line.close()
 
-    def put():
+    def put() -> None:
         line.send(array)
         line.recv()
 
-    def get():
+    def get() -> object:
         line.send(None)
         return line.recv()
 
@@ -109,7 +119,7 @@ def by_pipe(array):
 
 
 @contextlib.contextmanager
-def by_redis(array, path):
+def by_redis(array: numpy.ndarray, path: str) -> Iterator[Way]:
     """A connection to a server that runs."""
     import redis
 
@@ -118,18 +128,18 @@ def by_redis(array, path):
         yield Way(lambda: server.set("array", pickle.dumps(array, 5)), lambda: pickle.loads(server.get("array")))
 
 
-def seconds_of(call):
+def seconds_of(call: Callable[[], object]) -> float:
     began = time.monotonic()
     call()
     return time.monotonic() - began
 
 
-def measure_values(path, job, key, redis_path, runs, size=ARRAY_BYTES):
-    """Of each way the best times of a put and of a get, in seconds. What comes back is compared once."""
+def measure_values(path: str, job: int, key: bytes, redis_path: Optional[str], runs: int, size: int = ARRAY_BYTES) -> Best:
+    """The best times of each way. What comes back is compared once."""
     import numpy
 
     array = numpy.random.default_rng(1).random(size // 8)
-    best = {}
+    best: Best = {}
     with contextlib.ExitStack() as stack:
         ways = {SHARED: by_shared_memory(array), PIPE: by_pipe(array), STORE: by_store(array, path, job, key)}
         if redis_path and importlib.util.find_spec("redis"):
@@ -140,12 +150,13 @@ def measure_values(path, job, key, redis_path, runs, size=ARRAY_BYTES):
                 raise ValueError(f"{name} gave another array than was put")
         for _ in range(runs):
             for name, way in ready.items():
-                now = seconds_of(way.put), seconds_of(way.get)
-                best[name] = tuple(map(min, now, best.get(name, now)))
+                put, get = seconds_of(way.put), seconds_of(way.get)
+                best_put, best_get = best.get(name, (put, get))
+                best[name] = min(put, best_put), min(get, best_get)
     return best
 
 
-def print_values(best, size=ARRAY_BYTES):
+def print_values(best: Best, size: int = ARRAY_BYTES) -> None:
     """A row for each way; the last columns are the store's time to its."""
     print(f"\n| An array of {size:,} bytes by | put, ms | get, ms | the store's put to it | the store's get to it |")
     print("|---|---|---|---|---|")

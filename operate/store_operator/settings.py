@@ -101,16 +101,24 @@ def read_settings(path: Path, usual_program: Callable[[], Path]) -> Settings:
     parser = configparser.ConfigParser(interpolation=None, default_section="every section")
     try:
         with open(path, encoding="utf-8") as file:
-            mode = stat.S_IMODE(os.fstat(file.fileno()).st_mode)
-            if mode & 0o002:
-                # who writes it says which program is run
-                raise SettingsFault(f"{path}: every user may write it (mode {mode:04o}): chmod o-w {path}")
+            _check_writers(path, os.fstat(file.fileno()))
             parser.read_file(file)
     except OSError as error:
         raise SettingsFault(f"{path}: {error.strerror}") from error
     except (configparser.Error, UnicodeDecodeError) as error:
         raise SettingsFault(" ".join(str(error).split())) from error
     return _Reader(path, parser).settings(usual_program)
+
+
+def _check_writers(path: Path, found: os.stat_result) -> None:
+    """`SettingsFault` if others may write the file: who writes it says which program is run."""
+    mode = stat.S_IMODE(found.st_mode)
+    if mode & 0o002:
+        raise SettingsFault(f"{path}: every user may write it (mode {mode:04o}): chmod o-w {path}")
+    if mode & 0o020 and found.st_gid != os.getegid():
+        raise SettingsFault(f"{path}: group {found.st_gid} may write it (mode {mode:04o}): chmod g-w {path}")
+    if found.st_uid not in (0, os.geteuid()):
+        raise SettingsFault(f"{path}: user {found.st_uid} owns it, who is neither root nor runs this: chown {os.geteuid()} {path}")
 
 
 class _Section:

@@ -41,8 +41,10 @@ class Checkout:
         self.top.mkdir()
         for name in needed:
             there = ROOT / name
-            copy = shutil.copytree if there.is_dir() else shutil.copy
-            copy(there, self.top / name)  # type: ignore[operator]
+            if there.is_dir():
+                shutil.copytree(there, self.top / name)
+            else:
+                shutil.copy(there, self.top / name)
         (self.top / ".gitignore").write_text("out/\n__pycache__/\n")
         self.source = self.top / "crates/store_server/main"
         self.program = self.top / "crates/store_server/out/store_server"

@@ -6,19 +6,12 @@ import json
 import subprocess
 import sys
 import unittest
-from typing import Tuple
+from typing import Any, Tuple
 
-from driving import CTL, PATIENCE, Place, until
+from driving import CTL, PATIENCE, Place, ctl, until
 
 EMPTY = {"window_used": 0, "device_used": 0, "copies": 0, "works": 0}
 EXISTS = "refused 3 Exists: this number or a greater one was admitted before; numbers rise until the server starts again"
-
-
-def ctl(place: Place, *words: str) -> Tuple[int, str, str]:
-    """The status, and what is printed and complained of."""
-    command = [sys.executable, CTL, "--control", str(place.path / "control"), *words]
-    done = subprocess.run(command, capture_output=True, text=True, check=False, timeout=PATIENCE)
-    return done.returncode, done.stdout, done.stderr
 
 
 class Ctl(unittest.TestCase):
@@ -58,7 +51,7 @@ class Ctl(unittest.TestCase):
             self.assertEqual(self.json(place, "end", "1"), [{"node": 0, "answer": "n0 op ok"}])
             self.assertRegex(self.json(place, "close")["answer"], r"^report (\d+) \1 0 0 0$")
 
-    def json(self, place: Place, *words: str):  # type: ignore[no-untyped-def]
+    def json(self, place: Place, *words: str) -> Any:
         status, printed, complained = ctl(place, "--json", *words)
         self.assertEqual((status, complained), (0, ""))
         return json.loads(printed)

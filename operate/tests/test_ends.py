@@ -9,7 +9,7 @@ import threading
 import unittest
 from typing import List
 
-from driving import KEY, PATIENCE, PROGRAM, Place, fill, is_running, listens, until
+from driving import KEY, PATIENCE, PROGRAM, Place, crash, fill, is_running, listens, until
 
 import store_client
 
@@ -45,21 +45,13 @@ def put_and_get(session: store_client.Connection) -> None:
 
 
 class Crashes(unittest.TestCase):
-    def crash(self, place: Place) -> int:
-        """Kills the server. The process of the next one, once it serves."""
-        server = place.server()
-        ready = len(place.said())
-        os.kill(server, signal.SIGKILL)
-        until(lambda: len(place.said()) > ready, "ready again")
-        return place.server()
-
     def test_after_a_crash_the_live_jobs_are_admitted_again(self) -> None:
         with Place(2, (1, 2)) as place:
             place.start_ready()
             first = place.server()
             for line in ("end 0 1", "quota 0 2 128 64", f"admit 1 9 64 32 {KEY}"):
                 self.assertTrue(place.ask(line).endswith(" op ok"), line)
-            self.assertNotEqual(self.crash(place), first)
+            self.assertNotEqual(crash(place), first)
             self.assertEqual([place.ask(f"jobs {node}") for node in (0, 1)], ["n0 op jobs 2:128:64", "n1 op jobs 1:65536:1048576 2:65536:1048576 9:64:32"])
             self.assertEqual(place.ask("usage 0 2"), "n0 op usage 128 0 64 0 0 0")
             self.assertRaises(store_client.NotAdmitted, place.session, 1, 0)
@@ -86,7 +78,7 @@ class Crashes(unittest.TestCase):
 
                 working = threading.Thread(target=work)
                 working.start()
-                self.crash(place)
+                crash(place)
                 working.join()
                 self.assertIsInstance(faults[0], store_client.ConnectionLost)
                 self.assertRaises(store_client.ConnectionLost, session.get, ids[0])
@@ -123,7 +115,7 @@ class Crashes(unittest.TestCase):
         self.assertEqual(faults, [])
         server, before = place.server(), set(lost)
         lost.clear()
-        self.crash(place)
+        crash(place)
         until(lambda: faults or len(set(lost)) == 6, f"all sessions are lost; before {before}, now {lost}")
         return server
 
@@ -131,7 +123,7 @@ class Crashes(unittest.TestCase):
         with Place() as place:
             place.start_ready()
             for _ in range(3):
-                self.crash(place)
+                crash(place)
             self.assertEqual(re.findall(r"started again in (\S+) seconds", place.log()), ["0.5", "1", "2"])
             self.assertIn("restarts=3", place.ask("status"))
 

@@ -4,7 +4,6 @@ from __future__ import annotations
 
 import grp
 import os
-import signal
 import socket
 import stat
 import struct
@@ -13,7 +12,7 @@ import unittest
 from pathlib import Path
 from typing import List, Tuple
 
-from driving import KEY, Place, until
+from driving import KEY, Place, crash, until
 
 import store_client
 from store_client import LostAtRestart
@@ -21,13 +20,6 @@ from store_client import LostAtRestart
 
 def epoch_file(place: Place) -> Path:
     return place.path / "store.epoch"
-
-
-def crash(place: Place) -> None:
-    """Kills the server, and waits for the next one."""
-    ready = len(place.said())
-    os.kill(place.server(), signal.SIGKILL)
-    until(lambda: len(place.said()) > ready, "ready again")
 
 
 class Epochs(unittest.TestCase):

@@ -12,7 +12,7 @@ import threading
 import time
 import unittest
 from pathlib import Path
-from typing import List
+from typing import Dict, List
 
 from driving import KEY, PATIENCE, Place, fill, is_running, listens, until
 
@@ -252,7 +252,8 @@ class Limits(unittest.TestCase):
             self.assertIn("limit of 300 descriptors: 2074 are needed for 1024 sessions at each of 2 nodes", place.log())
 
     def test_the_allocator_gives_memory_back_unless_it_is_set_otherwise(self) -> None:
-        for names, kept in (({}, "1048576"), ({"MALLOC_MMAP_THRESHOLD_": "65536"}, "65536")):
+        none: Dict[str, str] = {}
+        for names, kept in ((none, "1048576"), ({"MALLOC_MMAP_THRESHOLD_": "65536"}, "65536")):
             with self.subTest(names=names), Place() as place:
                 place.start_ready(names=names)
                 given = Path(f"/proc/{place.server()}/environ").read_bytes().split(b"\0")

@@ -10,13 +10,14 @@ import signal
 import subprocess
 import sys
 import unittest
+from typing import Dict
 
 from driving import CTL, PATIENCE, Place, until
 
-from store_operator.asking import UsageRow
+from store_operator.asking import Mark, UsageRow
 from store_operator.top import Seen, top_text
 
-STATUS = {
+STATUS: Dict[str, Mark] = {
     "state": "running", "process": 7, "seconds": 3_725, "restarts": 1, "nodes": 2, "jobs": [1, 0], "sessions": [3, 0], "threads": 9,
     "descriptors": 12, "descriptors_needed": 2074, "resident": 8 << 20, "processor_seconds": 12.5, "spilled_files": 2,
     "spilled_bytes": 4096, "spill_free": 5 << 30, "grace": 10,

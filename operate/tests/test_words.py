@@ -5,14 +5,16 @@ from __future__ import annotations
 import os
 import subprocess
 import sys
+import tempfile
 import unittest
 from pathlib import Path
 from typing import Tuple
+from unittest import mock
 
-from driving import DAEMON, KEY, PROGRAM, Place
+from driving import CTL, DAEMON, KEY, PROGRAM, Place
 
 from store_operator.keys import KeyFault, read_key
-from store_operator.orders import NotAnOrder, read_order, server_line, told
+from store_operator.orders import Admit, End, NotAnOrder, Quota, read_order, server_line, told
 from store_operator.settings import Settings, SettingsFault, read_settings
 from store_operator.sizes import parse_size, size_text
 
@@ -58,8 +60,9 @@ class Orders(unittest.TestCase):
     def test_what_the_server_is_given_is_the_line_itself(self) -> None:
         for line in RIGHT:
             order = read_order(line, 2)
-            self.assertEqual(server_line(order), line)  # type: ignore[arg-type]
-            self.assertNotIn(KEY, told(order))  # type: ignore[arg-type]
+            assert isinstance(order, (Admit, Quota, End)), f"{line}: not an order of the server's"
+            self.assertEqual(server_line(order), line)
+            self.assertNotIn(KEY, told(order))
 
     def test_what_is_no_order_is_refused_and_no_key_is_told(self) -> None:
         for line in WRONG:
@@ -86,6 +89,17 @@ class Sizes(unittest.TestCase):
             self.assertRaises(ValueError, parse_size, text)
         for size, text in ((0, "0"), (1000, "1000"), (1024, "1K"), (1536, "1.5K"), (1 << 26, "64M"), (5 << 40, "5T")):
             self.assertEqual(size_text(size), text)
+
+
+class Environment(unittest.TestCase):
+    def test_modules_that_the_environment_names_arent_run(self) -> None:
+        with tempfile.TemporaryDirectory() as folder:
+            for name in ("sitecustomize", "argparse"):
+                Path(folder, f"{name}.py").write_text(f"open({folder!r} + '/seen', 'w').close()\n")
+            names = {**os.environ, "PYTHONPATH": folder, "PATH": f"{Path(sys.executable).parent}:{os.environ['PATH']}"}
+            for command in (DAEMON, CTL):
+                done = subprocess.run([command, "--help"], env=names, capture_output=True, check=False)
+                self.assertEqual((done.returncode, Path(folder, "seen").exists()), (0, False), (command, done.stderr))
 
 
 class SettingsFiles(unittest.TestCase):
@@ -122,12 +136,33 @@ class SettingsFiles(unittest.TestCase):
                 place.write_key(0o600, text)
                 self.assertRaisesRegex(KeyFault, "not 64 lower-case hexadecimal digits", read_key, place.key_file)
 
-    def test_settings_that_every_user_may_write_are_refused(self) -> None:
+    def test_settings_that_others_may_write_are_refused(self) -> None:
         with Place() as place:
+            os.chown(place.settings, -1, os.getegid())
             place.settings.chmod(0o664)
             self.read(place)
             place.settings.chmod(0o602)
             self.assertRaisesRegex(SettingsFault, "every user may write it .mode 0602.", self.read, place)
+            place.settings.chmod(0o664)
+            with mock.patch("os.getegid", return_value=os.getegid() + 1):
+                self.assertRaisesRegex(SettingsFault, f"group {os.getegid() - 1} may write it .mode 0664.: chmod g-w", self.read, place)
+                place.settings.chmod(0o644)
+                self.read(place)
+
+    def test_settings_of_another_user_are_refused(self) -> None:
+        with Place() as place:
+            other = os.geteuid() + 7
+            if os.geteuid() == 0:
+                os.chown(place.settings, other, -1)
+                self.assertRaisesRegex(SettingsFault, f"user {other} owns it, who is neither root nor runs this: chown", self.read, place)
+                with mock.patch("os.geteuid", return_value=other):
+                    self.read(place)
+                os.chown(place.settings, 0, -1)
+                with mock.patch("os.geteuid", return_value=other):
+                    self.read(place)
+                return
+            with mock.patch("os.geteuid", return_value=other):
+                self.assertRaisesRegex(SettingsFault, "owns it, who is neither root nor runs this: chown", self.read, place)
 
     def test_a_key_file_that_is_none_is_refused_at_once(self) -> None:
         with Place() as place:

@@ -6,7 +6,6 @@ import contextlib
 import multiprocessing
 import shutil
 import socket
-import subprocess
 import sys
 import tempfile
 import threading
@@ -18,8 +17,9 @@ TOP = Path(__file__).resolve().parent.parent.parent
 sys.path[:0] = [str(TOP / place) for place in ("tests", "operate", "clients/python")]
 
 import store_client  # noqa: E402
-from serving import key, start, tell  # noqa: E402
 from store_operator.inspection import count_sessions, look_at  # noqa: E402
+from store_testing.frames import key  # noqa: E402
+from store_testing.server import Server  # noqa: E402
 
 # the attackers have nothing of this process but what they are given
 PROCESSES = multiprocessing.get_context("fork")
@@ -46,25 +46,24 @@ class Host:
         self.nodes = nodes
         self.folder = tempfile.mkdtemp(prefix="hostile-")
         limited = ["prlimit", f"--nofile={descriptors}", *words] if descriptors else list(words)
-        self._program: "subprocess.Popen[str]" = start(limited, self.folder, nodes, memory)
+        self._server = Server(limited, self.folder, nodes, memory, patience=PATIENCE)
 
     def path(self, node: int = 0) -> str:
-        return f"{self.folder}/store.{node}"
+        return self._server.path(node)
 
     def admit(self, job: int, window: int, device: int = 0) -> None:
         """At all nodes."""
-        for node in range(self.nodes):
-            tell(self._program, f"admit {node} {job} {window} {device} {key(job).hex()}", f"n{node} op ok")
+        self._server.admit_everywhere(job, window, device)
 
     def end_job(self, job: int) -> None:
         for node in range(self.nodes):
-            tell(self._program, f"end {node} {job}", f"n{node} op ok")
+            self._server.end_job(node, job)
 
     def session(self, job: int, node: int = 0) -> store_client.Connection:
         return store_client.connect(self.path(node), job, key(job), PATIENCE)
 
     def figures(self) -> Figures:
-        process = look_at(self._program.pid)
+        process = look_at(self._server.pid)
         sessions = sum(count_sessions([Path(self.path(node)) for node in range(self.nodes)]))
         files = sum(1 for _ in Path(self.folder, "spill").glob("*/*"))
         return Figures(process.resident, process.threads, process.descriptors, sessions, files)
@@ -78,12 +77,10 @@ class Host:
 
     def lost(self) -> int:
         """How many messages between nodes were lost, as the report says, once the server has been closed."""
-        out, _ = self._program.communicate("close\n", timeout=PATIENCE)
-        return int(out.split()[4])
+        return int(self._server.ending("close\n").out.split()[4])
 
     def remove(self) -> None:
-        self._program.kill()
-        self._program.communicate()
+        self._server.kill()
         shutil.rmtree(self.folder)
 
 

@@ -13,9 +13,9 @@ from findings import ALLOCATORS_SHARE, Check, compared, given_back
 from host import PATIENCE, Host, attacked, close_all, raw_streams
 
 import store_client
-from served import Supervised
-from serving import ask, frame, key, receive
 from store_client import ObjectId, Task
+from store_testing.daemon import Supervised
+from store_testing.frames import ask, frame, hello, key, numbers, receive
 
 # the numbers of jobs; the third one's window is as large as one of its objects
 ATTACKER, VICTIM, CROWDED = 1, 2, 3
@@ -116,11 +116,11 @@ def _grant_on(host: Host, seconds: float, most: int = 100_000, burst: int = 200)
     with socket.socket(socket.AF_UNIX) as stream:
         stream.settimeout(PATIENCE)
         stream.connect(host.path())
-        stream.sendall(frame(0x01, ATTACKER.to_bytes(4, "big") + key(ATTACKER)))
+        stream.sendall(hello(ATTACKER))
         assert receive(stream, len(OK)) == OK
         while time.monotonic() < end and grantee < most:
             grantees = range(grantee, grantee + burst)
-            stream.sendall(b"".join(frame(kind, one + job.to_bytes(4, "big")) for job in grantees for kind in (0x0D, 0x0E)))
+            stream.sendall(b"".join(frame(kind, one + numbers(job)) for job in grantees for kind in (0x0D, 0x0E)))
             assert receive(stream, 2 * burst * len(OK)) == 2 * burst * OK, "a grant was refused"
             grantee += burst
     return grantee - 10
@@ -133,7 +133,7 @@ def never_read_without_key(scale: Scale) -> List[Check]:
 
 def never_read_with_key(scale: Scale) -> List[Check]:
     """How much does a session take that sends and never reads?"""
-    return _never_read(scale, 200, frame(0x01, ATTACKER.to_bytes(4, "big") + key(ATTACKER)))
+    return _never_read(scale, 200, hello(ATTACKER))
 
 
 def _never_read(scale: Scale, count: int, hello: bytes) -> List[Check]:
@@ -196,7 +196,7 @@ def _waiting(host: Host, one: ObjectId) -> socket.socket:
     stream = socket.socket(socket.AF_UNIX)
     stream.settimeout(PATIENCE)
     stream.connect(host.path())
-    stream.sendall(frame(0x01, ATTACKER.to_bytes(4, "big") + key(ATTACKER)))
+    stream.sendall(hello(ATTACKER))
     assert receive(stream, len(OK)) == OK
     stream.sendall(frame(0x13, one.to_bytes()))
     return stream
@@ -321,7 +321,7 @@ def floods_of_32_sessions(scale: Scale) -> List[Check]:
             (stream,) = raw_streams(place.path(), 1)
             stream.setblocking(True)
             with stream:
-                ask(stream, frame(0x01, ATTACKER.to_bytes(4, "big") + key(ATTACKER)), OK)
+                ask(stream, hello(ATTACKER), OK)
                 while not is_over():
                     stream.sendall(16 * frame(0x11))
                     receive(stream, 16 * USAGE)

@@ -3,7 +3,7 @@
 from __future__ import annotations
 
 import re
-from typing import Callable, Dict, List, Tuple
+from typing import Any, Callable, Dict, List, Tuple
 
 from .ids import NotAStep, read_id, read_long, read_number
 from .words import Kind, State
@@ -25,7 +25,7 @@ def in_version(answer: str, version: int) -> str:
     return answer
 
 
-def read_answer(text: str, job: int, version: int, is_command: bool) -> Tuple:
+def read_answer(text: str, job: int, version: int, is_command: bool) -> Tuple[Any, ...]:
     """What an answer says. What isn't a command has `ok` or a refusal."""
     word, *fields = text.split(" ")
     if word == "list" and is_command:
@@ -35,10 +35,10 @@ def read_answer(text: str, job: int, version: int, is_command: bool) -> Tuple:
     return (word, *ANSWERS[word](fields))
 
 
-def read_each(*readers: Callable[[str], int]) -> Callable[[List[str]], Tuple]:
+def read_each(*readers: Callable[[str], int]) -> Callable[[List[str]], Tuple[Any, ...]]:
     """So many fields, each read by its own reader."""
 
-    def read(fields: List[str]) -> Tuple:
+    def read(fields: List[str]) -> Tuple[Any, ...]:
         if len(fields) != len(readers):
             raise NotAStep
         return tuple(reader(text) for reader, text in zip(readers, fields))
@@ -52,13 +52,13 @@ def read_count(text: str) -> int:
     return read_long(text[1:])
 
 
-def read_refusal(fields: List[str]) -> Tuple:
+def read_refusal(fields: List[str]) -> Tuple[Any, ...]:
     if len(fields) != 2 or fields[1] not in NAMES or read_number(fields[0]) != NAMES.index(fields[1]) + 1:
         raise NotAStep
     return (fields[1],)
 
 
-def read_items(fields: List[str], job: int, version: int) -> List[Tuple]:
+def read_items(fields: List[str], job: int, version: int) -> List[Tuple[Any, ...]]:
     """The items of a list: no own one comes after a granted one."""
     items = [read_item(text.split(":"), job, version) for text in fields]
     is_granted = [item[1] == "granted" for item in items]
@@ -67,7 +67,7 @@ def read_items(fields: List[str], job: int, version: int) -> List[Tuple]:
     return items
 
 
-def read_item(parts: List[str], job: int, version: int) -> Tuple:
+def read_item(parts: List[str], job: int, version: int) -> Tuple[Any, ...]:
     one, word, rest = read_id(parts[0], job), parts[1] if len(parts) > 1 else "", parts[2:]
     if word == "granted":
         numbers = [read_number(text) for text in rest]
@@ -79,7 +79,7 @@ def read_item(parts: List[str], job: int, version: int) -> Tuple:
     return one, word, rest[0], read_number(rest[1])
 
 
-ANSWERS: Dict[str, Callable[[List[str]], Tuple]] = {
+ANSWERS: Dict[str, Callable[[List[str]], Tuple[Any, ...]]] = {
     "ok": read_each(),
     "placed": read_each(read_number, read_number),
     "got": read_each(read_number),

@@ -3,7 +3,7 @@
 from __future__ import annotations
 
 import random
-from typing import Callable, Dict, List, Optional, Sequence, Tuple
+from typing import Any, Callable, Dict, List, Optional, Sequence, Tuple
 
 from .ids import ObjectId, read_bytes, read_id, read_task, short_task, task_text
 from .room import free_offset, is_loose
@@ -46,7 +46,7 @@ class Chooser:
     def own(self, store: PrivateStore, fits: Callable[[Copy], bool]) -> List[Tuple[ObjectId, Copy]]:
         return [(one, copy) for one, copy in store.copies.items() if fits(copy)]
 
-    def new_objects(self, store: PrivateStore) -> List[tuple]:
+    def new_objects(self, store: PrivateStore) -> List[Tuple[Any, ...]]:
         ids = [ObjectId(task, store.job, index) for task in TASKS if task not in store.ended_tasks for index in INDEXES]
         length = min(self.lot.choice(self.lengths), store.window)
         return [(one, length) for one in ids if one not in store.copies]
@@ -61,17 +61,17 @@ class Chooser:
         lengths = [store.window * part // 12 for part in range(12, 0, -1)]
         return next((length for length in lengths if free_offset(store, length, loose) is not None), 0)
 
-    def writes(self, store: PrivateStore) -> List[tuple]:
-        choices = []
+    def writes(self, store: PrivateStore) -> List[Tuple[Any, ...]]:
+        choices: List[Tuple[Any, ...]] = []
         for one, copy in self.own(store, lambda copy: copy.state is State.CREATED):
             offset, count = self.part(copy.length)
             choices.append((one, offset, self.lot.randbytes(min(count, 24))))
         return choices
 
-    def seals(self, store: PrivateStore) -> List[tuple]:
+    def seals(self, store: PrivateStore) -> List[Tuple[Any, ...]]:
         return [(one,) for one, _ in self.own(store, lambda copy: copy.state is State.CREATED)]
 
-    def gets(self, store: PrivateStore) -> List[tuple]:
+    def gets(self, store: PrivateStore) -> List[Tuple[Any, ...]]:
         """Copies, each with others of its kind, and what the job has at other nodes."""
         sealed = self.own(store, lambda copy: copy.state is State.SEALED and not copy.doomed)
         coming = self.own(store, lambda copy: copy.state in (State.AWAY, State.RESTORING, State.FETCHING))
@@ -79,10 +79,10 @@ class Chooser:
         groups = [group for group in (here, here, later, later, self.remote(store)) if group]
         return [(one,) for one in self.lot.choice(groups)] if groups else []
 
-    def holds(self, store: PrivateStore) -> List[tuple]:
+    def holds(self, store: PrivateStore) -> List[Tuple[Any, ...]]:
         return [(session, one) for one, copy in store.copies.items() for session in copy.holds]
 
-    def reads(self, store: PrivateStore) -> List[tuple]:
+    def reads(self, store: PrivateStore) -> List[Tuple[Any, ...]]:
         return [(session, one, *self.part(store.copies[one].length)) for session, one in self.holds(store)]
 
     def part(self, length: int) -> Tuple[int, int]:
@@ -93,22 +93,22 @@ class Chooser:
             return offset, length - offset + 1
         return offset, self.lot.randint(0, min(most, 64)) if self.likely(0.9) else most
 
-    def unpins(self, store: PrivateStore) -> List[tuple]:
+    def unpins(self, store: PrivateStore) -> List[Tuple[Any, ...]]:
         return [(one, task_text(one.task)) for one, _ in self.own(store, lambda copy: copy.pinned and not copy.doomed)]
 
-    def borrows(self, store: PrivateStore) -> List[tuple]:
+    def borrows(self, store: PrivateStore) -> List[Tuple[Any, ...]]:
         tasks = [task for task in TASKS if task not in store.ended_tasks]
         primaries = self.own(store, lambda copy: copy.is_primary and not copy.doomed)
         return [(one, task_text(task)) for one, copy in primaries for task in tasks if task not in copy.borrowers]
 
-    def give_ups(self, store: PrivateStore) -> List[tuple]:
+    def give_ups(self, store: PrivateStore) -> List[Tuple[Any, ...]]:
         borrowed = self.own(store, lambda copy: not copy.doomed)
         return [(one, task_text(task)) for one, copy in borrowed for task in sorted(copy.borrowers)]
 
-    def deletes(self, store: PrivateStore) -> List[tuple]:
+    def deletes(self, store: PrivateStore) -> List[Tuple[Any, ...]]:
         return [(one,) for one, copy in store.copies.items() if not copy.doomed]
 
-    def ends(self, store: PrivateStore) -> List[tuple]:
+    def ends(self, store: PrivateStore) -> List[Tuple[Any, ...]]:
         return [(task_text(task),) for task in TASKS if task not in store.ended_tasks]
 
     def grantable(self, store: PrivateStore) -> List[ObjectId]:
@@ -116,16 +116,16 @@ class Chooser:
         primaries = self.own(store, lambda copy: copy.is_primary and copy.state is State.SEALED and not copy.doomed)
         return [one for one, _ in primaries]
 
-    def grants(self, store: PrivateStore) -> List[tuple]:
+    def grants(self, store: PrivateStore) -> List[Tuple[Any, ...]]:
         ids = self.grantable(store) + list(store.received) * 3
         node = self.world.nodes[store.node]
         grantees = [job for job in [*node.windows, *node.windows, self.lot.randrange(STRAY_JOBS)] if job != store.job]
         return [(one, job) for one in ids for job in grantees if job != one.job and not store.gave(one, job)]
 
-    def withdrawals(self, store: PrivateStore) -> List[tuple]:
+    def withdrawals(self, store: PrivateStore) -> List[Tuple[Any, ...]]:
         return [(given.one, given.grantee) for given in store.given]
 
-    def peeks(self, store: PrivateStore) -> List[tuple]:
+    def peeks(self, store: PrivateStore) -> List[Tuple[Any, ...]]:
         return [(one, *self.part(len(seen.content))) for one, seen in store.received.items()]
 
     def remote(self, store: PrivateStore) -> List[ObjectId]:
@@ -140,7 +140,7 @@ class Chooser:
         """A session and values with which the command needn't be accepted."""
         return self.session(), [self.any_value(store, word, read) for read in COMMANDS[word]]
 
-    def any_value(self, store: PrivateStore, word: str, read: Callable) -> object:
+    def any_value(self, store: PrivateStore, word: str, read: Callable[..., Any]) -> object:
         """A value that this reader of a command's field may read."""
         if read is read_id:
             return self.any_id(store, word)
@@ -160,7 +160,7 @@ class Chooser:
 
 
 # what a command may fit; the commands that aren't here fit anywhere
-FITTING: Dict[str, Callable[[Chooser, PrivateStore], List[tuple]]] = {
+FITTING: Dict[str, Callable[[Chooser, PrivateStore], List[Tuple[Any, ...]]]] = {
     "create": Chooser.new_objects,
     "copy": Chooser.new_objects,
     "write": Chooser.writes,

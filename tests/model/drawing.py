@@ -40,6 +40,8 @@ WEIGHTS = {
 # how often a command's values are drawn without a look at what exists, and how many commands are tried if nothing fits
 WILD = 0.12
 TRIES = 4
+# how often each word met each kind of answer
+Tally = Counter[Tuple[str, str]]
 STEPS_BETWEEN_CHECKS = 10
 
 
@@ -74,7 +76,7 @@ class Drawn(NamedTuple):
     journal: str
 
 
-def draw(seed: int, without: Collection[str] = (), tally: Optional[Counter] = None) -> Drawn:
+def draw(seed: int, without: Collection[str] = (), tally: Optional[Tally] = None) -> Drawn:
     """The schedule of a seed, which has none of the commands `without`."""
     return Drawing(seed, without, Counter() if tally is None else tally).schedule()
 
@@ -82,7 +84,7 @@ def draw(seed: int, without: Collection[str] = (), tally: Optional[Counter] = No
 class Drawing:
     """A schedule that is being drawn. What the world has by then says what may be drawn next."""
 
-    def __init__(self, seed: int, without: Collection[str], tally: Counter) -> None:
+    def __init__(self, seed: int, without: Collection[str], tally: Tally) -> None:
         self.lot = random.Random(seed)
         self.size = LARGE if self.lot.random() < 0.08 else SMALL
         self.world = World(self.lot.choice([1, 1, 2, 2, 3]), self.lot.choice(self.size.memories))

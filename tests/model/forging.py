@@ -82,7 +82,7 @@ class Forgery:
             at = self.any_line()
             found = re.findall(r"(?:\d+/)?t\d+\.\d+", self.lines[at])
             if found:
-                return self.lot.choice(found)
+                return str(self.lot.choice(found))
         return ObjectId(self.lot.choice(TASKS), self.lot.randrange(1, 5), self.lot.choice(INDEXES)).text(self.lot.randrange(1, 5))
 
     # ---- ways to forge
@@ -102,7 +102,7 @@ class Forgery:
         at = self.any_line()
         first = ENTRY.fullmatch(self.lines[at])
         others = [other for other in map(ENTRY.fullmatch, self.lines[1:]) if other and first and other[1] == first[1]]
-        if others:
+        if others and first:
             self.lines[at] = first[1] + first[2] + self.lot.choice(others)[3] + first[4]
 
     def other_answer(self) -> None:
@@ -113,7 +113,7 @@ class Forgery:
             other for other in map(ENTRY.fullmatch, self.lines[1:])
             if other and first and (other[1].split(" ")[1], other[3][0] == "s") == (first[1].split(" ")[1], first[3][0] == "s")
         ]
-        if others:
+        if others and first:
             self.lines[at] = first[1] + first[2] + first[3] + self.lot.choice(others)[4]
 
     def stale_answer(self) -> None:

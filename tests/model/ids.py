@@ -25,7 +25,7 @@ class ObjectId(NamedTuple):
 
     task: bytes
     job: int
-    index: int
+    index: int  # type: ignore[assignment]  # nobody asks a tuple for a value's place
 
     def text(self, speaker: int) -> str:
         """The id as it is printed for a job."""

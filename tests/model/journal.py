@@ -2,11 +2,11 @@
 
 from __future__ import annotations
 
-from typing import TYPE_CHECKING, Dict, List, Tuple
+from typing import TYPE_CHECKING, Any, Dict, List, Tuple
 
 from .fetching import chunk_word, pull_matches
 from .ids import ObjectId, task_text
-from .messages import Chunk, Located, Message, Place, Pull
+from .messages import Chunk, Located, Message, NotHere, Place, Pull
 
 if TYPE_CHECKING:
     from .store import ReceivedGrant, PrivateStore
@@ -44,7 +44,7 @@ def without_contents(answer: str) -> str:
     return f"bytes #{0 if content == '-' else len(content) // 2}" if word == "bytes" else answer
 
 
-def command_text(job: int, session: int, word: str, values: Tuple) -> str:
+def command_text(job: int, session: int, word: str, values: Tuple[Any, ...]) -> str:
     fields = [f"s{session}", word]
     for value in values:
         if isinstance(value, ObjectId):
@@ -58,6 +58,7 @@ def command_text(job: int, session: int, word: str, values: Tuple) -> str:
 
 def message_text(store: PrivateStore, sender: Place, message: Message) -> str:
     """A message that is about to arrive."""
+    assert isinstance(message, (Located, Chunk, Pull, NotHere)), f"no node is sent {message}"
     of_fetch = f"{message.one.text(store.job)} {message.number}"
     if isinstance(message, Located):
         entries = [f" {entry.node}:{entry.length}:{entry.digest.hex()}" for entry in message.entries]

@@ -62,7 +62,7 @@ class Pull(NamedTuple):
 class Chunk(NamedTuple):
     one: ObjectId
     number: int
-    index: int
+    index: int  # type: ignore[assignment]  # nobody asks a tuple for a value's place
     content: bytes
 
 

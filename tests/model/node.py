@@ -2,7 +2,7 @@
 
 from __future__ import annotations
 
-from typing import Dict, List, NamedTuple, Optional, Tuple
+from typing import Any, Dict, List, NamedTuple, Optional, Tuple
 
 from .ids import ObjectId
 from .journal import command_text, message_text, received_text, withdrawn_text
@@ -165,7 +165,7 @@ class Node:
 
     # sessions
 
-    def command(self, job: int, session: int, word: str, values: Tuple) -> str:
+    def command(self, job: int, session: int, word: str, values: Tuple[Any, ...]) -> str:
         self.inputs.append((job, command_text(job, session, word, values)))
         store = self.store(job)
         reply = store.command(session, word, values)
@@ -173,7 +173,7 @@ class Node:
             self.follow_grants(job, word, values)
         return reply
 
-    def follow_grants(self, job: int, word: str, values: Tuple) -> None:
+    def follow_grants(self, job: int, word: str, values: Tuple[Any, ...]) -> None:
         """Tells the grantees of what an accepted command gave them, or took from them."""
         if word == "grant":
             self.add_grant(job, *values)

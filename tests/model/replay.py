@@ -6,7 +6,7 @@ when the journal was written decide where contents would.
 
 from __future__ import annotations
 
-from typing import Callable, Dict, Iterator, List, NamedTuple, Tuple
+from typing import Any, Callable, Dict, Iterator, List, NamedTuple, Tuple
 
 from .answers import in_version, read_answer, read_count
 from .fetching import choose_source, give_up, serve, take_chunk
@@ -38,7 +38,7 @@ class Entry(NamedTuple):
     job: int
     number: int
     word: str
-    values: Tuple
+    values: Tuple[Any, ...]
     answer: str
 
 
@@ -85,7 +85,7 @@ def read_marked(mark: str, text: str) -> int:
     return read_number(text[len(mark) :])
 
 
-def read_input(version: int, job: int, word: str, fields: List[str]) -> Tuple[str, Tuple]:
+def read_input(version: int, job: int, word: str, fields: List[str]) -> Tuple[str, Tuple[Any, ...]]:
     if word.startswith("s"):
         return "command", (read_marked("s", word), *read_command(version, job, fields))
     if word == "located":
@@ -98,17 +98,19 @@ def read_input(version: int, job: int, word: str, fields: List[str]) -> Tuple[st
     return word, read_fields(job, INPUTS[word], fields)
 
 
-def read_fields(job: int, readers: Tuple[Callable, ...], fields: List[str]) -> Tuple:
+def read_fields(job: int, readers: Tuple[Callable[..., Any], ...], fields: List[str]) -> Tuple[Any, ...]:
     if len(fields) != len(readers):
         raise NotAStep
     return tuple(read(text, job) if read is read_id else read(text) for read, text in zip(readers, fields))
 
 
-def read_command(version: int, job: int, fields: List[str]) -> Tuple[str, Tuple]:
+def read_command(version: int, job: int, fields: List[str]) -> Tuple[str, Tuple[Any, ...]]:
     word, texts = fields[0] if fields else "", fields[1:]
     if word not in COMMANDS:
         raise NotAStep
-    readers = (read_id, read_number, read_zeros) if word == "write" else COMMANDS[word]
+    readers = COMMANDS[word]
+    if word == "write":
+        readers = (read_id, read_number, read_zeros)
     values = read_fields(job, readers, texts)
     if version == 1 and word == "grant" and values[0].job != job:
         # in version 1 it is refused as any other command on a foreign object
@@ -147,7 +149,7 @@ def one_of(*words: str) -> Callable[[str], str]:
 
 
 # of each input that is neither a command nor a Located, what its fields are
-INPUTS: Dict[str, Tuple[Callable, ...]] = {
+INPUTS: Dict[str, Tuple[Callable[..., Any], ...]] = {
     "begin": (read_long, read_long),
     "quota": (read_long, read_long),
     "end": (),
@@ -176,7 +178,7 @@ class Replay:
         self.store.sent, self.store.asked, self.store.erased = [], [], []
         return in_version(without_contents(answer), entry.version)
 
-    def step(self, word: str, values: Tuple) -> str:
+    def step(self, word: str, values: Tuple[Any, ...]) -> str:
         if word == "command":
             return self.store.command(*values)
         if word == "begin":
@@ -256,12 +258,12 @@ def withdrawn(store: PrivateStore, one: ObjectId, grantor: int, depth: int) -> N
 
 
 # what is told of grants, to stores that aren't live too
-GRANTS: Dict[str, Callable] = {
+GRANTS: Dict[str, Callable[..., Any]] = {
     "received": lambda store, one, length, grantor, depth: store.receive(one, bytes(length), ReceivedGrant(grantor, depth)),
     "withdrawn": withdrawn,
 }
 
-LIVE: Dict[str, Callable] = {
+LIVE: Dict[str, Callable[..., Any]] = {
     "quota": quota,
     "end": PrivateStore.end,
     "answer": answer,

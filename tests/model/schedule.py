@@ -2,7 +2,7 @@
 
 from __future__ import annotations
 
-from typing import Callable, Dict, List, NamedTuple, Optional, Tuple
+from typing import Any, Callable, Dict, List, NamedTuple, Optional, Tuple
 
 from .ids import NotAStep, read_bytes, read_id, read_long, read_number, read_task
 from .messages import DIRECTORY, Place
@@ -11,7 +11,7 @@ from .world import World
 DEFAULT_MEMORY = 1 << 20
 
 # of each command what its fields are; an id's text depends on who speaks
-COMMANDS: Dict[str, Tuple[Callable, ...]] = {
+COMMANDS: Dict[str, Tuple[Callable[..., Any], ...]] = {
     "create": (read_id, read_number),
     "copy": (read_id, read_number),
     "write": (read_id, read_number, read_bytes),

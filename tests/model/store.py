@@ -2,7 +2,7 @@
 
 from __future__ import annotations
 
-from typing import Dict, List, NamedTuple, Optional, Set, Tuple
+from typing import Any, Callable, Dict, List, NamedTuple, Optional, Set, Tuple
 
 from . import fetching
 from .ids import ObjectId
@@ -212,13 +212,13 @@ class PrivateStore:
 
     # sessions
 
-    def command(self, session: int, word: str, values: Tuple) -> str:
+    def command(self, session: int, word: str, values: Tuple[Any, ...]) -> str:
         """The reply to a command, as it is printed."""
         try:
             refuse_if(not self.is_live, Refusal.NotAdmitted)
             if values and isinstance(values[0], ObjectId) and values[0].job != self.job:
                 return self.foreign_command(word, *values)
-            return CALLS[word](self, session, *values)
+            return str(CALLS[word](self, session, *values))
         except Refused as refused:
             return str(refused)
 
@@ -420,7 +420,7 @@ def part_of(content: bytes, offset: int, count: int) -> str:
 
 
 # what a command with an own id, or with none, calls; the session comes first
-CALLS = {
+CALLS: Dict[str, Callable[..., Any]] = {
     "create": lambda store, _, one, length: store.create(one, Kind.PRIMARY, length),
     "copy": lambda store, _, one, length: store.create(one, Kind.SECONDARY, length),
     "write": lambda store, _, *values: store.write(*values),

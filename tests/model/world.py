@@ -2,7 +2,7 @@
 
 from __future__ import annotations
 
-from typing import Dict, List, Tuple
+from typing import Any, Dict, List, Tuple
 
 from .journal import Journal
 from .messages import DIRECTORY, Directory, Message, Place, damaged
@@ -30,7 +30,7 @@ class World:
     def operate(self, node: int, word: str, job: int, *values: int) -> str:
         return f"n{node} op {self.step(node, job, word, job, *values)}"
 
-    def command(self, node: int, job: int, session: int, word: str, values: Tuple) -> str:
+    def command(self, node: int, job: int, session: int, word: str, values: Tuple[Any, ...]) -> str:
         return f"n{node} j{job} s{session} {self.step(node, job, 'command', job, session, word, values)}"
 
     def take(self, node: int) -> str:
@@ -58,7 +58,7 @@ class World:
     def step(self, node: int, job: int, call: str, *values: object) -> str:
         """The answer of a call of a node, after which what the job's store leaves to others has gone there."""
         try:
-            answer = getattr(self.nodes[node], call)(*values)
+            answer: str = getattr(self.nodes[node], call)(*values)
         except Refused as refused:
             answer = str(refused)
         self.collect(node, job)

@@ -54,7 +54,7 @@ from .refusals import (
     TooMany,
 )
 
-__version__ = "0.5.0"
+__version__ = "0.6.0"
 
 __all__ = [
     "Absent",

@@ -97,6 +97,9 @@ class Connection:
     async def __aexit__(self, *_: object) -> None:
         await self.close()
 
+    def __repr__(self) -> str:
+        return f"<aio.Connection of job {self.job}{': ' + self._session.lost if self._session.lost else ''}>"
+
     def new_id(self) -> ObjectId:
         """An id that nobody else makes: of a random task, with the next index."""
         self._session.check_process()

@@ -25,6 +25,9 @@ class JobTask:
         self.task = task
         self.job = job
 
+    def __repr__(self) -> str:
+        return f"JobTask({self.task!r}, {self.job})"
+
     def object(self, index: int) -> ObjectId:
         """The task's object of this index, from 1."""
         return self.task.object(index, job=self.job)

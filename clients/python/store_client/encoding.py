@@ -29,6 +29,7 @@ import pickle
 import re
 import struct
 import sys
+from collections import deque
 from dataclasses import dataclass
 from typing import Any, List, Optional, Tuple
 
@@ -131,9 +132,9 @@ def _padding(length: int) -> memoryview:
 
 def encode_array(array: Any) -> Pieces:
     """An array of numpy, or what numpy makes one of, as a file of format .npy. `TypeError` if its items have pointers, or its class
-    may have more than the items, as a mask."""
+    may have more than the items, as a mask, or if it is a list of what has a mask."""
     numpy = _numpy()
-    array = _as_array(numpy, array)
+    given, array = array, _as_array(numpy, array)
     if type(array) not in (numpy.ndarray, numpy.memmap):
         raise TypeError(
             f"a {type(array).__name__} would come back as a plain array, without its mask or what else it has: put_value stores it whole,"
@@ -141,6 +142,9 @@ def encode_array(array: Any) -> Pieces:
         )
     if array.dtype.hasobject:
         raise TypeError(f"an array of {array.dtype} has pointers, which mean nothing to who gets them: put_value stores objects")
+    masked = _masked_among(numpy, given)
+    if masked:
+        raise TypeError(f"a {masked} among the rows would lose its mask: put_value stores numpy.ma.stack of them, which keeps it")
     items, order = _items_of(array)
     described = {"descr": numpy.lib.format.dtype_to_descr(array.dtype), "fortran_order": order == "F", "shape": array.shape}
     head = io.BytesIO()
@@ -151,6 +155,17 @@ def encode_array(array: Any) -> Pieces:
         head = io.BytesIO()
         numpy.lib.format.write_array_header_2_0(head, described)
     return Pieces([memoryview(head.getvalue()), items])
+
+
+def _masked_among(numpy: Any, given: Any) -> str:
+    """The class of a masked array in a list, as deep as lists are in it, or nothing. Numpy leaves the mask out there."""
+    if isinstance(given, numpy.ma.MaskedArray):
+        return type(given).__name__
+    within = (list, tuple, deque)
+    # of many numbers the types are few
+    if not isinstance(given, within) or not any(issubclass(kind, (*within, numpy.ma.MaskedArray)) for kind in set(map(type, given))):
+        return ""
+    return next(filter(None, (_masked_among(numpy, one) for one in given)), "")
 
 
 def _as_array(numpy: Any, given: Any) -> Any:

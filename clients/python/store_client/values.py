@@ -82,7 +82,8 @@ class ValueCalls(Calls):
 
     def put_array(self, array: Any, id: Optional[ObjectId] = None, timeout: Optional[float] = None) -> ObjectId:
         """Stores an array of numpy in numpy's own format .npy, without a pickle: of any type of items that has no pointers, any
-        order and gaps, any length. Waits and is refused as `put`. `TypeError` for a masked array and others of a class of their own.
+        order and gaps, any length. Waits and is refused as `put`. `TypeError` for a masked array, also in a list, and others of a class of
+        their own.
 
         What numpy makes an array of is stored as that. What has `__array_interface__` or `__dlpack__`, as a tensor on the CPU, isn't
         copied for that."""

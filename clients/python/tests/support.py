@@ -9,7 +9,6 @@ import re
 import resource
 import shutil
 import socket
-import subprocess
 import sys
 import tempfile
 import threading
@@ -19,11 +18,13 @@ from typing import Any, Iterator, Optional
 from unittest import mock
 
 ROOT = Path(__file__).resolve().parents[3]
-sys.path[:0] = [str(ROOT / "clients/python"), str(ROOT / "operate")]
+sys.path[:0] = [str(ROOT / "clients/python"), str(ROOT / "tests")]
 
 import store_client  # noqa: E402
+import store_testing.server  # noqa: E402
 from store_client import ObjectId, Task, steps  # noqa: E402
-from store_release.program import program_or_end  # noqa: E402
+from store_testing.frames import read_frame  # noqa: E402
+from store_testing.program import program_or_end  # noqa: E402
 
 FRAMES = ROOT / "docs/rules/frames.md"
 VECTORS = ROOT / "docs/rules/frames.vectors"
@@ -46,25 +47,24 @@ class Server:
     def __init__(self, nodes: int = 1, memory: int = 2**26) -> None:
         self.folder = tempfile.TemporaryDirectory()
         self.path = f"{self.folder.name}/store.0"
-        self.nodes = nodes
-        self.words = ["--nodes", str(nodes), "--memory", str(memory), "--spill", f"{self.folder.name}/spill"]
+        self.nodes, self.memory = nodes, memory
         self.spill = Path(self.folder.name, "spill/0")
         self.complaints = tempfile.TemporaryFile("w+", encoding="utf-8")
         self.start("store")
 
     def start(self, name: str) -> None:
         """Its sockets have this name at first."""
-        words, pipe = [PROGRAM, "serve", "--socket", f"{self.folder.name}/{name}", *self.words], subprocess.PIPE
-        self.program = subprocess.Popen(words, stdin=pipe, stdout=pipe, stderr=self.complaints, text=True)
-        for node in range(self.nodes):
-            self.admit(node, 1, 2**25)
-            self.admit(node, 2, 64)
-            self.admit(node, 3, 144, 1024)
+        self.running = store_testing.server.Server(
+            [PROGRAM], self.folder.name, self.nodes, self.memory, errors=self.complaints, name=name, key_of=key, patience=PATIENCE
+        )
+        self.program = self.running.process
+        self.running.admit_everywhere(1, 2**25)
+        self.running.admit_everywhere(2, 64)
+        self.running.admit_everywhere(3, 144, 1024)
 
     def kill(self) -> None:
         """What it leaves is removed, as the daemon does it."""
-        self.program.kill()
-        self.program.communicate()
+        self.running.kill()
         for left in Path(self.folder.name).glob("store.*"):
             left.unlink()
         shutil.rmtree(self.spill.parent)
@@ -82,14 +82,10 @@ class Server:
         Path(self.folder.name, "store.epoch").write_text(f"{text}\n", encoding="ascii")
 
     def admit(self, node: int, job: int, window: int, device: int = 0) -> None:
-        self.tell(f"admit {node} {job} {window} {device} {key(job).hex()}", node)
+        self.running.admit(node, job, window, device)
 
     def tell(self, line: str, node: int = 0) -> None:
-        self.program.stdin.write(line + "\n")
-        self.program.stdin.flush()
-        answer = self.program.stdout.readline()
-        if answer != f"n{node} op ok\n":
-            raise AssertionError(f"{line}: {answer!r}")
+        self.running.tell(line, f"n{node} op ok")
 
     def connect(self, job: int = 1, node: int = 0, timeout: Optional[float] = None) -> store_client.Connection:
         return store_client.connect(f"{self.folder.name}/store.{node}", job, key(job), timeout)
@@ -98,7 +94,9 @@ class Server:
     def without_more_memory(self) -> Iterator[None]:
         """The process may have as much memory for data as it has now, and no more."""
         status = Path(f"/proc/{self.program.pid}/status").read_text(encoding="ascii")
-        size = int(re.search(r"^VmData:\s+(\d+) kB$", status, re.MULTILINE).group(1)) * 1024
+        found = re.search(r"^VmData:\s+(\d+) kB$", status, re.MULTILINE)
+        assert found, status
+        size = int(found[1]) * 1024
         limits = resource.prlimit(self.program.pid, resource.RLIMIT_DATA)
         resource.prlimit(self.program.pid, resource.RLIMIT_DATA, (size, limits[1]))
         try:
@@ -108,9 +106,9 @@ class Server:
 
     def close(self) -> None:
         try:
-            self.program.communicate(timeout=PATIENCE)
+            self.running.ending()
         finally:
-            self.program.kill()
+            self.running.kill()
             self.folder.cleanup()
             self.complaints.seek(0)
             # that it is ready is no complaint
@@ -164,11 +162,10 @@ class Script:
         self.thread.start()
 
     def serve(self, replies: list[bytes]) -> None:
-        with self.listener, self.listener.accept()[0] as stream, stream.makefile("rb") as file:
+        with self.listener, self.listener.accept()[0] as stream:
             stream.settimeout(PATIENCE)
             for reply in replies:
-                start = file.read(4)
-                self.sent.append(start + file.read(int.from_bytes(start, "big")))
+                self.sent.append(read_frame(stream))
                 stream.sendall(reply)
             if self.hang:
                 self.over.wait(PATIENCE)
@@ -239,23 +236,33 @@ def in_use(store: store_client.Connection) -> Iterator[None]:
 
 
 class ServerOfAll(unittest.TestCase):
-    """Tests that share a server."""
+    """Tests that share a server of so many nodes. What a test connects is closed at its end."""
 
+    nodes = 1
     server: Server
 
     @classmethod
     def setUpClass(cls) -> None:
-        cls.server = Server()
+        cls.server = Server(cls.nodes)
         cls.addClassCleanup(cls.server.close)
+
+    def connect(self, job: int = 1, node: int = 0) -> store_client.Connection:
+        store = self.server.connect(job, node)
+        self.addCleanup(store.close)
+        return store
+
+    def connect_pool(self, job: int = 1) -> store_client.Pool:
+        pool = store_client.Pool(self.server.path, job, key(job))
+        self.addCleanup(pool.close)
+        return pool
 
 
 class WithServer(ServerOfAll):
     """Tests that share a server; each has a connection, and a task that no other has."""
 
     def setUp(self) -> None:
-        self.store = self.server.connect()
-        self.addCleanup(self.store.close)
+        self.store = self.connect()
         self.task = Task(os.urandom(20))
 
-    def id(self, index: int = 1) -> ObjectId:
+    def object_id(self, index: int = 1) -> ObjectId:
         return self.task.object(index, job=1)

@@ -6,12 +6,12 @@ import concurrent.futures
 import threading
 import time
 import unittest
-from typing import List
+from typing import List, NoReturn
 from unittest import mock
 
 from support import PATIENCE, Server, key
 
-from store_client import Absent, ConnectionLost, Pool, ServerSilent, StoreError, absence
+from store_client import Absent, ConnectionLost, Pool, ServerSilent, StoreError
 from store_client.absence import Absence
 from store_client.steps import Deadline
 
@@ -35,7 +35,8 @@ class Waiting(unittest.TestCase):
     def test_one_that_comes_back(self) -> None:
         self.server.kill()
         with concurrent.futures.ThreadPoolExecutor(1) as threads, self.assertWarns(ResourceWarning):
-            put = threads.submit(Absence(4 * PATIENCE, Deadline(None)).outlast, self.put)
+            absence = Absence(4 * PATIENCE, Deadline(None))
+            put = threads.submit(lambda: absence.outlast(self.put))
             self.assertTrue(self.tried_twice.wait(PATIENCE))
             self.server.start_again(None)
             self.assertEqual(put.result(PATIENCE), b"Hello")
@@ -72,11 +73,11 @@ class Waiting(unittest.TestCase):
         for error in (ServerSilent("silent"), Absent("get")):
             raised: List[StoreError] = []
 
-            def fail(error: StoreError = error, raised: List[StoreError] = raised) -> None:
+            def fail(error: StoreError = error, raised: List[StoreError] = raised) -> NoReturn:
                 raised.append(error)
                 raise error
 
-            with mock.patch.object(absence.time, "sleep", side_effect=AssertionError("it waits")):
+            with mock.patch.object(time, "sleep", side_effect=AssertionError("it waits")):
                 self.assertRaises(type(error), Absence(PATIENCE, Deadline(None)).outlast, fail)
             self.assertEqual(raised, [error])
 

@@ -42,7 +42,7 @@ class Coroutines(unittest.IsolatedAsyncioTestCase):
             await asyncio.sleep(0.01)
         self.assertEqual(now, due)
 
-    def id(self, index: int = 1, job: int = 1) -> store_client.ObjectId:
+    def object_id(self, index: int = 1, job: int = 1) -> store_client.ObjectId:
         return self.task.object(index, job=job)
 
     async def test_bytes_come_back(self) -> None:
@@ -61,7 +61,8 @@ class Coroutines(unittest.IsolatedAsyncioTestCase):
             await self.store.get_into(id, bytearray(5))
 
     async def test_a_whole_session(self) -> None:
-        store, one = self.store, self.id()
+        store, one = self.store, self.object_id()
+        self.assertEqual(repr(store), "<aio.Connection of job 1>")
         self.assertEqual((await store.create(one, 4)).length, 16)
         await store.write(one, 0, b"abcd")
         await store.seal(one)
@@ -88,20 +89,20 @@ class Coroutines(unittest.IsolatedAsyncioTestCase):
         """More than fifty consumers come first, and the producer is of the same connection."""
 
         async def consume(index: int) -> bytes:
-            async with await self.store.get(self.id(index), timeout=PATIENCE) as view:
+            async with await self.store.get(self.object_id(index), timeout=PATIENCE) as view:
                 return bytes(view)
 
         waiting = [asyncio.ensure_future(consume(index)) for index in range(1, 61)]
         await asyncio.sleep(0.05)
-        await asyncio.gather(*(self.store.put(bytes([index]), self.id(index)) for index in range(1, 61)))
+        await asyncio.gather(*(self.store.put(bytes([index]), self.object_id(index)) for index in range(1, 61)))
         self.assertEqual(await asyncio.gather(*waiting), [bytes([index]) for index in range(1, 61)])
-        here, others = await self.store.wait([self.id(1), self.id(99)], 2, timeout=0.05)
-        self.assertEqual((here, others), ([self.id(1)], [self.id(99)]))
+        here, others = await self.store.wait([self.object_id(1), self.object_id(99)], 2, timeout=0.05)
+        self.assertEqual((here, others), ([self.object_id(1)], [self.object_id(99)]))
 
     async def test_what_another_node_has(self) -> None:
         far = await self.connect(node=1)
-        await far.put(bytes(100_000), self.id())
-        async with await self.store.get(self.id()) as view:
+        await far.put(bytes(100_000), self.object_id())
+        async with await self.store.get(self.object_id()) as view:
             self.assertEqual(view, bytes(100_000))
 
     async def test_values(self) -> None:
@@ -115,34 +116,35 @@ class Coroutines(unittest.IsolatedAsyncioTestCase):
 
     async def test_a_refusal_is_raised_where_it_belongs(self) -> None:
         told = await asyncio.gather(
-            *(self.store.seal(self.id(index)) for index in range(1, 4)), self.store.usage(), return_exceptions=True
+            *(self.store.seal(self.object_id(index)) for index in range(1, 4)), self.store.usage(), return_exceptions=True
         )
-        self.assertEqual([str(getattr(error, "id", "")) for error in told], [str(self.id(index)) for index in range(1, 4)] + [""])
+        self.assertEqual([str(getattr(error, "id", "")) for error in told], [str(self.object_id(index)) for index in range(1, 4)] + [""])
         with self.assertRaises(Absent):
-            await self.store.get(self.id(), timeout=0.05)
+            await self.store.get(self.object_id(), timeout=0.05)
         with self.assertRaises(TypeError):
-            await self.store.get("t1.1")  # type: ignore[arg-type]
+            await self.store.get("t1.1")  # type: ignore[arg-type]  # that it is refused is tried
 
     async def test_a_cancelled_call_leaves_the_connection_as_it_is(self) -> None:
         before = await self.store.usage()
         for pause in (0, 0, 0.001, 0.005, 0.02):
-            for call in (self.store.put(bytes(70_000)), self.store.get(self.id(), timeout=PATIENCE)):
+            for call in (self.store.put(bytes(70_000)), self.store.get(self.object_id(), timeout=PATIENCE)):
                 running = asyncio.ensure_future(call)
                 await asyncio.sleep(pause)
                 running.cancel()
                 with self.assertRaises(asyncio.CancelledError):
                     put = await running
                     # it was faster
-                    await self.store.delete(put)  # type: ignore[arg-type]
+                    assert isinstance(put, store_client.ObjectId)
+                    await self.store.delete(put)
                     raise asyncio.CancelledError
         await self.comes_to(before)
 
     async def test_a_cancelled_look_leaves_neither_a_hold_nor_a_fetch(self) -> None:
-        await self.store.put(b"abcd", self.id(1))
+        await self.store.put(b"abcd", self.object_id(1))
         before = await self.store.usage()
         for turns in range(12):
             for index in (1, 2):
-                running = asyncio.ensure_future(self.store.get(self.id(index), timeout=PATIENCE))
+                running = asyncio.ensure_future(self.store.get(self.object_id(index), timeout=PATIENCE))
                 for _ in range(turns):
                     await asyncio.sleep(0)
                 await asyncio.sleep(0.002 * (turns // 6))
@@ -151,49 +153,49 @@ class Coroutines(unittest.IsolatedAsyncioTestCase):
                 if isinstance(held, aio.Held):
                     await held.release()
         await self.comes_to(before)
-        await self.store.delete(self.id(1))
+        await self.store.delete(self.object_id(1))
         self.assertEqual((await self.store.usage()).copies, before.copies - 1)
 
     async def test_a_cancelled_wait_holds_nothing(self) -> None:
-        await self.store.put(b"abcd", self.id(1))
+        await self.store.put(b"abcd", self.object_id(1))
         before = await self.store.usage()
-        running = asyncio.ensure_future(self.store.wait([self.id(1), self.id(2)], 2, PATIENCE))
+        running = asyncio.ensure_future(self.store.wait([self.object_id(1), self.object_id(2)], 2, PATIENCE))
         await asyncio.sleep(0.3)
         running.cancel()
         with self.assertRaises(asyncio.CancelledError):
             await running
         await self.comes_to(before)
-        await self.store.delete(self.id(1))
+        await self.store.delete(self.object_id(1))
         self.assertEqual((await self.store.usage()).copies, before.copies - 1)
 
     async def test_a_cancelled_create_is_undone(self) -> None:
         for turns in range(5):
-            running = asyncio.ensure_future(self.store.create(self.id(), 4))
+            running = asyncio.ensure_future(self.store.create(self.object_id(), 4))
             for _ in range(turns):
                 await asyncio.sleep(0)
             running.cancel()
             if not isinstance((await asyncio.gather(running, return_exceptions=True))[0], asyncio.CancelledError):
-                await self.store.delete(self.id())
+                await self.store.delete(self.object_id())
             end = time.monotonic() + PATIENCE
             while await self.store.list() != ([], []) and time.monotonic() < end:
                 await asyncio.sleep(0.01)
-            await self.store.create(self.id(), 4)
-            await self.store.delete(self.id())
+            await self.store.create(self.object_id(), 4)
+            await self.store.delete(self.object_id())
 
     async def test_a_hold_that_is_dropped_is_released_with_a_warning(self) -> None:
-        await self.store.put(b"abcd", self.id())
+        await self.store.put(b"abcd", self.object_id())
         with self.assertWarns(ResourceWarning):
-            await self.store.get(self.id())
+            await self.store.get(self.object_id())
             gc.collect()
         before = (await self.store.usage()).copies
-        await self.store.delete(self.id())
+        await self.store.delete(self.object_id())
         self.assertEqual((await self.store.usage()).copies, before - 1)
 
     async def test_the_block_s_own_error_is_told(self) -> None:
         store = await self.connect()
-        await store.put(b"abcd", self.id())
+        await store.put(b"abcd", self.object_id())
         with self.assertRaises(KeyError):
-            async with await store.get(self.id()):
+            async with await store.get(self.object_id()):
                 await store.close()
                 raise KeyError("own")
         with self.assertRaisesRegex(ConnectionLost, "the connection is closed"):
@@ -238,6 +240,7 @@ class Faults(unittest.IsolatedAsyncioTestCase):
         await store.leave()
         told = await asyncio.gather(store.usage(), store.list(), return_exceptions=True)
         self.assertEqual([type(error) for error in told], [ConnectionLost, ConnectionLost])
+        self.assertRegex(repr(store), "^<aio.Connection of job 1: the connection was lost: ")
 
     async def test_what_is_no_reply(self) -> None:
         for digits in ("0000000080", "0000000199", "000000028f63", "0000000580" "00000000"):

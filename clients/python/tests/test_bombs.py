@@ -6,7 +6,7 @@ import os
 import pickle
 import struct
 import unittest
-from typing import Any, List
+from typing import Any, Callable, List, Tuple, Type
 from unittest import mock
 
 from support import ServerOfAll
@@ -18,11 +18,9 @@ from store_client.encoding import Manifest, decode_array, encode_value
 try:
     import numpy
 except ImportError:
-    numpy = None  # type: ignore[assignment]
+    numpy = None
 
 PART = 4096
-# of the objects that a test reads, no more than so many bytes are there
-ALL = 10 * PART
 
 
 class OfOthers(ServerOfAll):
@@ -44,8 +42,8 @@ class OfOthers(ServerOfAll):
         for end in (self.store.close, self.other.close, lambda: self.other.end_task(self.task)):
             self.addCleanup(end)
 
-    def noted(self, blank: Any) -> Any:
-        def take(length: int) -> Any:
+    def noted(self, blank: Callable[[int], memoryview]) -> Callable[[int], memoryview]:
+        def take(length: int) -> memoryview:
             self.taken.append(length)
             return blank(length)
 
@@ -57,11 +55,12 @@ class OfOthers(ServerOfAll):
         self.other.grant(id, 1)
         return id
 
-    def refuses(self, error: type, told: str, manifest: Manifest) -> None:
+    def refuses(self, error: Type[Exception], told: str, manifest: Manifest) -> None:
         """Neither call takes more memory than the manifest has itself."""
         laid = manifest.encode()
         whole = self.granted(99, laid)
-        for call in (self.store.get_array, lambda id: self.store.get_value(id, trust=True)):
+        calls: Tuple[Callable[[ObjectId], object], ...] = (self.store.get_array, lambda id: self.store.get_value(id, trust=True))
+        for call in calls:
             self.taken.clear()
             with self.assertRaisesRegex(error, told):
                 call(whole)

@@ -21,7 +21,7 @@ import store_client
 try:
     import numpy
 except ImportError:
-    numpy = None  # type: ignore[assignment]
+    numpy = None
 
 
 class CommandLine(unittest.TestCase):
@@ -40,6 +40,7 @@ class CommandLine(unittest.TestCase):
     def test_usage_is_watched(self) -> None:
         words, place = self.command_line()
         with subprocess.Popen(words + ["watch", "--every", "0.01"], stdout=subprocess.PIPE, env=place, text=True) as watch:
+            assert watch.stdout
             self.assertEqual(watch.stdout.readline(), "window 0/33554432, device 0/0, copies 0, works 0\n")
             self.store.create(self.one, 5)
             self.assertEqual(watch.stdout.readline(), "window 16/33554432, device 0/0, copies 1, works 0\n")
@@ -50,8 +51,8 @@ class CommandLine(unittest.TestCase):
         """What job 9's command gives, and what a terminal is told meanwhile."""
         place = {**os.environ, "PYTHONPATH": str(ROOT / "clients/python")}
         place.update(STORE_SOCKET=server.path, STORE_JOB="9", STORE_KEY=key(9).hex())
-        ours, theirs = pty.openpty()
-        with open(ours, "rb", buffering=0) as ours, open(theirs, "wb", buffering=0) as theirs:
+        our_end, their_end = pty.openpty()
+        with open(our_end, "rb", buffering=0) as ours, open(their_end, "wb", buffering=0) as theirs:
             done = subprocess.run([sys.executable, "-m", "store_client", *words], input=data, stdout=subprocess.PIPE, stderr=theirs,
                                   env=place, check=False, timeout=PATIENCE)
             self.assertEqual(done.returncode, 0)
@@ -216,6 +217,7 @@ class CommandLine(unittest.TestCase):
         for unbuffered in ("", "1"):
             place["PYTHONUNBUFFERED"] = unbuffered
             with subprocess.Popen([*words, "get", "t1.1"], stdout=subprocess.PIPE, stderr=subprocess.PIPE, env=place) as client:
+                assert client.stdout and client.stderr
                 os.read(client.stdout.fileno(), 1)
                 client.stdout.close()
                 told = client.stderr.read()

@@ -16,10 +16,10 @@ import time
 import unittest
 from pathlib import Path
 from types import SimpleNamespace
-from typing import Any, Dict, List
+from typing import Any, Callable, ContextManager, Dict, List, Tuple
 from unittest import mock
 
-from support import PATIENCE, Server, key
+from support import PATIENCE, Server, ServerOfAll, key
 
 from store_client import Absent, ConnectionLost, Kind, ObjectId, State, absence
 from store_client.requests import Pieces
@@ -32,6 +32,16 @@ if HAS_DASK:
 
 LEASE = 1.0
 FIRST, SECOND = "0123456789abcdef" * 2, "fedcba9876543210" * 2
+
+
+def noted_sleep(missed: threading.Semaphore) -> ContextManager[object]:
+    """Each pause of a wait for an absent store releases the semaphore first."""
+
+    def sleep(seconds: float) -> None:
+        missed.release()
+        time.sleep(seconds)
+
+    return mock.patch.object(absence, "time", SimpleNamespace(sleep=sleep))
 
 
 @unittest.skipUnless(HAS_DASK, "distributed isn't there")
@@ -122,7 +132,12 @@ class Starting(unittest.IsolatedAsyncioTestCase):
     def plugin(self) -> dask.StoreWorkers:
         plugin = dask.StoreWorkers(f"{self.folder}/store", 1, f"{self.folder}/job.key", nodes=2)
         plugin._tries = again.Tries(lambda: self.now)
-        self.addCleanup(lambda: plugin.fault or plugin._store.close())
+
+        def close() -> None:
+            if not plugin.fault:
+                plugin._store.close()
+
+        self.addCleanup(close)
         return plugin
 
     def worker(self) -> Any:
@@ -188,15 +203,10 @@ class Starting(unittest.IsolatedAsyncioTestCase):
 
 
 @unittest.skipUnless(HAS_DASK, "distributed isn't there")
-class Shared(unittest.TestCase):
+class Shared(ServerOfAll):
     """A host's workers share what one of them fetches. Here they are threads, each with pools of its own."""
 
-    server: Server
-
-    @classmethod
-    def setUpClass(cls) -> None:
-        cls.server = Server(nodes=2)
-        cls.addClassCleanup(cls.server.close)
+    nodes = 2
 
     def setUp(self) -> None:
         self.name = names.Name.of(self.id(), time.monotonic_ns() % 2**40)
@@ -259,7 +269,8 @@ class Shared(unittest.TestCase):
         self.store.create(copy, len(self.data), Kind.SECONDARY)
         pool.write(copy, 0, b"half")
         self.assertEqual(self.bring(self.worker(), lease=LEASE), self.data)
-        for late in (lambda: pool.write(copy, 4, b"late"), lambda: pool.seal(copy)):
+        calls: Tuple[Callable[[], None], ...] = (lambda: pool.write(copy, 4, b"late"), lambda: pool.seal(copy))
+        for late in calls:
             with self.assertRaises(Absent):
                 late()
         for id, state in self.store.copies_of(self.name, 0).items():
@@ -322,7 +333,9 @@ class Away(unittest.IsolatedAsyncioTestCase):
         with mock.patch.dict(os.environ, {"STORE_KEY": key(1).hex(), "STORE_HOST": address[0].upper()}):
             await plugin.setup(worker)
         self.addCleanup(plugin._store.close)
-        plugin._peers._send = self.send
+        patch = mock.patch.object(plugin._peers, "_send", self.send)
+        patch.start()
+        self.addCleanup(patch.stop)
         self.plugins[address] = plugin
         return plugin
 
@@ -336,7 +349,7 @@ class Away(unittest.IsolatedAsyncioTestCase):
         """What the work gives, done by a task of this worker while the store is away; it comes back once the task has missed it twice."""
         missed, loop = threading.Semaphore(0), asyncio.get_running_loop()
         self.server.kill()
-        with mock.patch.object(absence, "time", SimpleNamespace(sleep=lambda seconds: (missed.release(), time.sleep(seconds)))):
+        with noted_sleep(missed):
             working = loop.run_in_executor(None, work)
             for _ in range(2):
                 self.assertTrue(await loop.run_in_executor(None, missed.acquire, True, PATIENCE))
@@ -435,7 +448,7 @@ class OfCluster(unittest.TestCase):
             before = future.result(PATIENCE)
             server.kill()
             missed = threading.Semaphore(0)
-            with mock.patch.object(absence, "time", SimpleNamespace(sleep=lambda seconds: (missed.release(), time.sleep(seconds)))):
+            with noted_sleep(missed):
                 total = client.submit(lambda ref: sum(ref.load(8 * PATIENCE)), future, pure=False)
                 by_hand = client.submit(load_in_words, [before.name.prefix, before], pure=False)
                 for _ in range(2):

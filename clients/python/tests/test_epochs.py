@@ -9,10 +9,10 @@ import threading
 import time
 import unittest
 from pathlib import Path
-from typing import Any, Callable, List
+from typing import Any, Callable, List, Optional
 from unittest import mock
 
-from support import PATIENCE, PROGRAM, Server, key
+from support import PATIENCE, PROGRAM, Server, ServerOfAll, key
 
 import store_client
 from store_client import Absent, LostAtRestart, NotGranted, ObjectId, Pool, Task, aio
@@ -22,32 +22,26 @@ from store_client.epochs import epoch_file, read_epoch
 try:
     import numpy
 except ImportError:
-    numpy = None  # type: ignore[assignment]
+    numpy = None
 
 FIRST, SECOND = "0123456789abcdef" * 2, "fedcba9876543210" * 2
 
 
-class Restarted(unittest.TestCase):
+class Restarted(ServerOfAll):
     """At a server of two nodes that was started again since an object was put."""
 
-    server: Server
+    nodes = 2
     lost: ObjectId
 
     @classmethod
     def setUpClass(cls) -> None:
-        cls.server = Server(nodes=2)
-        cls.addClassCleanup(cls.server.close)
+        super().setUpClass()
         cls.server.write_epoch(FIRST)
         with cls.server.connect() as store:
             cls.lost = store.put(b"Hello")
             assert store.epoch == FIRST
         cls.server.kill()
         cls.server.start_again(SECOND)
-
-    def connect(self, job: int = 1, node: int = 0) -> store_client.Connection:
-        store = self.server.connect(job, node)
-        self.addCleanup(store.close)
-        return store
 
     def gets(self, store: Any) -> List[Callable[..., Any]]:
         """All calls that take an epoch."""
@@ -98,7 +92,12 @@ class Restarted(unittest.TestCase):
         producer.create(id, 5)
         with self.assertRaises(store_client.NotSealed):
             store.get(id, timeout=0.2, since=FIRST)
-        timer = threading.Timer(0.2, lambda: (producer.write(id, 0, b"again"), producer.seal(id)))
+
+        def finish() -> None:
+            producer.write(id, 0, b"again")
+            producer.seal(id)
+
+        timer = threading.Timer(0.2, finish)
         timer.start()
         self.addCleanup(timer.join)
         with store.get(id, timeout=PATIENCE, since=FIRST) as view:
@@ -130,7 +129,7 @@ class Restarted(unittest.TestCase):
             store.get(self.lost, since=SECOND)
 
     def test_of_a_coroutine(self) -> None:
-        async def told() -> List[str]:
+        async def told() -> List[Optional[str]]:
             async with await aio.connect(self.server.path, 1, key(1)) as store:
                 errors = [store.epoch]
                 for get in self.gets(store):
@@ -144,12 +143,14 @@ class Restarted(unittest.TestCase):
 
     def test_what_is_no_epoch(self) -> None:
         store = self.connect()
-        for wrong in (1, b"0" * 32, SECOND.encode(), []):
+        # of no type that the call takes
+        untyped: List[Any] = [1, b"0" * 32, SECOND.encode(), []]
+        for value in untyped:
             with self.assertRaisesRegex(TypeError, "an epoch is the text that `epoch` gives, or None"):
-                store.get(self.lost, since=wrong)
-        for wrong in ("", SECOND[:-1], SECOND.upper(), SECOND + "\n"):
+                store.get(self.lost, since=value)
+        for text in ("", SECOND[:-1], SECOND.upper(), SECOND + "\n"):
             with self.assertRaisesRegex(ValueError, "an epoch has 32 lower-case hexadecimal digits"):
-                store.get(self.lost, since=wrong)
+                store.get(self.lost, since=text)
 
 
 class Connected(unittest.TestCase):

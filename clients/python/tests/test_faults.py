@@ -13,6 +13,7 @@ import unittest
 import warnings
 from pathlib import Path
 from typing import Any, List
+from unittest import mock
 
 from support import PATIENCE, WithServer, in_use, key
 
@@ -23,7 +24,7 @@ from store_client.refusals import BY_NUMBER
 try:
     import numpy
 except ImportError:
-    numpy = None  # type: ignore[assignment]
+    numpy = None
 
 
 def raise_absent() -> None:
@@ -64,15 +65,15 @@ class Arguments(WithServer):
         self.store.usage()
 
     def test_numbers(self) -> None:
-        self.refuses(ValueError, "a length is 0 to 4294967295, not -5", self.store.create, self.id(), -5)
-        self.refuses(ValueError, "a kind is Kind.PRIMARY .0. or Kind.SECONDARY .1., not 7", self.store.create, self.id(), 5, 7)
-        self.refuses(ValueError, "a job is 0 to 4294967295, not -1", self.store.grant, self.id(), -1)
-        self.refuses(TypeError, "a length is a whole number, not str", self.store.create, self.id(), "5")
-        self.refuses(ValueError, "an offset is", self.store.read, self.id(), -1, 5)
-        self.refuses(ValueError, "a number of bytes is", self.store.peek, self.id(), 0, -1)
-        self.refuses(ValueError, "from 0 on, not -1", self.store.get, self.id(), timeout=-1)
+        self.refuses(ValueError, "a length is 0 to 4294967295, not -5", self.store.create, self.object_id(), -5)
+        self.refuses(ValueError, "a kind is Kind.PRIMARY .0. or Kind.SECONDARY .1., not 7", self.store.create, self.object_id(), 5, 7)
+        self.refuses(ValueError, "a job is 0 to 4294967295, not -1", self.store.grant, self.object_id(), -1)
+        self.refuses(TypeError, "a length is a whole number, not str", self.store.create, self.object_id(), "5")
+        self.refuses(ValueError, "an offset is", self.store.read, self.object_id(), -1, 5)
+        self.refuses(ValueError, "a number of bytes is", self.store.peek, self.object_id(), 0, -1)
+        self.refuses(ValueError, "from 0 on, not -1", self.store.get, self.object_id(), timeout=-1)
         self.refuses(ValueError, "from 0 on, not nan", self.store.put, b"a", timeout=float("nan"))
-        self.refuses(TypeError, "a number of seconds or None, not str", self.store.get, self.id(), timeout="1")
+        self.refuses(TypeError, "a number of seconds or None, not str", self.store.get, self.object_id(), timeout="1")
         self.refuses(TypeError, "takes 2 positional arguments", Task.numbered(9).object, 1, 5)
 
     def test_how_one_connects(self) -> None:
@@ -87,8 +88,8 @@ class Arguments(WithServer):
 
     def test_ids(self) -> None:
         self.refuses(TypeError, "not str: ObjectId.parse", self.store.get, "t1.1")
-        self.refuses(TypeError, "not bytes: ObjectId.from_bytes", self.store.get, self.id().to_bytes())
-        self.refuses(TypeError, "an ObjectId was expected, not list", self.store.get, [self.id()])
+        self.refuses(TypeError, "not bytes: ObjectId.from_bytes", self.store.get, self.object_id().to_bytes())
+        self.refuses(TypeError, "an ObjectId was expected, not list", self.store.get, [self.object_id()])
         self.refuses(TypeError, "an ObjectId was expected, not str", self.store.put, b"a", "t1.1")
         self.refuses(TypeError, "a Task was expected, not int", self.store.end_task, 1)
         self.refuses(TypeError, "a Task was expected, not JobTask", self.store.end_task, self.store.task(1))
@@ -105,11 +106,11 @@ class Arguments(WithServer):
     def test_sizes_are_told_with_their_limit(self) -> None:
         self.refuses(store_client.BadSize, "create [0-9a-f]{56}, 0 bytes; an object has 1 to 16777216", self.store.put, b"")
         self.refuses(store_client.BadSize, "104857600 bytes; an object has 1 to 16777216", self.store.put, bytes(104_857_600))
-        self.store.create(self.id(), 16)
+        self.store.create(self.object_id(), 16)
         most = "65537 bytes from 0 on; a Write has at most 65536"
-        self.refuses(store_client.BadSize, most, self.store.write, self.id(), 0, bytes(65_537))
-        self.refuses(store_client.OutOfBounds, "2 bytes from 15 on", self.store.write, self.id(), 15, b"ab")
-        self.store.delete(self.id())
+        self.refuses(store_client.BadSize, most, self.store.write, self.object_id(), 0, bytes(65_537))
+        self.refuses(store_client.OutOfBounds, "2 bytes from 15 on", self.store.write, self.object_id(), 15, b"ab")
+        self.store.delete(self.object_id())
 
     def test_a_refusal_knows_what_it_is_about(self) -> None:
         with self.assertRaises(Refused) as caught:
@@ -136,21 +137,21 @@ class Arguments(WithServer):
         self.refuses(TypeError, "has pointers", self.store.put, numpy.array([{}, None], dtype=object))
         self.refuses(TypeError, "put_array", self.store.put, numpy.array(["2020-01-01"], dtype="datetime64[D]"))
         self.refuses(store_client.BadSize, "0 bytes", self.store.put, numpy.zeros(0))
-        self.store.create(self.id(), numpy.int64(4))
+        self.store.create(self.object_id(), numpy.int64(4))
 
     def test_what_is_put_can_be_changed_afterwards(self) -> None:
         """Also if the put failed: no view of it is left."""
         data = bytearray(b"abcd")
-        self.store.put(data, self.id())
+        self.store.put(data, self.object_id())
         with self.assertRaises(store_client.Exists):
-            self.store.put(data, self.id())
+            self.store.put(data, self.object_id())
         data += b"e"
 
 
 class Holds(WithServer):
     def setUp(self) -> None:
         super().setUp()
-        self.store.put(b"abcd", self.id())
+        self.store.put(b"abcd", self.object_id())
 
     def copies(self) -> int:
         return self.store.usage().copies
@@ -158,13 +159,13 @@ class Holds(WithServer):
     def test_a_hold_that_is_dropped_is_released_with_a_warning(self) -> None:
         before = self.copies()
         with self.assertWarnsRegex(ResourceWarning, "4 bytes, held> was dropped and not released"):
-            self.assertEqual(len(self.store.get(self.id())), 4)
+            self.assertEqual(len(self.store.get(self.object_id())), 4)
             gc.collect()
-        self.store.delete(self.id())
+        self.store.delete(self.object_id())
         self.assertEqual(self.copies(), before - 1)
 
     def test_a_hold_that_is_dropped_during_a_call_is_released_by_the_next(self) -> None:
-        before, held = self.copies(), [self.store.get(self.id())]
+        before, held = self.copies(), [self.store.get(self.object_id())]
         exchange = self.store._stream.exchange
 
         def drop(requests: Any, end: Any) -> Any:
@@ -172,35 +173,34 @@ class Holds(WithServer):
             gc.collect()
             return exchange(requests, end)
 
-        self.store._stream.exchange = drop  # type: ignore[method-assign]
-        with self.assertWarns(ResourceWarning):
+        with mock.patch.object(self.store._stream, "exchange", drop), self.assertWarns(ResourceWarning):
             self.store.usage()
-        self.store.delete(self.id())
+        self.store.delete(self.object_id())
         self.assertEqual(self.copies(), before - 1)
 
     def test_a_hold_that_is_dropped_while_another_thread_calls_is_released_by_the_next_call(self) -> None:
-        before, held = self.copies(), [self.store.get(self.id())]
+        before, held = self.copies(), [self.store.get(self.object_id())]
         with in_use(self.store), self.assertWarns(ResourceWarning):
             held.clear()
             gc.collect()
-        self.store.delete(self.id())
+        self.store.delete(self.object_id())
         self.assertEqual(self.copies(), before - 1)
 
     def test_more_gets_than_holds(self) -> None:
         with warnings.catch_warnings():
             warnings.simplefilter("ignore")
             for _ in range(70):
-                self.assertEqual(bytes(self.store.get(self.id())), b"abcd")
+                self.assertEqual(bytes(self.store.get(self.object_id())), b"abcd")
 
     def test_it_says_what_it_is(self) -> None:
-        held = self.store.get(self.id())
-        self.assertEqual(repr(held), f"<Held {self.id()}, 4 bytes, held>".replace("1/", ""))
+        held = self.store.get(self.object_id())
+        self.assertEqual(repr(held), f"<Held {self.object_id()}, 4 bytes, held>".replace("1/", ""))
         held.release()
         self.assertIn("not held", repr(held))
 
     @unittest.skipIf(numpy is None, "numpy isn't there")
     def test_numpy_reads_it_or_says_how(self) -> None:
-        held = self.store.get(self.id())
+        held = self.store.get(self.object_id())
         self.addCleanup(held.release)
         self.assertEqual(bytes(numpy.frombuffer(held.view, "u1")), b"abcd")
         if sys.version_info >= (3, 12):
@@ -212,14 +212,16 @@ class Holds(WithServer):
     @unittest.skipIf(sys.version_info < (3, 12), "no class can be a buffer before Python 3.12")
     def test_it_is_a_buffer(self) -> None:
         with self.assertWarns(ResourceWarning):
-            self.assertEqual(memoryview(self.store.get(self.id())), b"abcd")
+            held: Any = self.store.get(self.object_id())
+            self.assertEqual(memoryview(held), b"abcd")
+            del held
             gc.collect()
 
     def test_the_block_s_own_error_is_told(self) -> None:
         with self.assertRaises(KeyError):
-            with self.store.get(self.id()):
+            with self.store.get(self.object_id()):
                 self.store.close()
                 raise KeyError("own")
         with self.server.connect() as other, self.assertRaises(ConnectionLost):
-            with other.get(self.id()):
+            with other.get(self.object_id()):
                 other.close()

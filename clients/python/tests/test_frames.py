@@ -3,14 +3,14 @@
 from __future__ import annotations
 
 import unittest
-from typing import Sequence, Union
+from typing import Any, Dict, List, Sequence, Tuple, Union
 
 from support import Script, documented, documented_answers, key
 from spelling import CALLS, call, spelled
 
 import store_client
-from store_client import ObjectId, Task, frames, stream
-from store_client.requests import Requests
+from store_client import JobTask, ObjectId, Task, frames, stream
+from store_client.requests import Request, Requests
 
 # for each reply a call that may get it
 ASKED_BY = {"ok": "seal t1.1", "refused": "seal t1.1", "placed": "create t1.1 20", "got": "get t1.1"}
@@ -45,7 +45,7 @@ class Frames(unittest.TestCase):
     def test_commands(self) -> None:
         for frame, said in self.commands:
             if not said.startswith("hello"):
-                due = CALLS[said.split(" ")[0]][2]
+                due = CALLS[said.split(" ")[0]].due
                 reply = frames.frame(frames.Reply.BYTES, bytes(int(said.split(" ")[3]))) if due == "bytes" else self.frame_of[due]
                 self.assertEqual(self.ask(said, reply)[0].hex(), frame.hex(), said)
 
@@ -145,7 +145,7 @@ class Bursts(unittest.TestCase):
     def data(self) -> bytes:
         return (bytes(range(251)) * (self.LENGTH // 251 + 1))[: self.LENGTH]
 
-    def ask(self, length: int, other: dict[int, bytes]) -> tuple[list[object], list[bytes], int]:
+    def ask(self, length: int, other: Dict[int, bytes]) -> Tuple[List[object], List[bytes], int]:
         """What is made of Reads between a Get and a Release, of which some are answered otherwise: the answers, what lies in the places
         of the Reads, and how many calls it took."""
         id, requests = Task.numbered(1).object(1, job=1), Requests(1)
@@ -155,7 +155,8 @@ class Bursts(unittest.TestCase):
         replies = [other.get(number, frames.frame(frames.Reply.BYTES, data[place])) for number, place in enumerate(places)]
         got, ok = frames.frame(frames.Reply.GOT, frames.numbers(self.LENGTH)), frames.frame(frames.Reply.OK)
         answers: list[object] = []
-        all, cut, replied = [requests.get(id), *reads, requests.release(id)], Cut(b"".join([got, *replies, ok]), length), stream._Replies()
+        all: List[Request[Any]] = [requests.get(id), *reads, requests.release(id)]
+        cut, replied = Cut(b"".join([got, *replies, ok]), length), stream._Replies()
         while len(answers) < len(all):
             self.assertTrue(replied.receive(cut.receive, all, answers), "it waits for what has come already")
         self.assertEqual((answers[0], answers[-1]), (self.LENGTH, None))
@@ -163,7 +164,10 @@ class Bursts(unittest.TestCase):
 
     def test_cut_anywhere(self) -> None:
         pending = frames.frame(frames.Reply.REFUSED, bytes([10]))
-        for other in ({}, {0: pending}, {3: pending}, {2: pending, 3: pending, 7: pending}, dict.fromkeys(range(8), pending)):
+        others: Tuple[Dict[int, bytes], ...] = (
+            {}, {0: pending}, {3: pending}, {2: pending, 3: pending, 7: pending}, dict.fromkeys(range(8), pending),
+        )
+        for other in others:
             for length in (*range(1, 40), 1000):
                 answers, places, _ = self.ask(length, other)
                 for number, (answer, place) in enumerate(zip(answers, places)):
@@ -200,6 +204,9 @@ class Texts(unittest.TestCase):
         ids = [Task.numbered(1).object(2, job=3), Task.numbered(4), ObjectId(Task(b"\x01" * 20), 1, 7), Task(b"\x01" * 20)]
         self.assertEqual(repr(ids[:2]), "[ObjectId.parse('3/t1.2'), Task.parse('t4')]")
         self.assertEqual(eval(repr(ids)), ids)
+        task = JobTask(Task.numbered(4), 3)
+        self.assertEqual(repr(task), "JobTask(Task.parse('t4'), 3)")
+        self.assertEqual(eval(repr(task)).object(2), task.object(2))
         self.assertEqual(ObjectId.parse(str(ids[0])), ids[0])
         with self.assertRaisesRegex(ValueError, "'t1.2' doesn't say of which job it is: .* like 1/t1.2"):
             ObjectId.parse("t1.2")

@@ -10,26 +10,31 @@ import tempfile
 import threading
 import time
 import unittest
-from typing import Any, List
+from typing import Any, Callable, List, Optional, Sequence, Tuple
 from unittest import mock
 
 from support import PATIENCE, Script, WithServer, device_at_rest, in_child, in_use, key, own_grace
 
 import store_client
-from store_client import ConnectionLost, ServerSilent, Task, connection
+from store_client import Connection, ConnectionLost, ServerSilent, Task, connection
+from store_client.requests import Answer, Request
 
 OK = bytes.fromhex("0000000180")
+# what a stream sends at once, and how
+Requests = Sequence[Request[Any]]
+Exchange = Callable[[Requests, Optional[float]], List[Answer]]
 
 
 class Forks(WithServer):
     def test_a_connection_is_its_own_process_s(self) -> None:
-        self.store.put(b"abcd", self.id())
-        self.store.hold(self.id())
+        self.store.put(b"abcd", self.object_id())
+        self.store.hold(self.object_id())
         parent = f"ConnectionLost: the connection was opened in process {os.getpid()}, and this is process "
-        for call in (self.store.usage, self.store.new_id, lambda: self.store.get(self.id()), lambda: self.store.read(self.id(), 0, 4)):
+        one = self.object_id()
+        for call in (self.store.usage, self.store.new_id, lambda: self.store.get(one), lambda: self.store.read(one, 0, 4)):
             self.assertEqual(in_child(call)[: len(parent)], parent)
         self.assertEqual(in_child(self.store.close), "None")
-        self.assertEqual(self.store.read(self.id(), 0, 4), b"abcd")
+        self.assertEqual(self.store.read(self.object_id(), 0, 4), b"abcd")
 
     def test_a_connection_that_another_thread_uses_is_no_trap(self) -> None:
         """The child has no such thread, and its lock."""
@@ -39,9 +44,9 @@ class Forks(WithServer):
     def test_a_session_ends_with_its_own_process(self) -> None:
         """A child doesn't keep it, and its holds, open."""
         before = self.store.usage().copies
-        self.store.put(b"abcd", self.id())
+        self.store.put(b"abcd", self.object_id())
         other = self.server.connect()
-        other.hold(self.id())
+        other.hold(self.object_id())
         reading, writing = os.pipe()
         child = os.fork()
         if not child:
@@ -49,7 +54,7 @@ class Forks(WithServer):
             os.read(reading, 1)
             os._exit(0)
         other.close()
-        self.store.delete(self.id())
+        self.store.delete(self.object_id())
         end = time.monotonic() + PATIENCE
         while self.store.usage().copies > before and time.monotonic() < end:
             time.sleep(0.01)
@@ -68,10 +73,10 @@ class Forks(WithServer):
         self.assertEqual(len(set(ids)), 10)
 
     def test_neither_a_connection_nor_a_hold_is_pickled(self) -> None:
-        self.store.put(b"abcd", self.id())
+        self.store.put(b"abcd", self.object_id())
         with self.assertRaisesRegex(TypeError, "each process opens its own"):
             pickle.dumps(self.store)
-        held = self.store.get(self.id())
+        held = self.store.get(self.object_id())
         with self.assertRaisesRegex(TypeError, "pass its id"):
             pickle.dumps(held)
         held.release()
@@ -102,19 +107,18 @@ class Interruptions(WithServer):
     def test_a_put_that_is_cut_off_in_the_middle_is_deleted(self) -> None:
         """Ctrl-C comes while an answer is due: the connection is lost by it, and another one deletes the object."""
         before = self.store.usage().copies
-        for id in (None, self.id()):
+        for id in (None, self.object_id()):
             store = self.server.connect()
-            exchange, calls = store._stream.exchange, []
+            exchange, calls = store._stream.exchange, [0]
 
-            def cut(requests: Any, end: Any, exchange: Any = exchange, calls: Any = calls) -> Any:
-                calls.append(requests)
-                if len(calls) == 2:
+            def cut(requests: Requests, end: Optional[float], exchange: Exchange = exchange, calls: List[int] = calls) -> List[Answer]:
+                calls[0] += 1
+                if calls[0] == 2:
                     exchange(requests[:3], end)
                     raise KeyboardInterrupt
                 return exchange(requests, end)
 
-            store._stream.exchange = cut  # type: ignore[method-assign]
-            with self.assertRaises(KeyboardInterrupt):
+            with mock.patch.object(store._stream, "exchange", cut), self.assertRaises(KeyboardInterrupt):
                 store.put(bytes(2_000_000 if id is None else 200_000), id)
             self.assertEqual(self.store.usage().copies, before)
             with self.assertRaisesRegex(ConnectionLost, "a call was cut short"):
@@ -122,54 +126,50 @@ class Interruptions(WithServer):
 
     def test_an_object_of_another_is_left_alone(self) -> None:
         """A put that is cut off before it is known whose copy it is deletes nothing."""
-        self.store.put(b"abcd", self.id())
+        self.store.put(b"abcd", self.object_id())
         store = self.server.connect()
 
-        def cut(requests: Any, end: Any) -> Any:
-            raise KeyboardInterrupt
-
-        store._stream.exchange = cut  # type: ignore[method-assign]
-        with self.assertRaises(KeyboardInterrupt):
-            store.put(b"other", self.id())
-        self.assertTrue(self.store.contains(self.id()))
-        self.store.delete(self.id())
+        with mock.patch.object(store._stream, "exchange", side_effect=KeyboardInterrupt), self.assertRaises(KeyboardInterrupt):
+            store.put(b"other", self.object_id())
+        self.assertTrue(self.store.contains(self.object_id()))
+        self.store.delete(self.object_id())
 
     def test_a_call_in_the_middle_of_another_one_is_told(self) -> None:
         """As a signal's handler may make one: it can't be sent between a command and its answer, nor wait for itself."""
-        exchange, told = self.store._stream.exchange, []
+        exchange = self.store._stream.exchange
+        told: List[str] = []
 
-        def interrupted(requests: Any, end: Any) -> Any:
+        def interrupted(requests: Requests, end: Optional[float]) -> List[Answer]:
             try:
                 self.store.usage()
             except store_client.StoreError as error:
                 told.append(str(error))
             return exchange(requests, end)
 
-        self.store._stream.exchange = interrupted  # type: ignore[method-assign]
-        self.store.put(b"abcd", self.id())
-        self.store._stream.exchange = exchange  # type: ignore[method-assign]
+        with mock.patch.object(self.store._stream, "exchange", interrupted):
+            self.store.put(b"abcd", self.object_id())
         self.assertEqual(set(told), {"a call was made in the middle of another one of the same thread, as by the handler of a signal"})
-        self.assertTrue(self.store.contains(self.id()))
+        self.assertTrue(self.store.contains(self.object_id()))
 
     def test_a_wait_that_is_interrupted_holds_nothing(self) -> None:
-        self.store.put(b"abcd", self.id(1))
+        self.store.put(b"abcd", self.object_id(1))
         self.interrupt(0.3)
         with self.assertRaises(KeyboardInterrupt):
-            self.store.wait([self.id(1), self.id(2)], 2, PATIENCE)
+            self.store.wait([self.object_id(1), self.object_id(2)], 2, PATIENCE)
         # the session goes on, or is lost if an answer was due, and its holds end a little later
         with self.server.connect() as other:
-            other.delete(self.id(1))
+            other.delete(self.object_id(1))
             end = time.monotonic() + PATIENCE
-            while self.id(1) in [item.id for item in other.list()[0]] and time.monotonic() < end:
+            while self.object_id(1) in [item.id for item in other.list()[0]] and time.monotonic() < end:
                 time.sleep(0.01)
-            self.assertNotIn(self.id(1), [item.id for item in other.list()[0]])
+            self.assertNotIn(self.object_id(1), [item.id for item in other.list()[0]])
 
     def test_a_get_that_waits_can_be_interrupted(self) -> None:
         self.interrupt(0.2)
         with self.assertRaises(KeyboardInterrupt):
-            self.store.get(self.id(), timeout=PATIENCE)
+            self.store.get(self.object_id(), timeout=PATIENCE)
         with self.server.connect() as other:
-            self.assertFalse(other.contains(self.id()))
+            self.assertFalse(other.contains(self.object_id()))
 
 
 @own_grace
@@ -181,7 +181,7 @@ class Silence(unittest.TestCase):
         self.addCleanup(script.close)
         return script
 
-    def silent(self, call: Any) -> None:
+    def silent(self, call: Callable[[], object]) -> None:
         began = time.monotonic()
         with self.assertRaisesRegex(ServerSilent, "didn't answer in time"):
             call()
@@ -202,12 +202,13 @@ class Silence(unittest.TestCase):
 
     def test_each_call(self) -> None:
         one = Task.numbered(1).object(1, job=1)
-        for call in (
+        calls: Tuple[Callable[[Connection], object], ...] = (
             lambda store: store.get(one, timeout=0.1),
             lambda store: store.put(b"abcd", timeout=0.1),
             lambda store: store.put(bytes(2**21), one, timeout=0.1),
             lambda store: store.wait([one], timeout=0.1),
-        ):
+        )
+        for call in calls:
             store = store_client.connect(self.script(OK).path, 1, key(1))
             self.silent(lambda: call(store))
             with self.assertRaisesRegex(ConnectionLost, "didn't answer in time"):
@@ -220,7 +221,10 @@ class Silence(unittest.TestCase):
 
     def test_what_waits_in_the_server_has_a_timeout(self) -> None:
         one = Task.numbered(1).object(1, job=1)
-        for call in (lambda store: store.hold(one, wait=True, timeout=0.1), lambda store: store.create(one, 5, wait=True, timeout=0.1)):
+        calls: Tuple[Callable[[Connection], object], ...] = (
+            lambda store: store.hold(one, wait=True, timeout=0.1), lambda store: store.create(one, 5, wait=True, timeout=0.1),
+        )
+        for call in calls:
             self.silent(lambda: call(store_client.connect(self.script(OK).path, 1, key(1))))
 
     def test_the_connection_s_own_timeout(self) -> None:

@@ -21,11 +21,12 @@ from support import PATIENCE, Server, ServerOfAll, key
 import store_client
 from store_client import Absent, Connection, ObjectId, Pool, State, Task, keeping, parts, putting
 from store_client.stream import Stream
+from store_testing.waiting import until
 
 try:
     import numpy
 except ImportError:
-    numpy = None  # type: ignore[assignment]
+    numpy = None
 
 # until nothing is left, in seconds: ten, on a machine that does nothing else
 SOON = PATIENCE / 3
@@ -50,6 +51,7 @@ def keepers(path: str) -> List[int]:
 
 class Killed(ServerOfAll):
     job = 7
+    path: str
 
     @classmethod
     def setUpClass(cls) -> None:
@@ -58,26 +60,20 @@ class Killed(ServerOfAll):
         cls.path = os.path.realpath(cls.server.path)
 
     def setUp(self) -> None:
-        self.store = self.connect()
+        self.store = self.begin()
         self.addCleanup(self.store.close)
         self.task = Task(os.urandom(20))
         self.addCleanup(self.clear)
 
-    def connect(self) -> Connection:
+    def begin(self) -> Connection:
         return self.server.connect(self.job)
 
     def clear(self) -> None:
         for item in self.store.list()[0]:
             self.store.delete(item.id)
 
-    def id(self, index: int) -> ObjectId:
+    def object_id(self, index: int) -> ObjectId:
         return self.task.object(index, job=self.job)
-
-    def comes_to(self, look: Callable[[], bool]) -> None:
-        end = time.monotonic() + SOON
-        while not look() and time.monotonic() < end:
-            time.sleep(0.05)
-        self.assertTrue(look())
 
     def killed(self, work: Callable[[], Any]) -> bool:
         """Does the work in a process that is forked off. Whether it was killed."""
@@ -116,19 +112,19 @@ class Killed(ServerOfAll):
         number, was_killed = 1, True
 
         def work() -> None:
-            store = Pool(self.server.path, self.job, key(self.job)) if is_pool else self.connect()
+            store = Pool(self.server.path, self.job, key(self.job)) if is_pool else self.begin()
             store.put(b"finished", finished[-1])
             self.killed_at(number, how, put, store)
 
         while was_killed:
             for how in ("before", "half", "after"):
-                finished.append(self.id(len(finished) + 1))
+                finished.append(self.object_id(len(finished) + 1))
                 was_killed = self.killed(work)
                 # the next one has to find room
-                self.comes_to(lambda: sum(item.state is State.CREATED for item in self.store.list()[0]) < 8)
+                until(lambda: sum(item.state is State.CREATED for item in self.store.list()[0]) < 8, "fewer unfinished", SOON)
             number += step
         self.assertGreater(len(finished), 3)
-        self.comes_to(lambda: not self.unfinished())
+        until(lambda: not self.unfinished(), "nothing unfinished", SOON)
         for id in finished:
             with self.store.get(id) as view:
                 self.assertEqual(view, b"finished")
@@ -175,15 +171,15 @@ class Killed(ServerOfAll):
 
     def test_what_lives_is_left_alone(self) -> None:
         """Also if its id was made by a process that is dead, and what a session that was closed has left, or one that told nothing."""
-        by_hand, left = self.id(1), self.store.new_id()
+        by_hand, left = self.object_id(1), self.store.new_id()
         self.store.create(by_hand, 4)
-        with self.connect() as closed:
+        with self.begin() as closed:
             of_closed = closed.new_id()
             closed.create(of_closed, 4)
         reading, writing = os.pipe()
 
         def make() -> None:
-            store = self.connect()
+            store = self.begin()
             made = [store.new_id() for _ in range(2)]
             store.create(made[1], 4)
             os.write(writing, b"".join(id.to_bytes() for id in made))
@@ -196,14 +192,14 @@ class Killed(ServerOfAll):
         with self.store._requests.keeping.unfinished(given):
             self.store.create(given, 4)
             self.store.create(left, 4)
-            self.comes_to(lambda: gone not in [item.id for item in self.store.list()[0]])
+            until(lambda: gone not in [item.id for item in self.store.list()[0]], f"{gone} removed", SOON)
             # and once more
             time.sleep(1.5)
             self.assertEqual({item.id for item in self.store.list()[0]}, {by_hand, of_closed, given, left})
 
     def test_a_keeper_that_was_killed_is_started_anew(self) -> None:
         def put() -> None:
-            store = self.connect()
+            store = self.begin()
             store.new_id()
             # one that has just been started has a shell before it
             while running := keepers(self.path):
@@ -211,15 +207,15 @@ class Killed(ServerOfAll):
                     with contextlib.suppress(ProcessLookupError):
                         os.kill(keeper, signal.SIGKILL)
                 time.sleep(0.01)
-            self.killed_at(2, "before", lambda store: store.put(bytes(SHORT), self.id(1)), store)
+            self.killed_at(2, "before", lambda store: store.put(bytes(SHORT), self.object_id(1)), store)
 
         self.assertTrue(self.killed(put))
-        self.comes_to(lambda: not self.unfinished())
+        until(lambda: not self.unfinished(), "nothing unfinished", SOON)
 
     def test_without_a_keeper_all_goes_on(self) -> None:
         refused = mock.Mock(side_effect=PermissionError("no folder"))
-        with mock.patch.object(keeping, "_folder", refused), self.connect() as store:
-            for id in (None, None, self.id(1)):
+        with mock.patch.object(keeping, "_folder", refused), self.begin() as store:
+            for id in (None, None, self.object_id(1)):
                 self.assertTrue(store.contains(store.put(b"abcd", id)))
             self.assertEqual(store.get_value(store.put_value(bytes(LONG))), bytes(LONG))
         # it isn't tried again and again
@@ -228,7 +224,7 @@ class Killed(ServerOfAll):
             refused.reset_mock()
             store_client.connect(self.server.path, 7, key(7), keeper=False).put(b"abcd")
             with Pool(self.server.path, 7, key(7), keeper=False) as pool, pickle.loads(pickle.dumps(pool)) as other:
-                other.put_value(bytes(LONG), self.id(2))
+                other.put_value(bytes(LONG), self.object_id(2))
             refused.assert_not_called()
 
     def test_a_folder_that_others_can_look_into_is_not_used(self) -> None:
@@ -239,7 +235,7 @@ class Killed(ServerOfAll):
                 keeping._folder()
 
     def test_a_put_tells_its_keeper_once(self) -> None:
-        with self.connect() as store:
+        with self.begin() as store:
             told: List[bytes] = []
             with mock.patch.object(keeping.Keeping, "_tell", lambda _, message: told.append(message[:1])):
                 for _ in range(3):
@@ -247,7 +243,7 @@ class Killed(ServerOfAll):
                 self.assertEqual(told, [keeping.TASK])
                 told.clear()
                 for index in range(1, 4):
-                    store.put(b"abcd", self.id(index))
+                    store.put(b"abcd", self.object_id(index))
                 self.assertEqual(told, [keeping.BEGIN] * 3)
                 told.clear()
                 store.put_value(bytes(LONG))

@@ -15,13 +15,14 @@ import tempfile
 import time
 import unittest
 from pathlib import Path
-from typing import Callable, Dict, List, Tuple
+from typing import Dict, List, Tuple, Union
 from unittest import mock
 
 from support import PATIENCE, PROGRAM, ROOT, in_child
 
 import store_client
 from store_client import ConnectionLost, NotStarted, ObjectId, Pool, embedded
+from store_testing.waiting import until
 
 sys.path.append(str(ROOT / "operate"))
 
@@ -34,13 +35,6 @@ SOON = 5.0
 BEGIN = "import os, signal, sys, time, store_client\nstore = store_client.local('1M')\nprint(store.path, flush=True)\n"
 
 
-def eventually(holds: Callable[[], bool], seconds: float = SOON) -> bool:
-    end = time.monotonic() + seconds
-    while not holds() and time.monotonic() < end:
-        time.sleep(0.02)
-    return holds()
-
-
 def servers(folder: Path) -> List[int]:
     """The processes whose command line names something in the folder."""
     found = []
@@ -49,6 +43,12 @@ def servers(folder: Path) -> List[int]:
             if os.fsencode(folder) in (place / "cmdline").read_bytes():
                 found.append(int(place.name))
     return found
+
+
+def line_of(process: "subprocess.Popen[str]") -> str:
+    """The next line of its output."""
+    assert process.stdout
+    return process.stdout.readline()
 
 
 def kill_all(group: int) -> None:
@@ -72,12 +72,11 @@ class Local(unittest.TestCase):
         self.folder = Path(folder.name)
         self.temporary = self.folder / "tmp"
         self.temporary.mkdir()
-        for patch in (
-            mock.patch.dict(os.environ, {"STORE_PROGRAM": PROGRAM, "TMPDIR": str(self.temporary), "PYTHONPATH": str(CLIENT)}),
-            mock.patch.object(tempfile, "tempdir", str(self.temporary)),
-        ):
-            patch.start()
-            self.addCleanup(patch.stop)
+        patches = contextlib.ExitStack()
+        self.addCleanup(patches.close)
+        place = {"STORE_PROGRAM": PROGRAM, "TMPDIR": str(self.temporary), "PYTHONPATH": str(CLIENT)}
+        patches.enter_context(mock.patch.dict(os.environ, place))
+        patches.enter_context(mock.patch.object(tempfile, "tempdir", str(self.temporary)))
 
     def program(self, line: str) -> str:
         """A script that stands in for the program."""
@@ -87,8 +86,8 @@ class Local(unittest.TestCase):
         return str(path)
 
     def assert_nothing_is_left(self) -> None:
-        self.assertTrue(eventually(lambda: not os.listdir(self.temporary)), os.listdir(self.temporary))
-        self.assertTrue(eventually(lambda: not servers(self.temporary / "store-")), "the server is still there")
+        until(lambda: not os.listdir(self.temporary), "an empty folder", SOON)
+        until(lambda: not servers(self.temporary / "store-"), "the server's end", SOON)
 
 
 class Use(Local):
@@ -112,10 +111,11 @@ class Use(Local):
                     self.assertEqual((view[0], len(view)), (number, 2**19))
 
     def test_without_a_block(self) -> None:
-        for end in (lambda store: store.close(), lambda store: (store.close(), store.close()), lambda store: None):
+        for closed in (1, 2, 0):
             store = store_client.local("1M")
             store.put(b"Hello")
-            end(store)
+            for _ in range(closed):
+                store.close()
             del store
             gc.collect()
             self.assertEqual(os.listdir(self.temporary), [])
@@ -187,13 +187,13 @@ class Ends(Local):
         process = subprocess.Popen(words, stdout=pipe, stderr=pipe, text=True, start_new_session=True)
         self.addCleanup(process.communicate)
         self.addCleanup(process.kill)
-        return process, Path(process.stdout.readline().strip()).parent
+        return process, Path(line_of(process).strip()).parent
 
     def test_by_itself(self) -> None:
         for script, status in (("", 0), ("sys.exit(3)", 3), ("with store: raise ValueError()", 1), ("os._exit(4)", 4), ("os.abort()", -6)):
             process, folder = self.begin(script)
             self.assertEqual(process.wait(PATIENCE), status)
-            self.assertTrue(eventually(lambda: not folder.exists() and not servers(folder)), script)
+            until(lambda: not folder.exists() and not servers(folder), f"the end after {script!r}", SOON)
 
     def test_by_a_signal(self) -> None:
         for number in (signal.SIGINT, signal.SIGTERM, signal.SIGHUP, signal.SIGKILL):
@@ -201,23 +201,23 @@ class Ends(Local):
             self.assertEqual(len(servers(folder)), 1)
             process.send_signal(number)
             process.wait(PATIENCE)
-            self.assertTrue(eventually(lambda: not folder.exists() and not servers(folder)), number.name)
+            until(lambda: not folder.exists() and not servers(folder), f"the end after {number.name}", SOON)
 
     def test_ctrl_c_that_the_process_outlives(self) -> None:
         script = "try:\n print('begun', flush=True)\n time.sleep(600)\n"
         script += "except KeyboardInterrupt:\n print(store.contains(store.put(b'Hello')))"
         process, folder = self.begin(script)
-        self.assertEqual(process.stdout.readline(), "begun\n")
+        self.assertEqual(line_of(process), "begun\n")
         os.killpg(process.pid, signal.SIGINT)
         self.assertEqual(process.communicate(timeout=PATIENCE), ("True\n", ""))
         self.assertFalse(folder.exists())
 
     def test_killed_while_a_child_lives_on(self) -> None:
         process, folder = self.begin("child = os.fork()\nif child: print(child, flush=True)\ntime.sleep(600)")
-        child = int(process.stdout.readline())
+        child = int(line_of(process))
         self.addCleanup(os.kill, child, signal.SIGKILL)
         process.kill()
-        self.assertTrue(eventually(lambda: not folder.exists() and not servers(folder)))
+        until(lambda: not folder.exists() and not servers(folder), "the end", SOON)
         os.kill(child, 0)
 
     def test_a_child_that_exits_as_python_does(self) -> None:
@@ -229,7 +229,7 @@ class Ends(Local):
     def test_killed_while_it_starts(self) -> None:
         slow = self.program("sleep 600")
         process = subprocess.Popen([sys.executable, "-c", BEGIN], env={**os.environ, "STORE_PROGRAM": slow})
-        self.assertTrue(eventually(lambda: bool(servers(self.temporary / "store-")), PATIENCE))
+        until(lambda: servers(self.temporary / "store-"), "the server", PATIENCE)
         process.kill()
         process.wait()
         self.assert_nothing_is_left()
@@ -251,11 +251,15 @@ class Ends(Local):
 
 class Sizes(Local):
     def test_what_is_no_size(self) -> None:
-        for value in ("", "x", "1.5M", "-1", "1 M", "1X", "1G", "15", 15, 0, -1, 2**28 + 1):
+        values: Tuple[Union[int, str], ...] = ("", "x", "1.5M", "-1", "1 M", "1X", "1G", "15", 15, 0, -1, 2**28 + 1)
+        # some are wrong for memory alone
+        devices: Dict[Union[int, str], Union[int, str]] = {"1G": "2T", "15": "1Q", 15: -2, 0: -3, 2**28 + 1: 2**40 + 1}
+        for value in values:
             with self.assertRaisesRegex(ValueError, "^memory", msg=repr(value)):
                 store_client.local(value)
             with self.assertRaisesRegex(ValueError, "^device", msg=repr(value)):
-                store_client.local("1M", {"1G": "2T", "15": "1Q", 15: -2, 0: -3, 2**28 + 1: 2**40 + 1}.get(value, value))
+                store_client.local("1M", devices.get(value, value))
+        wrong: object
         for wrong in (None, 1.5, b"1M", []):
             self.assertRaises(TypeError, store_client.local, wrong)
         self.assertEqual(os.listdir(self.temporary), [])
@@ -360,10 +364,11 @@ class CommandLine(Local):
         self.assertEqual(self.run_local("/etc"), (126, "", "store_client.local: /etc: Permission denied\n"))
 
     def test_what_is_missing_or_wrong_is_one_line(self) -> None:
-        for words, names, said in (
+        cases: Tuple[Tuple[Tuple[str, ...], Dict[str, str], str], ...] = (
             (("--memory", "x"), {}, "memory: 'x' is no size: "), (("--memory", "1G"), {}, "memory, in bytes, is 16 to "),
             (("--device", "x"), {}, "device: 'x' is no size: "), ((), {"STORE_PROGRAM": "/nowhere"}, "STORE_PROGRAM names /nowhere, "),
-        ):
+        )
+        for words, names, said in cases:
             status, output, complaint = self.run_local(*words, "true", **names)
             self.assertEqual((status, output, complaint.count("\n")), (2, "", 1))
             self.assertTrue(complaint.startswith(f"store_client.local: {said}"), complaint)
@@ -377,7 +382,7 @@ class CommandLine(Local):
             process = subprocess.Popen(words, stdout=pipe, stderr=nothing, text=True, start_new_session=True)
             self.addCleanup(process.communicate)
             self.addCleanup(kill_all, process.pid)
-            self.assertEqual(process.stdout.readline(), "begun\n")
+            self.assertEqual(line_of(process), "begun\n")
             send(process.pid, number)
             self.assertEqual(process.wait(PATIENCE), 9, number.name)
             self.assert_nothing_is_left()
@@ -385,8 +390,9 @@ class CommandLine(Local):
     def test_ctrl_c_while_it_starts(self) -> None:
         place = {**os.environ, "STORE_PROGRAM": self.program("sleep 600")}
         with subprocess.Popen([sys.executable, "-m", "store_client.local", "true"], stderr=subprocess.PIPE, env=place) as process:
-            self.assertTrue(eventually(lambda: bool(servers(self.temporary / "store-")), PATIENCE))
+            until(lambda: servers(self.temporary / "store-"), "the server", PATIENCE)
             process.send_signal(signal.SIGINT)
+            assert process.stderr
             self.assertEqual((process.wait(PATIENCE), process.stderr.read()), (130, b""))
         self.assert_nothing_is_left()
 

@@ -14,7 +14,7 @@ import tempfile
 import unittest
 import zipfile
 from pathlib import Path
-from typing import List
+from typing import List, Mapping, Optional, Union
 
 from support import PATIENCE, ROOT
 
@@ -34,12 +34,12 @@ def has(*modules: str) -> bool:
     return all(importlib.util.find_spec(module) for module in modules)
 
 
-def run(*words: str, **more: object) -> str:
+def run(*words: str, cwd: Union[str, Path, None] = None, env: Optional[Mapping[str, str]] = None) -> str:
     """What a command prints; it has to succeed. mypy and pip take a busy machine minutes."""
-    done = subprocess.run(words, capture_output=True, text=True, check=False, timeout=3 * PATIENCE, **more)  # type: ignore[call-overload]
+    done = subprocess.run(words, capture_output=True, text=True, check=False, timeout=3 * PATIENCE, cwd=cwd, env=env)
     if done.returncode:
         raise AssertionError(f"{' '.join(words)}: status {done.returncode}\n{done.stdout}{done.stderr}")
-    return str(done.stdout)
+    return done.stdout
 
 
 class Package(unittest.TestCase):

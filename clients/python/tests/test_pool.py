@@ -8,7 +8,7 @@ import os
 import pickle
 import random
 import time
-from typing import List
+from typing import Callable, List, Tuple, TypeVar
 
 from support import PATIENCE, ServerOfAll, in_child, key
 
@@ -16,6 +16,7 @@ import store_client
 from store_client import ConnectionLost, ObjectId, Pool
 
 # how long processes and threads work at one job, in seconds, and how many of each
+T = TypeVar("T")
 HAMMERING = float(os.environ.get("STORE_HAMMERING", "2"))
 HANDS = int(os.environ.get("STORE_HANDS", "3"))
 
@@ -50,14 +51,13 @@ def hammer_in_threads(pool: Pool, seed: int, seconds: float) -> List[int]:
 
 class Pools(ServerOfAll):
     def setUp(self) -> None:
-        self.pool = Pool(self.server.path, 1, key(1))
-        self.addCleanup(self.pool.close)
+        self.pool = self.connect_pool()
 
     def read(self, id: ObjectId) -> bytes:
         with self.pool.get(id) as view:
             return bytes(view)
 
-    def in_thread(self, work) -> object:  # type: ignore[no-untyped-def]
+    def in_thread(self, work: Callable[[], T]) -> T:
         with concurrent.futures.ThreadPoolExecutor(1) as threads:
             return threads.submit(work).result(PATIENCE)
 
@@ -78,7 +78,7 @@ class Pools(ServerOfAll):
     def test_what_a_thread_got_outlives_it(self) -> None:
         id = self.pool.put(b"abcd")
         held = self.in_thread(lambda: self.pool.get(id))
-        with held as view:  # type: ignore[attr-defined]
+        with held as view:
             self.assertEqual(bytes(view), b"abcd")
         self.pool.delete(id)
 
@@ -109,7 +109,8 @@ class Pools(ServerOfAll):
     def test_a_pool_that_is_closed(self) -> None:
         self.pool.usage()
         self.pool.close()
-        for call in (self.pool.usage, self.pool.new_id, lambda: self.pool.put(b"a")):
+        calls: Tuple[Callable[[], object], ...] = (self.pool.usage, self.pool.new_id, lambda: self.pool.put(b"a"))
+        for call in calls:
             with self.assertRaisesRegex(ConnectionLost, "the pool is closed"):
                 call()
 

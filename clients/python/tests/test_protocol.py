@@ -8,13 +8,13 @@ import subprocess
 import sys
 import threading
 import time
-from typing import List, Tuple
+from typing import Any, List, Tuple
 
 from support import PATIENCE, ROOT, Server, ServerOfAll, key
 
 from store_client import Absent, Busy, Connection, NotSealed, ObjectId, Pending, Refused
 from store_client.frames import read_usage
-from store_client.requests import Requests, hello
+from store_client.requests import Request, Requests, hello
 
 PAGE = ROOT / "docs/PROTOCOL.md"
 
@@ -23,8 +23,9 @@ class Protocol(ServerOfAll):
     def said(self) -> Tuple[str, List[str]]:
         """The program of the session by hand, and what it prints."""
         text = re.sub("^    ", "", PAGE.read_text(encoding="ascii"), flags=re.MULTILINE)
-        program, printed = re.search(r"<<'END'\n(.*?)END\n(.*?)\n\n", text, re.DOTALL).groups()
-        return program, printed.split()
+        found = re.search(r"<<'END'\n(.*?)END\n(.*?)\n\n", text, re.DOTALL)
+        assert found
+        return found[1], found[2].split()
 
     def test_a_session_by_hand(self) -> None:
         program, printed = self.said()
@@ -36,7 +37,8 @@ class Protocol(ServerOfAll):
 
     def waited_for(self, store: Connection, one: ObjectId) -> int:
         """The length of an object, by the page's recipe. A hold of it is left."""
-        requests, began, moving, answer = store._requests, time.monotonic(), False, None
+        requests, began, moving = store._requests, time.monotonic(), False
+        answer: object = None
         while time.monotonic() < began + PATIENCE:
             if moving and isinstance(store._exchange([requests.read(one, 0, 0)], None)[0], NotSealed):
                 time.sleep(0.001)
@@ -44,7 +46,7 @@ class Protocol(ServerOfAll):
             first, answer = store._exchange([requests.get(one), requests.get(one)], None)
             if not isinstance(first, Refused):
                 store.release(one)
-            if not isinstance(answer, Refused):
+            if isinstance(answer, int):
                 return answer
             self.assertIsInstance(answer, (Absent, NotSealed, Busy, Pending))
             moving = isinstance(first, Pending) and isinstance(answer, Pending)
@@ -65,15 +67,16 @@ class Protocol(ServerOfAll):
                 consumer.release(one)
 
     def test_the_layout_of_an_id(self) -> None:
-        digits = re.search(r"^    (0{24} [0-9a-f]{16} [0-9a-f]{8} [0-9a-f]{8})$", PAGE.read_text(encoding="ascii"), re.MULTILINE).group(1)
-        one = ObjectId.from_bytes(bytes.fromhex(digits))
+        found = re.search(r"^    (0{24} [0-9a-f]{16} [0-9a-f]{8} [0-9a-f]{8})$", PAGE.read_text(encoding="ascii"), re.MULTILINE)
+        assert found
+        one = ObjectId.from_bytes(bytes.fromhex(found[1]))
         self.assertEqual((one.text(4), one.text(1)), ("t20.7", "4/t20.7"))
 
     def test_a_pipeline_whose_sending_half_is_closed(self) -> None:
         """All is answered. The first Get of an unknown id enters a fetch, in whose place nothing is created, and the next one ends it."""
         requests, one = Requests(3), ObjectId.parse("t20.7", 3)
-        asked = [requests.read(one, 0, 0), requests.get(one), requests.create(one, 20), requests.read(one, 0, 0), requests.get(one)]
-        asked += [requests.create(one, 20), requests.usage()]
+        asked: List[Request[Any]] = [requests.read(one, 0, 0), requests.get(one), requests.create(one, 20)]
+        asked += [requests.read(one, 0, 0), requests.get(one), requests.create(one, 20), requests.usage()]
         with socket.socket(socket.AF_UNIX) as stream:
             stream.settimeout(PATIENCE)
             stream.connect(self.server.path)
@@ -82,7 +85,9 @@ class Protocol(ServerOfAll):
             with stream.makefile("rb") as file:
                 told = file.read()
         refused = "00000002" "8f"
-        due = ["0000000180", *(f"{refused}{number}" for number in ("04", "0a", "03", "05", "04")), "0000000981" "0000000000000020", "0000003185"]
+        refusals = [f"{refused}{number}" for number in ("04", "0a", "03", "05", "04")]
+        due = ["0000000180", *refusals, "0000000981" "0000000000000020", "0000003185"]
         self.assertEqual(told[:-48].hex(), "".join(due))
         usage = read_usage(told[-48:])
-        self.assertEqual((usage.window, usage.window_used, usage.device, usage.device_used, usage.copies, usage.works), (144, 32, 1024, 0, 1, 0))
+        told_of = (usage.window, usage.window_used, usage.device, usage.device_used, usage.copies, usage.works)
+        self.assertEqual(told_of, (144, 32, 1024, 0, 1, 0))

@@ -25,7 +25,9 @@ TEXT = (ROOT / "clients/python/README.md").read_text(encoding="utf-8")
 
 def shown(after: str) -> str:
     """The block that follows these words."""
-    return textwrap.dedent(re.search(re.escape(after) + r".*?\n\n((?:    [^\n]*\n|\n)+)", TEXT, re.DOTALL).group(1)).strip() + "\n"
+    found = re.search(re.escape(after) + r".*?\n\n((?:    [^\n]*\n|\n)+)", TEXT, re.DOTALL)
+    assert found, f"nothing is shown after {after!r}"
+    return textwrap.dedent(found[1]).strip() + "\n"
 
 
 def typed(lines: List[str]) -> List[str]:
@@ -78,6 +80,7 @@ class Readme(unittest.TestCase):
         words = shlex.split(command.replace("$ $(operate/program)", shlex.quote(PROGRAM)))
         self.server = subprocess.Popen(words, stdin=subprocess.PIPE, stdout=subprocess.PIPE, stderr=subprocess.DEVNULL, text=True)
         self.addCleanup(self.end)
+        assert self.server.stdin and self.server.stdout
         for asked, answer in zip(lines[::2], lines[1::2]):
             self.server.stdin.write(asked + "\n")
             self.server.stdin.flush()

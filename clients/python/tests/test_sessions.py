@@ -7,12 +7,12 @@ import dataclasses
 import os
 import re
 import resource
-import shutil
 import subprocess
 import sys
 import threading
 import time
 import unittest
+from typing import Callable, List, Tuple, Type, Union
 
 from support import PATIENCE, PROGRAM, Server, device_at_rest, documented, documented_refusals, key
 from spelling import call, spelled
@@ -53,7 +53,7 @@ class Sessions(unittest.TestCase):
             if cls.met != due:
                 raise AssertionError(f"the refusals {sorted(cls.met)} were met, and {sorted(due)} are documented")
 
-    def refused(self, refusal: type, method, *words) -> None:
+    def refused(self, refusal: Type[store_client.StoreError], method: Callable[..., object], *words: object) -> None:
         """The call raises just this class, whose number and name are the documented ones."""
         with self.assertRaises(store_client.StoreError) as caught:
             method(*words)
@@ -84,7 +84,10 @@ class Sessions(unittest.TestCase):
         self.assertEqual(self.store.usage().copies, 0)
 
     def test_buffers_of_each_kind(self) -> None:
-        for data in (b"abcd", bytearray(b"abcd"), memoryview(b"xabcd")[1:], array.array("H", [1, 2])):
+        buffers: Tuple[Union[bytes, bytearray, memoryview, array.array[int]], ...] = (
+            b"abcd", bytearray(b"abcd"), memoryview(b"xabcd")[1:], array.array("H", [1, 2]),
+        )
+        for data in buffers:
             with self.store.get(self.store.put(data)) as view:
                 self.assertEqual(view, memoryview(data).cast("B"))
 
@@ -166,10 +169,16 @@ class Sessions(unittest.TestCase):
     def test_a_device_that_fails(self) -> None:
         with self.server.connect(3) as store:
             self.fill(store, 9)
-            shutil.rmtree(self.server.spill)
+            aside = self.server.spill.with_name("spill.aside")
+            self.server.spill.rename(aside)
             two = store.task(2).object(1)
             self.refused(store_client.DeviceFailed, lambda: store.create(two, 16, wait=True))
+            # another folder at the same path isn't the server's: nothing is written there
             self.server.spill.mkdir()
+            self.refused(store_client.DeviceFailed, lambda: store.create(two, 16, wait=True))
+            self.assertEqual(list(self.server.spill.iterdir()), [])
+            self.server.spill.rmdir()
+            aside.rename(self.server.spill)
             store.create(two, 16, wait=True)
 
     def test_a_write_that_fails(self) -> None:
@@ -365,6 +374,8 @@ class Sessions(unittest.TestCase):
         self.refused(store_client.ConnectionLost, self.store.usage)
 
     def test_many_threads_share_a_connection(self) -> None:
+        faults: List[int] = []
+
         def work(number: int) -> None:
             for n in range(20):
                 data = os.urandom(100 + number + n)
@@ -372,7 +383,6 @@ class Sessions(unittest.TestCase):
                     if view != data:
                         faults.append(number)
 
-        faults = []
         threads = [threading.Thread(target=work, args=(number,)) for number in range(4)]
         for thread in threads:
             thread.start()

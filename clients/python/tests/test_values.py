@@ -3,6 +3,7 @@
 from __future__ import annotations
 
 import array
+import collections
 import os
 import pickle
 import struct
@@ -24,7 +25,7 @@ from store_client.requests import Pieces
 try:
     import numpy
 except ImportError:
-    numpy = None  # type: ignore[assignment]
+    numpy = None
 
 # of the array that goes in and out whole, in bytes. 256 MiB take the built program some seconds
 LARGE = int(os.environ.get("STORE_LARGE", "100_000"))
@@ -162,6 +163,15 @@ class Arrays(unittest.TestCase):
             mapped[:] = [1, 2, 3]
             self.same(decode_array(whole(encode_array(mapped)), "it"), numpy.array([1, 2, 3], dtype="<i4"))
 
+    def test_masks_of_the_rows_of_a_list_are_refused(self) -> None:
+        """numpy makes a plain array of such a list, and the masks are lost."""
+        row = numpy.ma.masked_array([1, 2, 3], mask=[0, 1, 0])
+        for rows in ([row, row], ([row], [row]), [[1.0, numpy.ma.masked], [2.0, 3.0]], collections.deque([row])):
+            with self.assertRaisesRegex(TypeError, "(MaskedArray|MaskedConstant) .* mask"):
+                encode_array(rows)
+        for rows in ([[1, 2], [3, 4]], [numpy.arange(3), numpy.arange(3)], (1.5, 2.5), "text", [b"ab", b"cd"]):
+            self.same(decode_array(whole(encode_array(rows)), "it"), numpy.asarray(rows))
+
     def test_what_tells_where_its_bytes_are_is_stored_without_a_copy(self) -> None:
         """By each of numpy's ways, and by DLPack alone, as libraries of tensors have it."""
         for put in (numpy.arange(1000.0), numpy.asfortranarray(numpy.arange(600, dtype="i4").reshape(20, 30)), numpy.zeros(0)):
@@ -229,16 +239,6 @@ class Stored(ServerOfAll):
         cls.server.admit(0, 4, SMALL_WINDOW, 2**20)
         cls.server.admit(0, 5, SMALL_WINDOW)
 
-    def connect(self, job: int = 1) -> store_client.Connection:
-        store = self.server.connect(job)
-        self.addCleanup(store.close)
-        return store
-
-    def pool(self, job: int) -> Pool:
-        pool = Pool(self.server.path, job, key(job))
-        self.addCleanup(pool.close)
-        return pool
-
     def test_values_come_back_and_go(self) -> None:
         store = self.connect()
         before = store.usage()
@@ -259,7 +259,7 @@ class Stored(ServerOfAll):
 
     def test_what_is_longer_than_an_object_goes_in_parts(self) -> None:
         data = os.urandom(3 * SMALL_WINDOW)
-        for store in (self.connect(4), self.pool(4)):
+        for store in (self.connect(4), self.connect_pool(4)):
             for id in (None, Task(os.urandom(20)).object(1, job=4)):
                 id = store.put_value(data, id)
                 self.assertGreater(store.usage().copies, 3)
@@ -270,7 +270,7 @@ class Stored(ServerOfAll):
 
     def test_several_parts_are_moved_at_once_over_several_connections(self) -> None:
         """The first two of a put, and of a get, wait for each other."""
-        pool, meeting, drive = self.pool(4), threading.Barrier(2), Pool._drive_one
+        pool, meeting, drive = self.connect_pool(4), threading.Barrier(2), Pool._drive_one
         used: List[store_client.Connection] = []
 
         def meet(one: Pool, steps: Any, end: Any) -> Any:
@@ -296,7 +296,7 @@ class Stored(ServerOfAll):
 
     def test_if_one_part_finds_no_room_all_is_given_back(self) -> None:
         """Job 5 has no device, so the window is all."""
-        for store in (self.connect(5), self.pool(5)):
+        for store in (self.connect(5), self.connect_pool(5)):
             for id in (None, Task(os.urandom(20)).object(1, job=5)):
                 with self.assertRaises(Full):
                     store.put_value(bytes(2 * SMALL_WINDOW), id)

@@ -7,36 +7,27 @@ import os
 import threading
 import time
 import unittest
-from typing import Any, Callable, List
+from typing import Any, Callable, List, Optional, Sequence
 from unittest import mock
 
-from support import PATIENCE, Server, key
+from support import PATIENCE, Server, WithServer
 
 import store_client
 from store_client import Absent, Exists, NotGranted, NotSealed, ObjectId, Pending, State, Task, steps
 from store_client.frames import Command
+from store_client.requests import Answer, Request
 from store_client.stream import Stream
+from store_testing.waiting import until
 
 
-class Waiting(unittest.TestCase):
-    server: Server
-
-    @classmethod
-    def setUpClass(cls) -> None:
-        cls.server = Server(nodes=2)
-        cls.addClassCleanup(cls.server.close)
+class Waiting(WithServer):
+    nodes = 2
 
     def setUp(self) -> None:
-        self.store = self.connect()
+        super().setUp()
         self.other = self.connect()
         self.far = self.connect(node=1)
-        self.task = Task(os.urandom(20))
         self.addCleanup(self.clear)
-
-    def connect(self, job: int = 1, node: int = 0) -> store_client.Connection:
-        store = self.server.connect(job, node)
-        self.addCleanup(store.close)
-        return store
 
     def clear(self) -> None:
         """Nothing of one test is there in the next."""
@@ -44,9 +35,6 @@ class Waiting(unittest.TestCase):
             with self.server.connect(1, node) as store:
                 for item in store.list()[0]:
                     store.delete(item.id)
-
-    def id(self, index: int = 1) -> ObjectId:
-        return self.task.object(index, job=1)
 
     def copies(self, store: store_client.Connection) -> int:
         return store.usage().copies
@@ -72,53 +60,53 @@ class Consumers(Waiting):
                 self.assertEqual(self.bytes_of(self.store, id, float("inf")), b"abcd")
 
     def test_an_object_that_is_being_written_is_waited_for(self) -> None:
-        self.other.create(self.id(), 4)
-        self.other.write(self.id(), 0, b"abcd")
-        self.later(lambda: self.other.seal(self.id()))
-        self.assertEqual(self.bytes_of(self.store, self.id(), PATIENCE), b"abcd")
+        self.other.create(self.object_id(), 4)
+        self.other.write(self.object_id(), 0, b"abcd")
+        self.later(lambda: self.other.seal(self.object_id()))
+        self.assertEqual(self.bytes_of(self.store, self.object_id(), PATIENCE), b"abcd")
 
     def test_a_look_leaves_nothing_in_a_producer_s_way(self) -> None:
         """The first try enters a fetch, at which a Create is Exists."""
         with self.assertRaises(Absent):
-            self.store.get(self.id(), timeout=0)
+            self.store.get(self.object_id(), timeout=0)
         self.assertEqual(self.copies(self.store), 0)
-        self.other.create(self.id(), 4)
+        self.other.create(self.object_id(), 4)
         with self.assertRaises(NotSealed):
-            self.store.get(self.id(), timeout=0)
+            self.store.get(self.object_id(), timeout=0)
 
     def test_polling_never_fills_the_job_s_copies(self) -> None:
         for index in range(1, 51):
             with self.assertRaises(Absent):
-                self.store.get(self.id(index), timeout=0)
-        self.store.wait([self.id(index) for index in range(51, 101)], timeout=0)
+                self.store.get(self.object_id(index), timeout=0)
+        self.store.wait([self.object_id(index) for index in range(51, 101)], timeout=0)
         self.assertEqual(self.copies(self.store), 0)
 
     def test_the_time_is_over(self) -> None:
         began = time.monotonic()
         with self.assertRaisesRegex(Absent, "No node has it sealed"):
-            self.store.get(self.id(), timeout=0.3)
+            self.store.get(self.object_id(), timeout=0.3)
         self.assertGreaterEqual(time.monotonic() - began, 0.3)
         self.assertEqual(self.copies(self.store), 0)
 
     def test_without_a_timeout_one_gets_what_is_there(self) -> None:
         with self.assertRaises(Absent):
-            self.store.get(self.id())
-        self.far.put(b"abcd", self.id())
-        with self.store.get(self.id()) as view:
+            self.store.get(self.object_id())
+        self.far.put(b"abcd", self.object_id())
+        with self.store.get(self.object_id()) as view:
             self.assertEqual(bytes(view), b"abcd")
 
     def test_a_large_object_comes_from_another_node(self) -> None:
         data = os.urandom(150_000)
-        self.far.put(data, self.id())
-        self.assertEqual(self.bytes_of(self.store, self.id(), PATIENCE), data)
+        self.far.put(data, self.object_id())
+        self.assertEqual(self.bytes_of(self.store, self.object_id(), PATIENCE), data)
 
     def test_polling_without_waiting_gets_what_another_node_has(self) -> None:
         """A transfer that has begun goes on by itself."""
-        self.far.put(bytes(100_000), self.id())
+        self.far.put(bytes(100_000), self.object_id())
         end = time.monotonic() + PATIENCE
         while time.monotonic() < end:
             try:
-                self.assertEqual(self.bytes_of(self.store, self.id(), 0), bytes(100_000))
+                self.assertEqual(self.bytes_of(self.store, self.object_id(), 0), bytes(100_000))
                 return
             except Pending:
                 pass
@@ -140,11 +128,11 @@ class Consumers(Waiting):
             store.end_task(one.task)
 
     def test_a_get_that_waits_holds_up_no_other_thread(self) -> None:
-        thread = threading.Thread(target=lambda: self.bytes_of(self.store, self.id(), PATIENCE))
+        thread = threading.Thread(target=lambda: self.bytes_of(self.store, self.object_id(), PATIENCE))
         thread.start()
         for _ in range(20):
             self.store.usage()
-        self.store.put(b"abcd", self.id())
+        self.store.put(b"abcd", self.object_id())
         thread.join(PATIENCE)
         self.assertFalse(thread.is_alive())
 
@@ -153,30 +141,30 @@ class Producers(Waiting):
     def test_a_fetch_in_the_object_s_place_is_taken_away(self) -> None:
         """It was left there by another client's Get."""
         with self.assertRaises(Pending):
-            self.other.hold(self.id())
+            self.other.hold(self.object_id())
         self.assertEqual(self.store.list()[0][0].state, State.FETCHING)
-        self.store.put(b"abcd", self.id())
-        self.assertEqual(self.bytes_of(self.other, self.id(), 0), b"abcd")
+        self.store.put(b"abcd", self.object_id())
+        self.assertEqual(self.bytes_of(self.other, self.object_id(), 0), b"abcd")
 
     def test_another_s_object_is_left_alone(self) -> None:
-        self.other.create(self.id(1), 4)
-        self.other.put(b"abcd", self.id(2))
+        self.other.create(self.object_id(1), 4)
+        self.other.put(b"abcd", self.object_id(2))
         for index in (1, 2):
             with self.assertRaises(Exists):
-                self.store.put(b"else", self.id(index))
+                self.store.put(b"else", self.object_id(index))
             with self.assertRaises(Exists):
-                self.store.put(b"else", self.id(index), timeout=0.1)
-        self.other.write(self.id(1), 0, b"mine")
-        self.other.seal(self.id(1))
-        self.assertEqual(self.bytes_of(self.store, self.id(1), 0), b"mine")
+                self.store.put(b"else", self.object_id(index), timeout=0.1)
+        self.other.write(self.object_id(1), 0, b"mine")
+        self.other.seal(self.object_id(1))
+        self.assertEqual(self.bytes_of(self.store, self.object_id(1), 0), b"mine")
 
     def test_what_another_node_has_and_a_fetch_has_found_exists(self) -> None:
-        self.far.put(b"abcd", self.id())
+        self.far.put(b"abcd", self.object_id())
         with self.assertRaises(Pending):
-            self.other.hold(self.id())
+            self.other.hold(self.object_id())
         with self.assertRaises(Exists):
-            self.store.put(b"else", self.id(), timeout=PATIENCE)
-        self.assertEqual(self.bytes_of(self.store, self.id(), PATIENCE), b"abcd")
+            self.store.put(b"else", self.object_id(), timeout=PATIENCE)
+        self.assertEqual(self.bytes_of(self.store, self.object_id(), PATIENCE), b"abcd")
 
     def race(self, nodes: List[int]) -> None:
         """Consumers look all the time while objects are put, each of which has to come to all of them."""
@@ -186,7 +174,7 @@ class Producers(Waiting):
         def consume(store: store_client.Connection) -> None:
             try:
                 for index in range(1, rounds + 1):
-                    if self.bytes_of(store, self.id(index), PATIENCE) != bytes([index]) * 4:
+                    if self.bytes_of(store, self.object_id(index), PATIENCE) != bytes([index]) * 4:
                         faults.append("other bytes")
             except Exception as error:
                 faults.append(repr(error))
@@ -196,7 +184,7 @@ class Producers(Waiting):
             thread.start()
         for index in range(1, rounds + 1):
             time.sleep(0.01)
-            self.store.put(bytes([index]) * 4, self.id(index))
+            self.store.put(bytes([index]) * 4, self.object_id(index))
         for thread in threads:
             thread.join(PATIENCE)
         self.assertEqual(faults, [])
@@ -211,7 +199,7 @@ class Producers(Waiting):
 
 class Several(Waiting):
     def test_so_many_are_waited_for(self) -> None:
-        ids = [self.id(index) for index in range(1, 5)]
+        ids = [self.object_id(index) for index in range(1, 5)]
         self.other.put(b"abcd", ids[2])
         self.later(lambda: self.far.put(b"abcd", ids[0]))
         here, others = self.store.wait(ids, 2, PATIENCE)
@@ -224,26 +212,26 @@ class Several(Waiting):
 
     def test_what_can_never_be_had_is_not_waited_for(self) -> None:
         self.store.end_task(self.task)
-        self.assertEqual(self.store.wait([self.id()], timeout=PATIENCE), ([self.id()], []))
+        self.assertEqual(self.store.wait([self.object_id()], timeout=PATIENCE), ([self.object_id()], []))
         with self.assertRaises(store_client.Gone):
-            self.store.get(self.id(), timeout=PATIENCE)
+            self.store.get(self.object_id(), timeout=PATIENCE)
 
     def test_wrong_arguments(self) -> None:
         with self.assertRaisesRegex(ValueError, "stands twice"):
-            self.store.wait([self.id(), self.id()])
+            self.store.wait([self.object_id(), self.object_id()])
         with self.assertRaisesRegex(ValueError, "how many are waited for is 1 to 1, not 2"):
-            self.store.wait([self.id()], 2)
+            self.store.wait([self.object_id()], 2)
         self.assertEqual(self.store.wait([]), ([], []))
 
     def test_what_is_contained(self) -> None:
-        self.assertFalse(self.store.contains(self.id()))
-        self.store.create(self.id(), 4)
-        self.assertFalse(self.store.contains(self.id()))
-        self.store.seal(self.id())
-        self.assertTrue(self.store.contains(self.id()))
-        self.assertFalse(self.far.contains(self.id()))
-        self.store.hold(self.id())
-        self.assertTrue(self.store.contains(self.id()))
+        self.assertFalse(self.store.contains(self.object_id()))
+        self.store.create(self.object_id(), 4)
+        self.assertFalse(self.store.contains(self.object_id()))
+        self.store.seal(self.object_id())
+        self.assertTrue(self.store.contains(self.object_id()))
+        self.assertFalse(self.far.contains(self.object_id()))
+        self.store.hold(self.object_id())
+        self.assertTrue(self.store.contains(self.object_id()))
         self.assertEqual((self.copies(self.store), self.copies(self.far)), (1, 0))
 
 
@@ -262,11 +250,6 @@ class Many(Waiting):
             self.addCleanup(thread.join)
         return threads
 
-    def pool(self) -> store_client.Pool:
-        pool = store_client.Pool(self.server.path, 1, key(1))
-        self.addCleanup(pool.close)
-        return pool
-
     def test_they_ask_seldom_and_a_list_tells_them(self) -> None:
         asked: List[Command] = []
         exchange = Stream.exchange
@@ -275,8 +258,9 @@ class Many(Waiting):
             asked.extend(request.command for request in requests)
             return exchange(stream, requests, end)
 
-        pool, seen = self.pool(), []
-        threads = self.waiting(pool, [self.id(index) for index in range(1, 31)], seen, PATIENCE)
+        pool = self.connect_pool()
+        seen: List[ObjectId] = []
+        threads = self.waiting(pool, [self.object_id(index) for index in range(1, 31)], seen, PATIENCE)
         time.sleep(3)
         with mock.patch.object(Stream, "exchange", counted):
             time.sleep(2)
@@ -284,7 +268,7 @@ class Many(Waiting):
         self.assertLess(asked.count(Command.GET), 30 * 40)
         self.assertGreater(asked.count(Command.LIST), 4)
         for index in range(1, 31):
-            self.other.put(b"abcd", self.id(index))
+            self.other.put(b"abcd", self.object_id(index))
         for thread in threads:
             thread.join(PATIENCE)
         self.assertEqual(len(seen), 30)
@@ -292,8 +276,9 @@ class Many(Waiting):
 
     def test_who_leads_hands_that_on(self) -> None:
         """The one that began last is served first, then the others, also what is at another node or granted."""
-        pool, seen = self.pool(), []
-        ids = [self.id(index) for index in range(1, 8)]
+        pool = self.connect_pool()
+        seen: List[ObjectId] = []
+        ids = [self.object_id(index) for index in range(1, 8)]
         foreign = self.task.object(1, job=2)
         with self.connect(2) as other:
             other.put(b"abcd", foreign)
@@ -301,25 +286,20 @@ class Many(Waiting):
             time.sleep(0.1)
             for id in (*reversed(ids[3:]), *ids[:2]):
                 self.other.put(b"abcd", id)
-                self.assertTrue(self.comes_to(lambda: id in seen))
+                until(lambda: id in seen, f"{id}", PATIENCE)
             self.far.put(b"abcd", ids[2])
-            self.assertTrue(self.comes_to(lambda: ids[2] in seen))
+            until(lambda: ids[2] in seen, "what is at another node", PATIENCE)
             other.grant(foreign, 1)
-            self.assertTrue(self.comes_to(lambda: foreign in seen))
+            until(lambda: foreign in seen, "what is granted", PATIENCE)
             other.end_task(self.task)
         for thread in threads:
             thread.join(PATIENCE)
 
-    def comes_to(self, look: Callable[[], bool]) -> bool:
-        end = time.monotonic() + PATIENCE
-        while not look() and time.monotonic() < end:
-            time.sleep(0.001)
-        return look()
-
     def test_the_time_of_each_is_over(self) -> None:
-        pool, seen = self.pool(), []
+        pool = self.connect_pool()
+        seen: List[ObjectId] = []
         began = time.monotonic()
-        for thread in self.waiting(pool, [self.id(index) for index in range(1, 21)], seen, 0.5):
+        for thread in self.waiting(pool, [self.object_id(index) for index in range(1, 21)], seen, 0.5):
             thread.join(PATIENCE)
         self.assertGreaterEqual(time.monotonic() - began, 0.5)
         self.assertEqual((seen, self.copies(self.store)), ([], 0))
@@ -328,7 +308,7 @@ class Many(Waiting):
 class Pause(unittest.TestCase):
     def test_it_is_a_small_part_of_what_was_waited(self) -> None:
         now = 100.0
-        with mock.patch.object(steps.time, "monotonic", lambda: now):
+        with mock.patch.object(time, "monotonic", lambda: now):
             pauses = steps.Pauses(steps.Deadline(None))
             lengths = []
             for now in (100.0, 100.01, 100.32, 101.0, 110.0):
@@ -341,21 +321,21 @@ class Pause(unittest.TestCase):
 class GrantedObjects(Waiting):
     def test_it_is_got_whole_once_it_is_granted(self) -> None:
         data = os.urandom(70_000)
-        self.store.put(data, self.id())
+        self.store.put(data, self.object_id())
         grantee = self.connect(2)
         with self.assertRaises(NotGranted):
-            grantee.get(self.id())
-        self.assertFalse(grantee.contains(self.id()))
-        self.later(lambda: self.store.grant(self.id(), 2))
-        self.assertEqual(grantee.wait([self.id()], timeout=PATIENCE), ([self.id()], []))
-        self.assertTrue(grantee.contains(self.id()))
+            grantee.get(self.object_id())
+        self.assertFalse(grantee.contains(self.object_id()))
+        self.later(lambda: self.store.grant(self.object_id(), 2))
+        self.assertEqual(grantee.wait([self.object_id()], timeout=PATIENCE), ([self.object_id()], []))
+        self.assertTrue(grantee.contains(self.object_id()))
         for timeout in (None, 0.0, 1.0):
-            with grantee.get(self.id(), timeout) as view:
+            with grantee.get(self.object_id(), timeout) as view:
                 self.assertEqual(view, data)
         self.assertEqual(grantee.usage().copies, 0)
-        self.store.withdraw(self.id(), 2)
+        self.store.withdraw(self.object_id(), 2)
         with self.assertRaises(NotGranted):
-            grantee.get(self.id(), timeout=0.1)
+            grantee.get(self.object_id(), timeout=0.1)
 
 
 class RoundTrips(unittest.TestCase):
@@ -368,11 +348,13 @@ class RoundTrips(unittest.TestCase):
             exchanges: List[List[Command]] = []
             exchange = store._stream.exchange
 
-            def counted(requests: Any, end: Any) -> Any:
+            def counted(requests: Sequence[Request[Any]], end: Optional[float]) -> List[Answer]:
                 exchanges.append([request.command for request in requests])
                 return exchange(requests, end)
 
-            store._stream.exchange = counted  # type: ignore[method-assign]
+            patch = mock.patch.object(store._stream, "exchange", counted)
+            patch.start()
+            self.addCleanup(patch.stop)
             id = store.put(bytes(100_000))
             self.assertEqual(exchanges, [[Command.CREATE, Command.WRITE, Command.WRITE, Command.SEAL]])
             exchanges.clear()

@@ -17,7 +17,7 @@ _GATHERING = 0.05
 _FOREVER = ""
 
 
-class StoreScheduler(SchedulerPlugin):  # type: ignore[misc]
+class StoreScheduler(SchedulerPlugin):  # type: ignore[misc]  # Dask's classes have no types
     """On the scheduler: gives out epochs, and has each host remove the values whose keys are released. `attach` registers it.
 
     A value stays as long as one of its keys does: that of the task that put it, and those of tasks that called `keep`. A key that

@@ -46,7 +46,7 @@ MOVES = ("put", "local", "fetched", "served")
 _PATIENCE = 60.0
 
 
-class StoreWorkers(WorkerPlugin):  # type: ignore[misc]
+class StoreWorkers(WorkerPlugin):  # type: ignore[misc]  # Dask's classes have no types
     """On each worker: connects it to its host's store, and answers the workers of other hosts. `attach` registers it.
 
     A worker's environment goes before what is said here: `STORE_SOCKET`, `STORE_NODES`, `STORE_JOB`, `STORE_KEY` (64 hexadecimal digits),
