@@ -79,6 +79,9 @@ OURS: Dict[str, Dict[str, str]] = {
     "node_table/src/create_command.rt": {
         "messages.push": "a list of items",
     },
+    "node_journal/src/gate.rt": {
+        "share.split_off": "a share of a ledger",
+    },
     "node_journal/src/kept.rt": {
         "logs.reserve": "the jobs' logs",
     },
@@ -110,7 +113,6 @@ OURS: Dict[str, Dict[str, str]] = {
     },
     "cluster_threads/src/cluster.rt": {
         "pause.clone": "what pauses a test: its error is the system's",
-        "seats.split_off": "a share of a ledger",
     },
     "session_threads/src/listening.rt": {
         "listener.try_clone": "a listener: its error is the system's",
@@ -186,11 +188,6 @@ PLACES: Dict[str, Dict[str, str]] = {
         "impl From<NotStepped> for OutOfMemory": "which of two growths was refused is forgotten",
         "fn from { Refusal::from(OutOfMemory": "the same, as a refusal",
     },
-    "node_steps/src/stepping.rt": {
-        "match kept.step_after(receipt, &event) { Err(_) => Err(Refusal::NoMemory":
-            "the refusal isn't Stale: what is left is out of memory",
-        "match kept.arrive(posted) { Err(_) => Err(Refusal::NoMemory": "the refusal isn't Stale: what is left is out of memory",
-    },
     "obj_id/src/refusals.rt": {
         "...al::Busy, Refusal::TooMany, Refusal::Gone, Refusal::NoMemory": "the table of all refusals",
         "match failure { Failure::Memory(_) => Refusal::NoMemory": "the failure was that memory ran out",
@@ -241,7 +238,7 @@ PLACES: Dict[str, Dict[str, str]] = {
         "if error.kind() == ErrorKind::OutOfMemory { return Err(DeviceFault::NoMemory": "the system's error of a call",
     },
     "control_socket/src/connecting.rt": {
-        "...ne), Err(fault) => control.stop(rt, Some(fault)), } } else { control.stop(rt, Some(Fault::NoMemory":
+        "...r(fault) => control.course.stop(rt, Some(fault)), } } else { control.course.stop(rt, Some(Fault::NoMemory":
             "the reader of standard input wasn't made",
     },
     "store_server/src/main.rt": {
@@ -259,7 +256,7 @@ PLACES: Dict[str, Dict[str, str]] = {
     "store_server/src/serving.rt": {
         "...Reader::new(host.alloc(), Patient::new(reader, host)) else { return Err(tell(host, ServeFault::Fault(Fault::NoMemory":
             "the reader wasn't made",
-        "...t(alloc, nodes, serving.shape.memory, seats, NoPause) else { return Err(tell(host, ServeFault::Fault(Fault::NoMemory":
+        "...t.alloc(), shape.nodes, shape.memory, seats, NoPause) else { return Err(tell(host, ServeFault::Fault(Fault::NoMemory":
             "the nodes weren't made",
         "let outcome = match cluster.connect(rt) { Err(_) => Err(ServeFault::Fault(Fault::NoMemory":
             "the ways between the nodes weren't made",

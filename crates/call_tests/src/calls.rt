@@ -3,7 +3,7 @@ use assertions::{holds, same};
 use bytes::Bytes;
 use cluster_threads::Cluster;
 use memory_growth::{OutOfMemory, lists, shared, texts};
-use node_journal::Receipt;
+use node_journal::{Kept, Receipt};
 use obj_id::{Command, JobKey, JobNo, Kind, ObjectId, Quota, Refusal, Reply, TaskNo};
 use private_store::StepAnswer;
 use schedule_text::answer_text;
@@ -75,7 +75,7 @@ fn command(alloc: Global, id: ObjectId, turn: u64) -> Result<Command<Bytes>, Out
 fn called<L: Ledger, R: Wait>(
     rt: &R,
     alloc: Global,
-    node: &SharedNode<L>,
+    node: &SharedNode<Kept<L>>,
     id: ObjectId,
     turn: u64,
 ) -> Result<(Reply<Bytes>, Option<Receipt<L>>), OutOfMemory> {
@@ -90,7 +90,7 @@ fn called<L: Ledger, R: Wait>(
 fn call_all<L: Ledger, R: Wait + Abort>(
     rt: &R,
     alloc: Global,
-    node: &SharedNode<L>,
+    node: &SharedNode<Kept<L>>,
     id: ObjectId,
 ) -> Result<Option<Receipt<L>>, OutOfMemory> {
     let mut last = None;
@@ -126,7 +126,11 @@ pub(crate) fn answered(rt: &impl Abort, reply: Reply<Bytes>) -> Reply<Bytes> {
 }
 
 /// A command that is called after the receipt of an earlier one.
-fn call_later<L: Ledger, R: Wait + Abort>(rt: &R, cluster: &Cluster<L>, earlier: &Receipt<L>) {
+fn call_later<L: Ledger, R: Wait + Abort>(
+    rt: &R,
+    cluster: &Cluster<Kept<L>>,
+    earlier: &Receipt<L>,
+) {
     if let Some(node) = cluster.node(0) {
         let (reply, receipt) = node.call_after(rt, earlier, JOB, 1, Command::Usage);
         holds!(rt; is_used(&answered(rt, reply), 32));
@@ -141,12 +145,12 @@ fn call_later<L: Ledger, R: Wait + Abort>(rt: &R, cluster: &Cluster<L>, earlier:
 }
 
 /// Admits the job, and once more if memory ran out.
-pub(crate) fn admit<L: Ledger, R: Wait>(rt: &R, node: &SharedNode<L>) {
+pub(crate) fn admit<L: Ledger, R: Wait>(rt: &R, node: &SharedNode<Kept<L>>) {
     admit_with(rt, node, QUOTA);
 }
 
 /// The same, with this quota.
-pub(crate) fn admit_with<L: Ledger, R: Wait>(rt: &R, node: &SharedNode<L>, quota: Quota) {
+pub(crate) fn admit_with<L: Ledger, R: Wait>(rt: &R, node: &SharedNode<Kept<L>>, quota: Quota) {
     let (reply, _) = node.admit(rt, JOB, quota, JobKey([0; 32]));
     if matches!(&reply, Reply::Refused(Refusal::NoMemory)) {
         node.admit(rt, JOB, quota, JobKey([0; 32]));
@@ -154,7 +158,7 @@ pub(crate) fn admit_with<L: Ledger, R: Wait>(rt: &R, node: &SharedNode<L>, quota
 }
 
 /// Ends the job, and once more if memory ran out.
-fn end<L: Ledger, R: Wait>(rt: &R, node: &SharedNode<L>) -> Reply<Bytes> {
+fn end<L: Ledger, R: Wait>(rt: &R, node: &SharedNode<Kept<L>>) -> Reply<Bytes> {
     let (reply, _) = node.end_job(rt, JOB);
     if matches!(&reply, Reply::Refused(Refusal::NoMemory)) {
         return node.end_job(rt, JOB).0;
@@ -163,7 +167,7 @@ fn end<L: Ledger, R: Wait>(rt: &R, node: &SharedNode<L>) -> Reply<Bytes> {
 }
 
 /// Narrows the job's window to what lies in it, and ends the job: neither is refused.
-fn narrow_and_end<L: Ledger, R: Wait + Abort>(rt: &R, node: &SharedNode<L>) {
+fn narrow_and_end<L: Ledger, R: Wait + Abort>(rt: &R, node: &SharedNode<Kept<L>>) {
     holds!(rt; matches!(answered(rt, node.requota(rt, JOB, NARROW).0), Reply::Ok));
     holds!(rt; matches!(end(rt, node), Reply::Ok));
 }
@@ -172,7 +176,7 @@ fn narrow_and_end<L: Ledger, R: Wait + Abort>(rt: &R, node: &SharedNode<L>) {
 pub(crate) fn call_six<L: Ledger, R: Wait + Abort>(
     rt: &R,
     alloc: Global,
-    cluster: &Cluster<L>,
+    cluster: &Cluster<Kept<L>>,
 ) -> Result<(), OutOfMemory> {
     let node = cluster.node(0).expect(rt, "a node");
     admit(rt, node);
@@ -181,7 +185,11 @@ pub(crate) fn call_six<L: Ledger, R: Wait + Abort>(
 }
 
 /// A receipt of node 0 is shown to node 1, whose journal says No of it.
-fn show_to_another<L: Ledger, R: Wait + Abort>(rt: &R, cluster: &Cluster<L>, receipt: &Receipt<L>) {
+fn show_to_another<L: Ledger, R: Wait + Abort>(
+    rt: &R,
+    cluster: &Cluster<Kept<L>>,
+    receipt: &Receipt<L>,
+) {
     let node = cluster.node(1).expect(rt, "a node");
     node.check(rt, receipt);
 }
@@ -190,7 +198,7 @@ fn show_to_another<L: Ledger, R: Wait + Abort>(rt: &R, cluster: &Cluster<L>, rec
 pub(crate) fn call_with_receipts<L: Ledger, R: Wait + Abort>(
     rt: &R,
     alloc: Global,
-    cluster: &Cluster<L>,
+    cluster: &Cluster<Kept<L>>,
 ) -> Result<(), OutOfMemory> {
     let node = cluster.node(0).expect(rt, "a node");
     admit(rt, node);
@@ -205,7 +213,7 @@ pub(crate) fn call_with_receipts<L: Ledger, R: Wait + Abort>(
 /// A Release or a Get of the session, called once more if memory ran out.
 fn called_again<L: Ledger, R: Wait>(
     rt: &R,
-    node: &SharedNode<L>,
+    node: &SharedNode<Kept<L>>,
     id: ObjectId,
     is_get: bool,
 ) -> Reply<Bytes> {
@@ -225,7 +233,11 @@ fn get_or_release(id: ObjectId, is_get: bool) -> Command<Bytes> {
 }
 
 /// The session holds the object and ends: the hold is gone at the next step.
-fn hold_and_leave<L: Ledger, R: Wait + Clock + Abort>(rt: &R, node: &SharedNode<L>, id: ObjectId) {
+fn hold_and_leave<L: Ledger, R: Wait + Clock + Abort>(
+    rt: &R,
+    node: &SharedNode<Kept<L>>,
+    id: ObjectId,
+) {
     let reply = called_again(rt, node, id, true);
     holds!(rt; matches!(&reply, Reply::Got(20)));
     Session::new(rt, node).leave(JOB, 1);
@@ -237,7 +249,7 @@ fn hold_and_leave<L: Ledger, R: Wait + Clock + Abort>(rt: &R, node: &SharedNode<
 pub(crate) fn leave_often<L: Ledger, R: Wait + Clock + Abort>(
     rt: &R,
     alloc: Global,
-    cluster: &Cluster<L>,
+    cluster: &Cluster<Kept<L>>,
 ) -> Result<(), OutOfMemory> {
     let node = cluster.node(0).expect(rt, "a node");
     let id = object(rt, 1);

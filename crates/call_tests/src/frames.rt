@@ -6,6 +6,7 @@ use assertions::same;
 use cluster_threads::Cluster;
 use memory_growth::{OutOfMemory, lists};
 use node_housekeeping::NoPause;
+use node_journal::Kept;
 use session_engine::{Ended, SessionFault, serve};
 use session_threads::Session;
 use shared_nodes::SharedNode;
@@ -60,7 +61,7 @@ struct Served {
 fn told_at<L: Ledger, R: Wait + Clock>(
     rt: &R,
     alloc: Global,
-    node: &SharedNode<L>,
+    node: &SharedNode<Kept<L>>,
     input: &[u8],
 ) -> Result<Served, OutOfMemory> {
     let mut written = lists::with_capacity(alloc, ROOM)?;
@@ -82,7 +83,7 @@ fn response_by<L: Ledger, R: Wait + Clock + Abort>(
     requires one { blank.parts ≡ 1 }
 {
     let (_book, seats) = blank.open::<L>();
-    let cluster = Cluster::start(alloc, 1, 1024, seats, NoPause)?;
+    let cluster = Cluster::<Kept<L>, _>::start(alloc, 1, 1024, seats, NoPause)?;
     let node = cluster.node(0).expect(rt, "a node");
     admit(rt, node);
     Ok(told_at(rt, alloc, node, input)?)

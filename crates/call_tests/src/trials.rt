@@ -7,6 +7,7 @@ use assertions::{holds, same};
 use cluster_threads::Cluster;
 use memory_growth::OutOfMemory;
 use node_housekeeping::{NoPause, Report};
+use node_journal::Kept;
 use obj_id::{Refusal, Reply};
 use std::alloc::Global;
 use std::io;
@@ -41,7 +42,7 @@ impl Trial {
         &self,
         rt: &R,
         alloc: Global,
-        cluster: &Cluster<L>,
+        cluster: &Cluster<Kept<L>>,
     ) -> Result<bool, OutOfMemory> {
         match self {
             Trial::DirectCalls => call_six(rt, alloc, cluster)?,
@@ -89,7 +90,7 @@ fn try_at<L: Ledger, R: Threads + Wait + Clock + Abort>(
     requires count { blank.parts ≡ nodes }
 {
     let (_book, seats) = blank.open::<L>();
-    let cluster = Cluster::start(alloc, nodes, 1024, seats, NoPause)?;
+    let cluster = Cluster::<Kept<L>, _>::start(alloc, nodes, 1024, seats, NoPause)?;
     let carried_out = trial.carry_out(rt, alloc, &cluster);
     let report = cluster.close(rt, Vec::new(alloc));
     let as_due = carried_out?;

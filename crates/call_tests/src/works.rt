@@ -4,6 +4,7 @@ use assertions::{holds, same};
 use bytes::Bytes;
 use cluster_threads::Cluster;
 use node_housekeeping::WorkDone;
+use node_journal::Kept;
 use obj_id::{Command, Kind, ObjectId, Quota, Refusal, Reply};
 use shared_nodes::SharedNode;
 use spill_device::{FaultyDevice, MemoryDevice, SpillDevice};
@@ -43,7 +44,7 @@ fn command(asked: &Asked) -> Command<Bytes> {
 /// The answer, unless it is that memory ran out: that ends the test.
 fn response<L: Ledger, R: Wait + Abort>(
     rt: &R,
-    node: &SharedNode<L>,
+    node: &SharedNode<Kept<L>>,
     asked: &Asked,
 ) -> Reply<Bytes> {
     answered(rt, node.call(rt, JOB, 1, command(asked)).0)
@@ -52,7 +53,7 @@ fn response<L: Ledger, R: Wait + Abort>(
 /// The first object is in the way of the second: a write of it that failed is answered once, and then it is written.
 fn spill_the_first<L: Ledger, R: Wait + Abort, D: SpillDevice>(
     rt: &R,
-    node: &SharedNode<L>,
+    node: &SharedNode<Kept<L>>,
     device: &mut D,
 ) {
     let (first, second) = (object(rt, 1), object(rt, 2));
@@ -69,7 +70,7 @@ fn spill_the_first<L: Ledger, R: Wait + Abort, D: SpillDevice>(
 /// The second object makes way, and the first comes back from the device.
 fn restore_the_first<L: Ledger, R: Wait + Abort, D: SpillDevice>(
     rt: &R,
-    node: &SharedNode<L>,
+    node: &SharedNode<Kept<L>>,
     device: &mut D,
 ) {
     let (first, second) = (object(rt, 1), object(rt, 2));
@@ -84,7 +85,7 @@ fn restore_the_first<L: Ledger, R: Wait + Abort, D: SpillDevice>(
 pub(crate) fn work_at_a_failing_device<L: Ledger, R: Wait + Abort>(
     rt: &R,
     alloc: Global,
-    cluster: &Cluster<L>,
+    cluster: &Cluster<Kept<L>>,
 ) {
     let node = cluster.node(0).expect(rt, "a node");
     let mut device = FaultyDevice::new(MemoryDevice::new(alloc), 1);
@@ -97,7 +98,7 @@ pub(crate) fn work_at_a_failing_device<L: Ledger, R: Wait + Abort>(
 /// What node 1 is answered, asked twice, of an object that was sealed and deleted at node 0.
 pub(crate) fn ask_for_deleted<L: Ledger, R: Wait + Abort>(
     rt: &R,
-    cluster: &Cluster<L>,
+    cluster: &Cluster<Kept<L>>,
 ) -> Reply<Bytes> {
     let first = object(rt, 1);
     let node = cluster.node(0).expect(rt, "a node");

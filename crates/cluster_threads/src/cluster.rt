@@ -1,17 +1,15 @@
 //! The nodes of a process.
 ghost use Rattle.std.specs.Prelude.{◌≡◌, ◌↔◌, ◌≤◌, ◌<◌, vec_len, IfOk, IsSome};
-ghost use Rattle.job_admission.specs.Admissions.{largest_memory};
 
 use crate::Working;
 use crate::receiving::receive;
 use memory_growth::{boxes, lists};
+use node_gate::{JournaledNode, SeatedNode, nothing_beside};
 use node_housekeeping::{NoPause, Pause, Report, Waiting};
-use node_journal::nothing_beside;
 use node_links::{Inbox, Outbox};
 use owner_directory::Directory;
 use shared_nodes::SharedNode;
 use std::alloc::Global;
-use std::sync::ledger::{Ledger, Share};
 use std::sync::{Arc, Mutex, Wait};
 use std::thread::{JoinHandle, Threads};
 use std::{io, mem};
@@ -21,28 +19,30 @@ const RECEIVERS: usize = 4;
 
 /// The nodes of a process, by number, with one directory and a way from each node to each other one.
 #[derive(Drop)]
-pub struct Cluster<L: Ledger, P = NoPause> {
-    nodes: Vec<Arc<SharedNode<L, P>>>,
+pub struct Cluster<K: JournaledNode, P = NoPause> {
+    nodes: Vec<Arc<SharedNode<K, P>>>,
     waiting: Arc<Waiting>,
     // by node, while nobody receives from them
-    inboxes: Vec<Inbox<L>>,
+    inboxes: Vec<Inbox<K::Posted>>,
     receiving: Vec<JoinHandle<()>>,
     alloc: Global,
 }
 
-impl<L: Ledger, P: Pause> Cluster<L, P> {
+impl<K: JournaledNode, P: Pause> Cluster<K, P> {
     /// So many nodes, each with so many bytes of memory, on all parts of the name: one for each node. What they send one another
     /// is received once they are connected. Clones of `pause` pause their steps: a program passes `NoPause`.
     pub fn start(
         alloc: Global,
         nodes: u32,
         memory: u64,
-        seats: Share<L>,
+        seats: K::Share,
         pause: P,
-    ) -> io::Result<Cluster<L, P>>
-        requires memory { memory ≤ largest_memory }
-        requires seats { (seats.parts ≡ nodes) × (seats.amount ≡ 0) }
-        requires all { L.parts ≡ nodes }
+    ) -> io::Result<Cluster<K, P>>
+    where
+        K: SeatedNode,
+        requires memory { memory ≤ K.SeatedNode.most_memory }
+        requires seats { (K.SeatedNode.parts seats ≡ nodes) × (K.SeatedNode.amount seats ≡ 0) }
+        requires all { K.SeatedNode.all_parts ≡ nodes }
         ensures { IfOk result (λ cluster. vec_len cluster.nodes ≡ nodes) }
     {
         let mut seats = seats;
@@ -54,12 +54,13 @@ impl<L: Ledger, P: Pause> Cluster<L, P> {
         let directory = boxes::counted(alloc, Mutex::new(Directory::new(alloc)))?;
         let waiting = boxes::counted(alloc, Waiting::new())?;
         for number in 0..nodes {
-            let seat = seats.split_off(1, 0);
+            let seat = K::split_seat(&mut seats);
             let outbox = Outbox::open(alloc, number, &directory, &mut inboxes)?;
             let woken = boxes::another(&waiting)?;
             let paused = pause.clone()?;
-            let node = SharedNode::new(alloc, number, memory, seat, outbox, woken, paused);
-            lists::push(&mut all, boxes::counted(alloc, node)?)?;
+            let node = K::seated(alloc, number, memory, seat);
+            let shared = SharedNode::new(alloc, node, outbox, woken, paused);
+            lists::push(&mut all, boxes::counted(alloc, shared)?)?;
         }
         Ok(Cluster {
             nodes: all,
@@ -70,10 +71,29 @@ impl<L: Ledger, P: Pause> Cluster<L, P> {
         })
     }
 
+    /// Shows of any share of the name that it has no part, if the nodes are as many as the name has parts: so nothing beside them can
+    /// be stepped under it. Locks all nodes at once, in their order, and leaves all as it is.
+    pub fn nothing_beside<R: Wait>(&self, rt: &R, other: &mut K::Share)
+    where
+        K: SeatedNode,
+        requires { vec_len self.now.nodes ≡ K.SeatedNode.all_parts }
+        ensures none { K.SeatedNode.parts other.old ≡ 0 }
+        ensures same { (K.SeatedNode.parts other.new ≡ K.SeatedNode.parts other.old) × (K.SeatedNode.amount other.new ≡ K.SeatedNode.amount other.old) }
+    {
+        nothing_beside(rt, &self.nodes, other);
+    }
+
     /// Lets each node receive what the others send it, in threads of its own. A cluster of one node has nothing to receive.
     pub fn connect<R: Threads + Wait + Copy + Send + 'static>(&mut self, rt: R) -> io::Result<()>
     where
-        L: Send + Sync + 'static,
+        K: Send + 'static,
+        K::Receipt: Send + 'static,
+        K::Mail: Send + 'static,
+        K::Posted: Send + 'static,
+        K::Erase: Send + 'static,
+        K::Entered: Send + 'static,
+        K::Prepared: Send + 'static,
+        K::Gone: Send + 'static,
         P: Send + Sync + 'static,
     {
         let inboxes = mem::replace(&mut self.inboxes, Vec::new(self.alloc));
@@ -91,10 +111,17 @@ impl<L: Ledger, P: Pause> Cluster<L, P> {
         &mut self,
         rt: R,
         number: usize,
-        inbox: Inbox<L>,
+        inbox: Inbox<K::Posted>,
     ) -> io::Result<()>
     where
-        L: Send + Sync + 'static,
+        K: Send + 'static,
+        K::Receipt: Send + 'static,
+        K::Mail: Send + 'static,
+        K::Posted: Send + 'static,
+        K::Erase: Send + 'static,
+        K::Entered: Send + 'static,
+        K::Prepared: Send + 'static,
+        K::Gone: Send + 'static,
         P: Send + Sync + 'static,
     {
         let inbox = boxes::counted(self.alloc, inbox)?;
@@ -119,16 +146,6 @@ impl<L: Ledger, P: Pause> Cluster<L, P> {
         }
     }
 
-    /// Shows of any share of the name that it has no part, if the nodes are as many as the name has parts: so nothing beside them can
-    /// be stepped under it. Locks all nodes at once, in their order, and leaves all as it is.
-    pub fn nothing_beside<R: Wait>(&self, rt: &R, other: &mut Share<L>)
-        requires { vec_len self.now.nodes ≡ L.parts }
-        ensures none { other.old.parts ≡ 0 }
-        ensures same { (other.new.parts ≡ other.old.parts) × (other.new.amount ≡ other.old.amount) }
-    {
-        nothing_beside(rt, &self.nodes, other);
-    }
-
     /// How many nodes there are.
     pub fn count(&self) -> usize
         ensures { result ≡ vec_len self.now.nodes }
@@ -137,7 +154,7 @@ impl<L: Ledger, P: Pause> Cluster<L, P> {
     }
 
     /// The node of this number, if there is one.
-    pub fn node(&self, number: u32) -> Option<&Arc<SharedNode<L, P>>>
+    pub fn node(&self, number: u32) -> Option<&Arc<SharedNode<K, P>>>
         ensures { IsSome result ↔ (number < vec_len self.now.nodes) }
     {
         self.nodes.get(number as usize)
@@ -150,7 +167,7 @@ impl<L: Ledger, P: Pause> Cluster<L, P> {
 
     /// Shuts all nodes, and waits for the open sessions, then for the links, and then for these workers: so what a session sent last
     /// still arrives, and what an arrival leaves to be erased still is. At last it says what was counted.
-    pub fn close<R: Threads + Wait>(self, rt: &R, workers: Vec<Working<L, P>>) -> Report {
+    pub fn close<R: Threads + Wait>(self, rt: &R, workers: Vec<Working<K, P>>) -> Report {
         let mut cluster = self;
         cluster.shut(rt);
         for node in &cluster.nodes {

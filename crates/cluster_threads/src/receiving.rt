@@ -1,25 +1,38 @@
 //! The threads that hand in what comes to a node.
+use node_gate::JournaledNode;
 use node_housekeeping::Pause;
 use node_links::Inbox;
 use shared_nodes::{ReceiptBuffer, SharedNode};
-use std::sync::ledger::Ledger;
 use std::sync::{Arc, Wait};
 use std::thread::{JoinHandle, Threads};
 use std::{io, thread};
 
 /// Hands the messages that come to the node in, in a thread of its own, until no node sends any more.
 pub(crate) fn receive<
-    L: Ledger + Send + Sync + 'static,
+    K: JournaledNode + Send + 'static,
     R: Threads + Wait + Copy + Send + 'static,
     P: Pause + Send + Sync + 'static,
->(rt: R, node: Arc<SharedNode<L, P>>, inbox: Arc<Inbox<L>>) -> io::Result<JoinHandle<()>> {
+>(rt: R, node: Arc<SharedNode<K, P>>, inbox: Arc<Inbox<K::Posted>>) -> io::Result<JoinHandle<()>>
+where
+    K::Receipt: Send + 'static,
+    K::Mail: Send + 'static,
+    K::Posted: Send + 'static,
+    K::Erase: Send + 'static,
+    K::Entered: Send + 'static,
+    K::Prepared: Send + 'static,
+    K::Gone: Send + 'static,
+{
     let job = move || receive_all(&rt, &*node, &*inbox);
     let thread = thread::spawn(&rt, job)?;
     Ok(thread)
 }
 
 /// Hands the messages in whose turn it is, until no node sends any more.
-fn receive_all<L: Ledger, P: Pause, R: Wait>(rt: &R, node: &SharedNode<L, P>, inbox: &Inbox<L>) {
+fn receive_all<K: JournaledNode, P: Pause, R: Wait>(
+    rt: &R,
+    node: &SharedNode<K, P>,
+    inbox: &Inbox<K::Posted>,
+) {
     let mut receipts = ReceiptBuffer::new(node.housekeeping().alloc);
     for _ in rt.forever() {
         let Some(turn) = inbox.next(rt) else {
@@ -30,5 +43,5 @@ fn receive_all<L: Ledger, P: Pause, R: Wait>(rt: &R, node: &SharedNode<L, P>, in
         }
         inbox.end(rt, turn);
     }
-    receipts.audit_all(rt, node);
+    node.audit_all(rt, &receipts);
 }

@@ -1,9 +1,9 @@
 //! The threads of workers.
 use memory_growth::boxes;
+use node_gate::JournaledNode;
 use node_housekeeping::{NoPause, Pause, WorkDone, WorkerBell};
 use shared_nodes::{ReceiptBuffer, SharedNode};
 use spill_device::SpillDevice;
-use std::sync::ledger::Ledger;
 use std::sync::{Arc, Wait};
 use std::thread::{JoinHandle, Threads};
 use std::time::{Clock, Duration};
@@ -14,12 +14,12 @@ const REST: u64 = 10;
 
 /// A worker of a node in a thread.
 #[derive(Drop)]
-pub struct Working<L: Ledger, P = NoPause> {
-    node: Arc<SharedNode<L, P>>,
+pub struct Working<K: JournaledNode, P = NoPause> {
+    node: Arc<SharedNode<K, P>>,
     thread: JoinHandle<()>,
 }
 
-impl<L: Ledger, P: Pause> Working<L, P> {
+impl<K: JournaledNode, P: Pause> Working<K, P> {
     /// Waits for the worker, which erases the keys that wait. Works that nobody has taken by then are left.
     pub fn end<R: Threads + Wait>(self, rt: &R) {
         let Working { node, thread } = self;
@@ -30,11 +30,20 @@ impl<L: Ledger, P: Pause> Working<L, P> {
 
 /// Lets a worker carry out the works of the node on the device, in a thread of its own, until it is ended.
 pub fn work<
-    L: Ledger + Send + Sync + 'static,
+    K: JournaledNode + Send + 'static,
     R: Threads + Wait + Clock + Copy + Send + 'static,
     P: Pause + Send + Sync + 'static,
     D: SpillDevice + Drop + Send + 'static,
->(rt: R, node: Arc<SharedNode<L, P>>, device: D) -> io::Result<Working<L, P>> {
+>(rt: R, node: Arc<SharedNode<K, P>>, device: D) -> io::Result<Working<K, P>>
+where
+    K::Receipt: Send + 'static,
+    K::Mail: Send + 'static,
+    K::Posted: Send + 'static,
+    K::Erase: Send + 'static,
+    K::Entered: Send + 'static,
+    K::Prepared: Send + 'static,
+    K::Gone: Send + 'static,
+{
     let theirs = boxes::another(&node)?;
     let job = move || work_all(&rt, &*theirs, device);
     let thread = thread::spawn(&rt, job)?;
@@ -42,9 +51,9 @@ pub fn work<
 }
 
 /// Carries out the works of the node until the worker is to end, and erases the keys that are left.
-fn work_all<L: Ledger, P: Pause, R: Wait + Clock, D: SpillDevice + Drop>(
+fn work_all<K: JournaledNode, P: Pause, R: Wait + Clock, D: SpillDevice + Drop>(
     rt: &R,
-    node: &SharedNode<L, P>,
+    node: &SharedNode<K, P>,
     device: D,
 ) {
     let mut device = device;
@@ -57,7 +66,7 @@ fn work_all<L: Ledger, P: Pause, R: Wait + Clock, D: SpillDevice + Drop>(
         go_on(rt, &node.housekeeping().bell, done);
     }
     node.housekeeping().erase_keys(rt, &mut device);
-    receipts.audit_all(rt, node);
+    node.audit_all(rt, &receipts);
 }
 
 /// Asks for another round after one that came to something: more may wait. One that found no memory rests first.

@@ -1,8 +1,9 @@
 //! The threads of a control socket, and the one that takes standard input beside it.
 ghost use Rattle.std.specs.Prelude.{None};
 
-use crate::control::{Asking, Control};
+use crate::control::{Asking, Control, Course};
 use memory_growth::{OutOfMemory, boxes, texts};
+use node_gate::JournaledNode;
 use operator_service::{LastLine, attend, serve_text};
 use program_lines::Fault;
 use server_host::{Patient, ServeFault, SocketFile, bind_alone};
@@ -13,7 +14,6 @@ use std::io::{BufReader, Read};
 use std::net::{Net, Shutdown};
 use std::os::fd::OwnedFd;
 use std::os::unix::net::{UnixListener, UnixStream};
-use std::sync::ledger::Ledger;
 use std::sync::{Arc, Wait};
 use std::thread::{JoinHandle, Threads};
 use std::time::{Clock, Duration};
@@ -27,17 +27,17 @@ const PATIENCE: u64 = 5;
 
 /// A control socket that accepts connections in a thread.
 #[derive(Drop)]
-pub struct Connecting<L: Ledger> {
-    pub control: Arc<Control<L>>,
+pub struct Connecting<K: JournaledNode> {
+    pub control: Arc<Control<K>>,
     file: SocketFile,
     // the listener's own socket: once it is shut down nothing is accepted any more
     socket: UnixStream,
     thread: JoinHandle<()>,
 }
 
-impl<L: Ledger> Connecting<L> {
+impl<K: JournaledNode> Connecting<K> {
     /// Accepts no connection any more, if no order is taken, and removes the socket's file.
-    pub fn end<R: Threads + Files>(self, rt: &R) -> Arc<Control<L>> {
+    pub fn end<R: Threads + Files>(self, rt: &R) -> Arc<Control<K>> {
         let Connecting {
             control,
             file,
@@ -54,15 +54,24 @@ impl<L: Ledger> Connecting<L> {
 
 /// Opens the control socket of this path.
 pub fn connect_control<
-    L: Ledger + Send + Sync + 'static,
+    K: JournaledNode + Send + 'static,
     R: Threads + Wait + Clock + Files + Net + Copy + Send + 'static,
 >(
     rt: R,
     alloc: Global,
-    nodes: Vec<Arc<SharedNode<L>>>,
+    nodes: Vec<Arc<SharedNode<K>>>,
     count: u32,
     path: &str,
-) -> Result<Connecting<L>, ServeFault> {
+) -> Result<Connecting<K>, ServeFault>
+where
+    K::Receipt: Send + 'static,
+    K::Mail: Send + 'static,
+    K::Posted: Send + 'static,
+    K::Erase: Send + 'static,
+    K::Entered: Send + 'static,
+    K::Prepared: Send + 'static,
+    K::Gone: Send + 'static,
+{
     let control = boxes::counted(alloc, Control::new(alloc, nodes, count))?;
     let theirs = boxes::another(&control)?;
     let path = texts::from_str(alloc, path)?;
@@ -86,12 +95,21 @@ pub fn connect_control<
 }
 
 /// Accepts connections in a thread of its own, and gives the listener's socket with it.
-fn accept<L: Ledger + Send + Sync + 'static, R: Threads + Wait + Clock + Copy + Send + 'static>(
+fn accept<K: JournaledNode + Send + 'static, R: Threads + Wait + Clock + Copy + Send + 'static>(
     rt: R,
     alloc: Global,
-    control: Arc<Control<L>>,
+    control: Arc<Control<K>>,
     listener: UnixListener,
-) -> io::Result<(UnixStream, JoinHandle<()>)> {
+) -> io::Result<(UnixStream, JoinHandle<()>)>
+where
+    K::Receipt: Send + 'static,
+    K::Mail: Send + 'static,
+    K::Posted: Send + 'static,
+    K::Erase: Send + 'static,
+    K::Entered: Send + 'static,
+    K::Prepared: Send + 'static,
+    K::Gone: Send + 'static,
+{
     let socket = UnixStream::from(OwnedFd::from(listener.try_clone()?));
     let job = move || accept_all(rt, alloc, &control, &listener);
     let thread = thread::spawn(&rt, job)?;
@@ -99,14 +117,23 @@ fn accept<L: Ledger + Send + Sync + 'static, R: Threads + Wait + Clock + Copy + 
 }
 
 /// Accepts connections until no order is taken any more and the listener's socket is shut down.
-fn accept_all<L: Ledger + Send + Sync + 'static, R: Threads + Wait + Clock + Copy + Send + 'static>(
+fn accept_all<K: JournaledNode + Send + 'static, R: Threads + Wait + Clock + Copy + Send + 'static>(
     rt: R,
     alloc: Global,
-    control: &Arc<Control<L>>,
+    control: &Arc<Control<K>>,
     listener: &UnixListener,
-) {
+)
+where
+    K::Receipt: Send + 'static,
+    K::Mail: Send + 'static,
+    K::Posted: Send + 'static,
+    K::Erase: Send + 'static,
+    K::Entered: Send + 'static,
+    K::Prepared: Send + 'static,
+    K::Gone: Send + 'static,
+{
     for stream in listener.incoming() {
-        if control.is_quiet(&rt) {
+        if control.course.is_quiet(&rt) {
             return;
         }
         match stream {
@@ -120,9 +147,18 @@ fn accept_all<L: Ledger + Send + Sync + 'static, R: Threads + Wait + Clock + Cop
 
 /// Serves a connection in a thread of its own. Without memory or a thread for it, it is closed.
 fn start_connection<
-    L: Ledger + Send + Sync + 'static,
+    K: JournaledNode + Send + 'static,
     R: Threads + Wait + Clock + Copy + Send + 'static,
->(rt: R, alloc: Global, control: &Arc<Control<L>>, stream: UnixStream) -> Result<(), OutOfMemory> {
+>(rt: R, alloc: Global, control: &Arc<Control<K>>, stream: UnixStream) -> Result<(), OutOfMemory>
+where
+    K::Receipt: Send + 'static,
+    K::Mail: Send + 'static,
+    K::Posted: Send + 'static,
+    K::Erase: Send + 'static,
+    K::Entered: Send + 'static,
+    K::Prepared: Send + 'static,
+    K::Gone: Send + 'static,
+{
     let theirs = boxes::another(control)?;
     let job = move || serve_connection(&rt, alloc, &*theirs, stream);
     let _ = thread::spawn(&rt, job);
@@ -130,23 +166,23 @@ fn start_connection<
 }
 
 /// Serves a connection to its end, if it may begin.
-fn serve_connection<L: Ledger, R: Wait + Clock>(
+fn serve_connection<K: JournaledNode, R: Wait + Clock>(
     rt: &R,
     alloc: Global,
-    control: &Control<L>,
+    control: &Control<K>,
     stream: UnixStream,
 ) {
-    if let Ok(Some(stream)) = control.begin(rt, alloc, stream) {
+    if let Ok(Some(stream)) = control.course.begin(rt, alloc, stream) {
         answer_all(rt, alloc, control, &*stream);
-        control.leave(rt, &*stream);
+        control.course.leave(rt, &*stream);
     }
 }
 
 /// Answers the lines of a connection.
-fn answer_all<L: Ledger, R: Wait + Clock>(
+fn answer_all<K: JournaledNode, R: Wait + Clock>(
     rt: &R,
     alloc: Global,
-    control: &Control<L>,
+    control: &Control<K>,
     stream: &UnixStream,
 ) {
     let _ = stream.set_write_timeout(Some(Duration::from_secs(PATIENCE)));
@@ -169,9 +205,18 @@ fn answer_all<L: Ledger, R: Wait + Clock>(
 
 /// Takes the lines of standard input in a thread of its own, which nobody waits for: it may wait for a line that never comes.
 pub fn take_input<
-    L: Ledger + Send + Sync + 'static,
+    K: JournaledNode + Send + 'static,
     R: Threads + Wait + Clock + Copy + Send + 'static,
->(rt: R, host: HostRuntime, control: &Arc<Control<L>>) -> Result<(), ServeFault> {
+>(rt: R, host: HostRuntime, control: &Arc<Control<K>>) -> Result<(), ServeFault>
+where
+    K::Receipt: Send + 'static,
+    K::Mail: Send + 'static,
+    K::Posted: Send + 'static,
+    K::Erase: Send + 'static,
+    K::Entered: Send + 'static,
+    K::Prepared: Send + 'static,
+    K::Gone: Send + 'static,
+{
     let alloc = host.alloc();
     let theirs = boxes::another(control)?;
     let job = move || serve_input(&rt, alloc, &*theirs, host);
@@ -185,20 +230,20 @@ pub fn take_input<
 
 /// Standard input, of which the server may have no more need.
 #[derive(Drop)]
-struct Awaited<'a, L: Ledger, R: Wait, S: Drop> {
+struct Awaited<'a, R: Wait, S: Drop> {
     rt: &'a R,
-    control: &'a Control<L>,
+    course: &'a Course,
     inner: S,
 }
 
 /// A contract isn't told what is read.
-impl<'a, L: Ledger, R: Wait, S: Read + Drop> Read for Awaited<'a, L, R, S> {
+impl<'a, R: Wait, S: Read + Drop> Read for Awaited<'a, R, S> {
     ghost remaining = { λ _. None };
 
     fn read(&mut self, buf: &mut [u8]) -> io::Result<usize> {
-        self.control.end_piece(self.rt);
+        self.course.end_piece(self.rt);
         let count = self.inner.read(buf)?;
-        if self.control.take_piece(self.rt) {
+        if self.course.take_piece(self.rt) {
             Ok(count)
         } else {
             Ok(0)
@@ -207,15 +252,15 @@ impl<'a, L: Ledger, R: Wait, S: Read + Drop> Read for Awaited<'a, L, R, S> {
 }
 
 /// Carries out the lines of standard input. Its end changes nothing.
-fn serve_input<L: Ledger, R: Wait + Clock>(
+fn serve_input<K: JournaledNode, R: Wait + Clock>(
     rt: &R,
     alloc: Global,
-    control: &Control<L>,
+    control: &Control<K>,
     host: HostRuntime,
 ) {
     let input = Awaited {
         rt,
-        control,
+        course: &control.course,
         inner: Patient::new(host.reader(), host),
     };
     if let Ok(mut reader) = BufReader::new(alloc, input) {
@@ -229,11 +274,11 @@ fn serve_input<L: Ledger, R: Wait + Clock>(
             &mut writer,
         ) {
             Ok(LastLine::OfInput) => {}
-            Ok(LastLine::Close) => control.stop(rt, None),
-            Err(fault) => control.stop(rt, Some(fault)),
+            Ok(LastLine::Close) => control.course.stop(rt, None),
+            Err(fault) => control.course.stop(rt, Some(fault)),
         }
     } else {
-        control.stop(rt, Some(Fault::NoMemory));
+        control.course.stop(rt, Some(Fault::NoMemory));
     }
-    control.end_piece(rt);
+    control.course.end_piece(rt);
 }

@@ -1,5 +1,6 @@
 //! The control socket of nodes that serve: what its connections share, and when the server closes.
 use memory_growth::{OutOfMemory, boxes, lists};
+use node_gate::JournaledNode;
 use node_housekeeping::Report;
 use operator_service::Closing;
 use program_lines::Fault;
@@ -8,7 +9,6 @@ use std::alloc::Global;
 use std::net::Shutdown;
 use std::os::fd::AsRawFd;
 use std::os::unix::net::UnixStream;
-use std::sync::ledger::Ledger;
 use std::sync::{Arc, Condvar, Mutex, Wait};
 use std::thread;
 use std::time::{Clock, Duration};
@@ -48,22 +48,17 @@ struct State {
     is_reading: bool,
 }
 
-/// The nodes as the operator's lines reach them, and how far the server has come.
+/// How far the server has come, which its connections, its end and standard input tell one another.
 #[derive(Drop)]
-pub struct Control<L: Ledger> {
-    pub nodes: Vec<Arc<SharedNode<L>>>,
-    /// How many nodes lines may name.
-    pub count: u32,
+pub struct Course {
     state: Mutex<State>,
     changed: Condvar,
 }
 
-impl<L: Ledger> Control<L> {
-    /// Of nodes that serve.
-    pub fn new(alloc: Global, nodes: Vec<Arc<SharedNode<L>>>, count: u32) -> Control<L> {
-        Control {
-            nodes,
-            count,
+impl Course {
+    /// Of a server that serves.
+    fn new(alloc: Global) -> Course {
+        Course {
             state: Mutex::new(State {
                 stage: Stage::Serving,
                 fault: None,
@@ -109,14 +104,23 @@ impl<L: Ledger> Control<L> {
         self.changed.notify_all();
     }
 
-    /// No session begins any more. Waits for those that are open, and then until no order is carried out: each connection has ended or
-    /// waits for the report, and what was read of standard input is done.
-    pub fn quiet<R: Wait>(&self, rt: &R) {
+    /// No session begins any more.
+    fn shut<R: Wait>(&self, rt: &R) {
         self.state.lock(rt).stage = Stage::Shut;
         self.changed.notify_all();
-        for node in &self.nodes {
-            node.await_sessions(rt);
-        }
+    }
+
+    /// Waits until no session begins any more.
+    fn await_shut<R: Wait>(&self, rt: &R) {
+        let state = self.state.lock(rt);
+        let state = self
+            .changed
+            .wait_while(rt, state, |state| state.stage < Stage::Shut);
+        drop(state);
+    }
+
+    /// Waits until no order is carried out: each connection has ended or waits for the report, and what was read of standard input is done.
+    fn quiet<R: Wait>(&self, rt: &R) {
         let mut state = self.state.lock(rt);
         state.stage = Stage::Quiet;
         // what was sent before is still answered
@@ -190,14 +194,40 @@ impl<L: Ledger> Control<L> {
         state.waiting = state.waiting.saturating_sub(1);
         state.report
     }
+}
+
+/// The nodes as the operator's lines reach them, and how far the server has come.
+#[derive(Drop)]
+pub struct Control<K: JournaledNode> {
+    pub nodes: Vec<Arc<SharedNode<K>>>,
+    /// How many nodes lines may name.
+    pub count: u32,
+    pub course: Course,
+}
+
+impl<K: JournaledNode> Control<K> {
+    /// Of nodes that serve.
+    pub fn new(alloc: Global, nodes: Vec<Arc<SharedNode<K>>>, count: u32) -> Control<K> {
+        Control {
+            nodes,
+            count,
+            course: Course::new(alloc),
+        }
+    }
+
+    /// No session begins any more. Waits for those that are open, and then until no order is carried out: each connection has ended or
+    /// waits for the report, and what was read of standard input is done.
+    pub fn quiet<R: Wait>(&self, rt: &R) {
+        self.course.shut(rt);
+        for node in &self.nodes {
+            node.await_sessions(rt);
+        }
+        self.course.quiet(rt);
+    }
 
     /// Ends the sessions that are open once none begins any more: they answer what they were sent, and who takes no answer is cut off.
     fn end_sessions<R: Wait, C: Clock>(&self, rt: &R, clock: &C) {
-        let state = self.state.lock(rt);
-        let state = self
-            .changed
-            .wait_while(rt, state, |state| state.stage < Stage::Shut);
-        drop(state);
+        self.course.await_shut(rt);
         self.shut_sessions(rt, Shutdown::Read);
         for _ in 0..GRACE {
             if self.nodes.iter().all(|node| node.open_sessions(rt) == 0) {
@@ -218,17 +248,17 @@ impl<L: Ledger> Control<L> {
 
 /// How a connection lets the server close.
 #[derive(Drop)]
-pub struct Asking<'a, L: Ledger, C: Clock> {
-    pub control: &'a Control<L>,
+pub struct Asking<'a, K: JournaledNode, C: Clock> {
+    pub control: &'a Control<K>,
     pub clock: &'a C,
 }
 
-impl<'a, L: Ledger, C: Clock> Closing for Asking<'a, L, C> {
+impl<'a, K: JournaledNode, C: Clock> Closing for Asking<'a, K, C> {
     fn close<R: Wait>(&self, rt: &R, now: bool) -> Option<Report> {
-        self.control.stop(rt, None);
+        self.control.course.stop(rt, None);
         if now {
             self.control.end_sessions(rt, self.clock);
         }
-        self.control.await_report(rt)
+        self.control.course.await_report(rt)
     }
 }

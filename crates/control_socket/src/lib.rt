@@ -5,4 +5,4 @@ mod connecting;
 mod control;
 
 pub use connecting::{Connecting, connect_control, take_input};
-pub use control::Control;
+pub use control::{Control, Course};

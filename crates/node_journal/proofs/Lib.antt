@@ -10,8 +10,10 @@ mod Numbering
 mod Recording
 mod Lives
 mod Bases
+pub mod Crossing
 mod Rooms
 mod Bisected
 mod Posting
 mod Receipts
 mod Swept
+mod Calls

@@ -4,3 +4,7 @@ pub mod Receipts
 pub mod Logs
 pub mod MemoryLast
 pub mod Posts
+pub mod Auditing
+pub mod Looking
+pub mod Stepping
+pub mod Witnesses

@@ -2,43 +2,34 @@
 ghost use Rattle.std.specs.Prelude.{◌≡◌, ◌≤◌, length};
 
 use crate::Kept;
+use node_gate::{Access, Keeper};
+use std::sync::Wait;
 use std::sync::ledger::{Ledger, Share};
-use std::sync::{Arc, Mutex, Wait};
-
-/// The leave to lock what a keeper has. Only this crate makes one, so nobody else reaches a node through its keeper.
-#[derive(Clone, Copy)]
-pub struct Access(());
-
-/// What has a node with its journal behind a lock.
-pub trait Keeper<L: Ledger> {
-    /// The node with its journal.
-    fn kept(&self, access: Access) -> &Mutex<Kept<L>>;
-}
-
-impl<L: Ledger, K: Keeper<L>> Keeper<L> for Arc<K> {
-    fn kept(&self, access: Access) -> &Mutex<Kept<L>> {
-        (**self).kept(access)
-    }
-}
 
 /// If there are as many nodes as their name has parts, nobody else has a part of it: what anybody shows has none, so that
 /// nothing else of that name can be stepped. Locks all nodes at once, in their order. All shares stay as they are.
-pub fn nothing_beside<L: Ledger, K: Keeper<L>, R: Wait>(rt: &R, nodes: &[K], other: &mut Share<L>)
+pub(crate) fn nothing_beside<L: Ledger, H: Keeper<Kept<L>>, R: Wait>(
+    rt: &R,
+    nodes: &[H],
+    other: &mut Share<L>,
+    access: &Access<Kept<L>>,
+)
     requires { length nodes.now ≡ L.parts }
     ensures none { other.old.parts ≡ 0 }
     ensures same { (other.new.parts ≡ other.old.parts) × (other.new.amount ≡ other.old.amount) }
 {
     let mut seen = other.empty();
-    beside_from(rt, nodes, 0, &mut seen, other);
+    beside_from(rt, nodes, 0, &mut seen, other, access);
 }
 
 /// Locks each node from this one on, and lends its part to those seen until all are locked: then there is none left.
-fn beside_from<L: Ledger, K: Keeper<L>, R: Wait>(
+fn beside_from<L: Ledger, H: Keeper<Kept<L>>, R: Wait>(
     rt: &R,
-    nodes: &[K],
+    nodes: &[H],
     next: usize,
     seen: &mut Share<L>,
     other: &mut Share<L>,
+    access: &Access<Kept<L>>,
 )
     requires started { next ≤ length nodes.now }
     requires all { length nodes.now ≡ L.parts }
@@ -51,9 +42,9 @@ fn beside_from<L: Ledger, K: Keeper<L>, R: Wait>(
         seen.give(other, 0, 0);
         return;
     }
-    let mut locked = nodes[next].kept(Access(())).lock(rt);
+    let mut locked = nodes[next].kept(access).lock(rt);
     let kept = &mut *locked;
     kept.ledger_share.give(seen, 1, 0);
-    beside_from(rt, nodes, next + 1, seen, other);
+    beside_from(rt, nodes, next + 1, seen, other, access);
     seen.give(&mut kept.ledger_share, 1, 0);
 }

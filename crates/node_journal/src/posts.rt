@@ -22,19 +22,9 @@ pub struct Made<L: Ledger> {
     pub(crate) receipt: Receipt<L>,
 }
 
-/// What a step gave, in parts.
-#[derive(Drop)]
-pub struct Parts<L: Ledger> {
-    pub reply: Reply<Bytes>,
-    /// The device keys that are to be erased.
-    pub erase: Erase,
-    pub mail: Mail<L>,
-    pub receipt: Receipt<L>,
-}
-
 impl<L: Ledger> Made<L> {
     /// The answer, the keys to erase, the messages that the step sends, and the receipt. Takes no memory.
-    pub fn into_parts(self) -> Parts<L>
+    pub fn into_parts(self) -> node_gate::Made<Receipt<L>, Mail<L>, Erase>
         ensures reply { result.reply ≡ self.outcome.reply }
         ensures erase { result.erase ≡ self.outcome.erase }
         ensures mail { posts_left result.mail ≡ self.outcome.messages }
@@ -56,7 +46,7 @@ impl<L: Ledger> Made<L> {
             rest: messages.into_vec().into_iter(),
             name: PhantomData,
         };
-        Parts {
+        node_gate::Made {
             reply,
             erase,
             mail,
@@ -215,5 +205,41 @@ pub(crate) fn arrival(from: Endpoint, message: Message) -> Option<Arrival>
             node, response,
         )),
         _ => None,
+    }
+}
+
+impl<L: Ledger> node_gate::Posted for Posted<L> {
+    ghost use Rattle.std.specs.Prelude.{IfSome, option_map};
+    ghost use Rattle.std.specs.Option.{option_to_list};
+    ghost use Rattle.node_journal.specs.Posts.{post_of, directory_message_in, PassesOn};
+
+    ghost of_job = { λ posted. posted.job };
+
+    ghost sender = { λ posted. posted.from };
+
+    ghost addressee = { λ posted. posted.to };
+
+    ghost content = { λ posted. posted.message };
+
+    ghost passes = { λ old new posted answer. PassesOn old new posted.job (directory_message_in posted.message) (option_to_list (option_map post_of answer)) × IfSome answer (λ p. (p.job ≡ posted.job) × (p.from ≡ place.Directory) × (p.entry ≡ posted.entry)) };
+
+    fn job(&self) -> JobNo {
+        self.job
+    }
+
+    fn from(&self) -> Endpoint {
+        self.from
+    }
+
+    fn to(&self) -> Endpoint {
+        self.to
+    }
+
+    fn message(&self) -> &Message {
+        &self.message
+    }
+
+    fn through(self, directory: &mut Directory) -> Result<Option<Posted<L>>, OutOfMemory> {
+        Posted::through(self, directory)
     }
 }

@@ -1,20 +1,19 @@
 //! The ways into a node.
 use crate::lanes::InLanes;
 use memory_growth::{OutOfMemory, boxes};
+use node_gate::Posted;
 use node_housekeeping::{Turn, Turns};
-use node_journal::Posted;
 use std::alloc::Global;
-use std::sync::ledger::Ledger;
 use std::sync::{Arc, Wait};
 
 /// All by which messages come to a node.
-pub struct Inbox<L: Ledger> {
+pub struct Inbox<M: Posted> {
     pub(crate) turns: Arc<Turns>,
-    pub(crate) ways: Vec<InLanes<L>>,
+    pub(crate) ways: Vec<InLanes<M>>,
 }
 
 // By hand, so that it is proved here and not in each crate above.
-impl<L: Ledger> Drop for Inbox<L> {
+impl<M: Posted> Drop for Inbox<M> {
     fn drop(self) {
         let Inbox {
             turns: _turns,
@@ -23,9 +22,9 @@ impl<L: Ledger> Drop for Inbox<L> {
     }
 }
 
-impl<L: Ledger> Inbox<L> {
+impl<M: Posted> Inbox<M> {
     /// Of a node to which none of so many others can send yet.
-    pub fn new(alloc: Global, others: u32) -> Result<Inbox<L>, OutOfMemory> {
+    pub fn new(alloc: Global, others: u32) -> Result<Inbox<M>, OutOfMemory> {
         Ok(Inbox {
             turns: boxes::counted(alloc, Turns::new(others))?,
             ways: Vec::new(alloc),
@@ -38,7 +37,7 @@ impl<L: Ledger> Inbox<L> {
     }
 
     /// The message whose turn it is.
-    pub fn receive<R: Wait>(&self, rt: &R, turn: Turn) -> Option<Posted<L>> {
+    pub fn receive<R: Wait>(&self, rt: &R, turn: Turn) -> Option<M> {
         let way = self.ways.iter().find(|way| way.source == turn.source)?;
         way.lanes.get(turn.lane)?.lock(rt).receive_next(rt)
     }

@@ -1,38 +1,37 @@
 //! The links from one node to another, by lane.
 use fetch_link::{LinkReceiver, LinkSender, Sent, open};
 use memory_growth::lists;
+use node_gate::Posted;
 use node_housekeeping::{LANES, Turns, lane_of};
-use node_journal::Posted;
 use std::alloc::Global;
 use std::io;
-use std::sync::ledger::Ledger;
 use std::sync::{Arc, Mutex, Wait};
 
 /// The links to another node, by lane: a job that sends more than a link holds loses its own messages alone, and those of other lanes
 /// come in turn with them.
 #[derive(Drop)]
-pub(crate) struct OutLanes<L: Ledger> {
+pub(crate) struct OutLanes<M: Posted> {
     // the node that sends
     source: usize,
-    lanes: Vec<Mutex<LinkSender<Posted<L>>>>,
+    lanes: Vec<Mutex<LinkSender<M>>>,
     // of the node that receives
     turns: Arc<Turns>,
 }
 
 /// The other ends of these links.
 #[derive(Drop)]
-pub(crate) struct InLanes<L: Ledger> {
+pub(crate) struct InLanes<M: Posted> {
     pub(crate) source: usize,
-    pub(crate) lanes: Vec<Mutex<LinkReceiver<Posted<L>>>>,
+    pub(crate) lanes: Vec<Mutex<LinkReceiver<M>>>,
 }
 
-impl<L: Ledger> OutLanes<L> {
+impl<M: Posted> OutLanes<M> {
     /// New links from the node of this number to one that has these turns, with their other ends.
     pub(crate) fn open(
         alloc: Global,
         number: u32,
         turns: Arc<Turns>,
-    ) -> io::Result<(OutLanes<L>, InLanes<L>)> {
+    ) -> io::Result<(OutLanes<M>, InLanes<M>)> {
         let source = number as usize;
         let mut senders = lists::with_capacity(alloc, LANES)?;
         let mut receivers = lists::with_capacity(alloc, LANES)?;
@@ -54,7 +53,7 @@ impl<L: Ledger> OutLanes<L> {
     }
 
     /// Sends a message by the lane of its job: whether the link took it. That it has a turn is known before the link can be closed.
-    pub(crate) fn send<R: Wait>(&self, rt: &R, posted: Posted<L>) -> bool {
+    pub(crate) fn send<R: Wait>(&self, rt: &R, posted: M) -> bool {
         let lane = lane_of(posted.job());
         let Some(link) = self.lanes.get(lane) else {
             return false;

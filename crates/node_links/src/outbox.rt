@@ -2,22 +2,21 @@
 use crate::inbox::Inbox;
 use crate::lanes::OutLanes;
 use memory_growth::{boxes, lists};
-use node_journal::Posted;
+use node_gate::Posted;
 use obj_id::Endpoint;
 use owner_directory::Directory;
 use std::alloc::Global;
 use std::io;
-use std::sync::ledger::Ledger;
 use std::sync::{Arc, Mutex, Wait};
 
 /// The directory of the cluster, and a way to each other node, by number.
-pub struct Outbox<L: Ledger> {
+pub struct Outbox<M: Posted> {
     directory: Arc<Mutex<Directory>>,
-    nodes: Vec<Option<OutLanes<L>>>,
+    nodes: Vec<Option<OutLanes<M>>>,
 }
 
 // By hand, so that it is proved here and not in each crate above.
-impl<L: Ledger> Drop for Outbox<L> {
+impl<M: Posted> Drop for Outbox<M> {
     fn drop(self) {
         let Outbox {
             directory: _directory,
@@ -26,14 +25,14 @@ impl<L: Ledger> Drop for Outbox<L> {
     }
 }
 
-impl<L: Ledger> Outbox<L> {
+impl<M: Posted> Outbox<M> {
     /// The ways out of the node of this number, one to each other node that has an inbox.
     pub fn open(
         alloc: Global,
         number: u32,
         directory: &Arc<Mutex<Directory>>,
-        inboxes: &mut [Inbox<L>],
-    ) -> io::Result<Outbox<L>> {
+        inboxes: &mut [Inbox<M>],
+    ) -> io::Result<Outbox<M>> {
         let mut nodes = Vec::new(alloc);
         for (node, inbox) in inboxes.iter_mut().enumerate() {
             if node == number as usize {
@@ -52,12 +51,12 @@ impl<L: Ledger> Outbox<L> {
     }
 
     /// The way to the node of this number, if there is one.
-    fn way(&self, node: u32) -> Option<&OutLanes<L>> {
+    fn way(&self, node: u32) -> Option<&OutLanes<M>> {
         self.nodes.get(node as usize)?.as_ref()
     }
 
     /// Hands a message over to its place.
-    pub fn deliver<R: Wait>(&self, rt: &R, posted: Posted<L>) -> Delivery<L> {
+    pub fn deliver<R: Wait>(&self, rt: &R, posted: M) -> Delivery<M> {
         match posted.to() {
             Endpoint::Directory => match posted.through(&mut *self.directory.lock(rt)) {
                 Err(_) => Delivery::Lost,
@@ -83,11 +82,11 @@ impl<L: Ledger> Outbox<L> {
 
 /// What became of a message that was handed over.
 #[derive(Drop)]
-pub enum Delivery<L: Ledger> {
+pub enum Delivery<M: Posted> {
     /// It came to its place, or is on its way.
     Over,
     /// It didn't come there.
     Lost,
     /// The directory's answer to it.
-    Answered(Posted<L>),
+    Answered(M),
 }

@@ -1,4 +1,1 @@
-pub mod Auditing
-pub mod Looking
 pub mod Stepping
-pub mod Witnesses

@@ -1,71 +1,27 @@
 -- What is done with a node that is locked: one step, or nothing.
-use Rattle.std.specs.Prelude.{◌≡◌, ◌⊎◌, ℕ, ◌+◌, ◌==◌, Bool, true, List, Option, Some, None}
+use Rattle.std.specs.Prelude.{◌≡◌, ◌⊎◌, ℕ, List}
 use Rattle.obj_id.specs.declared.ids.JobNo.{JobNo}
 use Rattle.obj_id.specs.declared.commands.Command.TheVariants as command
 use Rattle.obj_id.specs.declared.commands.Reply.{Reply}
-use Rattle.obj_id.specs.declared.messages.Arrival.{Arrival}
-use Rattle.private_store.specs.declared.inputs.Judged.{Judged}
+use Rattle.private_store.specs.declared.schedules.Event.{Event}
 use Rattle.private_store.specs.declared.schedules.Event.TheVariants as event
-use Rattle.private_store.specs.declared.schedules.NodeEvent.{NodeEvent}
-use Rattle.private_store.specs.declared.schedules.NodeEvent.TheVariants as node_event
 use Rattle.private_store.specs.rules.Private.{Post}
-use Rattle.node_core.specs.Hosted.{Hosted}
-use Rattle.node_core.specs.Steps.{NodeGiven, NodeStep, job_at}
-use Rattle.node_journal.specs.Journals.{entry_for, event_name, folded_if, journal_after}
-use Rattle.node_journal.specs.Logs.{JobLog, journal_of}
-use Rattle.node_journal.specs.Posts.{is_entered}
-use Rattle.node_steps.specs.Witnesses.{Witness}
 
--- what a contract sees of a node with its journal: the node, how many entries there are, and the journals of all jobs
-pub record Locked : Type 0 where
-  pub node : Hosted
-  pub count : ℕ
-  pub logs : List (JobNo × JobLog)
-
-abbrev pub seen_node : Hosted → ℕ → List (JobNo × JobLog) → Locked
-seen_node node count logs = record { node = node; count = count; logs = logs }
-
--- nothing was done
-pub record IsUntouched (old new : Locked) : Type 0 where
-  pub node : new.node ≡ old.node
-  pub count : new.count ≡ old.count
-  pub journals : (job : ℕ) → journal_of new.logs job ≡ journal_of old.logs job
-
--- one step was made, of this event, and no other: with this answer, these messages and this entry
-pub record IsOneStep (e : NodeEvent) (response : Reply (List ℕ)) (sent : List Post) (witness : Witness) (old new : Locked) : Type 0 where
-  pub given : NodeGiven
-  pub was : Option Judged
-  pub answer : given.reply ≡ response
-  pub posts : given.posts ≡ sent
-  pub node : NodeStep old.node e given new.node
-  pub count : new.count ≡ old.count + 1
-  pub journals : (job : ℕ) → journal_of new.logs job ≡ journal_after old.node (old.count + 1) e was given job (journal_of old.logs job)
-  pub of_job : witness.job.0 ≡ job_at old.node.works.works e
-  pub entry : witness.entry ≡ entry_for (old.count + 1) (event_name e) was response
-  pub whole : witness.whole ≡ response
-
--- one step was made, and then the journal of the job of this number was folded, or not
-pub record IsOneStepFolded (e : NodeEvent) (job : ℕ) (response : Reply (List ℕ)) (sent : List Post) (witness : Witness) (old new : Locked) : Type 0 where
-  pub between : Locked
-  pub step : IsOneStep e response sent witness old between
-  pub node : new.node ≡ between.node
-  pub count : new.count ≡ between.count
-  pub journals : (other : ℕ) → (journal_of new.logs other ≡ folded_if (job == other) (journal_of between.logs other)) ⊎ (journal_of new.logs other ≡ journal_of between.logs other)
+-- one step was made, and then the job's journal was folded, or not
+pub record FoldsAfter {K : Type 0} (folds : JobNo → K → K → Type 0) (job : JobNo) (step : K → K → Type 0) (old new : K) : Type 0 where
+  pub between : K
+  pub stepped : step old between
+  pub folded : (new ≡ between) ⊎ folds job between new
 
 -- the session was left
-pub record IsOneLeave (job : JobNo) (session : ℕ) (sent : List Post) (old new : Locked) : Type 0 where
+pub record IsOneLeave {K T : Type 0} (steps : Event → Reply (List ℕ) → List Post → T → K → K → Type 0) (job : JobNo) (session : ℕ) (sent : List Post) (old new : K) : Type 0 where
   pub response : Reply (List ℕ)
-  pub witness : Witness
-  pub step : IsOneStep (node_event.Own (event.Call job session command.Leave)) response sent witness old new
-
--- a message arrived, and its entry is of it
-pub record IsOneArrival (job : JobNo) (a : Arrival) (response : Reply (List ℕ)) (sent : List Post) (witness : Witness) (old new : Locked) : Type 0 where
-  pub step : IsOneStep (node_event.Arrive job a) response sent witness old new
-  pub entered : is_entered a response witness.entry.input ≡ true
+  pub receipt : T
+  pub step : steps (event.Call job session command.Leave) response sent receipt old new
 
 -- a message arrived, whatever was answered and sent
-pub record HasArrived (job : JobNo) (a : Arrival) (old new : Locked) : Type 0 where
+pub record HasArrived {K M T : Type 0} (arrives : M → Reply (List ℕ) → List Post → T → K → K → Type 0) (posted : M) (old new : K) : Type 0 where
   pub response : Reply (List ℕ)
   pub sent : List Post
-  pub witness : Witness
-  pub arrival : IsOneArrival job a response sent witness old new
+  pub receipt : T
+  pub arrival : arrives posted response sent receipt old new

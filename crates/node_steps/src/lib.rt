@@ -4,12 +4,10 @@
 
 mod auditing;
 mod journal_sweeping;
-mod looking;
 mod stepping;
 
-pub use auditing::audit;
+pub use auditing::{audit, audit_one};
 pub use journal_sweeping::{may_reach_others, sweep_after};
-pub use looking::{LiveJob, live_jobs_of};
 pub use stepping::{
     Stepped, step_arrival, step_call, step_call_after, step_end, step_event, step_located,
     step_mark, step_order, step_take,

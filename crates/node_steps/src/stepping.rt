@@ -1,56 +1,44 @@
 //! The steps of a node that is locked, with what follows at once.
-ghost use Rattle.std.specs.Prelude.{◌≡◌, ◌⊎◌, ℕ, ◌==◌, ◌<◌, List, true, false, Some, None, IfOk, IfErr, OnErr, IfSome, IfNone, IsErrOf, ◌↔◌};
+ghost use Rattle.std.specs.Prelude.{◌≡◌, ◌⊎◌, ◌<◌, true, false, IfOk, IfErr, OnErr, IfSome, IfNone, IsErrOf, ◌↔◌};
 ghost use Rattle.obj_id.specs.declared.commands.Command.TheVariants as command;
-ghost use Rattle.obj_id.specs.declared.messages.Arrival.{Arrival};
 ghost use Rattle.obj_id.specs.declared.refusals.Refusal.TheVariants.{NoMemory, Stale};
-ghost use Rattle.private_store.specs.laws.Answers.{wants_memory, is_small_reply};
-ghost use Rattle.node_core.specs.Judged.{IsSmallCall};
-ghost use Rattle.node_table.specs.Erased.{keys_of};
-ghost use Rattle.node_journal.specs.Journals.{folded_if};
-ghost use Rattle.node_journal.specs.Logs.{journal_of};
 ghost use Rattle.private_store.specs.declared.schedules.Event.TheVariants as event;
-ghost use Rattle.private_store.specs.declared.schedules.NodeEvent.TheVariants as node_event;
-ghost use Rattle.private_store.specs.rules.Cluster.{arrival_of};
-ghost use Rattle.spill_work.specs.Line.{front_of};
-ghost use Rattle.node_journal.specs.Posts.{posts_left, IsAstray};
-ghost use Rattle.node_steps.specs.Stepping.{seen_node, IsUntouched, IsOneStep, IsOneStepFolded, IsOneLeave, IsOneArrival, HasArrived};
-ghost use Rattle.node_steps.specs.Witnesses.{IsCalled, IsCalledBy, IsReceiptOf, witness_of};
+ghost use Rattle.private_store.specs.laws.Answers.{is_small_reply};
+ghost use Rattle.node_gate.specs.Calls.{IsSmallCall};
+ghost use Rattle.node_steps.specs.Stepping.{FoldsAfter, HasArrived, IsOneLeave};
 
-use crate::auditing::audit;
+use crate::auditing::audit_one;
 use bytes::Bytes;
 use memory_growth::OutOfMemory;
-use node_core::Erase;
+use node_gate::{JournaledNode, Made};
 use node_housekeeping::{Housekeeping, LeaveMark, Pause, wake_scope_of};
-use node_journal::{Kept, Made, Mail, Parts, Posted, Receipt};
-use obj_id::{Command, DeviceKey, JobNo, Refusal, Reply};
+use obj_id::{Command, JobNo, Refusal, Reply};
 use private_store::Event;
-use std::slice;
 use std::sync::Wait;
-use std::sync::ledger::Ledger;
 
 /// The answer of a step that was made, with its receipt, and what it sends.
 #[derive(Drop)]
-pub struct Stepped<L: Ledger> {
+pub struct Stepped<T, M> {
     pub reply: Reply<Bytes>,
-    pub receipt: Receipt<L>,
-    pub mail: Mail<L>,
+    pub receipt: T,
+    pub mail: M,
 }
 
 /// A session's command. The error is out of memory.
-pub fn step_call<L: Ledger, R: Wait, P: Pause>(
+pub fn step_call<K: JournaledNode, R: Wait, P: Pause>(
     rt: &R,
-    kept: &mut Kept<L>,
+    kept: &mut K,
     housekeeping: &Housekeeping<P>,
     job: JobNo,
     session: u32,
     command: Command<Bytes>,
-) -> Result<Stepped<L>, OutOfMemory>
-    ensures called { IfOk result (λ s. (wants_memory s.reply ≡ false) × IsCalled job session command s.reply (witness_of s.receipt)) }
+) -> Result<Stepped<K::Receipt, K::Mail>, OutOfMemory>
+    ensures called { IfOk result (λ s. K.called_by (event.Call job session command) s.reply s.receipt) }
     ensures small { IfOk result (λ s. is_small_reply s.reply ≡ true) }
-    ensures once { IfOk result (λ s. IsOneStep (node_event.Own (event.Call job session command)) s.reply (posts_left s.mail) (witness_of s.receipt) (seen_node kept.old.node kept.old.count kept.old.logs) (seen_node kept.new.node kept.new.count kept.new.logs)) }
-    ensures node { IfOk result (λ s. s.receipt.node ≡ kept.old.number) }
-    ensures same { OnErr result (IsUntouched (seen_node kept.old.node kept.old.count kept.old.logs) (seen_node kept.new.node kept.new.count kept.new.logs)) }
-    ensures number { kept.new.number ≡ kept.old.number }
+    ensures once { IfOk result (λ s. K.steps (event.Call job session command) s.reply (K.posts s.mail) s.receipt kept.old kept.new) }
+    ensures node { IfOk result (λ s. K.made_at s.receipt ≡ K.node_number kept.old) }
+    ensures same { OnErr result (K.untouched kept.old kept.new) }
+    ensures number { K.node_number kept.new ≡ K.node_number kept.old }
 {
     let event = Event::Call {
         job,
@@ -61,22 +49,22 @@ pub fn step_call<L: Ledger, R: Wait, P: Pause>(
 }
 
 /// The same, if the journal doesn't say No of the receipt: otherwise the error is `Stale`.
-pub fn step_call_after<L: Ledger, R: Wait, P: Pause>(
+pub fn step_call_after<K: JournaledNode, R: Wait, P: Pause>(
     rt: &R,
-    kept: &mut Kept<L>,
+    kept: &mut K,
     housekeeping: &Housekeeping<P>,
-    receipt: &Receipt<L>,
+    receipt: &K::Receipt,
     job: JobNo,
     session: u32,
     command: Command<Bytes>,
-) -> Result<Stepped<L>, Refusal>
-    ensures called { IfOk result (λ s. (wants_memory s.reply ≡ false) × IsCalled job session command s.reply (witness_of s.receipt)) }
-    ensures later { IfOk result (λ s. (s.receipt.node ≡ receipt.now.node) × (receipt.now.entry.number < s.receipt.entry.number)) }
+) -> Result<Stepped<K::Receipt, K::Mail>, Refusal>
+    ensures called { IfOk result (λ s. K.called_by (event.Call job session command) s.reply s.receipt) }
+    ensures later { IfOk result (λ s. (K.made_at s.receipt ≡ K.made_at receipt.now) × (K.entry_number receipt.now < K.entry_number s.receipt)) }
     ensures small { IfOk result (λ s. is_small_reply s.reply ≡ true) }
-    ensures once { IfOk result (λ s. IsOneStep (node_event.Own (event.Call job session command)) s.reply (posts_left s.mail) (witness_of s.receipt) (seen_node kept.old.node kept.old.count kept.old.logs) (seen_node kept.new.node kept.new.count kept.new.logs)) }
-    ensures node { IfOk result (λ s. s.receipt.node ≡ kept.old.number) }
-    ensures same { OnErr result (IsUntouched (seen_node kept.old.node kept.old.count kept.old.logs) (seen_node kept.new.node kept.new.count kept.new.logs)) }
-    ensures number { kept.new.number ≡ kept.old.number }
+    ensures once { IfOk result (λ s. K.steps (event.Call job session command) s.reply (K.posts s.mail) s.receipt kept.old kept.new) }
+    ensures node { IfOk result (λ s. K.made_at s.receipt ≡ K.node_number kept.old) }
+    ensures same { OnErr result (K.untouched kept.old kept.new) }
+    ensures number { K.node_number kept.new ≡ K.node_number kept.old }
     ensures refusal { IfErr result (λ r. (r ≡ NoMemory) ⊎ (r ≡ Stale)) }
 {
     let event = Event::Call {
@@ -85,27 +73,24 @@ pub fn step_call_after<L: Ledger, R: Wait, P: Pause>(
         command,
     };
     housekeeping.pause.before_step(kept.number(), &event);
-    match kept.step_after(receipt, &event) {
-        Ok(made) => Ok(finish_step(rt, kept, housekeeping, made)),
-        Err(Refusal::Stale) => Err(Refusal::Stale),
-        Err(_) => Err(Refusal::NoMemory),
-    }
+    let made = kept.step_after(receipt, &event)?;
+    Ok(finish_step(rt, kept, housekeeping, made))
 }
 
 /// An event of a session, the operator or a worker. The error is out of memory.
-pub fn step_event<L: Ledger, R: Wait, P: Pause>(
+pub fn step_event<K: JournaledNode, R: Wait, P: Pause>(
     rt: &R,
-    kept: &mut Kept<L>,
+    kept: &mut K,
     housekeeping: &Housekeeping<P>,
     event: &Event,
-) -> Result<Stepped<L>, OutOfMemory>
-    ensures stepped { IfOk result (λ s. IsReceiptOf event.now s.reply (witness_of s.receipt)) }
-    ensures called { IfOk result (λ s. IsCalledBy event.now s.reply (witness_of s.receipt)) }
+) -> Result<Stepped<K::Receipt, K::Mail>, OutOfMemory>
+    ensures stepped { IfOk result (λ s. K.receipt_of event.now s.reply s.receipt) }
+    ensures called { IfOk result (λ s. K.called_by event.now s.reply s.receipt) }
     ensures small { IfOk result (λ s. IsSmallCall event.now s.reply) }
-    ensures once { IfOk result (λ s. IsOneStep (node_event.Own event.now) s.reply (posts_left s.mail) (witness_of s.receipt) (seen_node kept.old.node kept.old.count kept.old.logs) (seen_node kept.new.node kept.new.count kept.new.logs)) }
-    ensures node { IfOk result (λ s. s.receipt.node ≡ kept.old.number) }
-    ensures same { OnErr result (IsUntouched (seen_node kept.old.node kept.old.count kept.old.logs) (seen_node kept.new.node kept.new.count kept.new.logs)) }
-    ensures number { kept.new.number ≡ kept.old.number }
+    ensures once { IfOk result (λ s. K.steps event.now s.reply (K.posts s.mail) s.receipt kept.old kept.new) }
+    ensures node { IfOk result (λ s. K.made_at s.receipt ≡ K.node_number kept.old) }
+    ensures same { OnErr result (K.untouched kept.old kept.new) }
+    ensures number { K.node_number kept.new ≡ K.node_number kept.old }
 {
     housekeeping.pause.before_step(kept.number(), event);
     let made = kept.step(event)?;
@@ -113,39 +98,34 @@ pub fn step_event<L: Ledger, R: Wait, P: Pause>(
 }
 
 /// An event of the operator's, whose entry is looked for. The error is out of memory.
-pub fn step_order<L: Ledger, R: Wait, P: Pause>(
+pub fn step_order<K: JournaledNode, R: Wait, P: Pause>(
     rt: &R,
-    kept: &mut Kept<L>,
+    kept: &mut K,
     housekeeping: &Housekeeping<P>,
     event: &Event,
-) -> Result<Stepped<L>, OutOfMemory>
-    ensures stepped { IfOk result (λ s. IsReceiptOf event.now s.reply (witness_of s.receipt)) }
-    ensures once { IfOk result (λ s. IsOneStep (node_event.Own event.now) s.reply (posts_left s.mail) (witness_of s.receipt) (seen_node kept.old.node kept.old.count kept.old.logs) (seen_node kept.new.node kept.new.count kept.new.logs)) }
-    ensures node { IfOk result (λ s. s.receipt.node ≡ kept.old.number) }
-    ensures same { OnErr result (IsUntouched (seen_node kept.old.node kept.old.count kept.old.logs) (seen_node kept.new.node kept.new.count kept.new.logs)) }
-    ensures number { kept.new.number ≡ kept.old.number }
+) -> Result<Stepped<K::Receipt, K::Mail>, OutOfMemory>
+    ensures stepped { IfOk result (λ s. K.receipt_of event.now s.reply s.receipt) }
+    ensures once { IfOk result (λ s. K.steps event.now s.reply (K.posts s.mail) s.receipt kept.old kept.new) }
+    ensures node { IfOk result (λ s. K.made_at s.receipt ≡ K.node_number kept.old) }
+    ensures same { OnErr result (K.untouched kept.old kept.new) }
+    ensures number { K.node_number kept.new ≡ K.node_number kept.old }
 {
     let stepped = step_event(rt, kept, housekeeping, event)?;
-    audit(
-        rt,
-        kept,
-        &housekeeping.tallies,
-        slice::from_ref(&stepped.receipt),
-    );
+    audit_one(rt, kept, &housekeeping.tallies, &stepped.receipt);
     Ok(stepped)
 }
 
 /// The end of a job. If it isn't refused, the job's journal is folded at once. The error is out of memory.
-pub fn step_end<L: Ledger, R: Wait, P: Pause>(
+pub fn step_end<K: JournaledNode, R: Wait, P: Pause>(
     rt: &R,
-    kept: &mut Kept<L>,
+    kept: &mut K,
     housekeeping: &Housekeeping<P>,
     job: JobNo,
-) -> Result<Stepped<L>, OutOfMemory>
-    ensures stepped { IfOk result (λ s. IsReceiptOf (event.JobEnd job) s.reply (witness_of s.receipt)) }
-    ensures once { IfOk result (λ s. IsOneStepFolded (node_event.Own (event.JobEnd job)) job.0 s.reply (posts_left s.mail) (witness_of s.receipt) (seen_node kept.old.node kept.old.count kept.old.logs) (seen_node kept.new.node kept.new.count kept.new.logs)) }
-    ensures same { OnErr result (IsUntouched (seen_node kept.old.node kept.old.count kept.old.logs) (seen_node kept.new.node kept.new.count kept.new.logs)) }
-    ensures number { kept.new.number ≡ kept.old.number }
+) -> Result<Stepped<K::Receipt, K::Mail>, OutOfMemory>
+    ensures stepped { IfOk result (λ s. K.receipt_of (event.JobEnd job) s.reply s.receipt) }
+    ensures once { IfOk result (λ s. FoldsAfter K.folds job (K.steps (event.JobEnd job) s.reply (K.posts s.mail) s.receipt) kept.old kept.new) }
+    ensures same { OnErr result (K.untouched kept.old kept.new) }
+    ensures number { K.node_number kept.new ≡ K.node_number kept.old }
 {
     // its entry is looked for before the fold, after which the journal says no more of it
     let stepped = step_order(rt, kept, housekeeping, &Event::JobEnd(job))?;
@@ -155,26 +135,26 @@ pub fn step_end<L: Ledger, R: Wait, P: Pause>(
 
 /// Folds the journal of a job whose end was answered so, unless it was refused. If there is no memory for the fold nothing changes,
 /// and a later one makes up for it.
-fn fold_ended<L: Ledger>(kept: &mut Kept<L>, job: JobNo, reply: &Reply<Bytes>)
-    ensures same { (kept.new.node ≡ kept.old.node) × (kept.new.count ≡ kept.old.count) × (kept.new.number ≡ kept.old.number) }
-    ensures journals { (other : ℕ) → (journal_of kept.new.logs other ≡ folded_if (job.0 == other) (journal_of kept.old.logs other)) ⊎ (journal_of kept.new.logs other ≡ journal_of kept.old.logs other) }
+fn fold_ended<K: JournaledNode>(kept: &mut K, job: JobNo, reply: &Reply<Bytes>)
+    ensures folds { (kept.new ≡ kept.old) ⊎ K.folds job kept.old kept.new }
+    ensures number { K.node_number kept.new ≡ K.node_number kept.old }
 {
     if !matches!(reply, Reply::Refused(_)) {
-        let _ = kept.checkpoint(job);
+        kept.fold(job);
     }
 }
 
 /// A Take, if a work waits that nobody has taken. The error is out of memory.
-pub fn step_take<L: Ledger, R: Wait, P: Pause>(
+pub fn step_take<K: JournaledNode, R: Wait, P: Pause>(
     rt: &R,
-    kept: &mut Kept<L>,
+    kept: &mut K,
     housekeeping: &Housekeeping<P>,
-) -> Option<Result<Stepped<L>, OutOfMemory>>
-    ensures stepped { IfSome result (λ r. IfOk r (λ s. IsReceiptOf event.Take s.reply (witness_of s.receipt))) }
-    ensures once { IfSome result (λ r. IfOk r (λ s. IsOneStep (node_event.Own event.Take) s.reply (posts_left s.mail) (witness_of s.receipt) (seen_node kept.old.node kept.old.count kept.old.logs) (seen_node kept.new.node kept.new.count kept.new.logs))) }
-    ensures same { IfSome result (λ r. OnErr r (IsUntouched (seen_node kept.old.node kept.old.count kept.old.logs) (seen_node kept.new.node kept.new.count kept.new.logs))) }
-    ensures none { IfNone result (IsUntouched (seen_node kept.old.node kept.old.count kept.old.logs) (seen_node kept.new.node kept.new.count kept.new.logs) × (front_of kept.old.node.works.works ≡ None)) }
-    ensures number { kept.new.number ≡ kept.old.number }
+) -> Option<Result<Stepped<K::Receipt, K::Mail>, OutOfMemory>>
+    ensures stepped { IfSome result (λ r. IfOk r (λ s. K.receipt_of event.Take s.reply s.receipt)) }
+    ensures once { IfSome result (λ r. IfOk r (λ s. K.steps event.Take s.reply (K.posts s.mail) s.receipt kept.old kept.new)) }
+    ensures same { IfSome result (λ r. OnErr r (K.untouched kept.old kept.new)) }
+    ensures none { IfNone result ((kept.new ≡ kept.old) × K.idle kept.old) }
+    ensures number { K.node_number kept.new ≡ K.node_number kept.old }
 {
     if kept.has_work() {
         Some(step_event(rt, kept, housekeeping, &Event::Take))
@@ -184,15 +164,15 @@ pub fn step_take<L: Ledger, R: Wait, P: Pause>(
 }
 
 /// Leaves a session that was marked, and looks for the entry of that: what it sends. None if there is no memory for it.
-pub fn step_mark<L: Ledger, R: Wait, P: Pause>(
+pub fn step_mark<K: JournaledNode, R: Wait, P: Pause>(
     rt: &R,
-    kept: &mut Kept<L>,
+    kept: &mut K,
     housekeeping: &Housekeeping<P>,
     mark: LeaveMark,
-) -> Option<Mail<L>>
-    ensures once { IfSome result (λ mail. IsOneLeave mark.job mark.session (posts_left mail) (seen_node kept.old.node kept.old.count kept.old.logs) (seen_node kept.new.node kept.new.count kept.new.logs)) }
-    ensures same { IfNone result (IsUntouched (seen_node kept.old.node kept.old.count kept.old.logs) (seen_node kept.new.node kept.new.count kept.new.logs)) }
-    ensures number { kept.new.number ≡ kept.old.number }
+) -> Option<K::Mail>
+    ensures once { IfSome result (λ mail. IsOneLeave K.steps mark.job mark.session (K.posts mail) kept.old kept.new) }
+    ensures same { IfNone result (K.untouched kept.old kept.new) }
+    ensures number { K.node_number kept.new ≡ K.node_number kept.old }
 {
     match step_call(
         rt,
@@ -205,7 +185,7 @@ pub fn step_mark<L: Ledger, R: Wait, P: Pause>(
         Err(_) => None,
         Ok(stepped) => {
             let Stepped { receipt, mail, .. } = stepped;
-            audit(rt, kept, &housekeeping.tallies, slice::from_ref(&receipt));
+            audit_one(rt, kept, &housekeeping.tallies, &receipt);
             Some(mail)
         }
     }
@@ -213,86 +193,73 @@ pub fn step_mark<L: Ledger, R: Wait, P: Pause>(
 
 /// A message that was posted to the node arrives. `Stale` if it was posted to another place or isn't made for a node, and
 /// `NoMemory`: then it is lost.
-pub fn step_arrival<L: Ledger, R: Wait, P: Pause>(
+pub fn step_arrival<K: JournaledNode, R: Wait, P: Pause>(
     rt: &R,
-    kept: &mut Kept<L>,
+    kept: &mut K,
     housekeeping: &Housekeeping<P>,
-    posted: Posted<L>,
-) -> Result<Stepped<L>, Refusal>
-    ensures once { IfOk result (λ s. (a : Arrival) → arrival_of posted.from posted.message ≡ Some a → IsOneArrival posted.job a s.reply (posts_left s.mail) (witness_of s.receipt) (seen_node kept.old.node kept.old.count kept.old.logs) (seen_node kept.new.node kept.new.count kept.new.logs)) }
-    ensures node { IfOk result (λ s. s.receipt.node ≡ kept.old.number) }
-    ensures of_job { IfOk result (λ s. s.receipt.job ≡ posted.job) }
-    ensures stale { IsErrOf result Stale ↔ IsAstray kept.old.number posted }
-    ensures same { OnErr result (IsUntouched (seen_node kept.old.node kept.old.count kept.old.logs) (seen_node kept.new.node kept.new.count kept.new.logs)) }
+    posted: K::Posted,
+) -> Result<Stepped<K::Receipt, K::Mail>, Refusal>
+    ensures once { IfOk result (λ s. K.arrives posted s.reply (K.posts s.mail) s.receipt kept.old kept.new) }
+    ensures node { IfOk result (λ s. K.made_at s.receipt ≡ K.node_number kept.old) }
+    ensures arrived { IfOk result (λ s. K.arrived posted s.receipt) }
+    ensures of_job { IfOk result (λ s. K.job_of s.receipt ≡ K.Posted.of_job posted) }
+    ensures stale { IsErrOf result Stale ↔ K.astray kept.old posted }
+    ensures same { OnErr result (K.untouched kept.old kept.new) }
     ensures refused { IfErr result (λ r. (r ≡ NoMemory) ⊎ (r ≡ Stale)) }
-    ensures number { kept.new.number ≡ kept.old.number }
+    ensures number { K.node_number kept.new ≡ K.node_number kept.old }
 {
-    match kept.arrive(posted) {
-        Ok(made) => Ok(finish_step(rt, kept, housekeeping, made)),
-        Err(Refusal::Stale) => Err(Refusal::Stale),
-        Err(_) => Err(Refusal::NoMemory),
-    }
+    let made = kept.arrive(posted)?;
+    Ok(finish_step(rt, kept, housekeeping, made))
 }
 
 /// What the directory answered arrives, and its entry is looked for: whether it isn't lost.
-pub fn step_located<L: Ledger, R: Wait, P: Pause>(
+pub fn step_located<K: JournaledNode, R: Wait, P: Pause>(
     rt: &R,
-    kept: &mut Kept<L>,
+    kept: &mut K,
     housekeeping: &Housekeeping<P>,
-    located: Posted<L>,
+    located: K::Posted,
 ) -> bool
-    ensures once { result ≡ true → (a : Arrival) → arrival_of located.from located.message ≡ Some a → HasArrived located.job a (seen_node kept.old.node kept.old.count kept.old.logs) (seen_node kept.new.node kept.new.count kept.new.logs) }
-    ensures same { result ≡ false → IsUntouched (seen_node kept.old.node kept.old.count kept.old.logs) (seen_node kept.new.node kept.new.count kept.new.logs) }
-    ensures number { kept.new.number ≡ kept.old.number }
+    ensures once { result ≡ true → HasArrived K.arrives located kept.old kept.new }
+    ensures same { result ≡ false → K.untouched kept.old kept.new }
+    ensures number { K.node_number kept.new ≡ K.node_number kept.old }
 {
     match step_arrival(rt, kept, housekeeping, located) {
         Err(_) => false,
         Ok(stepped) => {
-            audit(
-                rt,
-                kept,
-                &housekeeping.tallies,
-                slice::from_ref(&stepped.receipt),
-            );
+            audit_one(rt, kept, &housekeeping.tallies, &stepped.receipt);
             true
         }
     }
 }
 
 /// Settles a step that was made, and gives the rest of it.
-fn finish_step<L: Ledger, R: Wait, P: Pause>(
+fn finish_step<K: JournaledNode, R: Wait, P: Pause>(
     rt: &R,
-    kept: &Kept<L>,
+    kept: &K,
     housekeeping: &Housekeeping<P>,
-    made: Made<L>,
-) -> Stepped<L>
-    ensures reply { result.reply ≡ made.outcome.reply }
-    ensures mail { posts_left result.mail ≡ made.outcome.messages }
+    made: Made<K::Receipt, K::Mail, K::Erase>,
+) -> Stepped<K::Receipt, K::Mail>
+    ensures reply { result.reply ≡ made.reply }
+    ensures mail { result.mail ≡ made.mail }
     ensures receipt { result.receipt ≡ made.receipt }
 {
-    let Parts {
+    let Made {
         reply,
         erase,
         mail,
         receipt,
-    } = made.into_parts();
-    let wake_scope = wake_scope_of(receipt.input().as_ref(), &reply);
-    let keys = keys_given(&erase);
-    housekeeping.after_step(rt, keys, kept.has_work(), receipt.job(), wake_scope);
+    } = made;
+    let wake_scope = wake_scope_of(K::input(&receipt), &reply);
+    housekeeping.after_step(
+        rt,
+        K::keys(&erase),
+        kept.has_work(),
+        K::job(&receipt),
+        wake_scope,
+    );
     Stepped {
         reply,
         receipt,
         mail,
-    }
-}
-
-/// The keys that a step gave out to be erased.
-fn keys_given(erase: &Erase) -> &[DeviceKey]
-    ensures { result.now ≡ keys_of erase.now }
-{
-    match erase {
-        Erase::NoKey => &[],
-        Erase::One(key) => slice::from_ref(key),
-        Erase::Many(keys) => keys.as_slice(),
     }
 }

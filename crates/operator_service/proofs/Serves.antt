@@ -3,6 +3,8 @@ use Rattle.std.proofs.Common.{◌≡◌, ℕ, suc, ◌+◌, List, [], ◌∷◌,
 use Rattle.std.specs.Prelude.{IfSome}
 use Rattle.std.specs.Io.BufRead.{take_through}
 use Rattle.std.specs.Io.KnownBytes.{Keeps, Consumes, IsAtEnd}
+use Rattle.obj_id.specs.declared.commands.Reply.{Reply}
+use Rattle.private_store.specs.declared.schedules.Event.{Event}
 use Rattle.program_lines.specs.declared.fault.Fault.{Fault}
 use Rattle.program_lines.specs.declared.fault.Fault.TheVariants.{NotAStep, Input, Output, Socket, Folded, NoMemory}
 use Rattle.operator_service.specs.declared.serving.LastLine.{LastLine}
@@ -13,12 +15,12 @@ use Rattle.operator_service.specs.Servings.{CarriesOut, StopsOrder, Serving, Ser
 use Rattle.program_lines.proofs.ForCallers.{next_line}
 use Rattle.store_facts.proofs.KnownBytes.{Appends-none, Appends-then, Appends-kept, Consumes-none, Consumes-then, Consumes-all}
 
-pub begun : (nodes : ℕ) (a b : Option (List ℕ)) → Serving nodes 1 a a b b
-begun nodes a b = record { lines = []; counted = refl; obeyed = tt; consumed = Consumes-none a; written = Appends-none b }
+pub begun : {T : Type 0} (receipt_of : Event → Reply (List ℕ) → T → Type 0) (nodes : ℕ) (a b : Option (List ℕ)) → Serving receipt_of nodes 1 a a b b
+begun receipt_of nodes a b = record { lines = []; counted = refl; obeyed = tt; consumed = Consumes-none a; written = Appends-none b }
 
-module _ (nodes number : ℕ) (a r b w : Option (List ℕ)) (so_far : Serving nodes number a r b w) where
+module _ {T : Type 0} (receipt_of : Event → Reply (List ℕ) → T → Type 0) (nodes number : ℕ) (a r b w : Option (List ℕ)) (so_far : Serving receipt_of nodes number a r b w) where
   module _ (r1 : Option (List ℕ)) (bytes : List ℕ) (read : Consumes r r1 bytes) where
-    pub line_more : (w1 : Option (List ℕ)) → CarriesOut nodes bytes w w1 → Serving nodes (number + 1) a r1 b w1
+    pub line_more : (w1 : Option (List ℕ)) → CarriesOut receipt_of nodes bytes w w1 → Serving receipt_of nodes (number + 1) a r1 b w1
     line_more w1 obeys =
         let counted = so_far.counted in
         record {
@@ -31,7 +33,7 @@ module _ (nodes number : ℕ) (a r b w : Option (List ℕ)) (so_far : Serving no
 
     module _ (count : ℕ) where
       ended : (w1 : Option (List ℕ)) (result : Result LastLine Fault) → IsWritten b w1 (answers_of so_far.lines) result
-          → ServingEnds nodes count (suc (length so_far.lines)) a (orders_of so_far.lines) bytes result → ServedText nodes count a r1 b w1 result
+          → ServingEnds nodes count (suc (length so_far.lines)) a (orders_of so_far.lines) bytes result → ServedText receipt_of nodes count a r1 b w1 result
       ended w1 result written ends =
           record {
             lines = so_far.lines;
@@ -42,7 +44,7 @@ module _ (nodes number : ℕ) (a r b w : Option (List ℕ)) (so_far : Serving no
             ends = ends;
           }
 
-      pub reading_failed : (fault : Fault) → IsReadingFault fault → ServedText nodes count a r1 b w (Err fault)
+      pub reading_failed : (fault : Fault) → IsReadingFault fault → ServedText receipt_of nodes count a r1 b w (Err fault)
       reading_failed (NotAStep n) is = absurd is
       reading_failed Output is = absurd is
       reading_failed Socket is = absurd is
@@ -50,13 +52,13 @@ module _ (nodes number : ℕ) (a r b w : Option (List ℕ)) (so_far : Serving no
       reading_failed Input is = ended w (Err Input) so_far.written tt
       reading_failed NoMemory is = ended w (Err NoMemory) so_far.written tt
 
-      pub input_ended : IsAtEnd r → ServedText nodes count a r1 b w (Ok OfInput)
+      pub input_ended : IsAtEnd r → ServedText receipt_of nodes count a r1 b w (Ok OfInput)
       input_ended end = ended w (Ok OfInput) so_far.written (Consumes-all a r (orders_of so_far.lines) so_far.consumed end)
 
-      pub closed : (w1 : Option (List ℕ)) → bytes ≡ close_line → Keeps w w1 → ServedText nodes count a r1 b w1 (Ok Close)
+      pub closed : (w1 : Option (List ℕ)) → bytes ≡ close_line → Keeps w w1 → ServedText receipt_of nodes count a r1 b w1 (Ok Close)
       closed w1 is kept = ended w1 (Ok Close) (Appends-kept b w w1 (answers_of so_far.lines) so_far.written kept) is
 
-      pub line_stopped : IfSome r (λ left. bytes ≡ take_through 10 left) → (w1 : Option (List ℕ)) (fault : Fault) → StopsOrder nodes count number bytes w w1 fault → ServedText nodes count a r1 b w1 (Err fault)
+      pub line_stopped : IfSome r (λ left. bytes ≡ take_through 10 left) → (w1 : Option (List ℕ)) (fault : Fault) → StopsOrder nodes count number bytes w w1 fault → ServedText receipt_of nodes count a r1 b w1 (Err fault)
       line_stopped whole w1 (NotAStep n) stops =
           ended w1 (Err (NotAStep n)) (Appends-kept b w w1 (answers_of so_far.lines) so_far.written stops.2) (stops.0 ∙ sym so_far.counted, stops.1, next_line a r (orders_of so_far.lines) bytes so_far.consumed whole)
       line_stopped whole w1 Input stops = absurd stops
@@ -65,5 +67,5 @@ module _ (nodes number : ℕ) (a r b w : Option (List ℕ)) (so_far : Serving no
       line_stopped whole w1 Output stops = ended w1 (Err Output) tt tt
       line_stopped whole w1 NoMemory stops = ended w1 (Err NoMemory) (Appends-kept b w w1 (answers_of so_far.lines) so_far.written stops) tt
 
-  pub too_many : (count : ℕ) → ServedText nodes count a r b w (Err Input)
+  pub too_many : (count : ℕ) → ServedText receipt_of nodes count a r b w (Err Input)
   too_many count = reading_failed r [] (Consumes-none r) count Input tt

@@ -9,7 +9,7 @@ use Rattle.schedule_text.specs.declared.prefixes.Prefix.TheVariants.{Operator}
 use Rattle.schedule_text.specs.Printing.{line_text}
 use Rattle.schedule_text.specs.Reading.{is_skipped}
 use Rattle.node_housekeeping.specs.declared.report.Report.{Report}
-use Rattle.node_steps.specs.Witnesses.{Witness}
+use Rattle.private_store.specs.declared.schedules.Event.{Event}
 use Rattle.program_lines.specs.declared.operator.Change.{Change}
 use Rattle.operator_service.specs.declared.attending.TheConstants.{ORDERS}
 use Rattle.program_lines.specs.declared.taking.TheConstants.{LONGEST_LINE}
@@ -34,10 +34,10 @@ abbrev pub no_order_line : ℕ → List ℕ
 no_order_line number = with_line_feed (codes "line " ++ decimal number ++ codes ": not an order: the orders are " ++ ORDERS.now)
 
 -- to a line that asks for a change: the node's, with the reply to this very change
-pub record IsChangeLine (node : ℕ) (what : Change) (line : List ℕ) : Type 0 where
+pub record IsChangeLine {T : Type 0} (receipt_of : Event → Reply (List ℕ) → T → Type 0) (node : ℕ) (what : Change) (line : List ℕ) : Type 0 where
   pub response : Reply (List ℕ)
-  pub witness : Option Witness
-  pub carried : IsCarriedOut what response witness
+  pub receipt : Option T
+  pub carried : IsCarriedOut receipt_of what response receipt
   pub is : line ≡ line_text (Operator node) (Response response)
 
 -- to one that lets the server close: its report, or that a fault ended it
@@ -49,11 +49,11 @@ pub record IsClosingLine (line : List ℕ) : Type 0 where
   pub report : Option Report
   pub is : line ≡ closing_line report
 
-abbrev pub IsAnswer : ControlLine → List ℕ → Type 0
-IsAnswer (asked.Order (order.Change node c)) line = IsChangeLine node c line
-IsAnswer (asked.Order order.Close) line = IsClosingLine line
-IsAnswer asked.CloseNow line = IsClosingLine line
-IsAnswer (asked.Look node what) line = IsLookText node what line
+abbrev pub IsAnswer : {T : Type 0} → (Event → Reply (List ℕ) → T → Type 0) → ControlLine → List ℕ → Type 0
+IsAnswer receipt_of (asked.Order (order.Change node c)) line = IsChangeLine receipt_of node c line
+IsAnswer receipt_of (asked.Order order.Close) line = IsClosingLine line
+IsAnswer receipt_of asked.CloseNow line = IsClosingLine line
+IsAnswer receipt_of (asked.Look node what) line = IsLookText node what line
 
 -- after it nothing more is read
 abbrev pub is_closing : ControlLine → Bool
@@ -68,27 +68,27 @@ pub record IsNoAsked (nodes count : ℕ) (text : List ℕ) : Type 0 where
 
 -- a line with this number, without its line feed, was answered so, and whether it was the last: what is skipped has no answer, an order
 -- its own, and any other line is answered that it is none
-pub data IsHandled (nodes count number : ℕ) (text : List ℕ) : List ℕ → Bool → Type 0 where
-  skipped : is_skipped text ≡ true → IsHandled nodes count number text [] false
-  long : LONGEST_LINE < length text → IsHandled nodes count number text (no_order_line number) false
-  none : IsNoAsked nodes count text → IsHandled nodes count number text (no_order_line number) false
-  answered : (a : ControlLine) (line : List ℕ) → IsControlLine nodes text a → IsAnswer a line → IsHandled nodes count number text line (is_closing a)
+pub data IsHandled {T : Type 0} (receipt_of : Event → Reply (List ℕ) → T → Type 0) (nodes count number : ℕ) (text : List ℕ) : List ℕ → Bool → Type 0 where
+  skipped : is_skipped text ≡ true → IsHandled receipt_of nodes count number text [] false
+  long : LONGEST_LINE < length text → IsHandled receipt_of nodes count number text (no_order_line number) false
+  none : IsNoAsked nodes count text → IsHandled receipt_of nodes count number text (no_order_line number) false
+  answered : (a : ControlLine) (line : List ℕ) → IsControlLine nodes text a → IsAnswer receipt_of a line → IsHandled receipt_of nodes count number text line (is_closing a)
 
 -- the answer that was made of it
-abbrev pub IsAnswered : ℕ → ℕ → ℕ → List ℕ → Answer → Type 0
-IsAnswered nodes count number text a = IsHandled nodes count number text (string_bytes a.line) a.is_last
+abbrev pub IsAnswered : {T : Type 0} → (Event → Reply (List ℕ) → T → Type 0) → ℕ → ℕ → ℕ → List ℕ → Answer → Type 0
+IsAnswered receipt_of nodes count number text a = IsHandled receipt_of nodes count number text (string_bytes a.line) a.is_last
 
 -- what was made of an order: its answer, or that it is none, since there is no such node
 pub record IsNone (number : ℕ) (a : Answer) : Type 0 where
   pub line : string_bytes a.line ≡ no_order_line number
   pub further : a.is_last ≡ false
 
-pub record IsAnswerOf (what : ControlLine) (a : Answer) : Type 0 where
-  pub line : IsAnswer what (string_bytes a.line)
+pub record IsAnswerOf {T : Type 0} (receipt_of : Event → Reply (List ℕ) → T → Type 0) (what : ControlLine) (a : Answer) : Type 0 where
+  pub line : IsAnswer receipt_of what (string_bytes a.line)
   pub last : a.is_last ≡ is_closing what
 
-abbrev pub IsAnswerMade : ℕ → ℕ → ControlLine → Answer → Type 0
-IsAnswerMade count number what a = IsAnswerOf what a ⊎ ((IsAskedWithin count what → ⊥) × IsNone number a)
+abbrev pub IsAnswerMade : {T : Type 0} → (Event → Reply (List ℕ) → T → Type 0) → ℕ → ℕ → ControlLine → Answer → Type 0
+IsAnswerMade receipt_of count number what a = IsAnswerOf receipt_of what a ⊎ ((IsAskedWithin count what → ⊥) × IsNone number a)
 
 -- the text that was taken, of which only a line that isn't too long was kept
 abbrev pub IsAnswerText : LineTaken → List ℕ → List ℕ → Type 0
@@ -96,9 +96,9 @@ IsAnswerText Line line text = text ≡ line
 IsAnswerText TooLong line text = LONGEST_LINE < length text
 
 -- a line is answered, and the answer written
-pub record Replies (nodes count number : ℕ) (text : List ℕ) (written_old written_new : Option (List ℕ)) (is_last : Bool) : Type 0 where
+pub record Replies {T : Type 0} (receipt_of : Event → Reply (List ℕ) → T → Type 0) (nodes count number : ℕ) (text : List ℕ) (written_old written_new : Option (List ℕ)) (is_last : Bool) : Type 0 where
   pub answer : List ℕ
-  pub handled : IsHandled nodes count number text answer is_last
+  pub handled : IsHandled receipt_of nodes count number text answer is_last
   pub written : Appends written_old written_new answer
 
 -- ---- the whole of a connection
@@ -110,9 +110,9 @@ pub record Attended : Type 0 where
   pub is_last : Bool
 
 -- of lines that stand newest first: each is one, with the next number, and was answered
-abbrev pub AreAttended : ℕ → ℕ → List Attended → Type 0
-AreAttended nodes count [] = ⊤
-AreAttended nodes count (a ∷ lines) = IsUnbroken a.text × IsHandled nodes count (suc (length lines)) a.text a.answer a.is_last × AreAttended nodes count lines
+abbrev pub AreAttended : {T : Type 0} → (Event → Reply (List ℕ) → T → Type 0) → ℕ → ℕ → List Attended → Type 0
+AreAttended receipt_of nodes count [] = ⊤
+AreAttended receipt_of nodes count (a ∷ lines) = IsUnbroken a.text × IsHandled receipt_of nodes count (suc (length lines)) a.text a.answer a.is_last × AreAttended receipt_of nodes count lines
 
 -- the bytes that were read
 abbrev pub texts_of : List Attended → List ℕ
@@ -125,12 +125,12 @@ answers_of [] = []
 answers_of (a ∷ lines) = answers_of lines ++ a.answer
 
 -- the connection so far
-pub record Attending (nodes count number : ℕ) (read_old read_new written_old written_new : Option (List ℕ)) : Type 0 where
+pub record Attending {T : Type 0} (receipt_of : Event → Reply (List ℕ) → T → Type 0) (nodes count number : ℕ) (read_old read_new written_old written_new : Option (List ℕ)) : Type 0 where
   -- newest first
   pub lines : List Attended
   -- the number of the next line
   pub counted : suc (length lines) ≡ number
-  pub attended : AreAttended nodes count lines
+  pub attended : AreAttended receipt_of nodes count lines
   pub consumed : Consumes read_old read_new (texts_of lines)
   pub written : Appends written_old written_new (answers_of lines)
 
@@ -150,12 +150,12 @@ AttendingEnds read_new lines rest (Err Folded) = ⊥
 AttendingEnds read_new lines rest (Err NoMemory) = ⊤
 
 -- the whole of it
-pub record HasAttended (nodes count : ℕ) (read_old read_new written_old written_new : Option (List ℕ)) (result : Result ⊤ Fault) : Type 0 where
+pub record HasAttended {T : Type 0} (receipt_of : Event → Reply (List ℕ) → T → Type 0) (nodes count : ℕ) (read_old read_new written_old written_new : Option (List ℕ)) (result : Result ⊤ Fault) : Type 0 where
   -- newest first
   pub lines : List Attended
   -- what was read after them
   pub rest : List ℕ
-  pub attended : AreAttended nodes count lines
+  pub attended : AreAttended receipt_of nodes count lines
   pub consumed : Consumes read_old read_new (texts_of lines ++ rest)
   pub written : IsWritten written_old written_new (answers_of lines) result
   pub ends : AttendingEnds read_new lines rest result

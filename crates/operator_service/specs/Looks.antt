@@ -6,7 +6,7 @@ use Rattle.obj_id.specs.declared.refusals.Refusal.TheVariants.{NotAdmitted}
 use Rattle.private_store.specs.declared.schedules.StepAnswer.TheVariants.{Response}
 use Rattle.schedule_text.specs.declared.prefixes.Prefix.TheVariants.{Operator}
 use Rattle.schedule_text.specs.Printing.{line_text}
-use Rattle.node_steps.specs.declared.looking.LiveJob.{LiveJob}
+use Rattle.node_gate.specs.declared.journaled.LiveJob.{LiveJob}
 use Rattle.program_lines.specs.declared.control_lines.Look.{Look}
 use Rattle.program_lines.specs.declared.control_lines.Look.TheVariants as look
 use Rattle.schedule_text.specs.Lines.{with_line_feed}

@@ -11,7 +11,6 @@ use Rattle.private_store.specs.declared.schedules.StepAnswer.TheVariants.{Respon
 use Rattle.schedule_text.specs.declared.prefixes.Prefix.TheVariants.{Operator}
 use Rattle.schedule_text.specs.Printing.{line_text}
 use Rattle.node_housekeeping.specs.declared.report.Report.{Report}
-use Rattle.node_steps.specs.Witnesses.{Witness, IsReceiptOf}
 use Rattle.program_lines.specs.declared.fault.Fault.{Fault}
 use Rattle.program_lines.specs.declared.fault.Fault.TheVariants.{NotAStep, Input, Output, Socket, Folded, NoMemory}
 use Rattle.program_lines.specs.declared.operator.Change.{Change}
@@ -30,49 +29,49 @@ event_of_change (change.Requota job quota) = event.Requota job quota
 event_of_change (change.End job) = event.JobEnd job
 
 -- the reply is that of a step of this very change, of which the receipt tells; without memory there was no step
-abbrev pub IsCarriedOut : Change → Reply (List ℕ) → Option Witness → Type 0
-IsCarriedOut asked response witness = MatchOption witness (response ≡ reply.Refused refusal.NoMemory) (IsReceiptOf (event_of_change asked) response)
+abbrev pub IsCarriedOut : {T : Type 0} → (Event → Reply (List ℕ) → T → Type 0) → Change → Reply (List ℕ) → Option T → Type 0
+IsCarriedOut receipt_of asked response receipt = MatchOption receipt (response ≡ reply.Refused refusal.NoMemory) (receipt_of (event_of_change asked) response)
 
--- a line, without its line feed, and the answer to it, with what the receipt of its step tells
-pub record Obeyed : Type 0 where
+-- a line, without its line feed, and the answer to it, with the receipt of its step
+pub record Obeyed (T : Type 0) : Type 0 where
   pub text : List ℕ
   pub node : ℕ
   pub change : Change
   pub reply : Reply (List ℕ)
-  pub witness : Option Witness
+  pub receipt : Option T
 
 -- the bytes of a line that was answered
-abbrev pub order_answer_text : Obeyed → List ℕ
+abbrev pub order_answer_text : {T : Type 0} → Obeyed T → List ℕ
 order_answer_text o = line_text (Operator o.node) (Response o.reply)
 
 -- of lines that stand newest first: each spells its change, which was carried out
-abbrev pub AreObeyed : ℕ → List Obeyed → Type 0
-AreObeyed nodes [] = ⊤
-AreObeyed nodes (o ∷ lines) = IsOrder nodes o.text (order.Change o.node o.change) × IsCarriedOut o.change o.reply o.witness × AreObeyed nodes lines
+abbrev pub AreObeyed : {T : Type 0} → (Event → Reply (List ℕ) → T → Type 0) → ℕ → List (Obeyed T) → Type 0
+AreObeyed receipt_of nodes [] = ⊤
+AreObeyed receipt_of nodes (o ∷ lines) = IsOrder nodes o.text (order.Change o.node o.change) × IsCarriedOut receipt_of o.change o.reply o.receipt × AreObeyed receipt_of nodes lines
 
 -- the bytes that were read
-abbrev pub orders_of : List Obeyed → List ℕ
+abbrev pub orders_of : {T : Type 0} → List (Obeyed T) → List ℕ
 orders_of [] = []
 orders_of (o ∷ lines) = orders_of lines ++ with_line_feed o.text
 
 -- the bytes that were written
-abbrev pub answers_of : List Obeyed → List ℕ
+abbrev pub answers_of : {T : Type 0} → List (Obeyed T) → List ℕ
 answers_of [] = []
 answers_of (o ∷ lines) = answers_of lines ++ order_answer_text o
 
 -- a change is carried out, and its answer written
-pub record Replies (node : ℕ) (asked : Change) (written_old written_new : Option (List ℕ)) : Type 0 where
+pub record Replies {T : Type 0} (receipt_of : Event → Reply (List ℕ) → T → Type 0) (node : ℕ) (asked : Change) (written_old written_new : Option (List ℕ)) : Type 0 where
   pub reply : Reply (List ℕ)
-  pub witness : Option Witness
-  pub carried : IsCarriedOut asked reply witness
+  pub receipt : Option T
+  pub carried : IsCarriedOut receipt_of asked reply receipt
   pub written : Appends written_old written_new (line_text (Operator node) (Response reply))
 
 -- a line is carried out, and its answer written
-pub record CarriesOut (nodes : ℕ) (bytes : List ℕ) (written_old written_new : Option (List ℕ)) : Type 0 where
-  pub obeyed : Obeyed
+pub record CarriesOut {T : Type 0} (receipt_of : Event → Reply (List ℕ) → T → Type 0) (nodes : ℕ) (bytes : List ℕ) (written_old written_new : Option (List ℕ)) : Type 0 where
+  pub obeyed : Obeyed T
   pub is_text : bytes ≡ with_line_feed obeyed.text
   pub spelled : IsOrder nodes obeyed.text (order.Change obeyed.node obeyed.change)
-  pub carried : IsCarriedOut obeyed.change obeyed.reply obeyed.witness
+  pub carried : IsCarriedOut receipt_of obeyed.change obeyed.reply obeyed.receipt
   pub written : Appends written_old written_new (order_answer_text obeyed)
 
 -- the bytes of `close`
@@ -80,9 +79,9 @@ abbrev pub close_line : List ℕ
 close_line = with_line_feed (codes "close")
 
 -- a line after which it goes on, or doesn't
-abbrev pub ServesLine : ℕ → List ℕ → Option (List ℕ) → Option (List ℕ) → Bool → Type 0
-ServesLine nodes bytes written_old written_new true = CarriesOut nodes bytes written_old written_new
-ServesLine nodes bytes written_old written_new false = (bytes ≡ close_line) × Keeps written_old written_new
+abbrev pub ServesLine : {T : Type 0} → (Event → Reply (List ℕ) → T → Type 0) → ℕ → List ℕ → Option (List ℕ) → Option (List ℕ) → Bool → Type 0
+ServesLine receipt_of nodes bytes written_old written_new true = CarriesOut receipt_of nodes bytes written_old written_new
+ServesLine receipt_of nodes bytes written_old written_new false = (bytes ≡ close_line) × Keeps written_old written_new
 
 -- an answer that isn't written, but perhaps a part if the output failed
 abbrev pub StopsReply : Option (List ℕ) → Option (List ℕ) → Fault → Type 0
@@ -107,12 +106,12 @@ StopsOrder nodes count number bytes written_old written_new Folded = ⊥
 StopsOrder nodes count number bytes written_old written_new NoMemory = Keeps written_old written_new
 
 -- the serving so far
-pub record Serving (nodes number : ℕ) (read_old read_new written_old written_new : Option (List ℕ)) : Type 0 where
+pub record Serving {T : Type 0} (receipt_of : Event → Reply (List ℕ) → T → Type 0) (nodes number : ℕ) (read_old read_new written_old written_new : Option (List ℕ)) : Type 0 where
   -- newest first
-  pub lines : List Obeyed
+  pub lines : List (Obeyed T)
   -- the number of the next line
   pub counted : suc (length lines) ≡ number
-  pub obeyed : AreObeyed nodes lines
+  pub obeyed : AreObeyed receipt_of nodes lines
   pub consumed : Consumes read_old read_new (orders_of lines)
   pub written : Appends written_old written_new (answers_of lines)
 
@@ -139,12 +138,12 @@ IsWritten written_old written_new text (Err Folded) = ⊥
 IsWritten written_old written_new text (Err NoMemory) = Appends written_old written_new text
 
 -- the whole of it, at a cluster of so many nodes, which lines may name up to another number
-pub record ServedText (nodes count : ℕ) (read_old read_new written_old written_new : Option (List ℕ)) (result : Result LastLine Fault) : Type 0 where
+pub record ServedText {T : Type 0} (receipt_of : Event → Reply (List ℕ) → T → Type 0) (nodes count : ℕ) (read_old read_new written_old written_new : Option (List ℕ)) (result : Result LastLine Fault) : Type 0 where
   -- newest first
-  pub lines : List Obeyed
+  pub lines : List (Obeyed T)
   -- what was read of the line after them
   pub rest : List ℕ
-  pub obeyed : AreObeyed nodes lines
+  pub obeyed : AreObeyed receipt_of nodes lines
   pub consumed : Consumes read_old read_new (orders_of lines ++ rest)
   pub written : IsWritten written_old written_new (answers_of lines) result
   pub ends : ServingEnds nodes count (suc (length lines)) read_old (orders_of lines) rest result

@@ -11,6 +11,7 @@ ghost use Rattle.operator_service.specs.Servings.{StopsReply};
 use crate::looks::look_text;
 use crate::serving::{carry_out, node_at, report_line, write_out};
 use memory_growth::{OutOfMemory, text_of, texts};
+use node_gate::JournaledNode;
 use node_housekeeping::Report;
 use private_store::StepAnswer;
 use program_lines::{
@@ -21,7 +22,6 @@ use shared_nodes::SharedNode;
 use std::alloc::Global;
 use std::io::{Read, Write};
 use std::str;
-use std::sync::ledger::Ledger;
 use std::sync::{Arc, Wait};
 
 /// The words that are orders, as a line that is none is answered.
@@ -48,16 +48,16 @@ struct Answer {
 /// one that begins with `#` have none. A line that is no order is answered so, with its number, counted from 1, and so is one of more
 /// than 4,096 bytes. A fault is of this connection alone, and the next line has no answer; only if the output failed nobody knows what
 /// was written.
-pub fn attend<L: Ledger, R: Wait, I: Read, O: Write, C: Closing>(
+pub fn attend<K: JournaledNode, R: Wait, I: Read, O: Write, C: Closing>(
     rt: &R,
     alloc: Global,
-    nodes: &[Arc<SharedNode<L>>],
+    nodes: &[Arc<SharedNode<K>>],
     count: u32,
     reader: &mut I,
     writer: &mut O,
     closing: &C,
 ) -> Result<(), Fault>
-    ensures { HasAttended count (length nodes.now) (I.remaining reader.old) (I.remaining reader.new) (O.contents writer.old) (O.contents writer.new) result }
+    ensures { HasAttended K.receipt_of count (length nodes.now) (I.remaining reader.old) (I.remaining reader.new) (O.contents writer.old) (O.contents writer.new) result }
 {
     let mut line = Vec::new(alloc);
     for number in 1..u64::MAX {
@@ -78,10 +78,10 @@ pub fn attend<L: Ledger, R: Wait, I: Read, O: Write, C: Closing>(
 }
 
 /// Answers the line of this number, and hands the answer over: whether it is the last.
-fn reply_to<L: Ledger, R: Wait, O: Write, C: Closing>(
+fn reply_to<K: JournaledNode, R: Wait, O: Write, C: Closing>(
     rt: &R,
     alloc: Global,
-    nodes: &[Arc<SharedNode<L>>],
+    nodes: &[Arc<SharedNode<K>>],
     count: u32,
     number: u64,
     taken: LineTaken,
@@ -89,7 +89,7 @@ fn reply_to<L: Ledger, R: Wait, O: Write, C: Closing>(
     writer: &mut O,
     closing: &C,
 ) -> Result<bool, Fault>
-    ensures ok { IfOk result (λ is_last. (text : List ℕ) → IsAnswerText taken line.now text → Replies count (length nodes.now) number text (O.contents writer.old) (O.contents writer.new) is_last) }
+    ensures ok { IfOk result (λ is_last. (text : List ℕ) → IsAnswerText taken line.now text → Replies K.receipt_of count (length nodes.now) number text (O.contents writer.old) (O.contents writer.new) is_last) }
     ensures err { IfErr result (StopsReply (O.contents writer.old) (O.contents writer.new)) }
 {
     let Ok(Answer { line, is_last }) = answer_of(
@@ -104,17 +104,17 @@ fn reply_to<L: Ledger, R: Wait, O: Write, C: Closing>(
 }
 
 /// The answer to what was taken as the line of this number.
-fn answer_of<L: Ledger, R: Wait, C: Closing>(
+fn answer_of<K: JournaledNode, R: Wait, C: Closing>(
     rt: &R,
     alloc: Global,
-    nodes: &[Arc<SharedNode<L>>],
+    nodes: &[Arc<SharedNode<K>>],
     count: u32,
     number: u64,
     taken: LineTaken,
     line: &[u8],
     closing: &C,
 ) -> Result<Answer, OutOfMemory>
-    ensures { IfOk result (λ answer. (text : List ℕ) → IsAnswerText taken line.now text → IsAnswered count (length nodes.now) number text answer) }
+    ensures { IfOk result (λ answer. (text : List ℕ) → IsAnswerText taken line.now text → IsAnswered K.receipt_of count (length nodes.now) number text answer) }
 {
     match taken {
         LineTaken::Line => answer_to(rt, alloc, nodes, count, number, line, closing),
@@ -123,16 +123,16 @@ fn answer_of<L: Ledger, R: Wait, C: Closing>(
 }
 
 /// The answer to the text of a line.
-fn answer_to<L: Ledger, R: Wait, C: Closing>(
+fn answer_to<K: JournaledNode, R: Wait, C: Closing>(
     rt: &R,
     alloc: Global,
-    nodes: &[Arc<SharedNode<L>>],
+    nodes: &[Arc<SharedNode<K>>],
     count: u32,
     number: u64,
     text: &[u8],
     closing: &C,
 ) -> Result<Answer, OutOfMemory>
-    ensures { IfOk result (IsAnswered count (length nodes.now) number text.now) }
+    ensures { IfOk result (IsAnswered K.receipt_of count (length nodes.now) number text.now) }
 {
     if is_skipped(text) {
         return Ok(Answer {
@@ -158,15 +158,15 @@ fn hear_asked(alloc: Global, text: &[u8], nodes: u32) -> Result<Option<ControlLi
 }
 
 /// Does what was asked for, and answers.
-fn answer_asked<L: Ledger, R: Wait, C: Closing>(
+fn answer_asked<K: JournaledNode, R: Wait, C: Closing>(
     rt: &R,
     alloc: Global,
-    nodes: &[Arc<SharedNode<L>>],
+    nodes: &[Arc<SharedNode<K>>],
     number: u64,
     asked: ControlLine,
     closing: &C,
 ) -> Result<Answer, OutOfMemory>
-    ensures { IfOk result (IsAnswerMade (length nodes.now) number asked) }
+    ensures { IfOk result (IsAnswerMade K.receipt_of (length nodes.now) number asked) }
 {
     match asked {
         ControlLine::Order(Order::Close) => last_answer(alloc, closing.close(rt, false)),
@@ -200,14 +200,14 @@ fn no_order_line(alloc: Global, number: u64) -> Result<String, OutOfMemory>
 }
 
 /// Makes a change at the node of this number, and answers.
-fn change_answer<L: Ledger, R: Wait>(
+fn change_answer<K: JournaledNode, R: Wait>(
     rt: &R,
     alloc: Global,
-    shared: &SharedNode<L>,
+    shared: &SharedNode<K>,
     node: u32,
     change: Change,
 ) -> Result<Answer, OutOfMemory>
-    ensures { IfOk result (λ answer. IsChangeLine node change (string_bytes answer.line) × (answer.is_last ≡ false)) }
+    ensures { IfOk result (λ answer. IsChangeLine K.receipt_of node change (string_bytes answer.line) × (answer.is_last ≡ false)) }
 {
     let (reply, _looked_for) = carry_out(rt, shared, change);
     Ok(Answer {
@@ -217,10 +217,10 @@ fn change_answer<L: Ledger, R: Wait>(
 }
 
 /// The answer that shows something of a node.
-fn look_answer<L: Ledger, R: Wait>(
+fn look_answer<K: JournaledNode, R: Wait>(
     rt: &R,
     alloc: Global,
-    shared: &SharedNode<L>,
+    shared: &SharedNode<K>,
     node: u32,
     look: Look,
 ) -> Result<Answer, OutOfMemory>

@@ -5,7 +5,7 @@ ghost use Rattle.operator_service.specs.Looks.{IsLookText, IsUsageReply, job_tex
 
 use bytes::Bytes;
 use memory_growth::{OutOfMemory, text_of, texts};
-use node_steps::LiveJob;
+use node_gate::{JournaledNode, LiveJob};
 use obj_id::{JobNo, Reply};
 use private_store::StepAnswer;
 use program_lines::Look;
@@ -13,13 +13,12 @@ use schedule_text::{Prefix, answer_line};
 use shared_nodes::SharedNode;
 use std::alloc::Global;
 use std::sync::Wait;
-use std::sync::ledger::Ledger;
 
 /// The line that shows something of the node of this number.
-pub(crate) fn look_text<L: Ledger, R: Wait>(
+pub(crate) fn look_text<K: JournaledNode, R: Wait>(
     rt: &R,
     alloc: Global,
-    shared: &SharedNode<L>,
+    shared: &SharedNode<K>,
     node: u32,
     look: Look,
 ) -> Result<String, OutOfMemory>
@@ -36,7 +35,11 @@ pub(crate) fn look_text<L: Ledger, R: Wait>(
 }
 
 /// What a job uses of its quotas, or that it isn't live.
-fn usage_reply<L: Ledger, R: Wait>(rt: &R, shared: &SharedNode<L>, job: JobNo) -> Reply<Bytes>
+fn usage_reply<K: JournaledNode, R: Wait>(
+    rt: &R,
+    shared: &SharedNode<K>,
+    job: JobNo,
+) -> Reply<Bytes>
     ensures { IsUsageReply result }
 {
     match shared.usage(rt, job) {

@@ -14,8 +14,8 @@ ghost use Rattle.operator_service.specs.Servings.{report_line, IsCarriedOut, Ser
 
 use bytes::Bytes;
 use memory_growth::{OutOfMemory, text_of};
+use node_gate::JournaledNode;
 use node_housekeeping::Report;
-use node_journal::Receipt;
 use obj_id::Reply;
 use private_store::StepAnswer;
 use program_lines::{Change, Fault, Order, next_line, read_order};
@@ -24,7 +24,6 @@ use shared_nodes::SharedNode;
 use std::alloc::Global;
 use std::io::{BufRead, Write};
 use std::str;
-use std::sync::ledger::Ledger;
 use std::sync::{Arc, Wait};
 
 /// What the operator's lines ended with.
@@ -43,15 +42,15 @@ pub enum LastLine {
 /// answers' lines, in that order. `NotAStep` has the number of the first line, counted from 1, that is none of the operator's,
 /// names a node that the cluster doesn't have, or lacks its line feed; every other line is carried out, but for want of memory or a
 /// failure of the output.
-pub fn serve_text<L: Ledger, R: Wait, I: BufRead, O: Write>(
+pub fn serve_text<K: JournaledNode, R: Wait, I: BufRead, O: Write>(
     rt: &R,
     alloc: Global,
-    nodes: &[Arc<SharedNode<L>>],
+    nodes: &[Arc<SharedNode<K>>],
     count: u32,
     reader: &mut I,
     writer: &mut O,
 ) -> Result<LastLine, Fault>
-    ensures { ServedText count (length nodes.now) (I.remaining reader.old) (I.remaining reader.new) (O.contents writer.old) (O.contents writer.new) result }
+    ensures { ServedText K.receipt_of count (length nodes.now) (I.remaining reader.old) (I.remaining reader.new) (O.contents writer.old) (O.contents writer.new) result }
 {
     let mut line = Vec::new(alloc);
     for number in 1..u64::MAX {
@@ -72,16 +71,16 @@ pub fn serve_text<L: Ledger, R: Wait, I: BufRead, O: Write>(
 
 /// Carries out the line of this number, and writes its answer; false if it is `close`. `NotAStep` also if the cluster has no
 /// such node.
-fn serve_line<L: Ledger, R: Wait, O: Write>(
+fn serve_line<K: JournaledNode, R: Wait, O: Write>(
     rt: &R,
     alloc: Global,
-    nodes: &[Arc<SharedNode<L>>],
+    nodes: &[Arc<SharedNode<K>>],
     count: u32,
     number: u64,
     line: &[u8],
     writer: &mut O,
 ) -> Result<bool, Fault>
-    ensures ok { IfOk result (ServesLine count line.now (O.contents writer.old) (O.contents writer.new)) }
+    ensures ok { IfOk result (ServesLine K.receipt_of count line.now (O.contents writer.old) (O.contents writer.new)) }
     ensures err { IfErr result (StopsOrder count (length nodes.now) number line.now (O.contents writer.old) (O.contents writer.new)) }
 {
     let Some((b'\n', text)) = line.split_last() else {
@@ -113,15 +112,15 @@ fn hear_order(alloc: Global, text: &[u8], nodes: u32) -> Result<Option<Order>, O
 }
 
 /// Makes a change at the node of this number, and writes the line of the answer.
-fn answer_change<L: Ledger, R: Wait, O: Write>(
+fn answer_change<K: JournaledNode, R: Wait, O: Write>(
     rt: &R,
     alloc: Global,
-    shared: &SharedNode<L>,
+    shared: &SharedNode<K>,
     node: u32,
     change: Change,
     writer: &mut O,
 ) -> Result<(), Fault>
-    ensures ok { OnOk result (Replies node change (O.contents writer.old) (O.contents writer.new)) }
+    ensures ok { OnOk result (Replies K.receipt_of node change (O.contents writer.old) (O.contents writer.new)) }
     ensures err { IfErr result (StopsReply (O.contents writer.old) (O.contents writer.new)) }
 {
     let (reply, _looked_for) = carry_out(rt, shared, change);
@@ -130,12 +129,12 @@ fn answer_change<L: Ledger, R: Wait, O: Write>(
 
 /// Makes a change at the node, and gives its reply, with the receipt of its entry, which was looked for. There is none exactly if the
 /// reply is `NoMemory`.
-pub(crate) fn carry_out<L: Ledger, R: Wait>(
+pub(crate) fn carry_out<K: JournaledNode, R: Wait>(
     rt: &R,
-    shared: &SharedNode<L>,
+    shared: &SharedNode<K>,
     change: Change,
-) -> (Reply<Bytes>, Option<Receipt<L>>)
-    ensures { IsCarriedOut change result.0 (option_map (λ r. record { job = r.job; entry = r.entry; asked = r.asked.value; whole = r.whole.value }) result.1) }
+) -> (Reply<Bytes>, Option<K::Receipt>)
+    ensures { IsCarriedOut K.receipt_of change result.0 result.1 }
 {
     match change {
         Change::Admit { job, quota, key } => shared.admit(rt, job, quota, key),
@@ -145,10 +144,10 @@ pub(crate) fn carry_out<L: Ledger, R: Wait>(
 }
 
 /// The node of this number, if there is one.
-pub(crate) fn node_at<L: Ledger>(
-    nodes: &[Arc<SharedNode<L>>],
+pub(crate) fn node_at<K: JournaledNode>(
+    nodes: &[Arc<SharedNode<K>>],
     number: u32,
-) -> Option<&SharedNode<L>>
+) -> Option<&SharedNode<K>>
     ensures there { IsSome result ↔ (number < length nodes.now) }
     ensures which { option_map (λ shared. shared.now) result ≡ option_map arc_value (slice_get nodes.now number) }
 {

@@ -1,6 +1,7 @@
 //! Listeners, and the sessions of the streams that they accept.
 use crate::Session;
 use memory_growth::{OutOfMemory, boxes};
+use node_gate::JournaledNode;
 use node_housekeeping::Pause;
 use session_engine::serve;
 use shared_nodes::SharedNode;
@@ -9,7 +10,6 @@ use std::io::BufWriter;
 use std::net::Shutdown;
 use std::os::fd::OwnedFd;
 use std::os::unix::net::{UnixListener, UnixStream};
-use std::sync::ledger::Ledger;
 use std::sync::{Arc, Wait};
 use std::thread::{JoinHandle, Threads};
 use std::time::{Clock, Duration};
@@ -42,15 +42,24 @@ impl Listening {
 /// A stream that can't be accepted, that comes while 1,024 sessions of the node are open or fewer than 16 descriptors are left, or for
 /// which there is no memory or no thread, is closed without an answer, and the others are served.
 pub fn listen<
-    L: Ledger + Send + Sync + 'static,
+    K: JournaledNode + Send + 'static,
     R: Threads + Wait + Clock + Copy + Send + 'static,
     P: Pause + Send + Sync + 'static,
 >(
     rt: R,
     alloc: Global,
-    node: Arc<SharedNode<L, P>>,
+    node: Arc<SharedNode<K, P>>,
     listener: UnixListener,
-) -> io::Result<Listening> {
+) -> io::Result<Listening>
+where
+    K::Receipt: Send + 'static,
+    K::Mail: Send + 'static,
+    K::Posted: Send + 'static,
+    K::Erase: Send + 'static,
+    K::Entered: Send + 'static,
+    K::Prepared: Send + 'static,
+    K::Gone: Send + 'static,
+{
     let socket = UnixStream::from(OwnedFd::from(listener.try_clone()?));
     let job = move || accept_all(rt, alloc, &node, &listener);
     let thread = thread::spawn(&rt, job)?;
@@ -59,10 +68,19 @@ pub fn listen<
 
 /// Accepts streams until the node is shut and the listener's socket with it.
 fn accept_all<
-    L: Ledger + Send + Sync + 'static,
+    K: JournaledNode + Send + 'static,
     R: Threads + Wait + Clock + Copy + Send + 'static,
     P: Pause + Send + Sync + 'static,
->(rt: R, alloc: Global, node: &Arc<SharedNode<L, P>>, listener: &UnixListener) {
+>(rt: R, alloc: Global, node: &Arc<SharedNode<K, P>>, listener: &UnixListener)
+where
+    K::Receipt: Send + 'static,
+    K::Mail: Send + 'static,
+    K::Posted: Send + 'static,
+    K::Erase: Send + 'static,
+    K::Entered: Send + 'static,
+    K::Prepared: Send + 'static,
+    K::Gone: Send + 'static,
+{
     for stream in listener.incoming() {
         if node.housekeeping().waiting.is_shut() {
             return;
@@ -78,15 +96,19 @@ fn accept_all<
 
 /// Serves a stream in a thread of its own.
 fn start_session<
-    L: Ledger + Send + Sync + 'static,
+    K: JournaledNode + Send + 'static,
     R: Threads + Wait + Clock + Copy + Send + 'static,
     P: Pause + Send + Sync + 'static,
->(
-    rt: R,
-    alloc: Global,
-    node: &Arc<SharedNode<L, P>>,
-    stream: UnixStream,
-) -> Result<(), OutOfMemory> {
+>(rt: R, alloc: Global, node: &Arc<SharedNode<K, P>>, stream: UnixStream) -> Result<(), OutOfMemory>
+where
+    K::Receipt: Send + 'static,
+    K::Mail: Send + 'static,
+    K::Posted: Send + 'static,
+    K::Erase: Send + 'static,
+    K::Entered: Send + 'static,
+    K::Prepared: Send + 'static,
+    K::Gone: Send + 'static,
+{
     let theirs = boxes::another(node)?;
     let upkeep = node.housekeeping();
     if !upkeep.streams.have_spare(&stream) || !upkeep.sessions.begin(&rt) {
@@ -100,10 +122,10 @@ fn start_session<
 }
 
 /// Serves a session over the stream, to its end.
-fn serve_stream<L: Ledger, P: Pause, R: Wait + Clock>(
+fn serve_stream<K: JournaledNode, P: Pause, R: Wait + Clock>(
     rt: &R,
     alloc: Global,
-    node: &SharedNode<L, P>,
+    node: &SharedNode<K, P>,
     stream: UnixStream,
 ) {
     // without memory for its place among the open ones it is closed
@@ -115,10 +137,10 @@ fn serve_stream<L: Ledger, P: Pause, R: Wait + Clock>(
 }
 
 /// The same of a stream that has its place among the open ones.
-fn serve_open<L: Ledger, P: Pause, R: Wait + Clock>(
+fn serve_open<K: JournaledNode, P: Pause, R: Wait + Clock>(
     rt: &R,
     alloc: Global,
-    node: &SharedNode<L, P>,
+    node: &SharedNode<K, P>,
     stream: &UnixStream,
 ) {
     let mut session = Session::of_stream(rt, node, stream);

@@ -1,3 +1,2 @@
 mod Answering
-pub mod Crossing
 mod Rounds

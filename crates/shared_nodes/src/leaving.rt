@@ -1,19 +1,18 @@
 //! How a session is left at its end: now, or, if there is no memory for it, by a later step of its node.
 ghost use Rattle.std.specs.Prelude.{IfSome};
-ghost use Rattle.node_steps.specs.Witnesses.{IsLast};
+ghost use Rattle.node_gate.specs.Calls.{IsLast};
 
 use crate::SharedNode;
+use node_gate::JournaledNode;
 use node_housekeeping::{MOST_SESSIONS, Pause};
-use node_journal::{Mail, Receipt};
 use node_steps::step_mark;
 use obj_id::{Command, JobNo};
 use std::sync::Wait;
-use std::sync::ledger::Ledger;
 
-impl<L: Ledger, P: Pause> SharedNode<L, P> {
+impl<K: JournaledNode, P: Pause> SharedNode<K, P> {
     /// Leaves a session, with the receipt of the entry. If there is no memory for that, the session is marked.
-    pub fn leave<R: Wait>(&self, rt: &R, job: JobNo, session: u32) -> Option<Receipt<L>>
-        ensures { IfSome result (λ r. IsLast job session (record { job = r.job; entry = r.entry; asked = r.asked.value; whole = r.whole.value })) }
+    pub fn leave<R: Wait>(&self, rt: &R, job: JobNo, session: u32) -> Option<K::Receipt>
+        ensures { IfSome result (λ r. IsLast K.called_by job session r) }
     {
         let (_, receipt) = self.call(rt, job, session, Command::Leave);
         if receipt.is_none() {
@@ -41,7 +40,7 @@ impl<L: Ledger, P: Pause> SharedNode<L, P> {
     }
 
     /// Leaves the session that was marked first: what that sends. None if no session is marked, or there is no memory for it.
-    fn leave_first<R: Wait>(&self, rt: &R) -> Option<Mail<L>> {
+    fn leave_first<R: Wait>(&self, rt: &R) -> Option<K::Mail> {
         let mut kept = self.kept.lock(rt);
         let sessions = &self.housekeeping.sessions;
         let mark = sessions.first_marked(rt)?;

@@ -4,24 +4,23 @@ ghost use Rattle.obj_id.specs.declared.refusals.Refusal.TheVariants.{NotAdmitted
 
 use crate::SharedNode;
 use memory_growth::OutOfMemory;
+use node_gate::{JournaledNode, LiveJob};
 use node_housekeeping::Pause;
-use node_steps::{LiveJob, live_jobs_of};
 use obj_id::{JobNo, Refusal, Usage};
 use std::net::Shutdown;
 use std::sync::Wait;
-use std::sync::ledger::Ledger;
 
-impl<L: Ledger, P: Pause> SharedNode<L, P> {
+impl<K: JournaledNode, P: Pause> SharedNode<K, P> {
     /// A job's quotas and what is used of them. `NotAdmitted` if the job isn't live. Takes no memory.
     pub fn usage<R: Wait>(&self, rt: &R, job: JobNo) -> Result<Usage, Refusal>
         ensures { IfErr result (λ refusal. refusal ≡ NotAdmitted) }
     {
-        self.kept.lock(rt).node().usage(job)
+        self.kept.lock(rt).usage(job)
     }
 
     /// The live jobs, by rising number. The error is out of memory.
     pub fn live_jobs<R: Wait>(&self, rt: &R) -> Result<Vec<LiveJob>, OutOfMemory> {
-        live_jobs_of(self.housekeeping.alloc, &*self.kept.lock(rt))
+        self.kept.lock(rt).live_jobs(self.housekeeping.alloc)
     }
 
     /// How many sessions are open.

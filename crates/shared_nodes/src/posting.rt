@@ -1,16 +1,15 @@
 //! What a step sends is handed over once the node's lock is left.
 use crate::SharedNode;
 use crate::receipt_buffer::ReceiptBuffer;
+use node_gate::{JournaledNode, Posted};
 use node_housekeeping::Pause;
-use node_journal::{Mail, Posted};
 use node_links::Delivery;
 use obj_id::{Message, PeerMessage};
 use std::sync::Wait;
-use std::sync::ledger::Ledger;
 
-impl<L: Ledger, P: Pause> SharedNode<L, P> {
+impl<K: JournaledNode, P: Pause> SharedNode<K, P> {
     /// Hands over what a step has sent, in order, and counts what is lost: whether a Pull was among it.
-    pub(crate) fn post<R: Wait>(&self, rt: &R, mail: Mail<L>) -> bool {
+    pub(crate) fn post<R: Wait>(&self, rt: &R, mail: K::Mail) -> bool {
         let mut is_pulling = false;
         let mut lost = 0u64;
         for posted in mail {
@@ -25,7 +24,7 @@ impl<L: Ledger, P: Pause> SharedNode<L, P> {
 
     /// Hands a message over to its place: whether it came there. What the directory answers arrives here, and no answer of it makes
     /// a node send.
-    fn deliver<R: Wait>(&self, rt: &R, posted: Posted<L>) -> bool {
+    fn deliver<R: Wait>(&self, rt: &R, posted: K::Posted) -> bool {
         match self.outbox.deliver(rt, posted) {
             Delivery::Over => true,
             Delivery::Lost => false,
@@ -34,8 +33,13 @@ impl<L: Ledger, P: Pause> SharedNode<L, P> {
     }
 
     /// A message of a link arrives, and its receipt is gathered, or it is lost, as it is without room for the receipt.
-    pub fn receive_one<R: Wait>(&self, rt: &R, posted: Posted<L>, receipts: &mut ReceiptBuffer<L>) {
-        if receipts.make_room(rt, self).is_err() {
+    pub fn receive_one<R: Wait>(
+        &self,
+        rt: &R,
+        posted: K::Posted,
+        receipts: &mut ReceiptBuffer<K::Receipt>,
+    ) {
+        if self.make_room(rt, receipts).is_err() {
             self.housekeeping.tallies.lost(rt, 1);
             return;
         }

@@ -1,15 +1,13 @@
 //! What takes long is done before a node is locked for the step that wants it, or after it: zeros are made, bytes are hashed, and
 //! memory is given back. Whatever becomes of them meanwhile, the step is the same.
-ghost use Rattle.std.specs.Prelude.{◌≡◌};
+ghost use Rattle.std.specs.Prelude.{◌≡◌, ◌⊎◌};
 
 use crate::SharedNode;
 use bytes::Bytes;
 use hashed_bytes::Hashed;
-use job_region::Zeros;
 use memory_growth::{lists, shared};
-use node_core::Prepared;
+use node_gate::{JournaledNode, Posted};
 use node_housekeeping::Pause;
-use node_journal::{Kept, Posted};
 use obj_id::limits::{CHUNK_SIZE, LONGEST_OBJECT, UNIT};
 use obj_id::{
     ChunkIndex, Command, DeviceAnswer, Endpoint, FetchNo, JobNo, Message, NodeNo, ObjectId,
@@ -18,7 +16,6 @@ use obj_id::{
 use private_store::Event;
 use std::alloc::Global;
 use std::sync::Wait;
-use std::sync::ledger::Ledger;
 
 /// A chunk that arrives.
 #[derive(Clone, Copy)]
@@ -30,7 +27,7 @@ struct Chunk<'a> {
     bytes: &'a Bytes,
 }
 
-impl<L: Ledger, P: Pause> SharedNode<L, P> {
+impl<K: JournaledNode, P: Pause> SharedNode<K, P> {
     /// What a Seal wants: the digest of the copy's bytes. The copy has it once its bytes were compared with those that were hashed, a
     /// part at a time, between which others may lock the node.
     pub(crate) fn prepare_seal<R: Wait>(&self, rt: &R, job: JobNo, id: &ObjectId) {
@@ -51,11 +48,11 @@ impl<L: Ledger, P: Pause> SharedNode<L, P> {
         rt: &R,
         job: JobNo,
         command: &Command<Bytes>,
-    ) -> Prepared {
-        let zeros = self.zeros_for(rt, job, command);
-        Prepared {
-            zeros,
-            ..Prepared::nothing()
+    ) -> K::Prepared {
+        let wanted = self.kept.lock(rt).extent_wanted(job, command);
+        match wanted {
+            Some(len) => K::prepared_zeros(self.housekeeping.alloc, len),
+            None => K::nothing_prepared(),
         }
     }
 
@@ -65,23 +62,17 @@ impl<L: Ledger, P: Pause> SharedNode<L, P> {
         Some(Hashed::new(bytes))
     }
 
-    /// Zeros for the extent that the command may place.
-    fn zeros_for<R: Wait>(&self, rt: &R, job: JobNo, command: &Command<Bytes>) -> Option<Zeros> {
-        let len = self.kept.lock(rt).node().extent_wanted(job, command)?;
-        Zeros::for_object(self.housekeeping.alloc, len).ok()
-    }
-
     /// What a message that arrives wants: the last chunk of an object the digest of all its bytes.
-    pub(crate) fn prepare_arrival<R: Wait>(&self, rt: &R, posted: &Posted<L>) -> Prepared {
+    pub(crate) fn prepare_arrival<R: Wait>(&self, rt: &R, posted: &K::Posted) -> K::Prepared {
         match chunk_of(posted) {
-            Some(chunk) => hashed_first(self.hash_with_last(rt, posted.job(), &chunk)),
-            None => Prepared::nothing(),
+            Some(chunk) => K::prepared_bytes(self.hash_with_last(rt, posted.job(), &chunk), None),
+            None => K::nothing_prepared(),
         }
     }
 
     /// The bytes of the object of which no chunk but this one is missing, with their digest.
     fn hash_with_last<R: Wait>(&self, rt: &R, job: JobNo, chunk: &Chunk<'_>) -> Option<Hashed> {
-        let len = self.kept.lock(rt).node().length_with_last(
+        let len = self.kept.lock(rt).length_with_last(
             job,
             chunk.from,
             chunk.id,
@@ -113,30 +104,26 @@ impl<L: Ledger, P: Pause> SharedNode<L, P> {
         index: u32,
     ) -> Option<Bytes> {
         let offset = index.saturating_mul(CHUNK_SIZE);
-        self.kept
-            .lock(rt)
-            .node()
-            .copy_part(job, id, offset, CHUNK_SIZE)
+        self.kept.lock(rt).copy_part(job, id, offset, CHUNK_SIZE)
     }
 }
 
 /// What the Finish of a read wants, which are the digest of the bytes that were read, and they as they fill an extent; and the job
 /// whose it is.
-pub(crate) fn prepare_finish(alloc: Global, event: &Event) -> (JobNo, Prepared) {
+pub(crate) fn prepare_finish<K: JournaledNode>(
+    alloc: Global,
+    event: &Event,
+) -> (JobNo, K::Prepared) {
     let Event::Finish {
         job,
         answer: DeviceAnswer::Bytes(bytes),
         ..
     } = event
     else {
-        return (JobNo(0), Prepared::nothing());
+        return (JobNo(0), K::nothing_prepared());
     };
-    let prepared = Prepared {
-        hashed: shared::again(bytes).ok().map(Hashed::new),
-        filled: filled(alloc, bytes),
-        ..Prepared::nothing()
-    };
-    (*job, prepared)
+    let hashed = shared::again(bytes).ok().map(Hashed::new);
+    (*job, K::prepared_bytes(hashed, filled(alloc, bytes)))
 }
 
 /// The bytes with zeros up to the end of an extent, if they don't fill one by themselves.
@@ -168,26 +155,22 @@ pub(crate) fn may_remove(command: &Command<Bytes>) -> bool {
 
 /// The memory of copies that a step of the job took out, if it may have: to be let go once the node isn't locked. No step, so
 /// nothing else changes.
-pub(crate) fn spent_by<L: Ledger>(kept: &mut Kept<L>, job: JobNo, removes: bool) -> Option<Prepared>
-    ensures { (kept.new.node ≡ kept.old.node) × (kept.new.count ≡ kept.old.count) × (kept.new.number ≡ kept.old.number) }
+pub(crate) fn spent_by<K: JournaledNode>(
+    kept: &mut K,
+    job: JobNo,
+    removes: bool,
+) -> Option<K::Prepared>
+    ensures { (kept.new ≡ kept.old) ⊎ K.rests kept.old kept.new }
 {
     if removes {
-        Some(kept.prepare(job, Prepared::nothing()))
+        Some(kept.prepare(job, K::nothing_prepared()))
     } else {
         None
     }
 }
 
-/// The digest alone.
-fn hashed_first(hashed: Option<Hashed>) -> Prepared {
-    Prepared {
-        hashed,
-        ..Prepared::nothing()
-    }
-}
-
 /// The chunk that the message is, if it is one.
-fn chunk_of<L: Ledger>(posted: &Posted<L>) -> Option<Chunk<'_>> {
+fn chunk_of<M: Posted>(posted: &M) -> Option<Chunk<'_>> {
     let Endpoint::Node(from) = posted.from() else {
         return None;
     };

@@ -5,28 +5,27 @@ ghost use Rattle.shared_nodes.specs.declared.receipt_buffer.TheConstants.{MOST_R
 
 use crate::SharedNode;
 use memory_growth::{OutOfMemory, lists};
+use node_gate::JournaledNode;
 use node_housekeeping::Pause;
-use node_journal::Receipt;
-use node_steps::audit;
+use node_steps::{audit, audit_one};
 use std::alloc::Global;
 use std::sync::Wait;
-use std::sync::ledger::Ledger;
 
 /// The receipts that an actor gathers at most until it looks for them.
 pub const MOST_RECEIPTS: usize = 128;
 
 /// The receipts of one actor at one node that weren't looked for yet: a session's, a worker's or those of a link's end.
 #[derive(Drop)]
-pub struct ReceiptBuffer<L: Ledger> {
+pub struct ReceiptBuffer<T> {
     // all but the last, oldest first
-    earlier: Vec<Receipt<L>>,
-    last: Option<Receipt<L>>,
+    earlier: Vec<T>,
+    last: Option<T>,
     ghost few: { vec_len earlier < MOST_RECEIPTS },
 }
 
-impl<L: Ledger> ReceiptBuffer<L> {
+impl<T: Drop> ReceiptBuffer<T> {
     /// No receipt. Takes no memory.
-    pub fn new(alloc: Global) -> ReceiptBuffer<L>
+    pub fn new(alloc: Global) -> ReceiptBuffer<T>
         ensures earlier { result.earlier.items ≡ [] }
         ensures last { result.last ≡ None }
     {
@@ -36,33 +35,8 @@ impl<L: Ledger> ReceiptBuffer<L> {
         }
     }
 
-    /// Makes room for the receipt of a step, before the step. If 128 are there, all but the last are looked for under one lock
-    /// of the node, and forgotten. The error is out of memory, and then nothing has changed.
-    pub fn make_room<R: Wait, P: Pause>(
-        &mut self,
-        rt: &R,
-        node: &SharedNode<L, P>,
-    ) -> Result<(), OutOfMemory>
-        ensures last { self.new.last ≡ self.old.last }
-        ensures earlier { self.new.earlier.items ≡ (if vec_len self.old.earlier + 1 == MOST_RECEIPTS then [] else self.old.earlier.items) }
-        ensures memory { OnOk result (vec_len self.new.earlier < vec_capacity self.new.earlier) }
-        ensures few { OnOk result (vec_len self.new.earlier + 1 < MOST_RECEIPTS) }
-        ensures unchanged { OnErr result (self.new.earlier.items ≡ self.old.earlier.items) }
-    {
-        if self.earlier.len() + 1 == MOST_RECEIPTS {
-            audit(
-                rt,
-                &*node.kept.lock(rt),
-                &node.housekeeping.tallies,
-                &self.earlier,
-            );
-            self.earlier.clear();
-        }
-        lists::reserve(&mut self.earlier, 1)
-    }
-
     /// Adds the receipt of a step, for which there is room.
-    pub fn add(&mut self, receipt: Receipt<L>)
+    pub fn add(&mut self, receipt: T)
         requires memory { vec_len self.old.earlier < vec_capacity self.old.earlier }
         requires few { vec_len self.old.earlier + 1 < MOST_RECEIPTS }
         ensures last { self.new.last ≡ Some receipt }
@@ -72,11 +46,40 @@ impl<L: Ledger> ReceiptBuffer<L> {
             self.earlier.push(earlier).unwrap();
         }
     }
+}
 
-    /// Looks for all that are there, under one lock of the node: what its actor does at its end.
-    pub fn audit_all<R: Wait, P: Pause>(&self, rt: &R, node: &SharedNode<L, P>) {
-        let kept = node.kept.lock(rt);
-        audit(rt, &*kept, &node.housekeeping.tallies, &self.earlier);
-        audit(rt, &*kept, &node.housekeeping.tallies, self.last.as_slice());
+impl<K: JournaledNode, P: Pause> SharedNode<K, P> {
+    /// Makes room for the receipt of a step, before the step. If 128 are there, all but the last are looked for under one lock
+    /// of the node, and forgotten. The error is out of memory, and then nothing has changed.
+    pub fn make_room<R: Wait>(
+        &self,
+        rt: &R,
+        receipts: &mut ReceiptBuffer<K::Receipt>,
+    ) -> Result<(), OutOfMemory>
+        ensures last { receipts.new.last ≡ receipts.old.last }
+        ensures earlier { receipts.new.earlier.items ≡ (if vec_len receipts.old.earlier + 1 == MOST_RECEIPTS then [] else receipts.old.earlier.items) }
+        ensures memory { OnOk result (vec_len receipts.new.earlier < vec_capacity receipts.new.earlier) }
+        ensures few { OnOk result (vec_len receipts.new.earlier + 1 < MOST_RECEIPTS) }
+        ensures unchanged { OnErr result (receipts.new.earlier.items ≡ receipts.old.earlier.items) }
+    {
+        if receipts.earlier.len() + 1 == MOST_RECEIPTS {
+            audit(
+                rt,
+                &*self.kept.lock(rt),
+                &self.housekeeping.tallies,
+                &receipts.earlier,
+            );
+            receipts.earlier.clear();
+        }
+        lists::reserve(&mut receipts.earlier, 1)
+    }
+
+    /// Looks for all that are there, under one lock of the node: what their actor does at its end.
+    pub fn audit_all<R: Wait>(&self, rt: &R, receipts: &ReceiptBuffer<K::Receipt>) {
+        let kept = self.kept.lock(rt);
+        audit(rt, &*kept, &self.housekeeping.tallies, &receipts.earlier);
+        if let Some(last) = &receipts.last {
+            audit_one(rt, &*kept, &self.housekeeping.tallies, last);
+        }
     }
 }

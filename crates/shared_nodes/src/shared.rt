@@ -1,17 +1,12 @@
 //! A node with its journal behind a lock.
-ghost use Rattle.std.specs.Prelude.{◌≡◌, ◌⊎◌, ◌<◌, ◌≤◌, true, false, Some, None, MatchOption, MatchResult, IfSome, IfOk, IfErr};
+ghost use Rattle.std.specs.Prelude.{◌≡◌, ◌⊎◌, ◌<◌, true, false, Some, None, MatchOption, MatchResult, IfSome, IfOk, IfErr};
 ghost use Rattle.obj_id.specs.declared.commands.Command.TheVariants as command;
 ghost use Rattle.obj_id.specs.declared.commands.Reply.TheVariants as reply;
-ghost use Rattle.obj_id.specs.declared.refusals.Refusal.TheVariants.{NoMemory, Stale};
-ghost use Rattle.private_store.specs.laws.Answers.{wants_memory, is_small_reply};
-ghost use Rattle.job_admission.specs.Admissions.{largest_memory};
+ghost use Rattle.obj_id.specs.declared.refusals.Refusal.TheVariants.{NoMemory, NotAdmitted, Stale, TooMany};
+ghost use Rattle.private_store.specs.laws.Answers.{is_small_reply};
 ghost use Rattle.private_store.specs.declared.schedules.Event.TheVariants as event;
-ghost use Rattle.session_engine.specs.Calls.{IsEntryRefusal};
-ghost use Rattle.obj_id.specs.declared.messages.Arrival.{Arrival};
-ghost use Rattle.private_store.specs.rules.Cluster.{arrival_of};
 ghost use Rattle.shared_nodes.specs.Rounds.{IsHandedIn, IsWorkTaken};
 ghost use Rattle.shared_nodes.specs.Gathering.{receipts_in_order};
-ghost use Rattle.node_steps.specs.Witnesses.{IsCalled, IsArrived, IsReceiptOf, witness_of};
 ghost use Rattle.private_store.specs.rules.Frames.{tried};
 
 use crate::preparing::{may_remove, prepare_finish, spent_by};
@@ -19,12 +14,11 @@ use crate::receipt_buffer::ReceiptBuffer;
 use crate::refusing::out_of_memory;
 use bytes::Bytes;
 use memory_growth::OutOfMemory;
-use node_core::Prepared;
+use node_gate::{Access, JournaledNode, Keeper, Posted};
 use node_housekeeping::{Housekeeping, NoPause, Pause, Versions, Waiting, is_gone};
-use node_journal::{Access, Entered, Keeper, Kept, Posted, Receipt};
 use node_links::Outbox;
 use node_steps::{
-    Stepped, audit, may_reach_others, step_arrival, step_call, step_call_after, step_end,
+    Stepped, audit_one, may_reach_others, step_arrival, step_call, step_call_after, step_end,
     step_event, step_located, step_order, step_take, sweep_after,
 };
 use obj_id::{Command, JobKey, JobNo, ObjectId, Quota, Refusal, Reply};
@@ -32,8 +26,6 @@ use private_store::{Awaited, Event};
 use std::alloc::Global;
 use std::hint::spin_loop;
 use std::os::unix::net::UnixStream;
-use std::slice;
-use std::sync::ledger::{Ledger, Share};
 use std::sync::{Arc, Mutex, MutexGuard, Wait};
 use std::time::Clock;
 
@@ -47,14 +39,14 @@ const PAUSES: u32 = 16;
 //
 // Locks are taken in this order: a maker's place, a queue, the node, and under it at most one of the others, which are let go at once. No
 // device is called under any, and nothing is hashed or made under a queue's.
-pub struct SharedNode<L: Ledger, P = NoPause> {
-    pub(crate) kept: Mutex<Kept<L>>,
-    pub(crate) outbox: Outbox<L>,
+pub struct SharedNode<K: JournaledNode, P = NoPause> {
+    pub(crate) kept: Mutex<K>,
+    pub(crate) outbox: Outbox<K::Posted>,
     pub(crate) housekeeping: Housekeeping<P>,
 }
 
 // By hand, so that it is proved here and not in each crate above.
-impl<L: Ledger, P: Drop> Drop for SharedNode<L, P> {
+impl<K: JournaledNode, P: Drop> Drop for SharedNode<K, P> {
     fn drop(self) {
         let SharedNode {
             kept: _kept,
@@ -64,29 +56,23 @@ impl<L: Ledger, P: Drop> Drop for SharedNode<L, P> {
     }
 }
 
-impl<L: Ledger, P: Pause> Keeper<L> for SharedNode<L, P> {
-    fn kept(&self, _access: Access) -> &Mutex<Kept<L>> {
+impl<K: JournaledNode, P: Pause> Keeper<K> for SharedNode<K, P> {
+    fn kept(&self, _access: &Access<K>) -> &Mutex<K> {
         &self.kept
     }
 }
 
-impl<L: Ledger, P: Pause> SharedNode<L, P> {
-    /// A node of this number, with so many bytes of memory and no job, on one part of the name, with these ways out. This pauses
-    /// its steps.
+impl<K: JournaledNode, P: Pause> SharedNode<K, P> {
+    /// This node, with these ways out. This pauses its steps.
     pub fn new(
         alloc: Global,
-        number: u32,
-        memory: u64,
-        seat: Share<L>,
-        outbox: Outbox<L>,
+        kept: K,
+        outbox: Outbox<K::Posted>,
         waiting: Arc<Waiting>,
         pause: P,
-    ) -> SharedNode<L, P>
-        requires memory { memory ≤ largest_memory }
-        requires seat { (seat.parts ≡ 1) × (seat.amount ≡ 0) }
-    {
+    ) -> SharedNode<K, P> {
         SharedNode {
-            kept: Mutex::new(Kept::new(alloc, number, memory, seat)),
+            kept: Mutex::new(kept),
             outbox,
             housekeeping: Housekeeping::new(alloc, waiting, pause),
         }
@@ -100,8 +86,8 @@ impl<L: Ledger, P: Pause> SharedNode<L, P> {
         job: JobNo,
         session: u32,
         command: Command<Bytes>,
-    ) -> (Reply<Bytes>, Option<Receipt<L>>)
-        ensures called { MatchOption result.1 (result.0 ≡ reply.Refused NoMemory) (λ r. (wants_memory result.0 ≡ false) × IsCalled job session command result.0 (witness_of r)) }
+    ) -> (Reply<Bytes>, Option<K::Receipt>)
+        ensures called { MatchOption result.1 (result.0 ≡ reply.Refused NoMemory) (λ r. K.called_by (event.Call job session command) result.0 r) }
         ensures small { is_small_reply result.0 ≡ true }
     {
         self.leave_marked(rt);
@@ -116,12 +102,12 @@ impl<L: Ledger, P: Pause> SharedNode<L, P> {
         job: JobNo,
         session: u32,
         command: Command<Bytes>,
-    ) -> Result<Stepped<L>, OutOfMemory>
-        ensures called { IfOk result (λ s. (wants_memory s.reply ≡ false) × IsCalled job session command s.reply (witness_of s.receipt)) }
+    ) -> Result<Stepped<K::Receipt, K::Mail>, OutOfMemory>
+        ensures called { IfOk result (λ s. K.called_by (event.Call job session command) s.reply s.receipt) }
         ensures small { IfOk result (λ s. is_small_reply s.reply ≡ true) }
     {
         let (queued, mut kept) = self.lock_for(rt, job, &command);
-        if kept.node().wants(job, &command) {
+        if kept.wants(job, &command) {
             drop(kept);
             drop(queued);
             return self.step_prepared(rt, job, session, command);
@@ -138,7 +124,7 @@ impl<L: Ledger, P: Pause> SharedNode<L, P> {
 
     /// Locks the node, for which a session of each queue waits at most. A thread that sleeps is woken late, and most holds are over after a
     /// microsecond, so it looks for some ten of them first.
-    fn lock<R: Wait>(&self, rt: &R) -> MutexGuard<'_, Kept<L>> {
+    fn lock<R: Wait>(&self, rt: &R) -> MutexGuard<'_, K> {
         for _ in 0..LOOKS {
             if let Some(kept) = self.kept.try_lock() {
                 return kept;
@@ -156,7 +142,7 @@ impl<L: Ledger, P: Pause> SharedNode<L, P> {
         rt: &R,
         job: JobNo,
         command: &Command<Bytes>,
-    ) -> (MutexGuard<'_, ()>, MutexGuard<'_, Kept<L>>) {
+    ) -> (MutexGuard<'_, ()>, MutexGuard<'_, K>) {
         for _ in rt.forever() {
             let queued = self.housekeeping.queues.of(job).lock(rt);
             let kept = self.lock(rt);
@@ -177,8 +163,8 @@ impl<L: Ledger, P: Pause> SharedNode<L, P> {
         job: JobNo,
         session: u32,
         command: Command<Bytes>,
-    ) -> Result<Stepped<L>, OutOfMemory>
-        ensures called { IfOk result (λ s. (wants_memory s.reply ≡ false) × IsCalled job session command s.reply (witness_of s.receipt)) }
+    ) -> Result<Stepped<K::Receipt, K::Mail>, OutOfMemory>
+        ensures called { IfOk result (λ s. K.called_by (event.Call job session command) s.reply s.receipt) }
         ensures small { IfOk result (λ s. is_small_reply s.reply ≡ true) }
     {
         if let Command::Seal(id) = &command {
@@ -199,14 +185,14 @@ impl<L: Ledger, P: Pause> SharedNode<L, P> {
         job: JobNo,
         session: u32,
         id: ObjectId,
-    ) -> Result<Stepped<L>, OutOfMemory>
-        ensures called { IfOk result (λ s. (wants_memory s.reply ≡ false) × IsCalled job session (command.Seal id) s.reply (witness_of s.receipt)) }
+    ) -> Result<Stepped<K::Receipt, K::Mail>, OutOfMemory>
+        ensures called { IfOk result (λ s. K.called_by (event.Call job session (command.Seal id)) s.reply s.receipt) }
         ensures small { IfOk result (λ s. is_small_reply s.reply ≡ true) }
     {
         let seals = &self.housekeeping.seals;
         seals.begin(rt, job, &id);
         self.prepare_seal(rt, job, &id);
-        let stepped = self.step_with(rt, Prepared::nothing(), job, session, Command::Seal(id));
+        let stepped = self.step_with(rt, K::nothing_prepared(), job, session, Command::Seal(id));
         seals.end(rt, job, &id);
         stepped
     }
@@ -215,12 +201,12 @@ impl<L: Ledger, P: Pause> SharedNode<L, P> {
     fn step_with<R: Wait>(
         &self,
         rt: &R,
-        prepared: Prepared,
+        prepared: K::Prepared,
         job: JobNo,
         session: u32,
         command: Command<Bytes>,
-    ) -> Result<Stepped<L>, OutOfMemory>
-        ensures called { IfOk result (λ s. (wants_memory s.reply ≡ false) × IsCalled job session command s.reply (witness_of s.receipt)) }
+    ) -> Result<Stepped<K::Receipt, K::Mail>, OutOfMemory>
+        ensures called { IfOk result (λ s. K.called_by (event.Call job session command) s.reply s.receipt) }
         ensures small { IfOk result (λ s. is_small_reply s.reply ≡ true) }
     {
         let queued = self.housekeeping.queues.of(job).lock(rt);
@@ -240,13 +226,13 @@ impl<L: Ledger, P: Pause> SharedNode<L, P> {
     pub fn call_after<R: Wait>(
         &self,
         rt: &R,
-        receipt: &Receipt<L>,
+        receipt: &K::Receipt,
         job: JobNo,
         session: u32,
         command: Command<Bytes>,
-    ) -> (Reply<Bytes>, Option<Receipt<L>>)
-        ensures called { MatchOption result.1 ((result.0 ≡ reply.Refused NoMemory) ⊎ (result.0 ≡ reply.Refused Stale)) (λ r. (wants_memory result.0 ≡ false) × IsCalled job session command result.0 (witness_of r)) }
-        ensures later { IfSome result.1 (λ r. (r.node ≡ receipt.now.node) × (receipt.now.entry.number < r.entry.number)) }
+    ) -> (Reply<Bytes>, Option<K::Receipt>)
+        ensures called { MatchOption result.1 ((result.0 ≡ reply.Refused NoMemory) ⊎ (result.0 ≡ reply.Refused Stale)) (λ r. K.called_by (event.Call job session command) result.0 r) }
+        ensures later { IfSome result.1 (λ r. (K.made_at r ≡ K.made_at receipt.now) × (K.entry_number receipt.now < K.entry_number r)) }
         ensures small { is_small_reply result.0 ≡ true }
     {
         self.leave_marked(rt);
@@ -282,8 +268,8 @@ impl<L: Ledger, P: Pause> SharedNode<L, P> {
         job: JobNo,
         session: u32,
         awaited: Awaited,
-    ) -> (Reply<Bytes>, Option<Receipt<L>>)
-        ensures called { MatchOption result.1 (result.0 ≡ reply.Refused NoMemory) (λ r. (wants_memory result.0 ≡ false) × IsCalled job session (tried awaited) result.0 (witness_of r)) }
+    ) -> (Reply<Bytes>, Option<K::Receipt>)
+        ensures called { MatchOption result.1 (result.0 ≡ reply.Refused NoMemory) (λ r. K.called_by (event.Call job session (tried awaited)) result.0 r) }
         ensures small { is_small_reply result.0 ≡ true }
     {
         self.call_wait_of(rt, job, session, awaited, None)
@@ -298,8 +284,8 @@ impl<L: Ledger, P: Pause> SharedNode<L, P> {
         session: u32,
         awaited: Awaited,
         client: Option<&UnixStream>,
-    ) -> (Reply<Bytes>, Option<Receipt<L>>)
-        ensures called { MatchOption result.1 (result.0 ≡ reply.Refused NoMemory) (λ r. (wants_memory result.0 ≡ false) × IsCalled job session (tried awaited) result.0 (witness_of r)) }
+    ) -> (Reply<Bytes>, Option<K::Receipt>)
+        ensures called { MatchOption result.1 (result.0 ≡ reply.Refused NoMemory) (λ r. K.called_by (event.Call job session (tried awaited)) result.0 r) }
         ensures small { is_small_reply result.0 ≡ true }
     {
         for _ in rt.forever() {
@@ -319,8 +305,8 @@ impl<L: Ledger, P: Pause> SharedNode<L, P> {
         session: u32,
         awaited: &Awaited,
         client: Option<&UnixStream>,
-    ) -> (Reply<Bytes>, Option<Receipt<L>>, bool)
-        ensures called { MatchOption result.1 (result.0 ≡ reply.Refused NoMemory) (λ r. (wants_memory result.0 ≡ false) × IsCalled job session (tried awaited.now) result.0 (witness_of r)) }
+    ) -> (Reply<Bytes>, Option<K::Receipt>, bool)
+        ensures called { MatchOption result.1 (result.0 ≡ reply.Refused NoMemory) (λ r. K.called_by (event.Call job session (tried awaited.now)) result.0 r) }
         ensures small { is_small_reply result.0 ≡ true }
     {
         let (stepped, seen) = self.step_awaited(rt, job, session, awaited);
@@ -356,15 +342,15 @@ impl<L: Ledger, P: Pause> SharedNode<L, P> {
         job: JobNo,
         session: u32,
         awaited: &Awaited,
-    ) -> (Result<Stepped<L>, OutOfMemory>, Versions)
-        ensures called { IfOk result.0 (λ s. (wants_memory s.reply ≡ false) × IsCalled job session (tried awaited.now) s.reply (record { job = s.receipt.job; entry = s.receipt.entry; asked = s.receipt.asked.value; whole = s.receipt.whole.value })) }
+    ) -> (Result<Stepped<K::Receipt, K::Mail>, OutOfMemory>, Versions)
+        ensures called { IfOk result.0 (λ s. K.called_by (event.Call job session (tried awaited.now)) s.reply s.receipt) }
         ensures small { IfOk result.0 (λ s. is_small_reply s.reply ≡ true) }
     {
         self.leave_marked(rt);
         let command = command_of(awaited);
         let queued = self.housekeeping.queues.of(job).lock(rt);
         let mut kept = self.lock(rt);
-        if kept.node().wants(job, &command) {
+        if kept.wants(job, &command) {
             drop(kept);
             drop(queued);
             let seen = self.housekeeping.waiting.seen(rt, job);
@@ -388,8 +374,8 @@ impl<L: Ledger, P: Pause> SharedNode<L, P> {
         job: JobNo,
         quota: Quota,
         key: JobKey,
-    ) -> (Reply<Bytes>, Option<Receipt<L>>)
-        ensures { MatchOption result.1 (result.0 ≡ reply.Refused NoMemory) (λ r. IsReceiptOf (event.Admit job quota key) result.0 (witness_of r)) }
+    ) -> (Reply<Bytes>, Option<K::Receipt>)
+        ensures { MatchOption result.1 (result.0 ≡ reply.Refused NoMemory) (λ r. K.receipt_of (event.Admit job quota key) result.0 r) }
     {
         self.order(rt, &Event::Admit { job, quota, key })
     }
@@ -401,16 +387,16 @@ impl<L: Ledger, P: Pause> SharedNode<L, P> {
         rt: &R,
         job: JobNo,
         quota: Quota,
-    ) -> (Reply<Bytes>, Option<Receipt<L>>)
-        ensures { MatchOption result.1 (result.0 ≡ reply.Refused NoMemory) (λ r. IsReceiptOf (event.Requota job quota) result.0 (witness_of r)) }
+    ) -> (Reply<Bytes>, Option<K::Receipt>)
+        ensures { MatchOption result.1 (result.0 ≡ reply.Refused NoMemory) (λ r. K.receipt_of (event.Requota job quota) result.0 r) }
     {
         self.order(rt, &Event::Requota(job, quota))
     }
 
     /// The operator ends a job, with the receipt of the entry, which was looked for. There is none exactly if the reply is
     /// `NoMemory`. If the end isn't refused, the job's journal is folded at once, unless there is no memory for that.
-    pub fn end_job<R: Wait>(&self, rt: &R, job: JobNo) -> (Reply<Bytes>, Option<Receipt<L>>)
-        ensures { MatchOption result.1 (result.0 ≡ reply.Refused NoMemory) (λ r. IsReceiptOf (event.JobEnd job) result.0 (witness_of r)) }
+    pub fn end_job<R: Wait>(&self, rt: &R, job: JobNo) -> (Reply<Bytes>, Option<K::Receipt>)
+        ensures { MatchOption result.1 (result.0 ≡ reply.Refused NoMemory) (λ r. K.receipt_of (event.JobEnd job) result.0 r) }
     {
         let mut kept = self.kept.lock(rt);
         let stepped = step_end(rt, &mut *kept, &self.housekeeping, job);
@@ -421,8 +407,8 @@ impl<L: Ledger, P: Pause> SharedNode<L, P> {
     }
 
     /// An event of the operator's, with the receipt of its entry, which was looked for.
-    fn order<R: Wait>(&self, rt: &R, event: &Event) -> (Reply<Bytes>, Option<Receipt<L>>)
-        ensures { MatchOption result.1 (result.0 ≡ reply.Refused NoMemory) (λ r. IsReceiptOf event.now result.0 (witness_of r)) }
+    fn order<R: Wait>(&self, rt: &R, event: &Event) -> (Reply<Bytes>, Option<K::Receipt>)
+        ensures { MatchOption result.1 (result.0 ≡ reply.Refused NoMemory) (λ r. K.receipt_of event.now result.0 r) }
     {
         let mut kept = self.kept.lock(rt);
         let stepped = step_order(rt, &mut *kept, &self.housekeeping, event);
@@ -435,10 +421,10 @@ impl<L: Ledger, P: Pause> SharedNode<L, P> {
         &self,
         rt: &R,
         event: &Event,
-    ) -> (Reply<Bytes>, Option<Receipt<L>>)
-        ensures { MatchOption result.1 (result.0 ≡ reply.Refused NoMemory) (λ r. IsReceiptOf event.now result.0 (witness_of r)) }
+    ) -> (Reply<Bytes>, Option<K::Receipt>)
+        ensures { MatchOption result.1 (result.0 ≡ reply.Refused NoMemory) (λ r. K.receipt_of event.now result.0 r) }
     {
-        let (job, prepared) = prepare_finish(self.housekeeping.alloc, event);
+        let (job, prepared) = prepare_finish::<K>(self.housekeeping.alloc, event);
         let mut kept = self.kept.lock(rt);
         let before = kept.prepare(job, prepared);
         let stepped = step_event(rt, &mut *kept, &self.housekeeping, event);
@@ -453,11 +439,11 @@ impl<L: Ledger, P: Pause> SharedNode<L, P> {
         &self,
         rt: &R,
         event: &Event,
-        receipts: &mut ReceiptBuffer<L>,
+        receipts: &mut ReceiptBuffer<K::Receipt>,
     ) -> Reply<Bytes>
-        ensures { IsHandedIn event.now result receipts.old.last (receipts_in_order receipts.new.earlier.items receipts.new.last) }
+        ensures { IsHandedIn K.receipt_of event.now result receipts.old.last (receipts_in_order receipts.new.earlier.items receipts.new.last) }
     {
-        if let Err(error) = receipts.make_room(rt, self) {
+        if let Err(error) = self.make_room(rt, receipts) {
             return out_of_memory(error);
         }
         let (reply, receipt) = self.operate(rt, event);
@@ -471,11 +457,11 @@ impl<L: Ledger, P: Pause> SharedNode<L, P> {
     pub(crate) fn take_gathering<R: Wait>(
         &self,
         rt: &R,
-        receipts: &mut ReceiptBuffer<L>,
+        receipts: &mut ReceiptBuffer<K::Receipt>,
     ) -> Reply<Bytes>
-        ensures { IsWorkTaken result receipts.new.last }
+        ensures { IsWorkTaken K.receipt_of result receipts.new.last }
     {
-        if let Err(error) = receipts.make_room(rt, self) {
+        if let Err(error) = self.make_room(rt, receipts) {
             return out_of_memory(error);
         }
         let (reply, receipt) = self.take(rt);
@@ -486,8 +472,8 @@ impl<L: Ledger, P: Pause> SharedNode<L, P> {
     }
 
     /// A worker takes a work, if one waits that nobody has taken: otherwise, and without memory, there is no receipt.
-    fn take<R: Wait>(&self, rt: &R) -> (Reply<Bytes>, Option<Receipt<L>>)
-        ensures { MatchOption result.1 ((result.0 ≡ reply.NoWork) ⊎ (result.0 ≡ reply.Refused NoMemory)) (λ r. IsReceiptOf event.Take result.0 (witness_of r)) }
+    fn take<R: Wait>(&self, rt: &R) -> (Reply<Bytes>, Option<K::Receipt>)
+        ensures { MatchOption result.1 ((result.0 ≡ reply.NoWork) ⊎ (result.0 ≡ reply.Refused NoMemory)) (λ r. K.receipt_of event.Take result.0 r) }
     {
         let mut kept = self.kept.lock(rt);
         let stepped = step_take(rt, &mut *kept, &self.housekeeping);
@@ -499,17 +485,17 @@ impl<L: Ledger, P: Pause> SharedNode<L, P> {
     }
 
     /// Lets a session into the job, whose key it shows: its number is the one that a node of the cluster gave.
-    pub fn enter<R: Wait>(&self, rt: &R, job: JobNo, key: &JobKey) -> Result<Entered<L>, Refusal>
-        ensures entered { IfOk result (λ e. (e.job ≡ job) × (e.key ≡ key.now)) }
-        ensures refused { IfErr result IsEntryRefusal }
+    pub fn enter<R: Wait>(&self, rt: &R, job: JobNo, key: &JobKey) -> Result<K::Entered, Refusal>
+        ensures entered { IfOk result (λ e. ((K.pass e).job ≡ job) × ((K.pass e).key ≡ key.now)) }
+        ensures refused { IfErr result (λ r. (r ≡ NotAdmitted) ⊎ (r ≡ TooMany)) }
     {
         self.kept.lock(rt).enter(job, key)
     }
 
     /// A message that was posted to the node arrives, what the step sends is handed over, and the receipt is of the message's entry.
     /// `Stale` if it was posted to another place, or isn't made for a node; and `NoMemory`. Then it is lost.
-    pub fn arrive<R: Wait>(&self, rt: &R, posted: Posted<L>) -> Result<Receipt<L>, Refusal>
-        ensures arrived { IfOk result (λ r. (a : Arrival) → arrival_of posted.from posted.message ≡ Some a → IsArrived posted.job a (witness_of r)) }
+    pub fn arrive<R: Wait>(&self, rt: &R, posted: K::Posted) -> Result<K::Receipt, Refusal>
+        ensures arrived { IfOk result (λ r. K.arrived posted r) }
         ensures refused { IfErr result (λ r. (r ≡ NoMemory) ⊎ (r ≡ Stale)) }
     {
         let job = posted.job();
@@ -526,7 +512,7 @@ impl<L: Ledger, P: Pause> SharedNode<L, P> {
     }
 
     /// What the directory answered to a message of the node arrives: whether it isn't lost.
-    pub(crate) fn arrive_located<R: Wait>(&self, rt: &R, located: Posted<L>) -> bool {
+    pub(crate) fn arrive_located<R: Wait>(&self, rt: &R, located: K::Posted) -> bool {
         step_located(rt, &mut *self.kept.lock(rt), &self.housekeeping, located)
     }
 
@@ -534,8 +520,8 @@ impl<L: Ledger, P: Pause> SharedNode<L, P> {
     fn answer<R: Wait>(
         &self,
         rt: &R,
-        stepped: Result<Stepped<L>, OutOfMemory>,
-    ) -> (Reply<Bytes>, Option<Receipt<L>>)
+        stepped: Result<Stepped<K::Receipt, K::Mail>, OutOfMemory>,
+    ) -> (Reply<Bytes>, Option<K::Receipt>)
         ensures { MatchResult stepped (λ s. (result.0 ≡ s.reply) × (result.1 ≡ Some s.receipt)) (λ _. (result.0 ≡ reply.Refused NoMemory) × (result.1 ≡ None)) }
     {
         match stepped {
@@ -545,7 +531,11 @@ impl<L: Ledger, P: Pause> SharedNode<L, P> {
     }
 
     /// The same of a step that was made.
-    fn hand_out<R: Wait>(&self, rt: &R, stepped: Stepped<L>) -> (Reply<Bytes>, Option<Receipt<L>>)
+    fn hand_out<R: Wait>(
+        &self,
+        rt: &R,
+        stepped: Stepped<K::Receipt, K::Mail>,
+    ) -> (Reply<Bytes>, Option<K::Receipt>)
         ensures { (result.0 ≡ stepped.reply) × (result.1 ≡ Some stepped.receipt) }
     {
         let Stepped {
@@ -559,13 +549,12 @@ impl<L: Ledger, P: Pause> SharedNode<L, P> {
 
     /// Looks for the entry of a receipt that was given by this node, and counts it if the journal says that it isn't there. One
     /// that was folded isn't counted.
-    pub fn check<R: Wait>(&self, rt: &R, receipt: &Receipt<L>) {
-        let receipts = slice::from_ref(receipt);
-        audit(
+    pub fn check<R: Wait>(&self, rt: &R, receipt: &K::Receipt) {
+        audit_one(
             rt,
             &*self.kept.lock(rt),
             &self.housekeeping.tallies,
-            receipts,
+            receipt,
         );
     }
 

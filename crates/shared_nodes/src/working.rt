@@ -1,27 +1,26 @@
 //! The rounds of a worker, which carries out the device works of a node.
 ghost use Rattle.std.specs.Prelude.{◌≡◌, List, None};
-ghost use Rattle.node_journal.specs.declared.entries.Receipt.{Receipt};
 ghost use Rattle.shared_nodes.specs.Gathering.{receipts_in_order};
 ghost use Rattle.shared_nodes.specs.Rounds.{EndsRound, HasTakenWork, IsRound};
 
 use crate::SharedNode;
 use crate::receipt_buffer::ReceiptBuffer;
+use node_gate::JournaledNode;
 use node_housekeeping::{Finishing, Pause, PendingAnswer, WorkDone, call_device};
 use obj_id::{Refusal, Reply};
 use spill_device::SpillDevice;
 use std::sync::Wait;
-use std::sync::ledger::Ledger;
 
-impl<L: Ledger, P: Pause> SharedNode<L, P> {
+impl<K: JournaledNode, P: Pause> SharedNode<K, P> {
     /// One round of a worker: sessions that are marked are left, and keys that wait are erased; then a work is taken, the device
     /// called for it, and its answer handed in. An answer that found no memory when it was handed in is the work of the next round,
     /// without a second call.
     pub fn work_once<R: Wait, D: SpillDevice>(&self, rt: &R, device: &mut D) -> WorkDone
-        ensures { (receipts : List (Receipt L)) × IsRound D.write_gives D.read_gives D.erase_gives device.old result device.new None receipts }
+        ensures { (receipts : List K.Receipt) × IsRound K.receipt_of D.write_gives D.read_gives D.erase_gives device.old result device.new None receipts }
     {
         let mut receipts = ReceiptBuffer::new(self.housekeeping.alloc);
         let done = self.round(rt, device, &mut receipts);
-        receipts.audit_all(rt, self);
+        self.audit_all(rt, &receipts);
         done
     }
 
@@ -30,9 +29,9 @@ impl<L: Ledger, P: Pause> SharedNode<L, P> {
         &self,
         rt: &R,
         device: &mut D,
-        receipts: &mut ReceiptBuffer<L>,
+        receipts: &mut ReceiptBuffer<K::Receipt>,
     ) -> WorkDone
-        ensures { IsRound D.write_gives D.read_gives D.erase_gives device.old result device.new receipts.old.last (receipts_in_order receipts.new.earlier.items receipts.new.last) }
+        ensures { IsRound K.receipt_of D.write_gives D.read_gives D.erase_gives device.old result device.new receipts.old.last (receipts_in_order receipts.new.earlier.items receipts.new.last) }
     {
         self.leave_marked(rt);
         self.housekeeping.erase_keys(rt, device);
@@ -48,9 +47,9 @@ impl<L: Ledger, P: Pause> SharedNode<L, P> {
         &self,
         rt: &R,
         device: &mut D,
-        receipts: &mut ReceiptBuffer<L>,
+        receipts: &mut ReceiptBuffer<K::Receipt>,
     ) -> WorkDone
-        ensures { HasTakenWork D.write_gives D.read_gives D.erase_gives device.old result device.new (receipts_in_order receipts.new.earlier.items receipts.new.last) }
+        ensures { HasTakenWork K.receipt_of D.write_gives D.read_gives D.erase_gives device.old result device.new (receipts_in_order receipts.new.earlier.items receipts.new.last) }
     {
         match self.take_gathering(rt, receipts) {
             Reply::Work(work) => {
@@ -67,9 +66,9 @@ impl<L: Ledger, P: Pause> SharedNode<L, P> {
         rt: &R,
         device: &mut D,
         finishing: Finishing,
-        receipts: &mut ReceiptBuffer<L>,
+        receipts: &mut ReceiptBuffer<K::Receipt>,
     ) -> WorkDone
-        ensures { EndsRound D.erase_gives finishing.event finishing.written device.old result device.new receipts.old.last (receipts_in_order receipts.new.earlier.items receipts.new.last) }
+        ensures { EndsRound K.receipt_of D.erase_gives finishing.event finishing.written device.old result device.new receipts.old.last (receipts_in_order receipts.new.earlier.items receipts.new.last) }
     {
         let reply = self.operate_gathering(rt, &finishing.event, receipts);
         let done = match reply {

@@ -5,7 +5,9 @@ ghost use Rattle.world_core.specs.Worlds.{is_shape};
 use cluster_threads::{Cluster, Working, work};
 use control_socket::{Connecting, connect_control, take_input};
 use memory_growth::{MOST_ROOM, OutOfMemory, boxes, lists, text_of};
+use node_gate::JournaledNode;
 use node_housekeeping::{NoPause, Report};
+use node_journal::Kept;
 use operator_service::{serve_text, write_report};
 use program_lines::Fault;
 use schedule_runs::Serving;
@@ -35,11 +37,11 @@ struct NodeListener {
 
 /// What serves the nodes.
 #[derive(Drop)]
-struct Served<L: Ledger> {
+struct Served<K: JournaledNode> {
     folders: Vec<SpillFolder>,
-    workers: Vec<Working<L>>,
+    workers: Vec<Working<K>>,
     listeners: Vec<NodeListener>,
-    control: Option<Connecting<L>>,
+    control: Option<Connecting<K>>,
 }
 
 /// Serves the sockets of all nodes, which fetch from one another, carries out the operator's lines that the reader gives, and
@@ -113,12 +115,45 @@ fn serve_named<
     requires parts { blank.parts ≡ L.parts }
     requires nodes { blank.parts ≡ serving.shape.nodes }
 {
-    let alloc = host.alloc();
-    let nodes = serving.shape.nodes;
     let (_book, seats) = blank.open::<L>();
-    let Ok(mut cluster) = Cluster::start(alloc, nodes, serving.shape.memory, seats, NoPause) else {
+    let shape = serving.shape;
+    let Ok(cluster) = Cluster::<Kept<L>>::start(
+        host.alloc(),
+        shape.nodes,
+        shape.memory,
+        seats,
+        NoPause,
+    ) else {
         return Err(tell(host, ServeFault::Fault(Fault::NoMemory)))
     };
+    serve_cluster(rt, host, serving, cluster, reader, writer)
+}
+
+/// The same of a cluster that was started.
+fn serve_cluster<
+    K: JournaledNode + Send + 'static,
+    R: Threads + Wait + Clock + Files + Net + Copy + Send + 'static,
+    I: BufRead,
+    O: Write,
+>(
+    rt: R,
+    host: HostRuntime,
+    serving: Serving<'_>,
+    cluster: Cluster<K>,
+    reader: &mut I,
+    writer: &mut O,
+) -> Result<(), PrintedFault>
+where
+    K::Receipt: Send + 'static,
+    K::Mail: Send + 'static,
+    K::Posted: Send + 'static,
+    K::Erase: Send + 'static,
+    K::Entered: Send + 'static,
+    K::Prepared: Send + 'static,
+    K::Gone: Send + 'static,
+{
+    let alloc = host.alloc();
+    let mut cluster = cluster;
     let mut served = Served {
         folders: Vec::new(alloc),
         workers: Vec::new(alloc),
@@ -147,10 +182,10 @@ fn serve_named<
 
 /// Waits for the open sessions, and ends all that serves the nodes. The report is given to who asked for the end on the control
 /// socket, unless it isn't to be told.
-fn end_nodes<L: Ledger, R: Threads + Wait + Files>(
+fn end_nodes<K: JournaledNode, R: Threads + Wait + Files>(
     rt: &R,
-    cluster: Cluster<L>,
-    served: Served<L>,
+    cluster: Cluster<K>,
+    served: Served<K>,
     is_told: bool,
 ) -> Report {
     cluster.shut(rt);
@@ -171,26 +206,37 @@ fn end_nodes<L: Ledger, R: Threads + Wait + Files>(
     let report = cluster.close(rt, workers);
     clear_folders(&folders);
     if let Some(control) = control {
-        control.end(rt, if is_told { Some(report) } else { None });
+        control
+            .course
+            .end(rt, if is_told { Some(report) } else { None });
     }
     report
 }
 
 /// Opens the control socket, if there is to be one, says that all sockets listen, and carries out the operator's lines.
 fn take_orders<
-    L: Ledger + Send + Sync + 'static,
+    K: JournaledNode + Send + 'static,
     R: Threads + Wait + Clock + Files + Net + Copy + Send + 'static,
     I: BufRead,
     O: Write,
 >(
     rt: R,
     host: HostRuntime,
-    cluster: &Cluster<L>,
+    cluster: &Cluster<K>,
     serving: Serving<'_>,
     reader: &mut I,
     writer: &mut O,
-    served: &mut Served<L>,
-) -> Result<(), ServeFault> {
+    served: &mut Served<K>,
+) -> Result<(), ServeFault>
+where
+    K::Receipt: Send + 'static,
+    K::Mail: Send + 'static,
+    K::Posted: Send + 'static,
+    K::Erase: Send + 'static,
+    K::Entered: Send + 'static,
+    K::Prepared: Send + 'static,
+    K::Gone: Send + 'static,
+{
     let count = serving.shape.nodes;
     let nodes = nodes_of(host.alloc(), cluster)?;
     let Some(path) = serving.control else {
@@ -205,7 +251,7 @@ fn take_orders<
     served.control = Some(connecting);
     say_ready(host);
     take_input(rt, host, &control)?;
-    match control.await_stop(&rt) {
+    match control.course.await_stop(&rt) {
         None => Ok(()),
         Some(fault) => Err(ServeFault::Fault(fault)),
     }
@@ -217,10 +263,10 @@ fn say_ready(host: HostRuntime) {
 }
 
 /// The nodes of the cluster, by number.
-fn nodes_of<L: Ledger>(
+fn nodes_of<K: JournaledNode>(
     alloc: Global,
-    cluster: &Cluster<L>,
-) -> Result<Vec<Arc<SharedNode<L>>>, OutOfMemory> {
+    cluster: &Cluster<K>,
+) -> Result<Vec<Arc<SharedNode<K>>>, OutOfMemory> {
     let mut nodes = Vec::new(alloc);
     for number in 0..u32::MAX {
         let Some(node) = cluster.node(number) else {
@@ -233,15 +279,24 @@ fn nodes_of<L: Ledger>(
 
 /// Starts the workers and opens the sockets of all nodes.
 fn open_nodes<
-    L: Ledger + Send + Sync + 'static,
+    K: JournaledNode + Send + 'static,
     R: Threads + Wait + Clock + Files + Net + Copy + Send + 'static,
 >(
     rt: R,
     host: HostRuntime,
-    cluster: &Cluster<L>,
+    cluster: &Cluster<K>,
     serving: Serving<'_>,
-    served: &mut Served<L>,
-) -> Result<(), ServeFault> {
+    served: &mut Served<K>,
+) -> Result<(), ServeFault>
+where
+    K::Receipt: Send + 'static,
+    K::Mail: Send + 'static,
+    K::Posted: Send + 'static,
+    K::Erase: Send + 'static,
+    K::Entered: Send + 'static,
+    K::Prepared: Send + 'static,
+    K::Gone: Send + 'static,
+{
     let room = (serving.shape.nodes as usize).min(MOST_ROOM);
     lists::reserve(&mut served.folders, room)?;
     lists::reserve(&mut served.workers, room)?;
@@ -269,16 +324,25 @@ fn open_nodes<
 /// Starts the worker of the node of this number, which spills into the folder. Its device goes into the worker's thread: so it is over
 /// the host's own files, which every thread has. It tells of calls that failed together with those of the other nodes.
 fn start_worker<
-    L: Ledger + Send + Sync + 'static,
+    K: JournaledNode + Send + 'static,
     R: Threads + Wait + Clock + Copy + Send + 'static,
 >(
     rt: R,
     host: HostRuntime,
-    node: &Arc<SharedNode<L>>,
+    node: &Arc<SharedNode<K>>,
     number: u32,
     folder: &SpillFolder,
     telling: Telling,
-) -> Result<Working<L>, ServeFault> {
+) -> Result<Working<K>, ServeFault>
+where
+    K::Receipt: Send + 'static,
+    K::Mail: Send + 'static,
+    K::Posted: Send + 'static,
+    K::Erase: Send + 'static,
+    K::Entered: Send + 'static,
+    K::Prepared: Send + 'static,
+    K::Gone: Send + 'static,
+{
     let node = boxes::another(node)?;
     let device = TellingDevice::new(rt, host, number, folder, telling)?;
     match work(rt, node, device) {
@@ -289,15 +353,24 @@ fn start_worker<
 
 /// Opens the node's socket.
 fn open_listener<
-    L: Ledger + Send + Sync + 'static,
+    K: JournaledNode + Send + 'static,
     R: Threads + Wait + Clock + Files + Net + Copy + Send + 'static,
 >(
     rt: R,
     alloc: Global,
-    node: &Arc<SharedNode<L>>,
+    node: &Arc<SharedNode<K>>,
     socket: &str,
     number: u32,
-) -> Result<NodeListener, ServeFault> {
+) -> Result<NodeListener, ServeFault>
+where
+    K::Receipt: Send + 'static,
+    K::Mail: Send + 'static,
+    K::Posted: Send + 'static,
+    K::Erase: Send + 'static,
+    K::Entered: Send + 'static,
+    K::Prepared: Send + 'static,
+    K::Gone: Send + 'static,
+{
     let node = boxes::another(node)?;
     let path = text_of!(in alloc; "{socket}.{number}")?;
     let listener = match bind(&rt, path.as_str()) {

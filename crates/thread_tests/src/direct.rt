@@ -5,7 +5,7 @@ use assertions::{holds, same};
 use bytes::Bytes;
 use memory_growth::OutOfMemory;
 use node_housekeeping::Report;
-use node_journal::Receipt;
+use node_journal::{Kept, Receipt};
 use obj_id::{Command, JobNo, Quota, Reply};
 use shared_nodes::SharedNode;
 use std::alloc::Global;
@@ -31,7 +31,7 @@ const NARROW: Quota = Quota {
 pub(crate) fn six_commands<L: Ledger, R: Wait + Abort>(
     rt: &R,
     alloc: Global,
-    node: &SharedNode<L>,
+    node: &SharedNode<Kept<L>>,
 ) -> Result<Receipt<L>, OutOfMemory> {
     let id = object(rt, JOB, 1);
     admit(rt, node, JOB, QUOTA);
@@ -46,7 +46,7 @@ pub(crate) fn six_commands<L: Ledger, R: Wait + Abort>(
 /// A Usage that is called after the receipt, a change of the quotas and the job's end: none is refused.
 pub(crate) fn live_on<L: Ledger, R: Wait + Abort>(
     rt: &R,
-    node: &SharedNode<L>,
+    node: &SharedNode<Kept<L>>,
     earlier: &Receipt<L>,
 ) {
     let (reply, receipt) = node.call_after(rt, earlier, JOB, 1, Command::Usage);

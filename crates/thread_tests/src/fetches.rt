@@ -3,6 +3,7 @@ use crate::objects::{admit, is_hello, object, response, seal_hello};
 use crate::trials::{Trial, try_out};
 use assertions::{holds, same};
 use memory_growth::OutOfMemory;
+use node_journal::Kept;
 use obj_id::{Command, JobNo, Quota, Refusal, Reply};
 use private_store::Awaited;
 use shared_nodes::SharedNode;
@@ -27,7 +28,7 @@ const MOST_IN_LINK: u64 = 1_024;
 const TOO_MANY: u64 = 3;
 
 /// Asks for the object at the node until it is there, and reads it.
-fn get_and_read<L: Ledger, R: Wait + Clock + Abort>(rt: &R, node: &SharedNode<L>) {
+fn get_and_read<L: Ledger, R: Wait + Clock + Abort>(rt: &R, node: &SharedNode<Kept<L>>) {
     let id = object(rt, JOB, 1);
     let (reply, receipt) = node.call_wait(rt, JOB, 1, Awaited::Get(id));
     holds!(rt; matches!(reply, Reply::Got(20)));
@@ -39,8 +40,8 @@ fn get_and_read<L: Ledger, R: Wait + Clock + Abort>(rt: &R, node: &SharedNode<L>
 fn begin<L: Ledger, R: Wait + Abort>(
     rt: &R,
     alloc: Global,
-    sealing: &SharedNode<L>,
-    fetching: &SharedNode<L>,
+    sealing: &SharedNode<Kept<L>>,
+    fetching: &SharedNode<Kept<L>>,
 ) -> Result<(), OutOfMemory> {
     admit(rt, sealing, JOB, QUOTA);
     admit(rt, fetching, JOB, QUOTA);
@@ -51,8 +52,8 @@ fn begin<L: Ledger, R: Wait + Abort>(
 pub(crate) fn fetch<L: Ledger, R: Wait + Clock + Abort>(
     rt: &R,
     alloc: Global,
-    sealing: &SharedNode<L>,
-    fetching: &SharedNode<L>,
+    sealing: &SharedNode<Kept<L>>,
+    fetching: &SharedNode<Kept<L>>,
 ) -> Result<(), OutOfMemory> {
     begin(rt, alloc, sealing, fetching)?;
     get_and_read(rt, fetching);
@@ -60,7 +61,7 @@ pub(crate) fn fetch<L: Ledger, R: Wait + Clock + Abort>(
 }
 
 /// Asks for the object again and again: each time but the first it asks the other node for the chunks, too.
-fn ask_often<L: Ledger, R: Wait + Abort>(rt: &R, node: &SharedNode<L>) {
+fn ask_often<L: Ledger, R: Wait + Abort>(rt: &R, node: &SharedNode<Kept<L>>) {
     let id = object(rt, JOB, 1);
     for _ in 0..1 + MOST_IN_LINK + TOO_MANY {
         let reply = response(rt, node, JOB, Command::Get(id));
@@ -72,8 +73,8 @@ fn ask_often<L: Ledger, R: Wait + Abort>(rt: &R, node: &SharedNode<L>) {
 pub(crate) fn ask_beside<L: Ledger, R: Wait + Abort>(
     rt: &R,
     alloc: Global,
-    sealing: &SharedNode<L>,
-    fetching: &SharedNode<L>,
+    sealing: &SharedNode<Kept<L>>,
+    fetching: &SharedNode<Kept<L>>,
 ) -> Result<(), OutOfMemory> {
     begin(rt, alloc, sealing, fetching)?;
     ask_often(rt, fetching);

@@ -6,7 +6,9 @@ use crate::trials::{Trial, try_out};
 use assertions::{holds, same};
 use bytes::Bytes;
 use memory_growth::{OutOfMemory, boxes};
+use node_gate::JournaledNode;
 use node_housekeeping::WorkDone;
+use node_journal::Kept;
 use obj_id::{Command, JobNo, Kind, Quota, Refusal, Reply};
 use shared_nodes::SharedNode;
 use spill_device::{FaultyDevice, MemoryDevice, SpillDevice};
@@ -34,9 +36,9 @@ const ONE: Quota = Quota {
 type Device = KeptDevice<FaultyDevice<MemoryDevice>>;
 
 /// What a round came to, and its device.
-fn round<L: Ledger, R: Wait, D: SpillDevice>(
+fn round<K: JournaledNode, R: Wait, D: SpillDevice>(
     rt: &R,
-    node: &SharedNode<L>,
+    node: &SharedNode<K>,
     device: D,
 ) -> (WorkDone, D) {
     let mut device = device;
@@ -46,10 +48,19 @@ fn round<L: Ledger, R: Wait, D: SpillDevice>(
 
 /// The same, in a thread of its own.
 fn start_round<
-    L: Ledger + Send + Sync + 'static,
+    K: JournaledNode + Send + 'static,
     R: Threads + Wait + Copy + Send + 'static,
     D: SpillDevice + Drop + Send + 'static,
->(rt: R, node: Arc<SharedNode<L>>, device: D) -> io::Result<JoinHandle<(WorkDone, D)>> {
+>(rt: R, node: Arc<SharedNode<K>>, device: D) -> io::Result<JoinHandle<(WorkDone, D)>>
+where
+    K::Receipt: Send + 'static,
+    K::Mail: Send + 'static,
+    K::Posted: Send + 'static,
+    K::Erase: Send + 'static,
+    K::Entered: Send + 'static,
+    K::Prepared: Send + 'static,
+    K::Gone: Send + 'static,
+{
     let job = move || round(&rt, &*node, device);
     Ok(thread::spawn(&rt, job)?)
 }
@@ -57,7 +68,7 @@ fn start_round<
 /// Whether the other job's Get is answered while somebody is kept at the gate, which is opened then.
 fn is_answered_beside<L: Ledger, R: Wait + Abort>(
     rt: &R,
-    node: &SharedNode<L>,
+    node: &SharedNode<Kept<L>>,
     gate: &Gate,
 ) -> bool {
     let is_reached = gate.await_arrival();
@@ -69,7 +80,7 @@ fn is_answered_beside<L: Ledger, R: Wait + Abort>(
 /// meanwhile.
 fn round_with<L: Ledger + Send + Sync + 'static, R: Threads + Wait + Abort + Copy + Send + 'static>(
     rt: R,
-    node: &Arc<SharedNode<L>>,
+    node: &Arc<SharedNode<Kept<L>>>,
     device: Device,
     call: DeviceCall,
 ) -> io::Result<(WorkDone, Device)> {
@@ -86,7 +97,7 @@ fn round_with<L: Ledger + Send + Sync + 'static, R: Threads + Wait + Abort + Cop
 fn begin<L: Ledger, R: Wait + Abort>(
     rt: &R,
     alloc: Global,
-    node: &SharedNode<L>,
+    node: &SharedNode<Kept<L>>,
 ) -> Result<(), OutOfMemory> {
     admit(rt, node, SPILLED, ONE);
     admit(rt, node, OTHER, ONE);
@@ -94,7 +105,7 @@ fn begin<L: Ledger, R: Wait + Abort>(
 }
 
 /// The job's first object is in the way of its second.
-fn ask_for_write<L: Ledger, R: Wait + Abort>(rt: &R, node: &SharedNode<L>) {
+fn ask_for_write<L: Ledger, R: Wait + Abort>(rt: &R, node: &SharedNode<Kept<L>>) {
     let (first, second) = (object(rt, SPILLED, 1), object(rt, SPILLED, 2));
     let create = Command::Create {
         id: first,
@@ -112,7 +123,7 @@ fn ask_for_write<L: Ledger, R: Wait + Abort>(rt: &R, node: &SharedNode<L>) {
 }
 
 /// The first object was written: the second takes its room, and gives it back, and the first is asked for.
-fn ask_for_read<L: Ledger, R: Wait + Abort>(rt: &R, node: &SharedNode<L>) {
+fn ask_for_read<L: Ledger, R: Wait + Abort>(rt: &R, node: &SharedNode<Kept<L>>) {
     let (first, second) = (object(rt, SPILLED, 1), object(rt, SPILLED, 2));
     let create = Command::Create {
         id: second,
@@ -125,7 +136,7 @@ fn ask_for_read<L: Ledger, R: Wait + Abort>(rt: &R, node: &SharedNode<L>) {
 }
 
 /// The read that failed is answered once, and asked for again.
-fn ask_for_read_again<L: Ledger, R: Wait + Abort>(rt: &R, node: &SharedNode<L>) {
+fn ask_for_read_again<L: Ledger, R: Wait + Abort>(rt: &R, node: &SharedNode<Kept<L>>) {
     let first = object(rt, SPILLED, 1);
     let reply = response(rt, node, SPILLED, Command::Get(first));
     holds!(rt; matches!(reply, Reply::Refused(Refusal::DeviceFailed)));
@@ -133,7 +144,7 @@ fn ask_for_read_again<L: Ledger, R: Wait + Abort>(rt: &R, node: &SharedNode<L>) 
 }
 
 /// The first object is back, and goes, and what lies on the device with it.
-fn ask_for_erase<L: Ledger, R: Wait + Abort>(rt: &R, node: &SharedNode<L>) {
+fn ask_for_erase<L: Ledger, R: Wait + Abort>(rt: &R, node: &SharedNode<Kept<L>>) {
     let first = object(rt, SPILLED, 1);
     holds!(rt; matches!(response(rt, node, SPILLED, Command::Get(first)), Reply::Got(32)));
     holds!(rt; matches!(response(rt, node, SPILLED, Command::Release(first)), Reply::Ok));
@@ -148,7 +159,7 @@ fn is_pending(reply: &Reply<Bytes>) -> bool {
 fn write_and_read<
     L: Ledger + Send + Sync + 'static,
     R: Threads + Wait + Abort + Copy + Send + 'static,
->(rt: R, node: &Arc<SharedNode<L>>, device: Device, is_failing: bool) -> io::Result<Device> {
+>(rt: R, node: &Arc<SharedNode<Kept<L>>>, device: Device, is_failing: bool) -> io::Result<Device> {
     ask_for_write(&rt, node);
     let (written, device) = round_with(rt, node, device, DeviceCall::Write)?;
     ask_for_read(&rt, node);
@@ -170,7 +181,7 @@ pub(crate) fn call_beside<
 >(
     rt: R,
     alloc: Global,
-    node: &Arc<SharedNode<L>>,
+    node: &Arc<SharedNode<Kept<L>>>,
     kept: DeviceCall,
     failing: u64,
 ) -> io::Result<()> {

@@ -6,7 +6,9 @@ use crate::objects::admit;
 use assertions::same;
 use cluster_threads::Cluster;
 use memory_growth::boxes;
+use node_gate::JournaledNode;
 use node_housekeeping::{Pause, Report};
+use node_journal::Kept;
 use obj_id::{Command, JobNo, Quota, Reply};
 use private_store::Event;
 use shared_nodes::SharedNode;
@@ -40,25 +42,34 @@ impl Pause for KeptCommands {
     }
 }
 
-/// The node that the receipt of a Usage names, if it is answered.
-fn usage_at<L: Ledger, P: Pause, R: Wait>(
+/// The receipt of a Usage, if it is answered.
+fn usage_at<K: JournaledNode, P: Pause, R: Wait>(
     rt: &R,
-    node: &SharedNode<L, P>,
+    node: &SharedNode<K, P>,
     job: JobNo,
-) -> Option<u32> {
+) -> Option<K::Receipt> {
     let (reply, receipt) = node.call(rt, job, 1, Command::Usage);
     if !matches!(reply, Reply::Usage(_)) {
         return None;
     }
-    Some(receipt?.node())
+    receipt
 }
 
 /// The same, in a thread of its own.
 fn start_usage<
-    L: Ledger + Send + Sync + 'static,
+    K: JournaledNode + Send + 'static,
     R: Threads + Wait + Copy + Send + 'static,
     P: Pause + Send + Sync + 'static,
->(rt: R, node: Arc<SharedNode<L, P>>, job: JobNo) -> io::Result<JoinHandle<Option<u32>>> {
+>(rt: R, node: Arc<SharedNode<K, P>>, job: JobNo) -> io::Result<JoinHandle<Option<K::Receipt>>>
+where
+    K::Receipt: Send + 'static,
+    K::Mail: Send + 'static,
+    K::Posted: Send + 'static,
+    K::Erase: Send + 'static,
+    K::Entered: Send + 'static,
+    K::Prepared: Send + 'static,
+    K::Gone: Send + 'static,
+{
     let call = move || usage_at(&rt, &*node, job);
     Ok(thread::spawn(&rt, call)?)
 }
@@ -67,16 +78,16 @@ fn start_usage<
 fn step_beside<
     L: Ledger + Send + Sync + 'static,
     R: Threads + Wait + Abort + Copy + Send + 'static,
->(rt: R, cluster: &Cluster<L, KeptCommands>, gate: &Gate) -> io::Result<()> {
+>(rt: R, cluster: &Cluster<Kept<L>, KeptCommands>, gate: &Gate) -> io::Result<()> {
     let kept = cluster.node(0).expect(&rt, "a node");
     let other = cluster.node(1).expect(&rt, "a node");
     admit(&rt, kept, JOB, QUOTA);
     admit(&rt, other, JOB, QUOTA);
     let calling = start_usage(rt, boxes::another(kept)?, JOB)?;
     let is_reached = gate.await_arrival();
-    let beside = usage_at(&rt, other, JOB);
+    let beside = usage_at(&rt, other, JOB).map(|receipt| receipt.node());
     let is_kept = gate.open();
-    let at_last = calling.join(&rt);
+    let at_last = calling.join(&rt).map(|receipt| receipt.node());
     same!(rt; (is_reached, is_kept, beside, at_last), (true, true, Some(1), Some(0)));
     Ok(())
 }
@@ -96,7 +107,7 @@ fn try_at<L: Ledger + Send + Sync + 'static, R: Threads + Wait + Abort + Copy + 
         gate: boxes::another(&gate)?,
     };
     let (_book, seats) = blank.open::<L>();
-    let cluster = Cluster::start(alloc, 2, 1024, seats, pause)?;
+    let cluster = Cluster::<Kept<L>, _>::start(alloc, 2, 1024, seats, pause)?;
     let stepped = step_beside(rt, &cluster, &gate);
     let report = cluster.close(&rt, Vec::new(alloc));
     stepped?;

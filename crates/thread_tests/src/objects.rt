@@ -3,6 +3,7 @@ use assertions::holds;
 use bytes::Bytes;
 use memory_growth::{OutOfMemory, lists, shared};
 use node_housekeeping::Pause;
+use node_journal::Kept;
 use obj_id::{Command, JobKey, JobNo, Kind, ObjectId, Quota, Reply, TaskNo};
 use shared_nodes::SharedNode;
 use std::alloc::Global;
@@ -20,7 +21,7 @@ pub(crate) fn object(rt: &impl Abort, job: JobNo, index: u32) -> ObjectId {
 /// Admits the job: it isn't refused.
 pub(crate) fn admit<L: Ledger, P: Pause, R: Wait + Abort>(
     rt: &R,
-    node: &SharedNode<L, P>,
+    node: &SharedNode<Kept<L>, P>,
     job: JobNo,
     quota: Quota,
 ) {
@@ -31,7 +32,7 @@ pub(crate) fn admit<L: Ledger, P: Pause, R: Wait + Abort>(
 /// The answer to a command of the job's first session.
 pub(crate) fn response<L: Ledger, R: Wait>(
     rt: &R,
-    node: &SharedNode<L>,
+    node: &SharedNode<Kept<L>>,
     job: JobNo,
     command: Command<Bytes>,
 ) -> Reply<Bytes> {
@@ -42,7 +43,7 @@ pub(crate) fn response<L: Ledger, R: Wait>(
 pub(crate) fn seal_hello<L: Ledger, R: Wait + Abort>(
     rt: &R,
     alloc: Global,
-    node: &SharedNode<L>,
+    node: &SharedNode<Kept<L>>,
     id: ObjectId,
 ) -> Result<(), OutOfMemory> {
     let hello = shared::from_vec(lists::copied(alloc, b"Hello")?)?;

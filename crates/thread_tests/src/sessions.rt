@@ -3,6 +3,7 @@ use crate::objects::{KEY, admit, is_hello, object, seal_hello};
 use crate::trials::{Trial, try_out};
 use assertions::{holds, same};
 use memory_growth::OutOfMemory;
+use node_journal::Kept;
 use obj_id::{Command, JobNo, Quota, Refusal, Reply};
 use session_engine::Gate;
 use session_threads::Session;
@@ -47,7 +48,7 @@ fn hold_beside<G: Gate, H: Gate>(rt: &impl Abort, holding: &mut G, ending: &mut 
 pub(crate) fn two_sessions<L: Ledger, R: Wait + Clock + Abort>(
     rt: &R,
     alloc: Global,
-    node: &SharedNode<L>,
+    node: &SharedNode<Kept<L>>,
 ) -> Result<(), OutOfMemory> {
     admit(rt, node, JOB, QUOTA);
     seal_hello(rt, alloc, node, object(rt, JOB, 1))?;

@@ -8,6 +8,7 @@ use crate::kept_devices::DeviceCall;
 use crate::sessions::two_sessions;
 use cluster_threads::Cluster;
 use node_housekeeping::{NoPause, Report};
+use node_journal::Kept;
 use std::alloc::Global;
 use std::io;
 use std::marker::Brand;
@@ -48,7 +49,7 @@ impl Trial {
 fn carry_out<
     L: Ledger + Send + Sync + 'static,
     R: Threads + Wait + Clock + Abort + Copy + Send + 'static,
->(rt: R, alloc: Global, trial: &Trial, cluster: &mut Cluster<L>) -> io::Result<()> {
+>(rt: R, alloc: Global, trial: &Trial, cluster: &mut Cluster<Kept<L>>) -> io::Result<()> {
     if matches!(trial, Trial::Fetch) {
         cluster.connect(rt)?;
     }
@@ -76,7 +77,7 @@ fn try_at<
     requires count { blank.parts ≡ nodes }
 {
     let (_book, seats) = blank.open::<L>();
-    let mut cluster = Cluster::start(alloc, nodes, 1024, seats, NoPause)?;
+    let mut cluster = Cluster::<Kept<L>, _>::start(alloc, nodes, 1024, seats, NoPause)?;
     let carried_out = carry_out(rt, alloc, trial, &mut cluster);
     let report = cluster.close(&rt, Vec::new(alloc));
     carried_out?;

@@ -1,6 +1,5 @@
-use Rattle.node_steps.specs.Witnesses.{IsReceiptOf, witness_of}
 use Rattle.shared_nodes.proofs.Answering.{answered}
 use Rattle.shared_nodes.proofs.shared.SharedNode.operate.Goals as goal
 
 pub returns : goal.returns
-returns g c = answered c.step_event-stepped.result c.answer.result.0 c.answer.result.1 (λ response r. IsReceiptOf c.args.event.now response (witness_of r)) c.answer.ensures c.step_event-stepped.ensures.stepped
+returns g c = answered c.step_event-stepped.result c.answer.result.0 c.answer.result.1 (g.K.JournaledNode.receipt_of c.args.event.now) c.answer.ensures c.step_event-stepped.ensures.stepped

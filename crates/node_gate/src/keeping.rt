@@ -1,0 +1,79 @@
+//! Nodes that stand on the parts of a name, and that nothing beside them can be stepped under it.
+ghost use Rattle.std.specs.Prelude.{◌≡◌, length};
+
+use crate::JournaledNode;
+use std::alloc::Global;
+use std::marker::PhantomData;
+use std::sync::{Arc, Mutex, Wait};
+
+/// The leave to lock nodes of one kind. This crate alone makes one, for what the nodes of that kind show of themselves, so nobody else
+/// reaches a node through what keeps it.
+pub struct Access<K>(PhantomData<K>);
+
+/// What has a node with its journal behind a lock.
+pub trait Keeper<K> {
+    /// The node with its journal.
+    fn kept(&self, access: &Access<K>) -> &Mutex<K>;
+}
+
+impl<K, H: Keeper<K>> Keeper<K> for Arc<H> {
+    fn kept(&self, access: &Access<K>) -> &Mutex<K> {
+        (**self).kept(access)
+    }
+}
+
+/// A node that stands on a part of a ledger's name.
+pub trait SeatedNode: JournaledNode {
+    ghost use Rattle.std.specs.Prelude.{◌≡◌, ◌≤◌, ◌+◌, ℕ, length};
+
+    /// A share of the name: some of its parts.
+    type Share: Drop;
+
+    // how many parts a share has, and what else the ledger counts for it
+    ghost parts: { Self.Share → ℕ };
+
+    ghost amount: { Self.Share → ℕ };
+
+    // how many parts the name has in all
+    ghost all_parts: { ℕ };
+
+    // the bytes of memory that a node has at most
+    ghost most_memory: { ℕ };
+
+    /// Takes one part out of a share for which the ledger counts nothing else.
+    fn split_seat(share: &mut Self::Share) -> Self::Share
+        requires part { 1 ≤ parts share.old }
+        requires blank { amount share.old ≡ 0 }
+        ensures seat { (parts result ≡ 1) × (amount result ≡ 0) }
+        ensures rest { (parts share.new + 1 ≡ parts share.old) × (amount share.new ≡ amount share.old) };
+
+    /// A node of this number, with so many bytes of memory, no job and no entry, on one part of the name.
+    fn seated(alloc: Global, number: u32, memory: u64, seat: Self::Share) -> Self
+        requires memory { memory ≤ most_memory }
+        requires seat { (parts seat ≡ 1) × (amount seat ≡ 0) };
+
+    /// If there are as many nodes as their name has parts, what anybody shows has none. All shares stay as they are.
+    fn nothing_beside<H: Keeper<Self>, R: Wait>(
+        rt: &R,
+        nodes: &[H],
+        other: &mut Self::Share,
+        access: &Access<Self>,
+    )
+        requires { length nodes.now ≡ all_parts }
+        ensures none { parts other.old ≡ 0 }
+        ensures same { (parts other.new ≡ parts other.old) × (amount other.new ≡ amount other.old) };
+}
+
+/// If there are as many nodes as their name has parts, nobody else has a part of it: what anybody shows has none, so that
+/// nothing else of that name can be stepped. Locks all nodes at once, in their order. All shares stay as they are.
+pub fn nothing_beside<K: SeatedNode, H: Keeper<K>, R: Wait>(
+    rt: &R,
+    nodes: &[H],
+    other: &mut K::Share,
+)
+    requires { length nodes.now ≡ K.all_parts }
+    ensures none { K.parts other.old ≡ 0 }
+    ensures same { (K.parts other.new ≡ K.parts other.old) × (K.amount other.new ≡ K.amount other.old) }
+{
+    K::nothing_beside(rt, nodes, other, &Access(PhantomData));
+}

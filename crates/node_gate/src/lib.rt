@@ -1,0 +1,11 @@
+//! What the threads that serve a node ask of it, and what each step promises them. Nothing here is a node: who has one with its journal
+//! says by ghost members what a step of it is.
+#![tactic(auto)]
+
+mod journaled;
+mod keeping;
+mod posted;
+
+pub use journaled::{JournaledNode, LiveJob, Made};
+pub use keeping::{Access, Keeper, SeatedNode, nothing_beside};
+pub use posted::Posted;
