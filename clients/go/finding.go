@@ -34,7 +34,7 @@ func (s *Session) Wait(ctx context.Context, id ObjectID) (*Held, error) {
 }
 
 // GetInto fills the buffer with the object's bytes, which are as many; no hold stays. It is refused as Get; an [InvalidError] if the object
-// has another length: the buffer is as it was then.
+// has another length: the buffer is as it was then. Up to 65,536 bytes take one trip to the server, if the session holds nothing.
 func (s *Session) GetInto(ctx context.Context, id ObjectID, into []byte) error {
 	return s.getInto(ctx, id, into, false)
 }
@@ -96,13 +96,22 @@ func (s *Session) getInto(ctx context.Context, id ObjectID, into []byte, waits b
 		}
 		return s.Peek(ctx, id, 0, into)
 	}
-	length, err := s.find(ctx, id, waits)
-	if err != nil {
+	search := newSearch(s, id)
+	if len(into) <= MostBytes {
+		search.likely = make([]byte, len(into))
+	}
+	if err := search.find(ctx, waits); err != nil {
 		return err
 	}
-	if err := fits(length, into); err != nil {
-		s.releaseLater(id)
+	if err := fits(search.length, into); err != nil {
+		if search.holds > 0 {
+			s.releaseLater(id)
+		}
 		return err
+	}
+	if search.isRead {
+		copy(into, search.likely)
+		return search.release(ctx, search.holds)
 	}
 	requests, err := reads(kindRead, id, 0, into)
 	if err != nil {
@@ -178,29 +187,9 @@ func lengthOf(item GrantedItem) (int, error) {
 
 // find is one hold of an object of this job, and its length.
 func (s *Session) find(ctx context.Context, id ObjectID, waits bool) (int, error) {
-	if err := notBegun(ctx); err != nil {
-		return 0, err
-	}
-	search, pauses := search{session: s, id: id, reminder: firstReminder}, newPauses()
-	for {
-		before := search.phase
-		if err := search.look(ctx); err != nil {
-			return 0, err
-		}
-		if search.phase == found {
-			return search.length, search.release(ctx, search.holds-1)
-		}
-		// what is on its way is waited for in any case
-		if search.phase == over || !waits && search.refusal != Pending {
-			return 0, search.refusal
-		}
-		if search.phase == underWay && before != underWay {
-			pauses.restart()
-		}
-		if pauses.pause(ctx); ctx.Err() != nil {
-			return 0, &WaitError{search.refusal, ctx.Err()}
-		}
-	}
+	search := newSearch(s, id)
+	err := search.find(ctx, waits)
+	return search.length, err
 }
 
 // phase says what is asked next of an object.
@@ -229,24 +218,63 @@ type search struct {
 	refusal Refusal
 	// how many holds the search has, and the object's length
 	holds, length int
-	reminder      time.Duration
-	remindAt      time.Time
+	// as long as the object is likely to be: its bytes are asked for with the first Get, and the hold is given up in the same trip, if the
+	// session has no other
+	likely []byte
+	// that these are the object's bytes
+	isRead   bool
+	reminder time.Duration
+	remindAt time.Time
+}
+
+func newSearch(session *Session, id ObjectID) *search {
+	return &search{session: session, id: id, reminder: firstReminder}
+}
+
+// find looks until the object is here, with a hold of it unless its bytes were read at once.
+func (s *search) find(ctx context.Context, waits bool) error {
+	if err := notBegun(ctx); err != nil {
+		return err
+	}
+	pauses := newPauses()
+	for {
+		before := s.phase
+		if err := s.look(ctx); err != nil {
+			return err
+		}
+		if s.phase == found {
+			return s.release(ctx, s.holds-1)
+		}
+		// what is on its way is waited for in any case
+		if s.phase == over || !waits && s.refusal != Pending {
+			return s.refusal
+		}
+		if s.phase == underWay && before != underWay {
+			pauses.restart()
+		}
+		if pauses.pause(ctx); ctx.Err() != nil {
+			return &WaitError{s.refusal, ctx.Err()}
+		}
+	}
 }
 
 // look is one look, asked to its end though the context may have ended.
 func (s *search) look(ctx context.Context) error {
 	for {
-		if s.phase == underWay && time.Now().Before(s.remindAt) {
-			if err := s.lookByReading(ctx); err != nil {
-				return err
-			}
-		} else if err := s.lookByGets(ctx); err != nil {
+		if err := s.ask(ctx); err != nil || s.phase != entered {
 			return err
 		}
-		if s.phase != entered {
-			return nil
-		}
 	}
+}
+
+func (s *search) ask(ctx context.Context) error {
+	switch {
+	case s.phase == underWay && time.Now().Before(s.remindAt):
+		return s.lookByReading(ctx)
+	case s.phase == unknown && len(s.likely) > 0:
+		return s.lookAndRead(ctx)
+	}
+	return s.lookByGets(ctx)
 }
 
 func (s *search) lookByReading(ctx context.Context) error {
@@ -270,6 +298,31 @@ func (s *search) lookByGets(ctx context.Context) error {
 	if err != nil {
 		return err
 	}
+	return s.hear(ctx, answers)
+}
+
+// lookAndRead is the first look at an object that is likely to have a length.
+func (s *search) lookAndRead(ctx context.Context) error {
+	requests := []request{get(kindGet, s.id, &s.length), read(kindRead, s.id, 0, s.likely)}
+	answers, err := s.session.exchange(ctx, requests, onObject(kindRelease, s.id))
+	if err != nil {
+		return err
+	}
+	if err := s.hear(ctx, answers[:1]); err != nil || s.phase != found {
+		return err
+	}
+	if len(answers) > len(requests) {
+		s.holds--
+	}
+	if s.isRead = s.length == len(s.likely); s.isRead && answers[1] != 0 {
+		_ = s.release(ctx, s.holds)
+		return answers[1]
+	}
+	return nil
+}
+
+// hear takes the answers to Gets.
+func (s *search) hear(ctx context.Context, answers []Refusal) error {
 	for _, refusal := range answers {
 		if refusal == 0 {
 			s.holds++
@@ -318,11 +371,12 @@ func (s *search) dropFetch(ctx context.Context) error {
 	return err
 }
 
-// release gives so many holds up.
+// release gives so many holds up, if there are any.
 func (s *search) release(ctx context.Context, count int) error {
-	if count == 0 {
+	if count <= 0 {
 		return nil
 	}
+	s.holds -= count
 	var releases []request
 	for ; count > 0; count-- {
 		releases = append(releases, onObject(kindRelease, s.id))

@@ -252,6 +252,33 @@ func TestASmallPutIsOneRoundTrip(t *testing.T) {
 	}
 }
 
+func TestASmallGetIntoABufferIsOneRoundTrip(t *testing.T) {
+	// nothing is answered before all is there
+	script := afterHello(t, raw(), raw(), together(gotReply(5), bytesReply("Hello"), ok()))
+	store, into := script.connect(slack), make([]byte, 5)
+	expectBytes(t, into, store.GetInto(background, anyID(), into), []byte("Hello"))
+	script.expect(kindHello, kindGet, kindRead, kindRelease)
+	script.expectNoMore(store)
+}
+
+func TestAGetIntoABufferOfAnotherLengthLeavesItAsItWas(t *testing.T) {
+	script := afterHello(t, gotReply(6), bytesReply("Hello"), ok())
+	store, into := script.connect(slack), []byte("other")
+	expectAs[*InvalidError](t, store.GetInto(background, anyID(), into))
+	expectBytes(t, into, nil, []byte("other"))
+	script.expect(kindHello, kindGet, kindRead, kindRelease)
+	script.expectNoMore(store)
+}
+
+func TestAGetIntoABufferWhoseReadIsRefusedKeepsNoHold(t *testing.T) {
+	script := afterHello(t, gotReply(5), gotReply(5), refused(Damaged), ok())
+	store, into := script.connect(slack), make([]byte, 5)
+	expectNil(t, errorOf(store.Hold(background, anyID())))
+	expectIs(t, store.GetInto(background, anyID(), into), Damaged)
+	script.expect(kindHello, kindGet, kindGet, kindRead, kindRelease)
+	script.expectNoMore(store)
+}
+
 func TestAPutThatIsRefusedHalfWayIsDeletedAgain(t *testing.T) {
 	script := afterHello(t, placedReply(), refused(NoMemory), ok(), ok(), ok())
 	store := script.connect(slack)

@@ -86,6 +86,19 @@ func TestWhatWasPutComesBack(t *testing.T) {
 	}
 }
 
+func TestAGetIntoABufferGivesNoOtherHoldUp(t *testing.T) {
+	store, into := connected(t), make([]byte, 5)
+	id := must(store.Put(background, []byte("Hello")))
+	held := must(store.Get(background, id))
+	expectBytes(t, into, store.GetInto(background, id, into), []byte("Hello"))
+	expectNil(t, store.Delete(background, id))
+	// the Get is refused, and a Release with it would be of the other hold
+	expectIs(t, store.GetInto(background, id, into), Absent)
+	expectBytes(t, into, store.Read(background, id, 0, into), []byte("Hello"))
+	expectNil(t, held.Release(background))
+	expectIs(t, store.Read(background, id, 0, into), Absent)
+}
+
 func TestAnObjectHasAtLeastOneByteAndAtMost16Mebibytes(t *testing.T) {
 	store := connected(t)
 	id := must(store.Object(1, 1))

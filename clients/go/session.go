@@ -118,7 +118,10 @@ func firstRefusal(answers []Refusal) error {
 
 // exchange sends the requests in one burst, and gives their answers, also those before a fault. After a fault of the stream it isn't
 // known which replies are still to come, so no other call can follow. What was begun is asked to its end though the context has ended.
-func (s *Session) exchange(ctx context.Context, requests []request) ([]Refusal, error) {
+//
+// What is last is sent with them only if the session holds nothing, and has no answer otherwise. It is a Release after its Get: if that
+// is refused, the Release would give up another hold.
+func (s *Session) exchange(ctx context.Context, requests []request, last ...request) ([]Refusal, error) {
 	b := newBounds(ctx, s.access.Patience)
 	for i := range requests {
 		if requests[i].waits() {
@@ -132,7 +135,7 @@ func (s *Session) exchange(ctx context.Context, requests []request) ([]Refusal, 
 	if err := s.lostError(); err != nil {
 		return nil, err
 	}
-	answers, err := s.exchangeInTurn(b, requests)
+	answers, err := s.exchangeInTurn(b, requests, last...)
 	if err != nil {
 		s.giveUp(requests)
 	}
@@ -143,7 +146,7 @@ func (s *Session) exchange(ctx context.Context, requests []request) ([]Refusal, 
 }
 
 // exchangeInTurn first releases what was dropped.
-func (s *Session) exchangeInTurn(b *bounds, requests []request) ([]Refusal, error) {
+func (s *Session) exchangeInTurn(b *bounds, requests []request, last ...request) ([]Refusal, error) {
 	s.mutex.Lock()
 	var all []request
 	for _, id := range s.dropped {
@@ -152,7 +155,11 @@ func (s *Session) exchangeInTurn(b *bounds, requests []request) ([]Refusal, erro
 	s.dropped = nil
 	s.mutex.Unlock()
 	dropped := len(all)
-	answers, err := b.during(s.stream, append(all, requests...))
+	all = append(all, requests...)
+	if s.stream.holds == dropped {
+		all = append(all, last...)
+	}
+	answers, err := b.during(s.stream, all)
 	return answers[least(dropped, len(answers)):], err
 }
 

@@ -14,6 +14,7 @@ from __future__ import annotations
 
 import asyncio
 import contextlib
+import functools
 import time
 from typing import TYPE_CHECKING, Any, Callable, List, Optional, Sequence, Tuple, Type, TypeVar, Union, overload
 
@@ -347,7 +348,7 @@ class Connection:
 
     async def _do(self, effect: Effect, end: Optional[float]) -> Any:
         if isinstance(effect, Ask):
-            return await self._session.exchange(effect.requests, answers_due(effect.requests, end, self._timeout))
+            return await self._session.exchange(effect.requests, answers_due(effect.requests, end, self._timeout), effect.last)
         if isinstance(effect, Rest):
             return await _rest(effect)
         if isinstance(effect, Together):
@@ -380,6 +381,12 @@ class Connection:
             await asyncio.gather(*running, return_exceptions=True)
 
 
+def _wake_in(loop: asyncio.AbstractEventLoop, wake: Callable[[], None]) -> None:
+    with contextlib.suppress(RuntimeError):
+        # a loop that is closed rests no more
+        loop.call_soon_threadsafe(wake)
+
+
 async def _rest(rest: Rest) -> None:
     if rest.bell is None:
         return await asyncio.sleep(rest.seconds)
@@ -390,7 +397,8 @@ async def _rest(rest: Rest) -> None:
         if not woken.done():
             woken.set_result(None)
 
-    rest.bell.wake = wake
+    # it may be rung by another thread, as one that listens to the keeper
+    rest.bell.wake = functools.partial(_wake_in, loop, wake)
     timer = loop.call_later(0.0 if rest.bell.is_rung else rest.seconds, wake)
     try:
         await woken

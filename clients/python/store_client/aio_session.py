@@ -5,14 +5,15 @@ from __future__ import annotations
 import asyncio
 import collections
 import contextlib
+import dataclasses
 import os
 import struct
 import time
 from typing import Any, Deque, List, Optional, Sequence, Tuple
 
-from .frames import LONGEST_REPLY
+from .frames import LONGEST_REPLY, Reply
 from .refusals import SERVER_GONE, ConnectionLost, Pending, ProtocolError, Refused, ServerSilent, StoreError, of_another_process
-from .requests import Answer, Request, Requests
+from .requests import Answer, Request, Requests, holds_after
 
 
 class Session:
@@ -22,19 +23,23 @@ class Session:
         self._reader, self._writer = reader, writer
         self._process = os.getpid()
         self._due: Deque[Tuple[Request[Any], asyncio.Future[Answer]]] = collections.deque()
+        self._holds = 0
         self.loop = asyncio.get_running_loop()
         self.lost: Optional[str] = None
         self._is_silent = False
         self._listening = self.loop.create_task(self._listen())
 
-    async def exchange(self, requests: Sequence[Request[Any]], end: Optional[float]) -> List[Answer]:
-        """The answers to the requests. If the server doesn't give them until then, the session is lost."""
+    async def exchange(
+        self, requests: Sequence[Request[Any]], end: Optional[float], last: Sequence[Request[Any]] = ()
+    ) -> List[Answer]:
+        """The answers to the requests, and to the last ones if the session holds nothing. If the server doesn't give them until then, the
+        session is lost."""
         self.check_process()
         if self.lost is not None:
             raise ConnectionLost(self.lost)
         timer = None if end is None else self.loop.call_later(max(0.0, end - time.monotonic()), self._silence)
         try:
-            return await self._exchange(requests)
+            return await self._exchange([*map(_let_go, requests), *last] if last and self._holds_nothing else requests)
         except ConnectionLost as error:
             if self._is_silent:
                 raise ServerSilent(str(error)) from None
@@ -42,6 +47,11 @@ class Session:
         finally:
             if timer:
                 timer.cancel()
+
+    @property
+    def _holds_nothing(self) -> bool:
+        """Also once all is answered that was sent."""
+        return not self._holds and not any(request.due is Reply.GOT for request, _ in self._due)
 
     def check_process(self) -> None:
         """`ConnectionLost` in a process that was forked off."""
@@ -87,7 +97,7 @@ class Session:
             # a Get that is on its way already is told what came of the fetch, and takes it away
             if not any(due.id == request.id and due.name == "get" for due, _ in self._due):
                 self._send_and_undo(requests.get(request.id), looks - 1)
-        elif not isinstance(answer, Refused) and request.name == "get":
+        elif not isinstance(answer, Refused) and request.name == "get" and not request.is_let_go:
             self._send_and_undo(requests.release(request.id), 0)
         elif not isinstance(answer, Refused) and request.name == "create":
             self._send_and_undo(requests.delete(request.id), 0)
@@ -115,7 +125,9 @@ class Session:
     def _tell(self, kind: int, body: bytes) -> None:
         request, waiting = self._due[0]
         into = request.space_of(kind, len(body))
-        answer = request.answer(kind, body)
+        # a call that was cancelled may go on only later, and isn't to undo once more what is undone here
+        answer = request.answer(kind, body, is_awaited=not waiting.done())
+        self._holds = holds_after(self._holds, [request], [answer])
         self._due.popleft()
         if waiting.done():
             self._undo(request, answer)
@@ -140,3 +152,8 @@ class Session:
             await self._listening
         with contextlib.suppress(OSError):
             await self._writer.wait_closed()
+
+
+def _let_go(request: Request[Any]) -> Request[Any]:
+    """The request, with a Release of what it gets after it."""
+    return dataclasses.replace(request, is_let_go=request.due is Reply.GOT)

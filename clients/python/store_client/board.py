@@ -27,6 +27,8 @@ class Bell:
 
     def __init__(self) -> None:
         self.is_rung = False
+        #: whether what is waited for has come, as far as is known
+        self.has_come = False
         #: what wakes who rests just now
         self.wake: Callable[[], object] = bool
 
@@ -67,6 +69,7 @@ class Board:
         """Wakes those whose objects are listed."""
         for search, bell in list(self.waits.items()):
             if is_there(search.name, names):
+                bell.has_come = True
                 bell.ring()
 
 

@@ -16,7 +16,7 @@ from .held import Holder
 from .ids import ObjectId, Task
 from .keeping import Keeping
 from .refusals import ConnectionLost, ProtocolError, ServerSilent, StoreError, TimedOut, of_another_process
-from .requests import Answer, Request, hello, value_of
+from .requests import Answer, Request, hello, holds_after, value_of
 from .steps import GRACE, Ask, Effect, Over, Rest, Steps, TakeBack, Together, answers_due, fail, go_on
 from .stream import Stream
 from .values import ValueCalls
@@ -71,7 +71,8 @@ class Connection(ValueCalls):
         self._lost: Optional[str] = None
         # whether the server has done all that it was sent, once the connection is lost
         self._is_settled = False
-        # holds that were dropped while the connection was in use
+        # how many holds the session has, and those that were dropped while the connection was in use
+        self._holds = 0
         self._dropped: List[ObjectId] = []
         self._requests.keeping = Keeping(self._path, self.job, self._key, keeper)
         self._ids = NewIds(self.job, self._requests.keeping)
@@ -173,7 +174,7 @@ class Connection(ValueCalls):
 
     def _do(self, effect: Effect, end: Optional[float]) -> Any:
         if isinstance(effect, Ask):
-            return self._exchange(effect.requests, answers_due(effect.requests, end, self._timeout))
+            return self._exchange(effect.requests, answers_due(effect.requests, end, self._timeout), effect.last)
         if isinstance(effect, Rest):
             return _rest(effect)
         if isinstance(effect, Together):
@@ -184,14 +185,14 @@ class Connection(ValueCalls):
         """What each of the steps gives: here one after the other."""
         return [self._drive(steps, end) for steps in all]
 
-    def _exchange(self, requests: Sequence[Request[Any]], end: Optional[float]) -> List[Answer]:
+    def _exchange(self, requests: Sequence[Request[Any]], end: Optional[float], last: Sequence[Request[Any]] = ()) -> List[Answer]:
         self._check_process()
         try:
             if not self._lock.acquire(timeout=-1 if end is None else min(max(0.0, end - time.monotonic()), threading.TIMEOUT_MAX)):
                 raise TimedOut("the connection was in use by other threads all the time")
             if self._is_exchanging:
                 raise StoreError("a call was made in the middle of another one of the same thread, as by the handler of a signal")
-            return self._exchange_locked(requests, end)
+            return self._exchange_locked(requests, end, last)
         finally:
             # an interruption may come just when the lock was taken, or before
             try:
@@ -199,14 +200,19 @@ class Connection(ValueCalls):
             except RuntimeError:
                 pass
 
-    def _exchange_locked(self, requests: Sequence[Request[Any]], end: Optional[float]) -> List[Answer]:
+    def _exchange_locked(
+        self, requests: Sequence[Request[Any]], end: Optional[float], last: Sequence[Request[Any]] = ()
+    ) -> List[Answer]:
         if self._lost is not None:
             raise ConnectionLost(self._lost)
         try:
             self._is_exchanging = True
             dropped, self._dropped = self._dropped, []
             releases = [self._requests.release(id) for id in dropped]
-            return self._stream.exchange([*releases, *requests], end)[len(releases) :]
+            sent = [*releases, *requests, *(last if self._holds == len(releases) else ())]
+            answers = self._stream.exchange(sent, end)
+            self._holds = holds_after(self._holds, sent, answers)
+            return answers[len(releases) :]
         except BaseException as error:
             self._give_up(error, requests)
             raise

@@ -131,22 +131,25 @@ def _padding(length: int) -> memoryview:
 
 
 def encode_array(array: Any) -> Pieces:
-    """An array of numpy, or what numpy makes one of, as a file of format .npy. `TypeError` if its items have pointers, or its class
-    may have more than the items, as a mask, or if it is a list of what has a mask."""
+    """An array of numpy, or what numpy makes one of, as a file of format .npy. `TypeError` if its items have pointers or the format can't
+    say their type, or if its class may have more than the items, as a mask, also in a list."""
     numpy = _numpy()
     given, array = array, _as_array(numpy, array)
-    if type(array) not in (numpy.ndarray, numpy.memmap):
+    if _is_more_than_items(numpy, type(array)):
         raise TypeError(
             f"a {type(array).__name__} would come back as a plain array, without its mask or what else it has: put_value stores it whole,"
             " and numpy.asarray gives its items alone"
         )
     if array.dtype.hasobject:
         raise TypeError(f"an array of {array.dtype} has pointers, which mean nothing to who gets them: put_value stores objects")
-    masked = _masked_among(numpy, given)
-    if masked:
-        raise TypeError(f"a {masked} among the rows would lose its mask: put_value stores numpy.ma.stack of them, which keeps it")
+    lost = _class_among(numpy, given)
+    if lost:
+        raise TypeError(
+            f"a {lost} among the rows would lose its mask or what else it has: put_value stores the list whole, and of rows with masks"
+            " numpy.ma.stack makes one array"
+        )
     items, order = _items_of(array)
-    described = {"descr": numpy.lib.format.dtype_to_descr(array.dtype), "fortran_order": order == "F", "shape": array.shape}
+    described = {"descr": _described(numpy, array.dtype), "fortran_order": order == "F", "shape": array.shape}
     head = io.BytesIO()
     try:
         numpy.lib.format.write_array_header_1_0(head, described)
@@ -157,15 +160,34 @@ def encode_array(array: Any) -> Pieces:
     return Pieces([memoryview(head.getvalue()), items])
 
 
-def _masked_among(numpy: Any, given: Any) -> str:
-    """The class of a masked array in a list, as deep as lists are in it, or nothing. Numpy leaves the mask out there."""
-    if isinstance(given, numpy.ma.MaskedArray):
+def _described(numpy: Any, dtype: Any) -> Any:
+    """The type of the items as a file .npy says it."""
+    try:
+        described = numpy.lib.format.dtype_to_descr(dtype)
+        is_said = numpy.lib.format.descr_to_dtype(described) == dtype
+    except (TypeError, ValueError):
+        # its fields overlap, or aren't in order
+        is_said = False
+    if not is_said:
+        raise TypeError(f"an array of {dtype} would come back as another: numpy's format .npy can't say that type. put_value stores it")
+    return described
+
+
+def _is_more_than_items(numpy: Any, kind: type) -> bool:
+    """Whether an array of this class may have more than its items."""
+    return issubclass(kind, numpy.ndarray) and kind not in (numpy.ndarray, numpy.memmap)
+
+
+def _class_among(numpy: Any, given: Any) -> str:
+    """The class of an array in a list that may have more than its items, as deep as lists are in it, or nothing. Numpy leaves the rest out
+    there."""
+    if _is_more_than_items(numpy, type(given)):
         return type(given).__name__
     within = (list, tuple, deque)
     # of many numbers the types are few
-    if not isinstance(given, within) or not any(issubclass(kind, (*within, numpy.ma.MaskedArray)) for kind in set(map(type, given))):
+    if not isinstance(given, within) or not any(issubclass(kind, (*within, numpy.ndarray)) for kind in set(map(type, given))):
         return ""
-    return next(filter(None, (_masked_among(numpy, one) for one in given)), "")
+    return next(filter(None, (_class_among(numpy, one) for one in given)), "")
 
 
 def _as_array(numpy: Any, given: Any) -> Any:

@@ -12,6 +12,8 @@ a Create of it is `3 Exists`. From this come the rules:
   its missing chunks once more, so it is asked about by a Read of no bytes, which changes nothing, and by a Get after 0.1
   seconds, 0.2, and so on up to 2. If the time is over the transfer goes on by itself. Its copy is a secondary
   like others, which is evicted if room is needed.
+* **What is heard of is looked for at once.** After a tenth of a second the keeper of the host is listened to (listening.py), which tells of
+  puts that have ended. It tells of no others, such as those of other clients, and so the looks go on.
 * **A fetch that finds no room is deleted.** If a Get is answered Full or BadSize, and the copy is listed as one that is being
   fetched, the look that found it takes it away again. This is the only Delete of a look. It isn't sent if the list shows
   anything else, such as an object of this node on the device. To lose by it, other sessions would have to get the object room, fetch
@@ -36,17 +38,21 @@ from typing import Any, Dict, List, Optional, Sequence, Tuple
 
 from .board import FAR, Bell, is_there
 from .checks import seconds, whole_number
+from .frames import MOST_BYTES
 from .ids import ObjectId, expect_id
 from .items import State
+from .listening import listen
 from .refusals import Absent, BadSize, Busy, Full, NotGranted, NotHeld, NotSealed, Pending, Refused, StoreError
 from .requests import Answer, Request, Requests, count_done
-from .steps import Deadline, Pauses, Steps, ask, ask_all, undoing
+from .steps import Ask, Deadline, Pauses, Steps, ask, ask_all, undoing
 
 # what is worth another look, if there is time
 NOT_YET = (Absent, NotSealed, Busy, NotGranted, Pending)
 
 # after how many seconds a transfer is asked for again, at first and at most
 _FIRST_REMINDER, _LAST_REMINDER = 0.1, 2.0
+# after so many seconds of a wait the keeper is listened to: until then the pauses are short
+_LISTENS_AFTER = 0.1
 
 
 class _Phase(enum.Enum):
@@ -62,9 +68,12 @@ class _Phase(enum.Enum):
 class Search:
     """What is known of one object that is waited for."""
 
-    def __init__(self, requests: Requests, id: ObjectId, awaits_put: bool = True) -> None:
-        """`awaits_put` says whether it is waited for if nobody has put it."""
+    def __init__(self, requests: Requests, id: ObjectId, awaits_put: bool = True, likely: int = 0, keep: bool = True) -> None:
+        """`awaits_put` says whether it is waited for if nobody has put it. If it is likely to have this length, its bytes are asked for
+        with the first Get; and unless `keep` says that it is to stay, the hold is given up in the same trip, if the session has no other.
+        """
         self._requests = requests
+        self._likely, self._keep = likely if likely <= MOST_BYTES else 0, keep
         self.id = id
         self._awaits_put = awaits_put
         self.is_foreign = id.job != requests.job
@@ -76,6 +85,8 @@ class Search:
         self.listed_until = 0.0
         #: the object's length, once it is here and is this job's
         self.length: Optional[int] = None
+        #: the answer to the Read of its bytes, if it has the length that was likely
+        self.bytes: Optional[Answer] = None
         #: the last refusal
         self.refusal: Optional[Refused] = None
         # the answers to its Gets and Releases, as they come
@@ -112,13 +123,28 @@ class Search:
         """One of its holds less."""
         return self._requests.release(self.id, self._releases)
 
+    def begin_anew(self) -> None:
+        """Its hold was given up, and is wanted."""
+        self._phase, self._likely, self.length = _Phase.UNKNOWN, 0, None
+
+    @property
+    def _asks_for_bytes(self) -> bool:
+        return self._phase is _Phase.UNKNOWN and self._likely > 0 and not self.is_foreign
+
+    def last_questions(self) -> List[Request[Any]]:
+        """What is asked after all questions, if the session holds nothing."""
+        return [self.release()] if self._asks_for_bytes and not self._keep else []
+
     def questions(self) -> List[Request[Any]]:
         """What is asked now."""
         if self.is_foreign:
             return [self._requests.peek(self.id, 0, 0)]
         if self._phase is _Phase.UNDER_WAY and time.monotonic() < self._remind_at:
             return [self._requests.read(self.id, 0, 0)]
-        return [self._requests.get(self.id, heard=self._gets)] * (2 if self._phase is _Phase.MISSING else 1)
+        get = self._requests.get(self.id, heard=self._gets)
+        if self._asks_for_bytes:
+            return [get, self._requests.read(self.id, 0, self._likely)]
+        return [get, get] if self._phase is _Phase.MISSING else [get]
 
     def hear(self, asked: Sequence[Request[Any]], answers: Sequence[Answer]) -> None:
         """Takes the answers to what was asked."""
@@ -127,6 +153,9 @@ class Search:
             if not isinstance(answers[0], NotSealed):
                 self._phase = _Phase.ENTERED
             return
+        if asked[-1].name == "read":
+            self.bytes = answers[-1] if answers[0] == self._likely else None
+            answers = answers[:1]
         found = [answer for answer in answers if not isinstance(answer, Refused)]
         if found:
             self._phase, self.refusal = _Phase.OVER, None
@@ -154,7 +183,8 @@ def look(requests: Requests, searches: Sequence[Search]) -> Steps[None]:
     asked_of = [search for search in searches if not search.is_over]
     while asked_of:
         asked = [search.questions() for search in asked_of]
-        answers = yield from ask_all([request for questions in asked for request in questions])
+        last = [request for search in asked_of for request in search.last_questions()]
+        answers = yield Ask([request for questions in asked for request in questions], last)
         for search, questions in zip(asked_of, asked):
             search.hear(questions, answers[: len(questions)])
             answers = answers[len(questions) :]
@@ -185,8 +215,14 @@ def find(requests: Requests, searches: Sequence[Search], count: int, deadline: D
 def _await_next_look(requests: Requests, searches: Sequence[Search], pauses: Pauses, bell: Bell) -> Steps[Sequence[Search]]:
     """Pauses. Which of the searches are worth a look then."""
     board = requests.board
+    if pauses.waited >= _LISTENS_AFTER:
+        listen(requests.keeping, board)
     leads = board.is_shared and board.leads(bell, pauses.length)
     yield pauses.next(FAR if board.is_shared and not leads else 1, bell)
+    if bell.has_come:
+        # at another node it may be a moment until that is known here
+        bell.has_come = False
+        pauses.restart()
     if not leads or pauses.is_over:
         return searches
     names = yield from ask(requests.names())

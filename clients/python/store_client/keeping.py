@@ -24,8 +24,8 @@ from .ids import ObjectId, Task
 from .refusals import ConnectionLost
 
 # the kinds of messages, of one byte; keeper.py has them, too
-HELLO, TASK, BEGIN, END, LEAVE = b"H", b"T", b"B", b"E", b"L"
-_FLAGS = socket.MSG_DONTWAIT | socket.MSG_NOSIGNAL
+HELLO, TASK, BEGIN, END, LEAVE, LISTEN = b"H", b"T", b"B", b"E", b"L", b"R"
+FLAGS = socket.MSG_DONTWAIT | socket.MSG_NOSIGNAL
 # a socket's path has at most 107 bytes, and what follows the folder for temporary files in it has 47
 _LONGEST_PLACE = 60
 # how long another process that is starting the keeper is waited for, in seconds; how often this one tries; and the pause between. A start
@@ -41,8 +41,8 @@ class Keeping:
     """What the keeper is told of one session, or of all of a pool's. The keeper is started when there is something to tell."""
 
     def __init__(self, path: str, job: int, key: bytes, is_wanted: bool = True) -> None:
-        self._path, self._job, self._key = path, job, key
-        self._is_wanted = is_wanted
+        self.path, self.job, self.key = path, job, key
+        self.is_wanted = is_wanted
         self._forget()
         _all.add(self)
 
@@ -53,6 +53,8 @@ class Keeping:
                 self._socket.close()
         self._lock = threading.RLock()
         self._socket: Optional[socket.socket] = None
+        # whether the keeper has said that somebody listens to what is put
+        self._is_listened_to = False
         # whether there is a keeper that knows all of what follows
         self._is_known = False
         self._tasks: Set[bytes] = set()
@@ -62,7 +64,7 @@ class Keeping:
 
     def task(self, task: Task) -> None:
         """From now on this process puts under the task, which no other process does."""
-        if self._is_wanted:
+        if self.is_wanted:
             self._tasks.add(task.value)
             self._tell(TASK + task.value)
 
@@ -70,7 +72,7 @@ class Keeping:
     def unfinished(self, id: ObjectId, parts: Sequence[ObjectId] = ()) -> Iterator[None]:
         """Within the block the object is being put, with its parts: if the process is killed meanwhile, they are deleted. So they are, at
         the end of the process, if the connection is lost and nothing could be taken back."""
-        if not self._is_wanted:
+        if not self.is_wanted:
             yield
             return
         whole = id.to_bytes()
@@ -91,22 +93,29 @@ class Keeping:
             self._tell(BEGIN + bytes([len(ended)]) + b"".join(ended) + whole + parts)
 
     def _end(self, whole: bytes, at_once: bool) -> None:
-        """A put of one object tells the keeper once, and so its end is told with what comes next."""
+        """A put of one object tells the keeper once, and so its end is told with what comes next, unless somebody listens."""
         with self._lock:
             self._begun.pop(whole, None)
             self._ended.append(whole)
-            if at_once or len(self._ended) == _MOST_ENDED:
+            if at_once or self._hears_of_listeners() or len(self._ended) == _MOST_ENDED:
                 ended, self._ended = self._ended, []
                 self._tell(END + b"".join(ended))
 
     def close(self, is_clean: bool) -> None:
         """Nothing more is put. If it is clean, the session has left nothing that wasn't to be left."""
         with self._lock:
-            self._is_wanted = False
+            self.is_wanted = False
             if self._socket:
                 with self._socket, contextlib.suppress(OSError):
                     if is_clean:
-                        self._socket.send(LEAVE, _FLAGS)
+                        self._socket.send(LEAVE, FLAGS)
+
+    def _hears_of_listeners(self) -> bool:
+        """Whether somebody listens to what is put. The keeper says so once."""
+        if self._socket and not self._is_listened_to:
+            with contextlib.suppress(OSError):
+                self._is_listened_to = bool(self._socket.recv(1, socket.MSG_DONTWAIT))
+        return self._is_listened_to
 
     def _tell(self, message: bytes) -> None:
         with self._lock:
@@ -116,7 +125,7 @@ class Keeping:
                 assert self._socket
                 try:
                     for part in (message,) if self._is_known else (*self._all_of_it(), message):
-                        self._socket.send(part, _FLAGS)
+                        self._socket.send(part, FLAGS)
                     self._is_known = True
                     return
                 except BlockingIOError:
@@ -125,44 +134,58 @@ class Keeping:
                     return
                 except OSError:
                     # it has ended
+                    self._socket.close()
                     self._socket = None
-            self._is_wanted = False
+            self.is_wanted = False
 
     def _open(self) -> bool:
         with contextlib.suppress(OSError):
-            self._socket, self._is_known = _connected(self._path, self._job), False
+            self._socket, self._is_known, self._is_listened_to = connected(self.path, self.job), False, False
         return self._socket is not None
 
     def _all_of_it(self) -> Iterator[bytes]:
-        yield HELLO + self._key
+        yield HELLO + self.key
         yield from (TASK + task for task in self._tasks)
         yield from (BEGIN + b"\0" + whole + parts for whole, parts in self._begun.items())
 
 
-def _connected(path: str, job: int) -> socket.socket:
+def connected(path: str, job: int) -> socket.socket:
     """A connection to the keeper of a job at a node's socket, which is started if there is none. `OSError`."""
     end, starts = time.monotonic() + _PATIENCE, 0
-    words = f"{job} {os.path.realpath(path)}".encode("utf-8", "surrogateescape")
     while starts <= _STARTS and time.monotonic() < end:
-        # it is removed with the last keeper
-        name = f"{_folder()}/{hashlib.sha256(words).hexdigest()[:16]}"
-        stream = socket.socket(socket.AF_UNIX, socket.SOCK_SEQPACKET)
+        # the folder is removed with the last keeper
+        name = _name_of(path, job)
         try:
-            stream.setblocking(False)
-            stream.connect(f"{name}.socket")
-            return stream
+            return joined(path, job)
         except BlockingIOError as error:
-            stream.close()
             raise TimeoutError("the keeper takes no connection") from error
         except OSError:
             # there is none, or it is about to end
-            stream.close()
+            pass
         if _start(name, path, job):
             # it listens now, however long that took
             starts, end = starts + 1, time.monotonic() + _PATIENCE
         else:
             time.sleep(_PAUSE)
     raise TimeoutError("there is no keeper")
+
+
+def joined(path: str, job: int) -> socket.socket:
+    """The same if there is one, and otherwise `OSError`."""
+    stream = socket.socket(socket.AF_UNIX, socket.SOCK_SEQPACKET)
+    try:
+        stream.setblocking(False)
+        stream.connect(f"{_name_of(path, job)}.socket")
+    except OSError:
+        stream.close()
+        raise
+    return stream
+
+
+def _name_of(path: str, job: int) -> str:
+    """How the keeper's files begin. `OSError` if there can be no folder for them."""
+    words = f"{job} {os.path.realpath(path)}".encode("utf-8", "surrogateescape")
+    return f"{_folder()}/{hashlib.sha256(words).hexdigest()[:16]}"
 
 
 def _folder() -> str:

@@ -32,7 +32,7 @@ from .putting import (
     take_back,
     write_and_seal,
 )
-from .refusals import BadSize, StoreError
+from .refusals import BadSize, Full, StoreError
 from .requests import Pieces, Requests, value_of
 from .steps import Deadline, Steps, TakeBack, Together, ask, ask_all, undoing
 
@@ -78,7 +78,11 @@ def put_whole(
             if not pieces.length:
                 raise
             # the window is smaller than that
-    window = (yield from ask(requests.usage())).window
+    usage = yield from ask(requests.usage())
+    window = usage.window
+    if pieces.length > window + usage.device:
+        # what would be written before the last part finds no room would be written in vain
+        raise Full("create", name, requests.job, f"{pieces.length} bytes; window and device quota have {window + usage.device} in all")
     length = min(LARGEST, max(16, window // _PARTS_OF_A_WINDOW // 16 * 16))
     cut = pieces.cut(length)
     if len(cut) > MOST_PARTS:

@@ -20,7 +20,7 @@ from .ids import ObjectId
 from .items import Kind, Placed, State
 from .memory import blank
 from .refusals import Absent, BadSize, Busy, Exists, NotGranted, Pending, Refused, TooLong
-from .requests import Answer, Pieces, Request, Requests, count_done, first_refusal
+from .requests import Answer, Pieces, Request, Requests, count_done, first_refusal, value_of
 from .steps import Deadline, Pauses, Steps, TakeBack, ask, ask_all, undoing
 
 # called with the bytes moved so far and the bytes in all
@@ -195,7 +195,8 @@ def get(
         buffer = blank(length)
         yield from peek_into(requests, id, buffer, progress)
         return buffer.toreadonly()
-    search = Search(requests, id, deadline is None or deadline.awaits_puts)
+    likely = 0 if progress else requests.lengths.likely
+    search = Search(requests, id, deadline is None or deadline.awaits_puts, likely, keep)
     return (yield from undoing(_get_own(requests, search, deadline, keep, progress, limit), lambda: let_go([search])))
 
 
@@ -208,7 +209,14 @@ def _get_own(
     requests: Requests, search: Search, deadline: Optional[Deadline], keep: bool, progress: Optional[Progress], limit: Optional[int]
 ) -> Steps[memoryview]:
     length = yield from hold(requests, search, deadline)
+    requests.lengths.note(length)
     check_limit(requests, search.id, length, limit)
+    if search.bytes is not None:
+        yield from ask_all([search.release() for _ in range(0 if keep else search.holds)])
+        return memoryview(value_of(search.bytes))
+    if not search.holds:
+        search.begin_anew()
+        length = yield from hold(requests, search, deadline)
     buffer = blank(length)
     last = [] if keep else [search.release()]
     yield from _one_by_one_or_all(requests.reads(search.id, buffer), last, len(buffer), progress)
@@ -222,14 +230,16 @@ def get_into(requests: Requests, id: ObjectId, into: memoryview, deadline: Optio
         if fits:
             yield from peek_into(requests, id, into)
         return fits
-    search = Search(requests, id, deadline is None or deadline.awaits_puts)
+    search = Search(requests, id, deadline is None or deadline.awaits_puts, len(into), keep=False)
     return (yield from undoing(_get_own_into(requests, search, into, deadline), lambda: let_go([search])))
 
 
 def _get_own_into(requests: Requests, search: Search, into: memoryview, deadline: Optional[Deadline]) -> Steps[bool]:
     fits = (yield from hold(requests, search, deadline)) == len(into)
-    reads = requests.reads(search.id, into) if fits else []
-    yield from _one_by_one_or_all(reads, [search.release()], len(into), None)
+    reads = requests.reads(search.id, into) if fits and search.bytes is None else []
+    yield from _one_by_one_or_all(reads, [search.release() for _ in range(search.holds)], len(into), None)
+    if search.bytes is not None:
+        into[:] = value_of(search.bytes)
     return fits
 
 

@@ -45,6 +45,8 @@ class Request(Generic[T]):
     into: Optional[memoryview] = None
     # to which the answer is added as soon as it has come, for who has to know it also if the call is interrupted just then
     heard: Optional[List[Any]] = None
+    # of a Get, that a Release of it is sent with it
+    is_let_go: bool = False
 
     @property
     def name(self) -> str:
@@ -64,10 +66,11 @@ class Request(Generic[T]):
             raise ProtocolError(f"{length} bytes came, and {len(self.into)} were asked for")
         return self.into
 
-    def answer(self, kind: int, body: bytes) -> Any:
-        """What the reply says, a `Refused` among the rest. `ProtocolError` if it is no reply to this command."""
+    def answer(self, kind: int, body: bytes, is_awaited: bool = True) -> Any:
+        """What the reply says, a `Refused` among the rest. `ProtocolError` if it is no reply to this command. If nobody awaits it any more,
+        nobody hears it."""
         answer = self._read_answer(kind, body)
-        if self.heard is not None:
+        if self.heard is not None and is_awaited:
             self.heard.append(answer)
         return answer
 
@@ -101,6 +104,20 @@ def count_done(answers: Sequence[Answer]) -> int:
     return sum(not isinstance(answer, Refused) for answer in answers)
 
 
+def holds_after(holds: int, requests: Sequence[Request[Any]], answers: Sequence[Answer]) -> int:
+    """How many holds a session has that had so many, once the requests were answered so."""
+    for request, answer in zip(requests, answers):
+        if isinstance(answer, Refused):
+            continue
+        if request.due is Reply.GOT:
+            holds += 1
+        elif request.command is Command.RELEASE:
+            holds -= 1
+        elif request.command is Command.LEAVE:
+            holds = 0
+    return holds
+
+
 def first_refusal(answers: Sequence[Answer]) -> Optional[Refused]:
     """The first of the answers that is a refusal."""
     return next((answer for answer in answers if isinstance(answer, Refused)), None)
@@ -108,6 +125,21 @@ def first_refusal(answers: Sequence[Answer]) -> Optional[Refused]:
 
 def hello(job: int, key: bytes) -> Request[None]:
     return Request(Command.HELLO, _frame(Command.HELLO, numbers(job) + key), Reply.OK, _read_nothing, job=job, detail=f"job {job}")
+
+
+class Lengths:
+    """The lengths of the objects that were got last. The next one's is likely that of both."""
+
+    def __init__(self) -> None:
+        self._last = self._before = 0
+
+    def note(self, length: int) -> None:
+        self._last, self._before = length, self._last
+
+    @property
+    def likely(self) -> int:
+        """The length that the next one is likely to have, or 0."""
+        return self._last if self._last == self._before else 0
 
 
 class Requests:
@@ -118,6 +150,7 @@ class Requests:
         #: whom who puts tells so, and what those who wait share
         self.keeping = NOBODY
         self.board = Board()
+        self.lengths = Lengths()
 
     def create(
         self, id: ObjectId, length: int, kind: Kind = Kind.PRIMARY, wait: bool = False, heard: Optional[List[Any]] = None

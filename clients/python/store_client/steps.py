@@ -21,9 +21,14 @@ GRACE = 1.0
 
 @dataclass(frozen=True)
 class Ask:
-    """Requests that are sent at once. What comes of it is their answers, refusals among them."""
+    """Requests that are sent at once. What comes of it is their answers, refusals among them.
+
+    What is last is sent with them only if the session holds nothing, and has no answer otherwise. It is a Release after its Get: if that is
+    refused, the Release would give up another hold.
+    """
 
     requests: Sequence[Request[Any]]
+    last: Sequence[Request[Any]] = ()
 
 
 @dataclass(frozen=True)
@@ -107,9 +112,14 @@ class Pauses:
         self._began = time.monotonic()
 
     @property
+    def waited(self) -> float:
+        """The time that was waited already, in seconds."""
+        return time.monotonic() - self._began
+
+    @property
     def length(self) -> float:
         """How long a pause is now."""
-        return min(self.LONGEST, max(self.FIRST, (time.monotonic() - self._began) / self.PART))
+        return min(self.LONGEST, max(self.FIRST, self.waited / self.PART))
 
     @property
     def is_over(self) -> bool:

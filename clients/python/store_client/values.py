@@ -33,8 +33,8 @@ class ValueCalls(Calls):
     def put_value(self, value: Any, id: Optional[ObjectId] = None, timeout: Optional[float] = None) -> ObjectId:
         """Stores any Python object that can be pickled, under the id or a new one. Arrays of numpy in it may have any order and gaps.
 
-        What is longer than an object may be (16 MiB, or the window) is put in parts; all of them, or none if one finds no room. Waits
-        and is refused as `put`.
+        What is longer than an object may be (16 MiB, or the window) is put in parts; all of them, or none if one finds no room. What is
+        longer than window and device quota together is `Full` before anything is put. Waits and is refused as `put`.
         """
         return self._put_pieces(encode_value(value), id, timeout)
 
@@ -82,8 +82,8 @@ class ValueCalls(Calls):
 
     def put_array(self, array: Any, id: Optional[ObjectId] = None, timeout: Optional[float] = None) -> ObjectId:
         """Stores an array of numpy in numpy's own format .npy, without a pickle: of any type of items that has no pointers, any
-        order and gaps, any length. Waits and is refused as `put`. `TypeError` for a masked array, also in a list, and others of a class of
-        their own.
+        order and gaps, any length. Waits and is refused as `put`. `TypeError` for a masked array and others of a class of their own, also in
+        a list, and for items of a type that the format can't say.
 
         What numpy makes an array of is stored as that. What has `__array_interface__` or `__dlpack__`, as a tensor on the CPU, isn't
         copied for that."""

@@ -2,7 +2,10 @@
 
 from __future__ import annotations
 
+import asyncio
 import contextlib
+import functools
+import glob
 import hashlib
 import os
 import pickle
@@ -19,7 +22,9 @@ from unittest import mock
 from support import PATIENCE, Server, ServerOfAll, key
 
 import store_client
-from store_client import Absent, Connection, ObjectId, Pool, State, Task, keeping, parts, putting
+from store_client import Absent, Connection, ObjectId, Pool, State, Task, aio, keeping, parts, putting
+from store_client import keeper as keepers_own
+from store_client.aio_session import Session
 from store_client.stream import Stream
 from store_testing.waiting import until
 
@@ -32,8 +37,13 @@ except ImportError:
 SOON = PATIENCE / 3
 # a window that is smaller than a value of the tests
 WINDOW, LONG, SHORT = 2**18, 300_000, 100
+# as an object it has SHORT bytes
+SHORT_VALUE = bytes(65)
 # of the exchanges of a put in parts some are tried
 STEP = int(os.environ.get("STORE_KILLS", "7"))
+# when a process is killed: before it sends anything of an exchange, when half of the commands were answered, when the last of the bytes
+# that it has sent are the beginning of a frame, or once all was answered
+MOMENTS = ("before", "half", "within", "after")
 
 
 def keepers(path: str) -> List[int]:
@@ -47,6 +57,11 @@ def keepers(path: str) -> List[int]:
         if any(word.endswith(b"/keeper.py") for word in words) and os.fsencode(path) in words:
             found.append(int(folder.name))
     return found
+
+
+def files_of(path: str, job: int) -> str:
+    """How the files of the keeper of a job at this socket begin."""
+    return f"{keeping._folder()}/{hashlib.sha256(f'{job} {path}'.encode()).hexdigest()[:16]}"
 
 
 class Killed(ServerOfAll):
@@ -90,14 +105,16 @@ class Killed(ServerOfAll):
         return status == signal.SIGKILL
 
     def killed_at(self, number: int, how: str, put: Callable[[Any], Any], store: Any) -> None:
-        """Puts, and is killed at the exchange of this number, from 1: before it is sent, when half of it was, or once it was answered."""
+        """Puts, and is killed at the exchange of this number, from 1, and this moment of it."""
         exchange, left = Stream.exchange, [number]
 
         def cut(stream: Stream, requests: Any, end: Any) -> Any:
             # a thread of a pool says first who it is
             left[0] -= requests[0].name != "hello"
             if not left[0]:
-                if how != "before":
+                if how == "within":
+                    self.send_some(stream, requests)
+                elif how != "before":
                     exchange(stream, requests if how == "after" else requests[: len(requests) // 2], end)
                 os.kill(os.getpid(), signal.SIGKILL)
             return exchange(stream, requests, end)
@@ -105,25 +122,35 @@ class Killed(ServerOfAll):
         with mock.patch.object(Stream, "exchange", cut):
             put(store)
 
-    def kill_everywhere(self, put: Callable[[Any], Any], step: int = 1, is_pool: bool = False) -> None:
-        """Kills a process at each of its exchanges, until one has no more. Each has finished something before. At the end all that was
-        finished is there, and of what was not nothing."""
-        finished: List[ObjectId] = []
-        number, was_killed = 1, True
+    def send_some(self, stream: Stream, requests: Any) -> None:
+        """Two thirds of the bytes of these requests."""
+        whole = b"".join(bytes(part) for request in requests for part in request.parts)
+        stream._socket.settimeout(PATIENCE)
+        stream._socket.sendall(whole[: 2 * len(whole) // 3])
 
-        def work() -> None:
+    def kill_everywhere(self, put: Callable[[Any], Any], step: int = 1, is_pool: bool = False) -> None:
+        """Kills a process at each of its exchanges, until one has no more."""
+
+        def work(number: int, how: str, finished: ObjectId) -> None:
             store = Pool(self.server.path, self.job, key(self.job)) if is_pool else self.begin()
-            store.put(b"finished", finished[-1])
+            store.put(b"finished", finished)
             self.killed_at(number, how, put, store)
 
+        self.kill_at_each(work, step)
+
+    def kill_at_each(self, work: Callable[[int, str, ObjectId], None], step: int = 1) -> None:
+        """Has processes do work that is killed at the exchange of a number and a moment of it, until one isn't. Each has finished something
+        before. At the end all that was finished is there, and of what was not nothing."""
+        finished: List[ObjectId] = []
+        number, was_killed = 1, True
         while was_killed:
-            for how in ("before", "half", "after"):
+            for how in MOMENTS:
                 finished.append(self.object_id(len(finished) + 1))
-                was_killed = self.killed(work)
+                was_killed = self.killed(functools.partial(work, number, how, finished[-1]))
                 # the next one has to find room
                 until(lambda: sum(item.state is State.CREATED for item in self.store.list()[0]) < 8, "fewer unfinished", SOON)
             number += step
-        self.assertGreater(len(finished), 3)
+        self.assertGreater(len(finished), len(MOMENTS))
         until(lambda: not self.unfinished(), "nothing unfinished", SOON)
         for id in finished:
             with self.store.get(id) as view:
@@ -165,9 +192,45 @@ class Killed(ServerOfAll):
     def test_a_value_in_parts_by_a_pool(self) -> None:
         self.kill_everywhere(lambda store: store.put_value(bytes(LONG)), STEP, is_pool=True)
 
+    def test_a_short_value(self) -> None:
+        self.kill_everywhere(lambda store: store.put_value(SHORT_VALUE))
+
+    def test_a_short_value_under_an_id_that_was_given(self) -> None:
+        self.kill_everywhere(lambda store: store.put_value(SHORT_VALUE, Task(os.urandom(20)).object(1, job=self.job)))
+
     @unittest.skipIf(numpy is None, "numpy isn't there")
     def test_an_array_in_parts(self) -> None:
         self.kill_everywhere(lambda store: store.put_array(numpy.zeros(LONG // 8)), STEP)
+
+    @unittest.skipIf(numpy is None, "numpy isn't there")
+    def test_an_array_in_parts_by_a_pool_under_an_id_that_was_given(self) -> None:
+        def put(store: Any) -> None:
+            store.put_array(numpy.zeros(LONG // 8), Task(os.urandom(20)).object(1, job=self.job))
+
+        self.kill_everywhere(put, STEP, is_pool=True)
+
+    def test_a_value_in_parts_by_coroutines(self) -> None:
+        async def put(finished: ObjectId) -> None:
+            async with await aio.connect(self.server.path, self.job, key(self.job)) as store:
+                await store.put(b"finished", finished)
+                await store.put_value(bytes(LONG))
+
+        def work(number: int, how: str, finished: ObjectId) -> None:
+            # before there are Hello, and three exchanges of what is finished
+            exchange, left = Session.exchange, [4 + number]
+
+            async def cut(session: Session, requests: Any, *words: Any) -> Any:
+                left[0] -= 1
+                if not left[0]:
+                    if how != "before":
+                        await exchange(session, requests[: len(requests) // 2] if how == "half" else requests, *words)
+                    os.kill(os.getpid(), signal.SIGKILL)
+                return await exchange(session, requests, *words)
+
+            with mock.patch.object(Session, "exchange", cut):
+                asyncio.run(put(finished))
+
+        self.kill_at_each(work, STEP)
 
     def test_what_lives_is_left_alone(self) -> None:
         """Also if its id was made by a process that is dead, and what a session that was closed has left, or one that told nothing."""
@@ -212,6 +275,37 @@ class Killed(ServerOfAll):
         self.assertTrue(self.killed(put))
         until(lambda: not self.unfinished(), "nothing unfinished", SOON)
 
+    def test_what_is_killed_with_its_keeper_is_looked_after_by_the_next_one(self) -> None:
+        """As all of a container may be. What it needs for that is in a file, and the job's key isn't."""
+        notes = files_of(self.path, self.job) + ".notes"
+        for put in (lambda store: store.put(bytes(SHORT)), lambda store: store.put_value(bytes(LONG), self.object_id(1))):
+            def killed(put: Callable[[Any], Any] = put) -> None:
+                store = self.begin()
+                exchange, left = Stream.exchange, [8]
+
+                def cut(stream: Stream, requests: Any, end: Any) -> Any:
+                    left[0] -= 1
+                    if len(requests) > 2 or not left[0]:
+                        # the beginning of a put, or what comes in the midst of one in parts
+                        exchange(stream, requests[:2], end)
+                        # the keeper has noted it by then, on a machine that does nothing else
+                        time.sleep(0.5)
+                        for process in (*keepers(self.path), os.getpid()):
+                            os.kill(process, signal.SIGKILL)
+                    return exchange(stream, requests, end)
+
+                with mock.patch.object(Stream, "exchange", cut):
+                    put(store)
+
+            self.assertTrue(self.killed(killed))
+            until(lambda: not keepers(self.path), "the keeper's end", SOON)
+            self.assertTrue(self.unfinished())
+            self.assertNotIn(key(self.job), Path(notes).read_bytes())
+            # another process of the job puts something else
+            with self.begin() as other:
+                other.delete(other.put(b"abcd"))
+                until(lambda: not self.unfinished(), "nothing unfinished", SOON)
+
     def test_without_a_keeper_all_goes_on(self) -> None:
         refused = mock.Mock(side_effect=PermissionError("no folder"))
         with mock.patch.object(keeping, "_folder", refused), self.begin() as store:
@@ -220,7 +314,7 @@ class Killed(ServerOfAll):
             self.assertEqual(store.get_value(store.put_value(bytes(LONG))), bytes(LONG))
         # it isn't tried again and again
         self.assertLessEqual(refused.call_count, 2)
-        with mock.patch.object(keeping, "_connected", refused):
+        with mock.patch.object(keeping, "connected", refused):
             refused.reset_mock()
             store_client.connect(self.server.path, 7, key(7), keeper=False).put(b"abcd")
             with Pool(self.server.path, 7, key(7), keeper=False) as pool, pickle.loads(pickle.dumps(pool)) as other:
@@ -269,8 +363,7 @@ class Alone(ServerOfAll):
         while os.path.exists(f"/proc/{keeper}") and time.monotonic() < end:
             time.sleep(0.05)
         self.assertFalse(os.path.exists(f"/proc/{keeper}"))
-        name = hashlib.sha256(f"1 {os.path.realpath(self.server.path)}".encode()).hexdigest()[:16]
-        self.assertEqual(list(Path(keeping._folder()).glob(f"{name}.*")), [])
+        self.assertEqual(glob.glob(files_of(os.path.realpath(self.server.path), 1) + ".*"), [])
 
     def test_a_keeper_that_is_long_in_starting_is_used_all_the_same(self) -> None:
         start = keeping._start
@@ -298,3 +391,74 @@ class Alone(ServerOfAll):
             while os.listdir(place) and time.monotonic() < end:
                 time.sleep(0.05)
             self.assertEqual(os.listdir(place), [])
+
+
+class Notes(unittest.TestCase):
+    """What a keeper notes for the next one."""
+
+    def setUp(self) -> None:
+        folder = tempfile.TemporaryDirectory()
+        self.addCleanup(folder.cleanup)
+        self.path = f"{folder.name}/notes"
+        self.task, self.whole, self.part = bytes([1]) * 20, bytes([2]) * 28, bytes([3]) * 28
+
+    def read(self) -> List[Any]:
+        found = [list(client.messages()) for client in keepers_own.Notes(self.path).read()]
+        return [[message for message in messages if message[:1] != keepers_own._CAME] for messages in found]
+
+    def test_what_was_told_is_read_again(self) -> None:
+        notes = keepers_own.Notes(self.path)
+        notes.begin([])
+        put, over, nothing = (keepers_own.Client(os.getpid(), "1") for _ in range(3))
+        begun = keeping.BEGIN + b"\0" + self.whole + self.part
+        told = [(put, keeping.HELLO + bytes([7]) * 32), (put, keeping.TASK + self.task), (over, keeping.TASK + self.task), (put, begun)]
+        notes.add([*told, (nothing, keeping.LISTEN), (over, keepers_own._OVER)], [put])
+        self.assertEqual(self.read(), [[keeping.TASK + self.task, begun]])
+        self.assertNotIn(bytes([7]) * 32, Path(self.path).read_bytes())
+        notes.add([(put, keeping.END + self.whole)], [put])
+        self.assertEqual(self.read(), [[keeping.TASK + self.task]])
+        notes.add([(put, keeping.LEAVE)], [put])
+        self.assertEqual(self.read(), [])
+
+    def test_a_process_that_may_live_in_a_container_is_not_taken_for_dead(self) -> None:
+        known, unknown = keepers_own.Client(os.getpid(), "1"), keepers_own.Client(0, None)
+        for client in (known, unknown):
+            client.hear(keeping.TASK + self.task)
+        keepers_own.Notes(self.path).begin([unknown])
+        self.assertEqual(self.read(), [])
+        keepers_own.Notes(self.path).begin([known])
+        self.assertEqual(len(self.read()), 1)
+        with mock.patch.object(keepers_own, "_namespace", lambda: "pid:[1]"):
+            self.assertEqual(self.read(), [])
+
+    def test_they_stay_short(self) -> None:
+        client = keepers_own.Client(os.getpid(), "1")
+        client.hear(keeping.TASK + self.task)
+        with mock.patch.object(keepers_own, "_LONGEST_NOTES", 1000):
+            notes = keepers_own.Notes(self.path)
+            notes.begin([client])
+            for _ in range(100):
+                notes.add([(client, keeping.BEGIN + b"\0" + self.whole), (client, keeping.END + self.whole)], [client])
+                self.assertLessEqual(os.path.getsize(self.path), 1000)
+        self.assertEqual(self.read(), [[keeping.TASK + self.task]])
+
+    def test_what_was_cut_off_or_can_t_be_right_is_passed_over(self) -> None:
+        notes = keepers_own.Notes(self.path)
+        notes.begin([])
+        client = keepers_own.Client(os.getpid(), "1")
+        notes.add([(client, keeping.TASK + self.task), (client, keeping.BEGIN + b"\0" + self.whole)], [client])
+        right = Path(self.path).read_bytes()
+        for length in range(len(right)):
+            Path(self.path).write_bytes(right[:length])
+            self.assertIn(self.read(), ([], [[keeping.TASK + self.task]]))
+        for wrong in (b"B", b"B\xff" + self.whole, b"C", b"C1 1", b"C\xff 1 1", b"Cx 1 pid", b""):
+            Path(self.path).write_bytes(right + keepers_own._NOTE.pack(1, len(wrong)) + wrong)
+            self.read()
+        Path(self.path).unlink()
+        self.assertEqual(self.read(), [])
+
+    def test_where_they_can_t_be_written_all_goes_on(self) -> None:
+        notes = keepers_own.Notes("/nowhere/notes")
+        client = keepers_own.Client(os.getpid(), "1")
+        notes.begin([])
+        notes.add([(client, keeping.TASK + self.task)], [client])

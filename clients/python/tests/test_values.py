@@ -18,7 +18,7 @@ from unittest import mock
 from support import PATIENCE, ROOT, Server, ServerOfAll, key
 
 import store_client
-from store_client import Full, ObjectId, Pool, Task, encoding
+from store_client import Full, ObjectId, Pool, Task, encoding, putting
 from store_client.encoding import Manifest, decode_array, decode_value, encode_array, encode_value
 from store_client.requests import Pieces
 
@@ -172,6 +172,26 @@ class Arrays(unittest.TestCase):
         for rows in ([[1, 2], [3, 4]], [numpy.arange(3), numpy.arange(3)], (1.5, 2.5), "text", [b"ab", b"cd"]):
             self.same(decode_array(whole(encode_array(rows)), "it"), numpy.asarray(rows))
 
+    def test_rows_of_a_class_of_their_own_are_refused(self) -> None:
+        """numpy makes a plain array of such a list, and what the class has beside the items is lost."""
+        row = numpy.matrix([[1, 2]])
+        for rows in ([row, row], ([row],), [numpy.ones((1, 2)), row]):
+            with self.assertRaisesRegex(TypeError, "matrix among the rows .* put_value"):
+                encode_array(rows)
+        (got,) = decode_value(whole(encode_value([row])), "it")
+        self.assertIs(type(got), numpy.matrix)
+
+    def test_types_of_items_that_the_format_can_t_say_are_refused(self) -> None:
+        """By the same words, whatever numpy says of them; put_value keeps them."""
+        for offsets in ([0, 2], [4, 0]):
+            dtype = numpy.dtype({"names": ["a", "b"], "formats": ["<i4", "<i4"], "offsets": offsets, "itemsize": 8})
+            with self.assertRaisesRegex(TypeError, "format .npy can't say that type. put_value stores it"):
+                encode_array(numpy.zeros(2, dtype))
+            self.assertEqual(decode_value(whole(encode_value(numpy.zeros(2, dtype))), "it").dtype, dtype)
+        for dtype in (numpy.dtype([("a", "i1"), ("b", "<i8")], align=True), numpy.dtype((numpy.record, [("a", "<i4", 2)])),
+                      numpy.dtype([(("title", "a"), "S0")]), numpy.dtype("M8[ns]"), numpy.dtype(">U3")):
+            self.assertEqual(decode_array(whole(encode_array(numpy.zeros(2, dtype))), "it").dtype, dtype)
+
     def test_what_tells_where_its_bytes_are_is_stored_without_a_copy(self) -> None:
         """By each of numpy's ways, and by DLPack alone, as libraries of tensors have it."""
         for put in (numpy.arange(1000.0), numpy.asfortranarray(numpy.arange(600, dtype="i4").reshape(20, 30)), numpy.zeros(0)):
@@ -237,7 +257,7 @@ class Stored(ServerOfAll):
     def setUpClass(cls) -> None:
         super().setUpClass()
         cls.server.admit(0, 4, SMALL_WINDOW, 2**20)
-        cls.server.admit(0, 5, SMALL_WINDOW)
+        cls.server.admit(0, 5, SMALL_WINDOW, SMALL_WINDOW)
 
     def test_values_come_back_and_go(self) -> None:
         store = self.connect()
@@ -295,12 +315,23 @@ class Stored(ServerOfAll):
         self.assertEqual(store.usage().copies, 0)
 
     def test_if_one_part_finds_no_room_all_is_given_back(self) -> None:
-        """Job 5 has no device, so the window is all."""
+        """Job 5 has window and device for it, but something else is there."""
         for store in (self.connect(5), self.connect_pool(5)):
+            other = store.put(bytes(SMALL_WINDOW // 2))
             for id in (None, Task(os.urandom(20)).object(1, job=5)):
                 with self.assertRaises(Full):
-                    store.put_value(bytes(2 * SMALL_WINDOW), id)
-                self.assertEqual(store.usage().copies, 0)
+                    store.put_value(bytes(7 * SMALL_WINDOW // 4), id)
+                self.assertEqual(store.usage().copies, 1)
+            store.delete(other)
+
+    def test_what_the_quotas_can_t_take_is_told_before_anything_is_put(self) -> None:
+        store = self.connect(5)
+        most = r"328\d\d bytes; window and device quota have 32768 in all"
+        with mock.patch.object(putting.NewCopy, "create", side_effect=putting.NewCopy.create, autospec=True) as create:
+            with self.assertRaisesRegex(Full, most):
+                store.put_value(bytes(2 * SMALL_WINDOW), Task(os.urandom(20)).object(1, job=5))
+        # the try as one object alone
+        self.assertEqual(create.call_count, 1)
 
     def test_an_id_that_is_taken_is_told_before_parts_are_put(self) -> None:
         store = self.connect(4)

@@ -10,11 +10,11 @@ use std::time::{Duration, Instant};
 
 use crate::deadline::{Deadline, Pauses};
 use crate::error::Error;
-use crate::frame::{Command, Listing, Reply, State};
+use crate::frame::{Command, Listing, Reply, State, MOST_BYTES};
 use crate::held::Held;
 use crate::id::ObjectId;
 use crate::refusal::Refusal;
-use crate::session::{pieces, unexpected, Session};
+use crate::session::{first_refusal, pieces, unexpected, Session};
 use crate::stream::{Answer, Request};
 
 /// After how long a transfer is asked for again, at first and at most.
@@ -50,7 +50,8 @@ impl Session {
     }
 
     /// Fills the buffer with the object's bytes, which are as many; no hold stays. Waits and is refused as [`Session::get`].
-    /// [`Error::Invalid`] if the object has another length: the buffer is as it was then.
+    /// [`Error::Invalid`] if the object has another length: the buffer is as it was then. Up to 65,536 bytes take one trip to the server,
+    /// if the session holds nothing.
     pub fn get_into(&self, id: ObjectId, buffer: &mut [u8], timeout: Option<Duration>) -> Result<(), Error> {
         self.get_into_until(id, buffer, timeout.map(|time| Deadline::after(Some(time))))
     }
@@ -61,9 +62,16 @@ impl Session {
             fits(self.granted_length(id, waited)?, buffer)?;
             return self.ask_all(&mut peeks(id, buffer)?, deadline);
         }
-        let length = self.find(id, waited)?;
+        let likely = if buffer.len() <= MOST_BYTES { buffer.len() } else { 0 };
+        let mut search = Search::new(id, likely);
+        let length = self.look_for(&mut search, waited)?;
+        if let Some(answer) = search.bytes {
+            self.release_all(id, search.holds, deadline)?;
+            buffer.copy_from_slice(&answer?);
+            return Ok(());
+        }
         if let Err(error) = fits(length, buffer) {
-            self.ask(Command::Release(id), deadline)?;
+            self.release_all(id, search.holds, deadline)?;
             return Err(error);
         }
         let mut requests = reads(id, buffer)?;
@@ -114,15 +122,20 @@ impl Session {
 
     /// One hold of an object of this job, and its length. With a deadline it is waited for.
     pub(crate) fn find(&self, id: ObjectId, waited: Option<Deadline>) -> Result<usize, Error> {
+        self.look_for(&mut Search::new(id, 0), waited)
+    }
+
+    /// The same, but there is no hold if the session had none and the bytes were asked for at once.
+    fn look_for(&self, search: &mut Search, waited: Option<Deadline>) -> Result<usize, Error> {
         let deadline = waited.unwrap_or(Deadline::NEVER);
-        let mut search = Search::new(id);
         let mut pauses = Pauses::new();
         loop {
-            self.look(&mut search, deadline)?;
+            self.look(search, deadline)?;
             match (&search.phase, search.refusal) {
-                (Phase::Found(length, holds), _) => {
-                    let (length, holds) = (*length as usize, *holds);
-                    self.release_all(id, holds - 1, deadline)?;
+                (Phase::Found(length), _) => {
+                    let length = *length as usize;
+                    self.release_all(search.id, search.holds.saturating_sub(1), deadline)?;
+                    search.holds = search.holds.min(1);
                     return Ok(length);
                 }
                 (Phase::Over, refusal) => return Err(refusal.unwrap_or(Refusal::Absent).into()),
@@ -138,10 +151,13 @@ impl Session {
     /// One look, asked to its end.
     fn look(&self, search: &mut Search, deadline: Deadline) -> Result<(), Error> {
         loop {
-            let is_read = search.asks_by_reading();
-            let mut questions = search.questions();
-            let answers = self.answers(&mut questions, deadline)?;
-            search.hear(is_read, &answers);
+            if search.likely > 0 {
+                self.look_and_read(search, deadline)?;
+            } else {
+                let is_read = search.asks_by_reading();
+                let answers = self.answers(&mut search.questions(), deadline)?;
+                search.hear(is_read, &answers);
+            }
             if matches!(search.refusal, Some(Refusal::Full | Refusal::BadSize)) {
                 self.drop_fetch(search.id, deadline)?;
             }
@@ -149,6 +165,26 @@ impl Session {
                 return Ok(());
             }
         }
+    }
+
+    /// The first look at an object that is likely to have a length.
+    fn look_and_read(&self, search: &mut Search, deadline: Deadline) -> Result<(), Error> {
+        let (id, length) = (search.id, std::mem::take(&mut search.likely));
+        let mut bytes = vec![0; length];
+        let mut requests: Vec<Request<'_>> = vec![Command::Get(id).into()];
+        requests.append(&mut reads(id, &mut bytes)?);
+        requests.push(Command::Release(id).into());
+        let mut answers = Vec::with_capacity(requests.len());
+        self.exchange_but(1, &mut requests, deadline, &mut answers)?;
+        let is_released = answers.len() == requests.len();
+        search.hear(false, &answers[..1]);
+        if let Phase::Found(found) = search.phase {
+            search.holds -= usize::from(is_released);
+            if found as usize == length {
+                search.bytes = Some(first_refusal(&answers[1..]).map(|()| bytes));
+            }
+        }
+        Ok(())
     }
 
     /// If the copy that found no room is a fetch, it is given up. A refusal of that means that somebody else was first.
@@ -175,8 +211,8 @@ enum Phase {
     UnderWay,
     /// Two Gets.
     Missing,
-    /// Nothing: it is here. Its length, and how many holds the search has.
-    Found(u32, usize),
+    /// Nothing: it is here, and has this length.
+    Found(u32),
     /// Nothing: it is refused for a reason that doesn't pass.
     Over,
 }
@@ -186,13 +222,21 @@ struct Search {
     id: ObjectId,
     phase: Phase,
     refusal: Option<Refusal>,
+    // the length that the object is likely to have, or 0: its bytes are asked for with the first Get, and the hold is given up in the same
+    // trip, if the session has no other
+    likely: usize,
+    // what came of that, if the length was right
+    bytes: Option<Result<Vec<u8>, Error>>,
+    // how many holds the search has
+    holds: usize,
     reminder: Duration,
     remind_at: Instant,
 }
 
 impl Search {
-    fn new(id: ObjectId) -> Search {
-        Search { id, phase: Phase::Unknown, refusal: None, reminder: FIRST_REMINDER, remind_at: Instant::now() }
+    fn new(id: ObjectId, likely: usize) -> Search {
+        let (phase, reminder, remind_at) = (Phase::Unknown, FIRST_REMINDER, Instant::now());
+        Search { id, phase, refusal: None, likely, bytes: None, holds: 0, reminder, remind_at }
     }
 
     fn asks_by_reading(&self) -> bool {
@@ -218,7 +262,7 @@ impl Search {
         }
         let lengths: Vec<u32> = answers.iter().filter_map(|answer| length_in(answer.as_ref().ok())).collect();
         if let Some(&length) = lengths.first() {
-            (self.phase, self.refusal) = (Phase::Found(length, lengths.len()), None);
+            (self.phase, self.refusal, self.holds) = (Phase::Found(length), None, lengths.len());
             return;
         }
         for &refusal in answers.iter().filter_map(|answer| answer.as_ref().err()) {

@@ -249,10 +249,22 @@ impl Session {
     /// Sends the requests in one burst, and adds their answers, also those before a fault. After a fault of the stream it isn't known which
     /// replies are still to come, so no other call can follow.
     pub(crate) fn exchange(&self, requests: &mut [Request<'_>], deadline: Deadline, answers: &mut Vec<Answer>) -> Result<(), Error> {
+        self.exchange_but(0, requests, deadline, answers)
+    }
+
+    /// The same, but if the session holds something, so many of the last requests aren't sent. They are Releases after their Gets: if
+    /// such a Get is refused, its Release would give up another hold.
+    pub(crate) fn exchange_but(
+        &self,
+        last: usize,
+        requests: &mut [Request<'_>],
+        deadline: Deadline,
+        answers: &mut Vec<Answer>,
+    ) -> Result<(), Error> {
         let waits = requests.iter().any(|request| request.command.waits());
         let deadline = deadline.of_answers(self.access.patience.filter(|_| !waits));
         let mut taken = self.take_turn(deadline)?;
-        let done = taken.exchange(requests, deadline, answers);
+        let done = taken.exchange(last, requests, deadline, answers);
         if done.is_err() {
             let makes = requests.iter().any(|request| request.command.makes());
             taken.give_up(makes);
@@ -306,7 +318,7 @@ impl Session {
         };
         if let Ok(Some(mut taken)) = taken {
             // a fault is told to the next call
-            if taken.exchange(&mut [], Deadline::after(Some(GRACE)), &mut Vec::new()).is_err() {
+            if taken.exchange(0, &mut [], Deadline::after(Some(GRACE)), &mut Vec::new()).is_err() {
                 taken.give_up(false);
             }
         }
@@ -342,12 +354,13 @@ impl fmt::Debug for Session {
 }
 
 impl Taken<'_> {
-    fn exchange(&mut self, requests: &mut [Request<'_>], deadline: Deadline, answers: &mut Vec<Answer>) -> Result<(), Error> {
+    fn exchange(&mut self, last: usize, requests: &mut [Request<'_>], deadline: Deadline, answers: &mut Vec<Answer>) -> Result<(), Error> {
         // a panic in the middle loses the session, since the stream isn't here then
         let Some(mut stream) = self.stream.take() else { return Err(Error::Lost("an earlier call lost it")) };
         let mut releases: Vec<Request<'_>> = self.dropped.drain(..).map(|id| Command::Release(id).into()).collect();
         let released = stream.exchange(&mut releases, deadline, &mut Vec::new());
-        let done = released.and_then(|()| stream.exchange(requests, deadline, answers));
+        let count = requests.len() - if stream.holds() == 0 { 0 } else { last };
+        let done = released.and_then(|()| stream.exchange(&mut requests[..count], deadline, answers));
         self.stream = Some(stream);
         done
     }

@@ -252,7 +252,8 @@ fn connect_now(path: &Path) -> io::Result<UnixStream> {
     loop {
         match UnixStream::connect(path) {
             Err(error) if error.kind() == ErrorKind::Interrupted => {}
-            done => return done,
+            Err(error) => return Err(io::Error::new(error.kind(), format!("{}: {error}", path.display()))),
+            connected => return connected,
         }
     }
 }

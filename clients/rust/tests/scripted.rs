@@ -265,6 +265,7 @@ fn a_server_that_goes_away_loses_the_session() {
     assert!(matches!(error, Error::Lost(_)), "{error}");
     let error = Session::connect("/nowhere/store.0", 1, &KEY, Some(SLACK)).expect_err("nobody listens");
     assert!(matches!(error, Error::Io(_)), "{error}");
+    assert!(error.to_string().contains("/nowhere/store.0: No such file"), "{error}");
 }
 
 #[test]
@@ -278,6 +279,36 @@ fn a_small_put_is_one_round_trip() {
     assert!(matches!(Command::decode(&frames[0]), Ok(Command::Create { id: created, length: 5, .. }) if created == id));
     assert_eq!(Command::decode(&frames[1]), Ok(Command::Write { id, offset: 0, bytes: b"Hello" }));
     assert_eq!(Command::decode(&frames[2]), Ok(Command::Seal(id)));
+}
+
+#[test]
+fn a_small_get_into_a_buffer_is_one_round_trip() {
+    // nothing is answered before all is there
+    let script = after_hello(vec![vec![], vec![], taking(b"Hello").concat(), ok()]);
+    let (store, mut buffer) = (script.connect(Some(SLACK)), [0; 5]);
+    store.get_into(id(), &mut buffer, None).expect("a get");
+    assert_eq!(&buffer, b"Hello");
+    was_sent_no_more_than(&script, &store, &[0x01, 0x05, 0x06, 0x07]);
+}
+
+#[test]
+fn a_get_into_a_buffer_of_another_length_leaves_it_as_it_was() {
+    let script = after_hello(vec![said(Reply::Got(6)), said(Reply::Bytes(b"Hello".to_vec())), ok(), ok()]);
+    let (store, mut buffer) = (script.connect(Some(SLACK)), *b"other");
+    let error = store.get_into(id(), &mut buffer, None).expect_err("another length");
+    assert!(matches!(error, Error::Invalid(_)), "{error}");
+    assert_eq!(&buffer, b"other");
+    was_sent_no_more_than(&script, &store, &[0x01, 0x05, 0x06, 0x07]);
+}
+
+#[test]
+fn a_get_into_a_buffer_whose_read_is_refused_keeps_no_hold() {
+    let script = after_hello(vec![said(Reply::Got(5)), said(Reply::Got(5)), refused(Refusal::Damaged), ok(), ok()]);
+    let (store, mut buffer) = (script.connect(Some(SLACK)), [0; 5]);
+    store.hold(id()).expect("another hold");
+    let error = store.get_into(id(), &mut buffer, None).expect_err("refused");
+    assert_eq!(error.refusal(), Some(Refusal::Damaged), "{error}");
+    was_sent_no_more_than(&script, &store, &[0x01, 0x05, 0x05, 0x06, 0x07]);
 }
 
 #[test]
@@ -562,11 +593,12 @@ fn lengths_of_granted_parts_are_looked_at_before_any_is_taken() {
 #[test]
 fn a_part_whose_length_is_known_only_once_it_is_here_is_looked_at_then() {
     let bytes = manifest(33, 32, &[part(1, 7), part(1, 8)]);
-    let script = after_hello([taking(&bytes), vec![listed(&[]), said(Reply::Got(31)), ok(), ok()]].concat());
+    let another = vec![listed(&[]), said(Reply::Got(31)), refused(Refusal::OutOfBounds), ok(), ok()];
+    let script = after_hello([taking(&bytes), another].concat());
     let store = script.connect(Some(SLACK));
     let error = store.get_whole(id(), None).expect_err("another length");
     assert!(matches!(error, Error::Invalid(_)), "{error}");
-    was_sent_no_more_than(&script, &store, &[0x01, 0x05, 0x06, 0x07, 0x10, 0x05, 0x07]);
+    was_sent_no_more_than(&script, &store, &[0x01, 0x05, 0x06, 0x07, 0x10, 0x05, 0x06, 0x07]);
 }
 
 #[test]

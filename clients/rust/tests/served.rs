@@ -185,6 +185,22 @@ fn what_is_held_stays_though_it_is_deleted() {
 
 #[test]
 #[ignore = "wants a server: tests/rust_client starts one"]
+fn a_get_into_a_buffer_gives_no_other_hold_up() {
+    let (store, mut buffer) = (connect(), [0; 5]);
+    let id = store.put(b"Hello", None).expect("a put");
+    let mut held = store.get(id, None).expect("a get");
+    store.get_into(id, &mut buffer, None).expect("a get");
+    assert_eq!(&buffer, b"Hello");
+    store.delete(id).expect("a delete");
+    // the Get is refused, and a Release with it would be of the other hold
+    assert_eq!(refusal_of(store.get_into(id, &mut buffer, None)), Refusal::Absent);
+    store.read(id, 0, &mut buffer).expect("it is held");
+    held.release().expect("a release");
+    assert_eq!(refusal_of(store.read(id, 0, &mut buffer)), Refusal::Absent);
+}
+
+#[test]
+#[ignore = "wants a server: tests/rust_client starts one"]
 fn a_wrong_key_is_not_admitted() {
     let wrong = Session::connect(variable("STORE_SOCKET"), job("STORE_JOB"), &[0; 32], PATIENCE);
     assert_eq!(refusal_of(wrong), Refusal::NotAdmitted);

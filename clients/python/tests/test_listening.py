@@ -1,0 +1,223 @@
+"""A wait hears of puts by other processes of this host, as soon as they have ended, and needn't look for them."""
+
+from __future__ import annotations
+
+import asyncio
+import contextlib
+import os
+import signal
+import threading
+import time
+from typing import Any, Callable, Iterator, List, Optional
+from unittest import mock
+
+from support import PATIENCE, WithServer, in_child, key
+from test_killed import keepers
+
+import store_client
+from store_client import Absent, Connection, ObjectId, Pool, aio, finding, keeping, listening, parts, steps
+from store_testing.waiting import until
+
+
+class NoPauses(steps.Pauses):
+    """None of them ends before the wait does, until something has come."""
+
+    FIRST = LONGEST = 0.0
+
+    def restart(self) -> None:
+        super().restart()
+        self.FIRST = self.LONGEST = 0.001 if self.FIRST else 2.0 * PATIENCE
+
+
+@contextlib.contextmanager
+def looks_never() -> Iterator[None]:
+    """A wait looks at its beginning and at its end, and otherwise only when it has heard of something."""
+    with mock.patch.object(finding, "Pauses", NoPauses), mock.patch.object(finding, "_LISTENS_AFTER", 0.0):
+        yield
+
+
+class Listening(WithServer):
+    def setUp(self) -> None:
+        super().setUp()
+        linger = mock.patch.object(listening, "_LINGER", 0.1)
+        linger.start()
+        self.addCleanup(linger.stop)
+        self.addCleanup(listening._ears.clear)
+        self.addCleanup(lambda: until(lambda: not self.ear().has_thread, "the thread's end", PATIENCE))
+        self.producer = self.connect_producer()
+        # its keeper is there, and can tell it that somebody listens
+        self.producer.put(b"abcd", self.object_id(1000))
+
+    def connect_producer(self) -> Connection:
+        return self.connect()
+
+    def ear(self) -> listening.Ear:
+        return listening.ear_of(self.store._requests.keeping)
+
+    def is_listened_to(self) -> bool:
+        return self.producer._requests.keeping._hears_of_listeners()
+
+    def hears(self, wait: Callable[[ObjectId], Any], put: Optional[Callable[[bytes, ObjectId], Any]] = None) -> None:
+        """The wait for an object ends long before it would look, by a put of the producer's."""
+        came: List[float] = []
+
+        def work() -> None:
+            wait(self.object_id())
+            came.append(time.monotonic())
+
+        with looks_never():
+            thread = threading.Thread(target=work)
+            thread.start()
+            until(self.is_listened_to, "somebody listens", PATIENCE)
+            began = time.monotonic()
+            (put or self.producer.put)(b"abcd", self.object_id())
+            thread.join(2 * PATIENCE)
+        self.assertLess(came[0] - began, PATIENCE / 2)
+
+    def test_a_get_hears_of_a_put(self) -> None:
+        self.hears(lambda id: self.store.get(id, PATIENCE).release())
+
+    def test_a_wait_hears_of_a_put_among_others(self) -> None:
+        self.hears(lambda id: self.store.wait([id, *(self.object_id(index) for index in range(2, 10))], timeout=PATIENCE))
+
+    def test_a_coroutine_hears_of_a_put(self) -> None:
+        async def wait(id: ObjectId) -> None:
+            async with await aio.connect(self.server.path, 1, key(1)) as store:
+                await (await store.get(id, PATIENCE)).release()
+
+        self.hears(lambda id: asyncio.run(wait(id)))
+
+    def test_a_wait_hears_of_parts_that_are_put(self) -> None:
+        def put(data: bytes, id: ObjectId) -> None:
+            with mock.patch.object(parts, "LARGEST", 1000):
+                self.producer.put_value(bytes(5000), id)
+
+        self.hears(lambda id: self.store.wait([id], timeout=PATIENCE), put)
+        self.assertEqual(self.store.get_value(self.object_id()), bytes(5000))
+
+    def test_many_threads_of_a_pool_hear_each_of_its_own(self) -> None:
+        ids, came = [self.object_id(index) for index in range(1, 9)], []
+        with Pool(self.server.path, 1, key(1)) as pool, looks_never():
+            def work(id: ObjectId) -> None:
+                pool.get(id, PATIENCE).release()
+                came.append(id)
+
+            threads = [threading.Thread(target=work, args=(id,)) for id in ids]
+            for thread in threads:
+                thread.start()
+            until(self.is_listened_to, "somebody listens", PATIENCE)
+            until(lambda: len(pool._requests.board.waits) == len(ids), "all wait", PATIENCE)
+            began = time.monotonic()
+            for id in ids:
+                self.producer.put(b"abcd", id)
+            for thread in threads:
+                thread.join(2 * PATIENCE)
+        self.assertLess(time.monotonic() - began, PATIENCE / 2)
+        self.assertEqual(sorted(came), sorted(ids))
+
+    def test_a_put_tells_of_its_end_at_once_only_if_somebody_listens(self) -> None:
+        told: List[bytes] = []
+
+        def put(index: int) -> List[bytes]:
+            told.clear()
+            with mock.patch.object(keeping.Keeping, "_tell", lambda _, message: told.append(message[:1])):
+                self.producer.put(b"abcd", self.object_id(index))
+            return told
+
+        self.assertFalse(self.is_listened_to())
+        self.assertEqual(put(2), [keeping.BEGIN])
+        self.hears(lambda id: self.store.get(id, PATIENCE).release())
+        self.assertEqual(put(3), [keeping.BEGIN, keeping.END])
+
+    def test_a_wait_without_a_keeper_looks(self) -> None:
+        with mock.patch.object(finding, "_LISTENS_AFTER", 0.0), mock.patch.object(listening, "connected", side_effect=OSError) as tried:
+            with store_client.connect(self.server.path, 1, key(1), keeper=False) as store:
+                threading.Timer(0.2, self.producer.put, (b"abcd", self.object_id())).start()
+                store.get(self.object_id(), PATIENCE).release()
+                tried.assert_not_called()
+            # if no keeper can be started, that is tried once
+            with self.connect() as store:
+                for index in (2, 3):
+                    with self.assertRaises(Absent):
+                        store.get(self.object_id(index), 0.1)
+            self.assertEqual(tried.call_count, 1)
+
+    def test_a_process_that_can_t_start_a_thread_looks(self) -> None:
+        with mock.patch.object(finding, "_LISTENS_AFTER", 0.0), mock.patch.object(threading, "Thread") as thread:
+            thread.return_value.start.side_effect = RuntimeError("can't start new thread")
+            for index in (2, 3):
+                with self.assertRaises(Absent):
+                    self.store.get(self.object_id(index), 0.1)
+            self.assertEqual(thread.call_count, 1)
+
+    def test_a_keeper_that_was_killed_is_listened_to_anew(self) -> None:
+        with looks_never(), self.assertRaises(Absent):
+            self.store.get(self.object_id(2), 0.3)
+        until(lambda: len(self.ear().streams) > 0, "it listens", PATIENCE)
+        for keeper in keepers(os.path.realpath(self.server.path)):
+            os.kill(keeper, signal.SIGKILL)
+        until(lambda: not self.ear().has_thread and not keepers(os.path.realpath(self.server.path)), "the keeper's end", PATIENCE)
+        self.producer = self.connect_producer()
+        self.producer.put(b"abcd", self.object_id(3))
+        self.hears(lambda id: self.store.get(id, PATIENCE).release())
+
+    def test_nobody_listens_once_nobody_waits(self) -> None:
+        self.hears(lambda id: self.store.get(id, PATIENCE).release())
+        until(lambda: not self.ear().has_thread, "the thread's end", PATIENCE)
+
+    def test_one_thread_listens_for_all_connections_of_a_process(self) -> None:
+        stores = [self.connect() for _ in range(8)]
+        ids = [self.object_id(index) for index in range(1, 9)]
+        with looks_never():
+            threads = [threading.Thread(target=store.get, args=(id, PATIENCE)) for store, id in zip(stores, ids)]
+            for thread in threads:
+                thread.start()
+            until(self.is_listened_to, "somebody listens", PATIENCE)
+            until(lambda: all(store._requests.board in self.ear()._boards for store in stores), "all wait", PATIENCE)
+            self.assertEqual([thread.name for thread in threading.enumerate()].count("store_client listens"), 1)
+            began = time.monotonic()
+            for id in ids:
+                self.producer.put(b"abcd", id)
+            for thread in threads:
+                thread.join(2 * PATIENCE)
+        self.assertLess(time.monotonic() - began, PATIENCE / 2)
+
+    def test_a_process_that_is_forked_off_listens_for_itself(self) -> None:
+        self.hears(lambda id: self.store.get(id, PATIENCE).release())
+
+        def work() -> str:
+            with looks_never(), self.server.connect() as store:
+                began = time.monotonic()
+                store.get(self.object_id(2), PATIENCE).release()
+                return str(time.monotonic() - began < PATIENCE / 2)
+
+        told: List[str] = []
+        thread = threading.Thread(target=lambda: told.append(in_child(work)))
+        thread.start()
+        # nobody tells when the child listens: it is put once it has had time for that, on a machine that does nothing else
+        time.sleep(1.0)
+        self.producer.put(b"abcd", self.object_id(2))
+        thread.join(2 * PATIENCE)
+        self.assertEqual(told, ["True"])
+
+
+class AtTwoNodes(Listening):
+    """The producer is at the other node: its keeper is listened to, too."""
+
+    nodes = 2
+
+    def connect_producer(self) -> Connection:
+        return self.connect(node=1)
+
+    def test_a_keeper_that_comes_later_is_listened_to(self) -> None:
+        self.producer.close()
+        until(lambda: not keepers(os.path.realpath(f"{self.server.folder.name}/store.1")), "the keeper's end", PATIENCE)
+
+        def put(data: bytes, id: ObjectId) -> None:
+            self.producer = self.connect_producer()
+            self.producer.put(b"abcd", self.object_id(3))
+            until(self.producer._requests.keeping._hears_of_listeners, "somebody listens", PATIENCE)
+            self.producer.put(data, id)
+
+        with mock.patch.object(self, "is_listened_to", lambda: bool(self.ear().streams)):
+            self.hears(lambda id: self.store.get(id, PATIENCE).release(), put)
