@@ -7,7 +7,7 @@ import contextlib
 import json
 import logging
 import time
-from typing import Optional, Set
+from typing import Dict, Optional, Set
 
 import store_client
 
@@ -24,20 +24,43 @@ from .watching import moment
 _MOST_CONNECTIONS = 200
 # seconds in which the last answers are still sent
 _LAST_ANSWERS = 1.0
+# seconds for which no line of the log tells of a wrong line, after one that did
+_TOLD_PAUSE = 1.0
+
+
+class WrongLines:
+    """Tells the log of wrong lines: of one a second at most, with how many had none before it."""
+
+    def __init__(self, log: logging.Logger) -> None:
+        self._log = log
+        self._told: Optional[float] = None
+        self._untold = 0
+
+    def tell(self, number: int, fault: NotAnOrder) -> None:
+        now = time.monotonic()
+        if self._told is not None and now - self._told < _TOLD_PAUSE:
+            self._untold += 1
+            return
+        more = f" (and {self._untold} more since the last line)" if self._untold else ""
+        self._log.info("line %d: not an order: %s%s", number, fault, more)
+        self._told, self._untold = now, 0
 
 
 class Control:
-    """Takes orders for a supervisor, until it is closed."""
+    """Takes orders for a supervisor, until it is closed. If as many connections are open as may be, the one that has been idle for longest
+    makes room for a new one: each line that came from its client is answered, and nothing has come for longest."""
 
     def __init__(self, supervisor: Supervisor, looks: Looks, metrics: Metrics, log: logging.Logger) -> None:
         self._supervisor = supervisor
         self._looks = looks
         self._metrics = metrics
-        self._log = log
+        self._wrong = WrongLines(log)
         self._path = supervisor.settings.control
         self._server: Optional[asyncio.AbstractServer] = None
         self._own: Optional[sockets.Identity] = None
         self._connections: Set["asyncio.Task[None]"] = set()
+        # those that are idle, by when they became so
+        self._idle: Dict["asyncio.Task[None]", None] = {}
 
     async def open(self) -> None:
         """Listens, for the owner alone. `SocketFault` if another daemon does."""
@@ -60,23 +83,39 @@ class Control:
     async def _connect(self, reader: asyncio.StreamReader, writer: asyncio.StreamWriter) -> None:
         task = asyncio.current_task()
         assert task is not None
+        is_placed = self._make_room()
         self._connections.add(task)
         try:
-            if len(self._connections) > _MOST_CONNECTIONS:
+            if not is_placed:
                 writer.write(f"not done: {_MOST_CONNECTIONS} connections are open\n".encode())
                 return
-            await self._serve(reader, writer)
+            await self._serve(task, reader, writer)
         except (ConnectionError, asyncio.CancelledError):
             # the end of a connection is only its end, also of one that is cut off at the daemon's
             pass
         finally:
             self._connections.discard(task)
+            self._idle.pop(task, None)
             writer.close()
 
-    async def _serve(self, reader: asyncio.StreamReader, writer: asyncio.StreamWriter) -> None:
+    def _make_room(self) -> bool:
+        """Whether there is a place for one connection more, once the one that has been idle for longest has made room."""
+        if len(self._connections) < _MOST_CONNECTIONS:
+            return True
+        longest = next(iter(self._idle), None)
+        if longest is None:
+            return False
+        del self._idle[longest]
+        self._connections.discard(longest)
+        longest.cancel()
+        return True
+
+    async def _serve(self, task: "asyncio.Task[None]", reader: asyncio.StreamReader, writer: asyncio.StreamWriter) -> None:
         number = 0
         while not self._supervisor.ended.is_set():
+            self._idle[task] = None
             line = await _read_line(reader)
+            self._idle.pop(task, None)
             if line is None:
                 return
             number += 1
@@ -91,7 +130,7 @@ class Control:
                 raise NotAnOrder(f"no line feed at its end, or longer than {LONGEST_LINE} bytes")
             return await self._carry_out(read_order(line[:-1], self._supervisor.settings.nodes))
         except NotAnOrder as fault:
-            self._log.info("line %d: not an order: %s", number, fault)
+            self._wrong.tell(number, fault)
             return f"line {number}: not an order: {fault}"
         except NotDone as fault:
             return f"not done: {fault}"

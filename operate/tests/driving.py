@@ -24,6 +24,7 @@ from store_testing.waiting import until as until  # noqa: E402
 
 PROGRAM = program_or_end()
 CTL = str(HERE.parent / "storectl")
+CLIENT = str(HERE.parent / "store-client")
 # seconds that an answer or an end may take, on a machine that does much else
 PATIENCE = 60.0
 

@@ -2,8 +2,10 @@
 
 from __future__ import annotations
 
+import contextlib
 import grp
 import os
+import re
 import resource
 import socket
 import signal
@@ -17,11 +19,14 @@ from typing import Dict, List
 from driving import KEY, PATIENCE, Place, fill, is_running, listens, until
 
 import store_client
-from store_operator.asking import AskFault
+from store_operator.asking import AskFault, Daemon
 from store_operator.inspection import look_at
 
 WRONG = ("admitt 0 2", "end 0 01", "", "close  now", "quit", "ADMIT", "admit 0 1 64 0", "end 7 1", "\x00\xff", "#end", 5000 * "x")
 ROUNDS = 20
+MOST_CONNECTIONS = 200
+# of a node with the one usual job
+JOBS = "n0 op jobs 1:65536:1048576"
 
 
 def exchange(place: Place, lines: List[str]) -> List[str]:
@@ -33,16 +38,6 @@ def exchange(place: Place, lines: List[str]) -> List[str]:
         stream.shutdown(socket.SHUT_WR)
         with stream.makefile("r", encoding="utf-8", newline="\n") as answers:
             return [answer.rstrip("\n") for answer in answers]
-
-
-def asked(place: Place) -> str:
-    """The daemon's status; nothing as long as it has yet to take the connections that wait before this one."""
-    try:
-        return place.ask("status")
-    except AskFault as fault:
-        if isinstance(fault.__cause__, BlockingIOError):
-            return ""
-        raise
 
 
 def work(place: Place, job: int, faults: List[str]) -> None:
@@ -95,7 +90,7 @@ class WrongLines(unittest.TestCase):
                 stream.sendall(b"end 0 1")
                 stream.shutdown(socket.SHUT_WR)
                 self.assertIn(b"line 1: not an order: no line feed", stream.recv(4096))
-            self.assertEqual(place.ask("jobs 0"), "n0 op jobs 1:65536:1048576")
+            self.assertEqual(place.ask("jobs 0"), JOBS)
 
     def test_a_line_that_comes_in_pieces_is_one(self) -> None:
         with Place() as place:
@@ -106,9 +101,9 @@ class WrongLines(unittest.TestCase):
                 for letter in "jobs 0\njobs 0":
                     stream.sendall(letter.encode())
                     time.sleep(0.002)
-                self.assertEqual(answers.readline(), "n0 op jobs 1:65536:1048576\n")
+                self.assertEqual(answers.readline(), f"{JOBS}\n")
                 stream.sendall(b"\n")
-                self.assertEqual(answers.readline(), "n0 op jobs 1:65536:1048576\n")
+                self.assertEqual(answers.readline(), f"{JOBS}\n")
 
     def test_a_line_without_end_takes_no_memory(self) -> None:
         with Place() as place:
@@ -122,23 +117,38 @@ class WrongLines(unittest.TestCase):
                 self.assertLess(look_at(daemon.pid).resident - before, 16 << 20)
                 stream.shutdown(socket.SHUT_WR)
                 self.assertIn(b"line 1: not an order: ", stream.recv(4096))
-            self.assertEqual(place.ask("jobs 0"), "n0 op jobs 1:65536:1048576")
+            self.assertEqual(place.ask("jobs 0"), JOBS)
 
-    def test_more_connections_than_are_taken(self) -> None:
+    def test_idle_connections_make_room(self) -> None:
+        with Place() as place, contextlib.ExitStack() as opened:
+            place.start_ready()
+
+            def begin() -> Daemon:
+                control = opened.enter_context(place.control())
+                self.assertEqual(control.ask("jobs 0"), JOBS)
+                return control
+
+            first, *others = (begin() for _ in range(MOST_CONNECTIONS))
+            self.assertEqual(first.ask("jobs 0"), JOBS)
+            for made_room in others[:2]:
+                begin()
+                self.assertRaises(AskFault, made_room.ask, "jobs 0")
+            for control in (first, *others[2:]):
+                self.assertEqual(control.ask("jobs 0"), JOBS)
+
+    def test_wrong_lines_dont_fill_the_log(self) -> None:
         with Place() as place:
             place.start_ready()
-            idle = []
-            try:
-                for _ in range(200):
-                    stream = socket.socket(socket.AF_UNIX)
-                    idle.append(stream)
-                    stream.connect(str(place.path / "control"))
-                until(lambda: asked(place).startswith("not done: 200 connections are open"), "as many as are taken")
-                self.assertTrue(listens(place.socket()))
-            finally:
-                for stream in idle:
-                    stream.close()
-            until(lambda: asked(place).startswith("status "), "an answer")
+            began = time.monotonic()
+            for _ in range(4):
+                exchange(place, 500 * ["help"])
+            time.sleep(1.1)
+            self.assertIn("not an order", place.ask("help"))
+            seconds = time.monotonic() - began
+            told = [line for line in place.log().splitlines() if "not an order" in line]
+            self.assertLessEqual(len(told), 1 + seconds)
+            untold = [re.search(r"\(and (\d+) more since the last line\)$", line) for line in told]
+            self.assertEqual(len(told) + sum(int(found[1]) for found in untold if found), 4 * 500 + 1)
 
 
 class Orders(unittest.TestCase):
@@ -154,7 +164,7 @@ class Orders(unittest.TestCase):
                 self.assertEqual(second.ask("usage 0 7"), "n0 op usage 128 0 32 0 0 0")
                 self.assertEqual(second.ask("usage 1 7"), "n1 op refused 1 NotAdmitted")
                 self.assertEqual(first.ask("end 0 7"), "n0 op ok")
-                self.assertEqual(first.ask("jobs 0"), "n0 op jobs 1:65536:1048576")
+                self.assertEqual(first.ask("jobs 0"), JOBS)
 
     def test_usage_and_status_say_what_sessions_did(self) -> None:
         with Place(2) as place:
@@ -205,7 +215,7 @@ class Ready(unittest.TestCase):
         with Place() as place:
             daemon = place.start_ready(["nohup"])
             daemon.send_signal(signal.SIGHUP)
-            self.assertEqual(place.ask("jobs 0"), "n0 op jobs 1:65536:1048576")
+            self.assertEqual(place.ask("jobs 0"), JOBS)
             self.assertEqual(place.end(daemon), 0)
 
 

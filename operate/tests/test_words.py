@@ -11,7 +11,7 @@ from pathlib import Path
 from typing import Tuple
 from unittest import mock
 
-from driving import CTL, DAEMON, KEY, PROGRAM, Place
+from driving import CLIENT, CTL, DAEMON, KEY, PROGRAM, Place
 
 from store_operator.keys import KeyFault, read_key
 from store_operator.orders import Admit, End, NotAnOrder, Quota, read_order, server_line, told
@@ -97,7 +97,7 @@ class Environment(unittest.TestCase):
             for name in ("sitecustomize", "argparse"):
                 Path(folder, f"{name}.py").write_text(f"open({folder!r} + '/seen', 'w').close()\n")
             names = {**os.environ, "PYTHONPATH": folder, "PATH": f"{Path(sys.executable).parent}:{os.environ['PATH']}"}
-            for command in (DAEMON, CTL):
+            for command in (DAEMON, CTL, CLIENT):
                 done = subprocess.run([command, "--help"], env=names, capture_output=True, check=False)
                 self.assertEqual((done.returncode, Path(folder, "seen").exists()), (0, False), (command, done.stderr))
 

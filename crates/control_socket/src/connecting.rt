@@ -1,9 +1,9 @@
 //! The threads of a control socket, and the one that takes standard input beside it.
 ghost use Rattle.std.specs.Prelude.{None};
 
-use crate::control::{Asking, Control, Course};
+use crate::control::{Asking, Control, Course, PATIENCE};
 use memory_growth::{OutOfMemory, boxes, texts};
-use node_gate::JournaledNode;
+use node_gate::{JournaledNode, Posted};
 use operator_service::{LastLine, attend, serve_text};
 use program_lines::Fault;
 use server_host::{Patient, ServeFault, SocketFile, bind_alone};
@@ -21,9 +21,6 @@ use std::{io, thread};
 
 /// How long a listener rests after it failed to accept, in milliseconds.
 const REST: u64 = 10;
-
-/// How long an answer waits for a connection that doesn't take it, in seconds: longer, and the connection ends.
-const PATIENCE: u64 = 5;
 
 /// A control socket that accepts connections in a thread.
 #[derive(Drop)]
@@ -67,6 +64,7 @@ where
     K::Receipt: Send + 'static,
     K::Mail: Send + 'static,
     K::Posted: Send + 'static,
+    <K::Posted as Posted>::Directory: Send + 'static,
     K::Erase: Send + 'static,
     K::Entered: Send + 'static,
     K::Prepared: Send + 'static,
@@ -105,6 +103,7 @@ where
     K::Receipt: Send + 'static,
     K::Mail: Send + 'static,
     K::Posted: Send + 'static,
+    <K::Posted as Posted>::Directory: Send + 'static,
     K::Erase: Send + 'static,
     K::Entered: Send + 'static,
     K::Prepared: Send + 'static,
@@ -127,6 +126,7 @@ where
     K::Receipt: Send + 'static,
     K::Mail: Send + 'static,
     K::Posted: Send + 'static,
+    <K::Posted as Posted>::Directory: Send + 'static,
     K::Erase: Send + 'static,
     K::Entered: Send + 'static,
     K::Prepared: Send + 'static,
@@ -154,6 +154,7 @@ where
     K::Receipt: Send + 'static,
     K::Mail: Send + 'static,
     K::Posted: Send + 'static,
+    <K::Posted as Posted>::Directory: Send + 'static,
     K::Erase: Send + 'static,
     K::Entered: Send + 'static,
     K::Prepared: Send + 'static,
@@ -178,6 +179,29 @@ fn serve_connection<K: JournaledNode, R: Wait + Clock>(
     }
 }
 
+/// What comes from a connection's client. The connection is idle while it waits for more.
+#[derive(Drop)]
+struct Heard<'a, R: Wait> {
+    rt: &'a R,
+    course: &'a Course,
+    stream: &'a UnixStream,
+}
+
+/// A contract isn't told what is read.
+impl<'a, R: Wait> Read for Heard<'a, R> {
+    ghost remaining = { λ _. None };
+
+    fn read(&mut self, buf: &mut [u8]) -> io::Result<usize> {
+        self.course.rest(self.rt, self.stream);
+        let count = self.stream.read(buf)?;
+        if self.course.wake(self.rt, self.stream) {
+            Ok(count)
+        } else {
+            Ok(0)
+        }
+    }
+}
+
 /// Answers the lines of a connection.
 fn answer_all<K: JournaledNode, R: Wait + Clock>(
     rt: &R,
@@ -187,9 +211,18 @@ fn answer_all<K: JournaledNode, R: Wait + Clock>(
 ) {
     let _ = stream.set_write_timeout(Some(Duration::from_secs(PATIENCE)));
     let mut writer = stream;
-    let asking = Asking { control, clock: rt };
+    let asking = Asking {
+        control,
+        stream,
+        clock: rt,
+    };
+    let heard = Heard {
+        rt,
+        course: &control.course,
+        stream,
+    };
     // without memory for it the connection is closed
-    if let Ok(mut reader) = BufReader::new(alloc, stream) {
+    if let Ok(mut reader) = BufReader::new(alloc, heard) {
         // a fault ends this connection alone
         let _ = attend(
             rt,
@@ -212,6 +245,7 @@ where
     K::Receipt: Send + 'static,
     K::Mail: Send + 'static,
     K::Posted: Send + 'static,
+    <K::Posted as Posted>::Directory: Send + 'static,
     K::Erase: Send + 'static,
     K::Entered: Send + 'static,
     K::Prepared: Send + 'static,

@@ -9,12 +9,16 @@ use std::alloc::Global;
 use std::net::Shutdown;
 use std::os::fd::AsRawFd;
 use std::os::unix::net::UnixStream;
-use std::sync::{Arc, Condvar, Mutex, Wait};
+use std::sync::{Arc, Condvar, CondvarTimeouts, Mutex, Wait};
 use std::thread;
 use std::time::{Clock, Duration};
 
-/// How many control connections are open at most.
+/// How many control connections there are at most, but for those that have made room and end.
 const MOST_CONNECTIONS: usize = 16;
+
+/// How long an answer waits for a connection that doesn't take it, in seconds: longer, and the connection ends. At the server's end all
+/// answers of a connection together wait no longer.
+pub(crate) const PATIENCE: u64 = 5;
 
 /// How long open sessions may go on once they are to end, in hundredths of a second.
 const GRACE: u32 = 50;
@@ -34,6 +38,26 @@ enum Stage {
     Over,
 }
 
+/// What a connection is about.
+#[derive(Clone, Copy, PartialEq, Eq)]
+enum Doing {
+    /// It is idle: each line that came from its client is answered. Of two the one with the lesser number has been idle for longer.
+    Idle(u64),
+    /// What came from its client is carried out and answered.
+    Answering,
+    /// It waits for the report.
+    Awaiting,
+    /// It has made room for another one, and ends.
+    Leaving,
+}
+
+/// A connection that is open.
+#[derive(Drop)]
+struct Connection {
+    stream: Arc<UnixStream>,
+    doing: Doing,
+}
+
 /// What the connections share under a lock.
 #[derive(Drop)]
 struct State {
@@ -41,11 +65,84 @@ struct State {
     // what ended the lines of standard input
     fault: Option<Fault>,
     report: Option<Report>,
-    connections: Vec<Arc<UnixStream>>,
-    // connections that wait for the report
-    waiting: usize,
+    connections: Vec<Connection>,
+    // how often a connection became idle
+    rests: u64,
     // lines of standard input are carried out
     is_reading: bool,
+}
+
+impl State {
+    /// Counts that a connection becomes idle.
+    fn idle(&mut self) -> Doing {
+        let rest = self.rests;
+        self.rests = rest.saturating_add(1);
+        Doing::Idle(rest)
+    }
+
+    /// From now on the connection of this stream is about this. False if it has made room for another one, and is about nothing more.
+    fn turn(&mut self, stream: &UnixStream, doing: Doing) -> bool {
+        let number = stream.as_raw_fd();
+        for open in self.connections.iter_mut() {
+            if open.stream.as_raw_fd() == number && open.doing != Doing::Leaving {
+                open.doing = doing;
+                return true;
+            }
+        }
+        false
+    }
+
+    /// Whether there is a place for one connection more. If there is none the one that has been idle for longest makes room.
+    fn make_room(&mut self) -> bool {
+        let staying = self
+            .connections
+            .iter()
+            .filter(|open| open.doing != Doing::Leaving);
+        if staying.count() < MOST_CONNECTIONS {
+            return true;
+        }
+        let Some(longest) = self.longest_idle() else {
+            return false;
+        };
+        if let Some(open) = self
+            .connections
+            .iter_mut()
+            .find(|open| open.doing == longest)
+        {
+            open.doing = Doing::Leaving;
+            let _ = open.stream.shutdown(Shutdown::Both);
+        }
+        true
+    }
+
+    /// What the connection is about that has been idle for longest, if one is idle.
+    fn longest_idle(&self) -> Option<Doing> {
+        let mut longest = None;
+        for open in &self.connections {
+            if let Doing::Idle(rest) = open.doing {
+                longest = match longest {
+                    Some(least) if least <= rest => longest,
+                    _ => Some(rest),
+                };
+            }
+        }
+        longest.map(Doing::Idle)
+    }
+
+    /// Whether an order may still be carried out: of a connection that doesn't wait for the report, or of standard input.
+    fn takes_orders(&self) -> bool {
+        let is_done = |open: &Connection| matches!(open.doing, Doing::Awaiting | Doing::Leaving);
+        self.is_reading || !self.connections.iter().all(is_done)
+    }
+
+    /// Shuts the streams of all connections down that don't wait for the report.
+    fn shut_down(&self, how: Shutdown) {
+        for open in &self.connections {
+            if open.doing != Doing::Awaiting {
+                let _ = open.stream.shutdown(how);
+            }
+        }
+    }
 }
 
 /// How far the server has come, which its connections, its end and standard input tell one another.
@@ -64,7 +161,7 @@ impl Course {
                 fault: None,
                 report: None,
                 connections: Vec::new(alloc),
-                waiting: 0,
+                rests: 0,
                 is_reading: false,
             }),
             changed: Condvar::new(),
@@ -120,25 +217,39 @@ impl Course {
     }
 
     /// Waits until no order is carried out: each connection has ended or waits for the report, and what was read of standard input is done.
-    fn quiet<R: Wait>(&self, rt: &R) {
+    /// A connection that takes its answers too slowly is cut off.
+    fn quiet<R: Wait + Clock>(&self, rt: &R) {
         let mut state = self.state.lock(rt);
         state.stage = Stage::Quiet;
         // what was sent before is still answered
-        for stream in &state.connections {
-            let _ = stream.shutdown(Shutdown::Read);
+        state.shut_down(Shutdown::Read);
+        let patience = Duration::from_secs(PATIENCE);
+        let (state, late) = self
+            .changed
+            .wait_timeout_while(rt, state, patience, |state| state.takes_orders());
+        if late.timed_out() {
+            state.shut_down(Shutdown::Both);
         }
-        let state = self.changed.wait_while(rt, state, |state| {
-            state.connections.len() > state.waiting || state.is_reading
-        });
+        let state = self
+            .changed
+            .wait_while(rt, state, |state| state.takes_orders());
         drop(state);
     }
 
-    /// Gives the report to the connections that wait for it, or none after a fault, and waits for their ends.
-    pub fn end<R: Wait>(&self, rt: &R, report: Option<Report>) {
+    /// Gives the report to the connections that wait for it, or none after a fault, and waits for their ends. A connection that doesn't take
+    /// it is cut off.
+    pub fn end<R: Wait + Clock>(&self, rt: &R, report: Option<Report>) {
         let mut state = self.state.lock(rt);
         state.stage = Stage::Over;
         state.report = report;
         self.changed.notify_all();
+        let patience = Duration::from_secs(PATIENCE);
+        let (state, late) = self
+            .changed
+            .wait_timeout_while(rt, state, patience, |state| !state.connections.is_empty());
+        if late.timed_out() {
+            state.shut_down(Shutdown::Both);
+        }
         let state = self
             .changed
             .wait_while(rt, state, |state| !state.connections.is_empty());
@@ -150,7 +261,8 @@ impl Course {
         self.state.lock(rt).stage >= Stage::Quiet
     }
 
-    /// A connection begins, unless there are as many as may be, or no order is taken any more.
+    /// A connection begins, idle. If there are as many as may be, the one that has been idle for longest makes room; if none is idle, or
+    /// no order is taken any more, it doesn't begin.
     pub fn begin<R: Wait>(
         &self,
         rt: &R,
@@ -160,11 +272,31 @@ impl Course {
         let stream = boxes::counted(alloc, stream)?;
         let shared = boxes::another(&stream)?;
         let mut state = self.state.lock(rt);
-        if state.connections.len() >= MOST_CONNECTIONS || state.stage >= Stage::Quiet {
+        lists::reserve(&mut state.connections, 1)?;
+        if state.stage >= Stage::Quiet || !state.make_room() {
             return Ok(None);
         }
-        lists::push(&mut state.connections, shared)?;
+        let doing = state.idle();
+        lists::push(
+            &mut state.connections,
+            Connection {
+                stream: shared,
+                doing,
+            },
+        )?;
         Ok(Some(stream))
+    }
+
+    /// The connection waits for its client, each line of which is answered.
+    pub fn rest<R: Wait>(&self, rt: &R, stream: &UnixStream) {
+        let mut state = self.state.lock(rt);
+        let doing = state.idle();
+        let _ = state.turn(stream, doing);
+    }
+
+    /// Whether what came from the connection's client is to be carried out: not if it has made room for another one.
+    pub fn wake<R: Wait>(&self, rt: &R, stream: &UnixStream) -> bool {
+        self.state.lock(rt).turn(stream, Doing::Answering)
     }
 
     /// A connection has ended.
@@ -175,7 +307,7 @@ impl Course {
         let place = state
             .connections
             .iter()
-            .position(|open| open.as_raw_fd() == number);
+            .position(|open| open.stream.as_raw_fd() == number);
         if let Some(place) = place {
             let _ = state.connections.swap_remove(place);
         }
@@ -183,15 +315,15 @@ impl Course {
         self.changed.notify_all();
     }
 
-    /// Waits for the report, or that there is none.
-    fn await_report<R: Wait>(&self, rt: &R) -> Option<Report> {
+    /// Lets a connection wait for the report, or that there is none.
+    fn await_report<R: Wait>(&self, rt: &R, stream: &UnixStream) -> Option<Report> {
         let mut state = self.state.lock(rt);
-        state.waiting = state.waiting.saturating_add(1);
+        let _ = state.turn(stream, Doing::Awaiting);
         self.changed.notify_all();
         let mut state = self
             .changed
             .wait_while(rt, state, |state| state.stage < Stage::Over);
-        state.waiting = state.waiting.saturating_sub(1);
+        let _ = state.turn(stream, Doing::Answering);
         state.report
     }
 }
@@ -216,8 +348,8 @@ impl<K: JournaledNode> Control<K> {
     }
 
     /// No session begins any more. Waits for those that are open, and then until no order is carried out: each connection has ended or
-    /// waits for the report, and what was read of standard input is done.
-    pub fn quiet<R: Wait>(&self, rt: &R) {
+    /// waits for the report, and what was read of standard input is done. A connection that takes its answers too slowly is cut off.
+    pub fn quiet<R: Wait + Clock>(&self, rt: &R) {
         self.course.shut(rt);
         for node in &self.nodes {
             node.await_sessions(rt);
@@ -250,6 +382,7 @@ impl<K: JournaledNode> Control<K> {
 #[derive(Drop)]
 pub struct Asking<'a, K: JournaledNode, C: Clock> {
     pub control: &'a Control<K>,
+    pub stream: &'a UnixStream,
     pub clock: &'a C,
 }
 
@@ -259,6 +392,6 @@ impl<'a, K: JournaledNode, C: Clock> Closing for Asking<'a, K, C> {
         if now {
             self.control.end_sessions(rt, self.clock);
         }
-        self.control.course.await_report(rt)
+        self.control.course.await_report(rt, self.stream)
     }
 }

@@ -17,6 +17,12 @@ pub enum ServeFault {
     /// A socket can't be served.
     #[error("store: socket failed: {path}: {error}")]
     Socket { path: String, error: io::Error },
+    /// The path of sockets that an option names is empty.
+    #[error("store: socket failed: --{option} is empty")]
+    NoSocket { option: &'static str },
+    /// The path of the folders of spilled objects is empty.
+    #[error("store: output failed: --spill is empty")]
+    NoFolder,
     /// A worker can't be started.
     #[error("store: no memory: {error}")]
     Worker { error: io::Error },

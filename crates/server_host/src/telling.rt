@@ -13,6 +13,9 @@ use std::thread::Threads;
 use std::time::{Clock, Instant};
 use std::{io, thread};
 
+/// What a line says of a call for which the process had no memory.
+const NO_MEMORY: &str = "no memory";
+
 /// What the devices of all nodes share: what was said of their calls, and whether a line is being written.
 #[derive(Drop)]
 pub struct Telling {
@@ -55,8 +58,27 @@ struct Line {
     node: u32,
     key: DeviceKey,
     call: DeviceCall,
-    reason: String,
+    reason: Reason,
     unsaid: u64,
+}
+
+/// Why a call failed.
+#[derive(Drop)]
+enum Reason {
+    /// What the system says of it, or what is wrong with what is there.
+    Said(String),
+    /// Words that are there without memory for them.
+    Known(&'static str),
+}
+
+impl Reason {
+    /// As a line says it.
+    fn text(&self) -> &str {
+        match self {
+            Reason::Said(text) => text.as_str(),
+            Reason::Known(text) => text,
+        }
+    }
 }
 
 impl<R: Threads + Wait + Clock + Drop> TellingDevice<R> {
@@ -77,23 +99,28 @@ impl<R: Threads + Wait + Clock + Drop> TellingDevice<R> {
         })
     }
 
-    /// Tells of a call that was answered so, if it failed.
+    /// Tells of a call that was answered so, if it failed, or if there was no memory for it.
     fn tell<T>(&mut self, call: DeviceCall, key: DeviceKey, answer: &Result<T, DeviceFault>)
         ensures { self.new.device ≡ self.old.device }
     {
-        if let Err(DeviceFault::Failed) = answer
-            && let Some(error) = self.device.take_reason()
-        {
-            self.tell_failure(call, key, error);
+        match answer {
+            Ok(_) => {}
+            Err(DeviceFault::NoMemory) => self.tell_failure(call, key, None),
+            Err(DeviceFault::Failed) => {
+                if let Some(error) = self.device.take_reason() {
+                    self.tell_failure(call, key, Some(error));
+                }
+            }
         }
     }
 
-    /// Tells of a call that failed now, if its line is due. Otherwise it is one of those that the next line tells of.
-    fn tell_failure(&self, call: DeviceCall, key: DeviceKey, error: io::Error) {
+    /// Tells of a call that failed now, if its line is due. Otherwise it is one of those that the next line tells of. Without an error
+    /// there was no memory for the call.
+    fn tell_failure(&self, call: DeviceCall, key: DeviceKey, error: Option<io::Error>) {
         let Some(unsaid) = self.due() else {
             return;
         };
-        let is_begun = match text_of!(in self.host.alloc(); "{error}") {
+        let is_begun = match reason_of(self.host.alloc(), error) {
             Ok(reason) => self.begin(Line {
                 node: self.node,
                 key,
@@ -140,13 +167,21 @@ impl<R: Threads + Wait + Clock + Drop> TellingDevice<R> {
     }
 }
 
+/// Why a call failed that ended with this error; without one there was no memory for it.
+fn reason_of(alloc: Global, error: Option<io::Error>) -> Result<Reason, OutOfMemory> {
+    match error {
+        Some(error) => Ok(Reason::Said(text_of!(in alloc; "{error}")?)),
+        None => Ok(Reason::Known(NO_MEMORY)),
+    }
+}
+
 /// Writes the line. Who reads no standard error is served all the same.
 fn write_line(host: HostRuntime, line: &Line, is_writing: &AtomicBool) {
     let _ = host.eprintln(FailedCall {
         node: line.node,
         key: line.key,
         call: line.call,
-        reason: line.reason.as_str(),
+        reason: line.reason.text(),
         unsaid: line.unsaid,
     });
     is_writing.store(false, Ordering::SeqCst);

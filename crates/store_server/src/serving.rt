@@ -56,7 +56,7 @@ pub fn serve<
 >(rt: R, host: HostRuntime, serving: Serving<'_>, reader: I, writer: O) -> Result<(), PrintedFault>
     requires { is_shape serving.shape ≡ true }
 {
-    if let Some(fault) = memory_fault(&host, &serving) {
+    if let Some(fault) = path_fault(&serving).or(memory_fault(&host, &serving)) {
         return Err(tell(host, fault));
     }
     let Ok(mut reader) = BufReader::new(host.alloc(), Patient::new(reader, host)) else {
@@ -78,6 +78,20 @@ pub fn serve<
 fn tell(host: HostRuntime, fault: ServeFault) -> PrintedFault {
     let _ = host.eprintln(fault);
     PrintedFault
+}
+
+/// That a path is empty: what is made of it would lie where nobody meant it to.
+fn path_fault(serving: &Serving<'_>) -> Option<ServeFault> {
+    if serving.socket.is_empty() {
+        return Some(ServeFault::NoSocket { option: "socket" });
+    }
+    if serving.spill.is_empty() {
+        return Some(ServeFault::NoFolder);
+    }
+    if serving.control.is_some_and(|path| path.is_empty()) {
+        return Some(ServeFault::NoSocket { option: "control" });
+    }
+    None
 }
 
 /// That the machine has less memory than the nodes are to have in all, unless that is not to be looked at, or nobody knows.
