@@ -80,7 +80,7 @@ OURS: Dict[str, Dict[str, str]] = {
         "messages.push": "a list of items",
     },
     "node_journal/src/gate.rt": {
-        "share.split_off": "a share of a ledger",
+        "share.split": "a share of the seats",
     },
     "node_journal/src/kept.rt": {
         "logs.reserve": "the jobs' logs",
@@ -90,6 +90,9 @@ OURS: Dict[str, Dict[str, str]] = {
     },
     "node_journal/src/posts.rt": {
         "messages.into_vec": "a list of items",
+    },
+    "node_journal/src/seats.rt": {
+        "share.split_off": "a share of a ledger",
     },
     "node_snapshot/src/copies.rt": {
         "borrowers.into_vec": "a list of items",

@@ -3,10 +3,11 @@ ghost use Rattle.std.specs.Prelude.{◌≡◌};
 
 use crate::calls::admit;
 use assertions::same;
+use cluster_history::{ClusterShape, HistoryName};
 use cluster_threads::Cluster;
 use memory_growth::{OutOfMemory, lists};
 use node_housekeeping::NoPause;
-use node_journal::Kept;
+use node_journal::{Recorded, Unnamed};
 use session_engine::{Ended, SessionFault, serve};
 use session_threads::Session;
 use shared_nodes::SharedNode;
@@ -15,7 +16,7 @@ use std::io;
 use std::marker::Brand;
 use std::process::Abort;
 use std::sync::Wait;
-use std::sync::ledger::{Blank, Ledger};
+use std::sync::ledger::Ledger;
 use std::test::Fail;
 use std::time::Clock;
 
@@ -58,10 +59,10 @@ struct Served {
 }
 
 /// Serves the stream at the node.
-fn told_at<L: Ledger, R: Wait + Clock>(
+fn told_at<L: Ledger + HistoryName, S: ClusterShape, R: Wait + Clock>(
     rt: &R,
     alloc: Global,
-    node: &SharedNode<Kept<L>>,
+    node: &SharedNode<Recorded<L, S>>,
     input: &[u8],
 ) -> Result<Served, OutOfMemory> {
     let mut written = lists::with_capacity(alloc, ROOM)?;
@@ -72,26 +73,39 @@ fn told_at<L: Ledger, R: Wait + Clock>(
 }
 
 /// Serves the stream at a node of one job, which has a window of 64 bytes.
-fn response_by<L: Ledger, R: Wait + Clock + Abort>(
+fn response_by<L: Ledger + HistoryName, S: ClusterShape, R: Wait + Clock + Abort>(
     rt: &R,
     alloc: Global,
-    blank: Blank,
+    unnamed: Unnamed<S>,
     input: &[u8],
 ) -> io::Result<Served>
-    requires name { blank.name ≡ L.name }
-    requires parts { blank.parts ≡ L.parts }
-    requires one { blank.parts ≡ 1 }
+    requires nodes { 1 ≡ S.nodes }
+    requires memory { 1024 ≡ S.memory }
+    requires name { (unnamed.blank.name ≡ L.name) × (unnamed.blank.parts ≡ L.parts) }
+    requires book { unnamed.opened.seen.book ≡ L.book }
+    requires all { unnamed.opened.nodes ≡ S.nodes }
 {
-    let (_book, seats) = blank.open::<L>();
-    let cluster = Cluster::<Kept<L>, _>::start(alloc, 1, 1024, seats, NoPause)?;
+    let seats = unnamed.named::<L>();
+    let cluster = Cluster::<Recorded<L, S>, _>::start(alloc, 1, 1024, seats, NoPause)?;
     let node = cluster.node(0).expect(rt, "a node");
     admit(rt, node);
     Ok(told_at(rt, alloc, node, input)?)
 }
 
+/// The same, of this shape.
+fn response_of<S: ClusterShape, R: Wait + Clock + Abort>(
+    rt: &R,
+    alloc: Global,
+    input: &[u8],
+) -> io::Result<Served>
+    requires nodes { 1 ≡ S.nodes }
+    requires memory { 1024 ≡ S.memory }
+{
+    response_by::<Brand, S, R>(rt, alloc, Unnamed::new(1), input)
+}
+
 fn response<R: Wait + Clock + Abort>(rt: &R, alloc: Global, input: &[u8]) -> io::Result<Served> {
-    let blank = Blank::new(1);
-    response_by::<Brand, R>(rt, alloc, blank, input)
+    response_of::<Brand, R>(rt, alloc, input)
 }
 
 /// Checks that the stream of these digits is answered so, and ends so.

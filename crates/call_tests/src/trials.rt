@@ -4,17 +4,18 @@ ghost use Rattle.std.specs.Prelude.{◌≡◌};
 use crate::calls::{call_six, call_with_receipts, leave_often};
 use crate::works::{ask_for_deleted, work_at_a_failing_device};
 use assertions::{holds, same};
+use cluster_history::{ClusterShape, HistoryName};
 use cluster_threads::Cluster;
 use memory_growth::OutOfMemory;
 use node_housekeeping::{NoPause, Report};
-use node_journal::Kept;
+use node_journal::{Recorded, Unnamed};
 use obj_id::{Refusal, Reply};
 use std::alloc::Global;
 use std::io;
 use std::marker::Brand;
 use std::process::Abort;
 use std::sync::Wait;
-use std::sync::ledger::{Blank, Ledger};
+use std::sync::ledger::Ledger;
 use std::test::Fail;
 use std::thread::Threads;
 use std::time::Clock;
@@ -38,11 +39,11 @@ impl Trial {
     }
 
     /// Carries it out at a cluster of so many nodes: whether all was answered as it is due if no message is lost.
-    fn carry_out<L: Ledger, R: Wait + Clock + Abort>(
+    fn carry_out<L: Ledger + HistoryName, S: ClusterShape, R: Wait + Clock + Abort>(
         &self,
         rt: &R,
         alloc: Global,
-        cluster: &Cluster<Kept<L>>,
+        cluster: &Cluster<Recorded<L, S>>,
     ) -> Result<bool, OutOfMemory> {
         match self {
             Trial::DirectCalls => call_six(rt, alloc, cluster)?,
@@ -78,19 +79,21 @@ impl Trial {
 }
 
 /// Carries out the trial at a cluster of its own.
-fn try_at<L: Ledger, R: Threads + Wait + Clock + Abort>(
+fn try_at<L: Ledger + HistoryName, S: ClusterShape, R: Threads + Wait + Clock + Abort>(
     rt: &R,
     alloc: Global,
     trial: &Trial,
     nodes: u32,
-    blank: Blank,
+    unnamed: Unnamed<S>,
 ) -> io::Result<()>
-    requires name { blank.name ≡ L.name }
-    requires parts { blank.parts ≡ L.parts }
-    requires count { blank.parts ≡ nodes }
+    requires nodes { nodes ≡ S.nodes }
+    requires memory { 1024 ≡ S.memory }
+    requires name { (unnamed.blank.name ≡ L.name) × (unnamed.blank.parts ≡ L.parts) }
+    requires book { unnamed.opened.seen.book ≡ L.book }
+    requires all { unnamed.opened.nodes ≡ S.nodes }
 {
-    let (_book, seats) = blank.open::<L>();
-    let cluster = Cluster::<Kept<L>, _>::start(alloc, nodes, 1024, seats, NoPause)?;
+    let seats = unnamed.named::<L>();
+    let cluster = Cluster::<Recorded<L, S>, _>::start(alloc, nodes, 1024, seats, NoPause)?;
     let carried_out = trial.carry_out(rt, alloc, &cluster);
     let report = cluster.close(rt, Vec::new(alloc));
     let as_due = carried_out?;
@@ -99,14 +102,26 @@ fn try_at<L: Ledger, R: Threads + Wait + Clock + Abort>(
     Ok(())
 }
 
+/// The same, of this shape.
+fn try_shaped<S: ClusterShape, R: Threads + Wait + Clock + Abort>(
+    rt: &R,
+    alloc: Global,
+    trial: &Trial,
+    nodes: u32,
+) -> io::Result<()>
+    requires nodes { nodes ≡ S.nodes }
+    requires memory { 1024 ≡ S.memory }
+{
+    try_at::<Brand, S, R>(rt, alloc, trial, nodes, Unnamed::new(nodes))
+}
+
 fn try_once<R: Threads + Wait + Clock + Abort>(
     rt: &R,
     alloc: Global,
     trial: &Trial,
 ) -> io::Result<()> {
     let nodes = trial.nodes();
-    let blank = Blank::new(u64::from(nodes));
-    try_at::<Brand, R>(rt, alloc, trial, nodes, blank)
+    try_shaped::<Brand, R>(rt, alloc, trial, nodes)
 }
 
 #[test]

@@ -2,9 +2,10 @@
 use crate::calls::{JOB, admit_with, answered, object};
 use assertions::{holds, same};
 use bytes::Bytes;
+use cluster_history::{ClusterShape, HistoryName};
 use cluster_threads::Cluster;
 use node_housekeeping::WorkDone;
-use node_journal::Kept;
+use node_journal::Recorded;
 use obj_id::{Command, Kind, ObjectId, Quota, Refusal, Reply};
 use shared_nodes::SharedNode;
 use spill_device::{FaultyDevice, MemoryDevice, SpillDevice};
@@ -42,18 +43,18 @@ fn command(asked: &Asked) -> Command<Bytes> {
 }
 
 /// The answer, unless it is that memory ran out: that ends the test.
-fn response<L: Ledger, R: Wait + Abort>(
+fn response<L: Ledger + HistoryName, S: ClusterShape, R: Wait + Abort>(
     rt: &R,
-    node: &SharedNode<Kept<L>>,
+    node: &SharedNode<Recorded<L, S>>,
     asked: &Asked,
 ) -> Reply<Bytes> {
     answered(rt, node.call(rt, JOB, 1, command(asked)).0)
 }
 
 /// The first object is in the way of the second: a write of it that failed is answered once, and then it is written.
-fn spill_the_first<L: Ledger, R: Wait + Abort, D: SpillDevice>(
+fn spill_the_first<L: Ledger + HistoryName, S: ClusterShape, R: Wait + Abort, D: SpillDevice>(
     rt: &R,
-    node: &SharedNode<Kept<L>>,
+    node: &SharedNode<Recorded<L, S>>,
     device: &mut D,
 ) {
     let (first, second) = (object(rt, 1), object(rt, 2));
@@ -68,9 +69,9 @@ fn spill_the_first<L: Ledger, R: Wait + Abort, D: SpillDevice>(
 }
 
 /// The second object makes way, and the first comes back from the device.
-fn restore_the_first<L: Ledger, R: Wait + Abort, D: SpillDevice>(
+fn restore_the_first<L: Ledger + HistoryName, S: ClusterShape, R: Wait + Abort, D: SpillDevice>(
     rt: &R,
-    node: &SharedNode<Kept<L>>,
+    node: &SharedNode<Recorded<L, S>>,
     device: &mut D,
 ) {
     let (first, second) = (object(rt, 1), object(rt, 2));
@@ -82,10 +83,10 @@ fn restore_the_first<L: Ledger, R: Wait + Abort, D: SpillDevice>(
 }
 
 /// Nine commands, an admission, and three works, each taken and finished, at a device that fails once.
-pub(crate) fn work_at_a_failing_device<L: Ledger, R: Wait + Abort>(
+pub(crate) fn work_at_a_failing_device<L: Ledger + HistoryName, S: ClusterShape, R: Wait + Abort>(
     rt: &R,
     alloc: Global,
-    cluster: &Cluster<Kept<L>>,
+    cluster: &Cluster<Recorded<L, S>>,
 ) {
     let node = cluster.node(0).expect(rt, "a node");
     let mut device = FaultyDevice::new(MemoryDevice::new(alloc), 1);
@@ -96,9 +97,9 @@ pub(crate) fn work_at_a_failing_device<L: Ledger, R: Wait + Abort>(
 }
 
 /// What node 1 is answered, asked twice, of an object that was sealed and deleted at node 0.
-pub(crate) fn ask_for_deleted<L: Ledger, R: Wait + Abort>(
+pub(crate) fn ask_for_deleted<L: Ledger + HistoryName, S: ClusterShape, R: Wait + Abort>(
     rt: &R,
-    cluster: &Cluster<Kept<L>>,
+    cluster: &Cluster<Recorded<L, S>>,
 ) -> Reply<Bytes> {
     let first = object(rt, 1);
     let node = cluster.node(0).expect(rt, "a node");

@@ -4,10 +4,9 @@ ghost use Rattle.std.specs.Prelude.{◌≡◌, ◌↔◌, ◌≤◌, ◌<◌, ve
 use crate::Working;
 use crate::receiving::receive;
 use memory_growth::{boxes, lists};
-use node_gate::{JournaledNode, SeatedNode, nothing_beside};
+use node_gate::{JournaledNode, Posted, SeatedNode, nothing_beside};
 use node_housekeeping::{NoPause, Pause, Report, Waiting};
 use node_links::{Inbox, Outbox};
-use owner_directory::Directory;
 use shared_nodes::SharedNode;
 use std::alloc::Global;
 use std::sync::{Arc, Mutex, Wait};
@@ -40,25 +39,34 @@ impl<K: JournaledNode, P: Pause> Cluster<K, P> {
     ) -> io::Result<Cluster<K, P>>
     where
         K: SeatedNode,
-        requires memory { memory ≤ K.SeatedNode.most_memory }
+        requires memory { K.SeatedNode.may_have memory }
         requires seats { (K.SeatedNode.parts seats ≡ nodes) × (K.SeatedNode.amount seats ≡ 0) }
+        requires first { K.SeatedNode.next_number seats ≡ 0 }
         requires all { K.SeatedNode.all_parts ≡ nodes }
         ensures { IfOk result (λ cluster. vec_len cluster.nodes ≡ nodes) }
     {
         let mut seats = seats;
+        let mut stepped = Vec::new(alloc);
+        for number in 0..nodes {
+            let seat = K::split_seat(&mut seats);
+            lists::push(&mut stepped, K::seated(alloc, number, memory, seat))?;
+        }
+        let directory = boxes::counted(alloc, Mutex::new(K::directory(alloc, seats)))?;
         let mut all = Vec::new(alloc);
         let mut inboxes = Vec::new(alloc);
         for _ in 0..nodes {
             lists::push(&mut inboxes, Inbox::new(alloc, nodes.saturating_sub(1))?)?;
         }
-        let directory = boxes::counted(alloc, Mutex::new(Directory::new(alloc)))?;
         let waiting = boxes::counted(alloc, Waiting::new())?;
+        // the first one is taken out first
+        stepped.reverse();
         for number in 0..nodes {
-            let seat = K::split_seat(&mut seats);
-            let outbox = Outbox::open(alloc, number, &directory, &mut inboxes)?;
+            let Some(node) = stepped.pop() else {
+                unreachable!()
+            };
+            let outbox = Outbox::open(alloc, number as usize, &directory, &mut inboxes)?;
             let woken = boxes::another(&waiting)?;
             let paused = pause.clone()?;
-            let node = K::seated(alloc, number, memory, seat);
             let shared = SharedNode::new(alloc, node, outbox, woken, paused);
             lists::push(&mut all, boxes::counted(alloc, shared)?)?;
         }
@@ -90,6 +98,7 @@ impl<K: JournaledNode, P: Pause> Cluster<K, P> {
         K::Receipt: Send + 'static,
         K::Mail: Send + 'static,
         K::Posted: Send + 'static,
+        <K::Posted as Posted>::Directory: Send + 'static,
         K::Erase: Send + 'static,
         K::Entered: Send + 'static,
         K::Prepared: Send + 'static,
@@ -118,6 +127,7 @@ impl<K: JournaledNode, P: Pause> Cluster<K, P> {
         K::Receipt: Send + 'static,
         K::Mail: Send + 'static,
         K::Posted: Send + 'static,
+        <K::Posted as Posted>::Directory: Send + 'static,
         K::Erase: Send + 'static,
         K::Entered: Send + 'static,
         K::Prepared: Send + 'static,

@@ -1,5 +1,5 @@
 //! The threads that hand in what comes to a node.
-use node_gate::JournaledNode;
+use node_gate::{JournaledNode, Posted};
 use node_housekeeping::Pause;
 use node_links::Inbox;
 use shared_nodes::{ReceiptBuffer, SharedNode};
@@ -17,6 +17,7 @@ where
     K::Receipt: Send + 'static,
     K::Mail: Send + 'static,
     K::Posted: Send + 'static,
+    <K::Posted as Posted>::Directory: Send + 'static,
     K::Erase: Send + 'static,
     K::Entered: Send + 'static,
     K::Prepared: Send + 'static,

@@ -1,6 +1,6 @@
 //! The threads of workers.
 use memory_growth::boxes;
-use node_gate::JournaledNode;
+use node_gate::{JournaledNode, Posted};
 use node_housekeeping::{NoPause, Pause, WorkDone, WorkerBell};
 use shared_nodes::{ReceiptBuffer, SharedNode};
 use spill_device::SpillDevice;
@@ -39,6 +39,7 @@ where
     K::Receipt: Send + 'static,
     K::Mail: Send + 'static,
     K::Posted: Send + 'static,
+    <K::Posted as Posted>::Directory: Send + 'static,
     K::Erase: Send + 'static,
     K::Entered: Send + 'static,
     K::Prepared: Send + 'static,

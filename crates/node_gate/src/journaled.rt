@@ -8,6 +8,7 @@ use obj_id::{
 };
 use private_store::{Event, Judged};
 use std::alloc::Global;
+use std::sync::Wait;
 
 /// What a step gave: its answer, the device keys that are to be erased, what it sends, and the receipt of its entry.
 #[derive(Drop)]
@@ -120,8 +121,9 @@ pub trait JournaledNode: Drop + Sized {
         ensures { result ≡ node_number self.now };
 
     /// One step of an event of a session, the operator or a worker. The error is out of memory.
-    fn step(
+    fn step<R: Wait>(
         &mut self,
+        rt: &R,
         event: &Event,
     ) -> Result<Made<Self::Receipt, Self::Mail, Self::Erase>, OutOfMemory>
         ensures once { IfOk result (λ m. steps event.now m.reply (posts m.mail) m.receipt self.old self.new) }
@@ -133,8 +135,9 @@ pub trait JournaledNode: Drop + Sized {
         ensures number { node_number self.new ≡ node_number self.old };
 
     /// The same, if the journal doesn't say No of the receipt: otherwise the error is `Stale`.
-    fn step_after(
+    fn step_after<R: Wait>(
         &mut self,
+        rt: &R,
         receipt: &Self::Receipt,
         event: &Event,
     ) -> Result<Made<Self::Receipt, Self::Mail, Self::Erase>, Refusal>
@@ -149,8 +152,9 @@ pub trait JournaledNode: Drop + Sized {
 
     /// A message that was posted to the node arrives. `Stale` if it was posted to another place or isn't made for a node, and
     /// `NoMemory`: then it is lost.
-    fn arrive(
+    fn arrive<R: Wait>(
         &mut self,
+        rt: &R,
         posted: Self::Posted,
     ) -> Result<Made<Self::Receipt, Self::Mail, Self::Erase>, Refusal>
         ensures once { IfOk result (λ m. arrives posted m.reply (posts m.mail) m.receipt self.old self.new) }

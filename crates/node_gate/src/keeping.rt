@@ -1,7 +1,7 @@
 //! Nodes that stand on the parts of a name, and that nothing beside them can be stepped under it.
 ghost use Rattle.std.specs.Prelude.{◌≡◌, length};
 
-use crate::JournaledNode;
+use crate::{JournaledNode, Posted};
 use std::alloc::Global;
 use std::marker::PhantomData;
 use std::sync::{Arc, Mutex, Wait};
@@ -24,10 +24,13 @@ impl<K, H: Keeper<K>> Keeper<K> for Arc<H> {
 
 /// A node that stands on a part of a ledger's name.
 pub trait SeatedNode: JournaledNode {
-    ghost use Rattle.std.specs.Prelude.{◌≡◌, ◌≤◌, ◌+◌, ℕ, length};
+    ghost use Rattle.std.specs.Prelude.{◌≡◌, ◌≤◌, ◌<◌, ◌+◌, ℕ, length};
 
     /// A share of the name: some of its parts.
     type Share: Drop;
+
+    /// What one node stands on.
+    type Seat: Drop;
 
     // how many parts a share has, and what else the ledger counts for it
     ghost parts: { Self.Share → ℕ };
@@ -37,20 +40,32 @@ pub trait SeatedNode: JournaledNode {
     // how many parts the name has in all
     ghost all_parts: { ℕ };
 
-    // the bytes of memory that a node has at most
-    ghost most_memory: { ℕ };
+    // of the node that stands on the part that is taken out next
+    ghost next_number: { Self.Share → ℕ };
+
+    // of the node that stands on it
+    ghost seat_number: { Self.Seat → ℕ };
+
+    // a node may have so many bytes of memory
+    ghost may_have: { ℕ → Type 0 };
 
     /// Takes one part out of a share for which the ledger counts nothing else.
-    fn split_seat(share: &mut Self::Share) -> Self::Share
+    fn split_seat(share: &mut Self::Share) -> Self::Seat
         requires part { 1 ≤ parts share.old }
         requires blank { amount share.old ≡ 0 }
-        ensures seat { (parts result ≡ 1) × (amount result ≡ 0) }
-        ensures rest { (parts share.new + 1 ≡ parts share.old) × (amount share.new ≡ amount share.old) };
+        requires within { next_number share.old < all_parts }
+        ensures seat { seat_number result ≡ next_number share.old }
+        ensures rest { (parts share.new + 1 ≡ parts share.old) × (amount share.new ≡ amount share.old) }
+        ensures next { next_number share.new ≡ next_number share.old + 1 };
 
     /// A node of this number, with so many bytes of memory, no job and no entry, on one part of the name.
-    fn seated(alloc: Global, number: u32, memory: u64, seat: Self::Share) -> Self
-        requires memory { memory ≤ most_memory }
-        requires seat { (parts seat ≡ 1) × (amount seat ≡ 0) };
+    fn seated(alloc: Global, number: u32, memory: u64, seat: Self::Seat) -> Self
+        requires memory { may_have memory }
+        requires number { seat_number seat ≡ number };
+
+    /// The directory of the nodes that stand on the name, which knows of no location yet, once each of them has its own.
+    fn directory(alloc: Global, rest: Self::Share) -> <Self::Posted as Posted>::Directory
+        requires { next_number rest ≡ all_parts };
 
     /// If there are as many nodes as their name has parts, what anybody shows has none. All shares stay as they are.
     fn nothing_beside<H: Keeper<Self>, R: Wait>(

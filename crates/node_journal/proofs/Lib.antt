@@ -17,3 +17,4 @@ mod Posting
 mod Receipts
 mod Swept
 mod Calls
+mod RecordedSteps

@@ -1,6 +1,7 @@
 pub mod Replies
 pub mod Journals
 pub mod Receipts
+pub mod Recorded
 pub mod Logs
 pub mod MemoryLast
 pub mod Posts

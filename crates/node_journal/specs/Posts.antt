@@ -46,6 +46,10 @@ directory_message_in (message.ToPeer m) = None
 abbrev pub IsAstray : {L : Type 0} → ℕ → Posted L → Type 0
 IsAstray node posted = (posted.to ≢ place.Node node) ⊎ (arrival_of posted.from posted.message ≡ None)
 
+-- a node makes something of the message
+abbrev pub IsArrival : Option Arrival → Type 0
+IsArrival o = (a : Arrival) × (o ≡ Some a)
+
 -- whether a journal's word is of this message: of the same fetch, chunk and sender
 abbrev pub is_post_of : Arrival → Judged → Bool
 is_post_of (arrival.Located id number entries) (judged.Located i n source) = same_id id i && number == n

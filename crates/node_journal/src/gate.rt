@@ -1,25 +1,31 @@
-//! What a node with its journal promises to those that step it.
+//! What a node with its journal, at its place in the history, promises to those that step it.
 use crate::beside::nothing_beside;
 use crate::looking::live_jobs_of;
-use crate::posts::{Mail, Posted};
-use crate::{Agreement, Entered, Kept, Receipt};
+use crate::recorded_directory::RecordedDirectory;
+use crate::recorded_posts::{RecordedMail, RecordedPosted};
+use crate::seats::{Seat, Seats};
+use crate::{Agreement, Entered, Recorded, RecordedReceipt};
 use bytes::Bytes;
+use cluster_history::{ClusterShape, HistoryName};
 use hashed_bytes::Hashed;
 use job_region::Zeros;
 use memory_growth::OutOfMemory;
 use node_core::{Erase, JobRow, Prepared};
-use node_gate::{Access, JournaledNode, Keeper, LiveJob, Made, SeatedNode};
+use node_gate::{Access, JournaledNode, Keeper, LiveJob, Made, Posted, SeatedNode};
 use obj_id::{
-    ChunkIndex, Command, DeviceKey, FetchNo, JobKey, JobNo, NodeNo, ObjectId, Refusal, Reply, Usage,
+    ChunkIndex, Command, DeviceKey, Endpoint, FetchNo, JobKey, JobNo, Message, NodeNo, ObjectId,
+    Refusal, Usage,
 };
 use private_store::{Event, Judged};
 use std::alloc::Global;
 use std::slice;
 use std::sync::Wait;
-use std::sync::ledger::{Ledger, Share};
+use std::sync::ledger::Ledger;
 
-impl<L: Ledger> JournaledNode for Kept<L> {
+impl<L: Ledger + HistoryName, S: ClusterShape> JournaledNode for Recorded<L, S> {
     ghost use Rattle.std.specs.Prelude.{◌≡◌, ◌==◌, Some, None};
+    ghost use Rattle.cluster_history.specs.Rules.{GoesOn};
+    ghost use Rattle.node_journal.specs.Recorded.{IsLastIn, delivery_entry, event_entry};
     ghost use Rattle.std.proofs.Common.{rules};
     ghost use Rattle.obj_id.specs.declared.messages.Arrival.{Arrival};
     ghost use Rattle.private_store.specs.declared.schedules.NodeEvent.TheVariants as node_event;
@@ -34,11 +40,11 @@ impl<L: Ledger> JournaledNode for Kept<L> {
     ghost use Rattle.node_journal.specs.Stepping.{IsFolded, IsOneArrival, IsOneStep, IsUntouched, seen_node};
     ghost use Rattle.node_journal.specs.Witnesses.{IsArrived, IsCalledBy, IsReceiptOf, witness_of};
 
-    type Receipt = Receipt<L>;
+    type Receipt = RecordedReceipt<L, S>;
 
-    type Mail = Mail<L>;
+    type Mail = RecordedMail<L, S>;
 
-    type Posted = Posted<L>;
+    type Posted = RecordedPosted<L, S>;
 
     type Erase = Erase;
 
@@ -48,97 +54,106 @@ impl<L: Ledger> JournaledNode for Kept<L> {
 
     type Gone = JobRow;
 
-    ghost node_number = { λ kept. kept.number };
+    ghost node_number = { λ r. r.0.number };
 
-    ghost made_at = { λ receipt. receipt.node };
+    ghost made_at = { λ receipt. receipt.receipt.node };
 
-    ghost entry_number = { λ receipt. receipt.entry.number };
+    ghost entry_number = { λ receipt. receipt.receipt.entry.number };
 
-    ghost job_of = { λ receipt. receipt.job };
+    ghost job_of = { λ receipt. receipt.receipt.job };
 
-    ghost posts = { posts_left };
+    ghost posts = { λ mail. posts_left mail.0 };
 
     ghost keys = { keys_of };
 
-    ghost steps = { λ e response sent receipt old new. IsOneStep (node_event.Own e) response sent (witness_of receipt) (seen_node old.node old.count old.logs) (seen_node new.node new.count new.logs) };
+    ghost steps = { λ e response sent receipt old new. IsOneStep (node_event.Own e) response sent (witness_of receipt.receipt) (seen_node old.0.node old.0.count old.0.logs) (seen_node new.0.node new.0.count new.0.logs) × GoesOn S.nodes S.memory old.1.0 old.1.1 old.1.1 new.1.1 (event_entry old.0.number e response) };
 
-    ghost arrives = { λ posted response sent receipt old new. (a : Arrival) → arrival_of posted.from posted.message ≡ Some a → IsOneArrival posted.job a response sent (witness_of receipt) (seen_node old.node old.count old.logs) (seen_node new.node new.count new.logs) };
+    ghost arrives = { λ posted response sent receipt old new. (a : Arrival) → arrival_of posted.0.from posted.0.message ≡ Some a → IsOneArrival posted.0.job a response sent (witness_of receipt.receipt) (seen_node old.0.node old.0.count old.0.logs) (seen_node new.0.node new.0.count new.0.logs)
+        × GoesOn S.nodes S.memory old.1.0 old.1.1 posted.1.0 new.1.1 (delivery_entry S.nodes posted.0.job posted.0.from posted.0.to posted.0.message posted.1.0 posted.1.1 response) };
 
-    ghost arrived = { λ posted receipt. (a : Arrival) → arrival_of posted.from posted.message ≡ Some a → IsArrived posted.job a (witness_of receipt) };
+    ghost arrived = { λ posted receipt. (a : Arrival) → arrival_of posted.0.from posted.0.message ≡ Some a → IsArrived posted.0.job a (witness_of receipt.receipt) };
 
-    ghost astray = { λ kept posted. IsAstray kept.number posted };
+    ghost astray = { λ r posted. IsAstray r.0.number posted.0 };
 
-    ghost receipt_of = { λ e response receipt. IsReceiptOf e response (witness_of receipt) };
+    ghost receipt_of = { λ e response receipt. IsReceiptOf e response (witness_of receipt.receipt) × IsLastIn (event_entry receipt.receipt.node e response) receipt.sight };
 
-    ghost called_by = { λ e response receipt. IsCalledBy e response (witness_of receipt) };
+    ghost called_by = { λ e response receipt. IsCalledBy e response (witness_of receipt.receipt) × IsLastIn (event_entry receipt.receipt.node e response) receipt.sight };
 
-    ghost untouched = { λ old new. IsUntouched (seen_node old.node old.count old.logs) (seen_node new.node new.count new.logs) };
+    ghost untouched = { λ old new. IsUntouched (seen_node old.0.node old.0.count old.0.logs) (seen_node new.0.node new.0.count new.0.logs) × (new.1 ≡ old.1) };
 
-    ghost folds = { λ job old new. IsFolded job.0 (seen_node old.node old.count old.logs) (seen_node new.node new.count new.logs) };
+    ghost folds = { λ job old new. IsFolded job.0 (seen_node old.0.node old.0.count old.0.logs) (seen_node new.0.node new.0.count new.0.logs) × (new.1 ≡ old.1) };
 
-    ghost sweeps = { λ old new. (new.node ≡ old.node) × (new.count ≡ old.count) × (new.number ≡ old.number) };
+    ghost sweeps = { λ old new. ((new.0.node ≡ old.0.node) × (new.0.count ≡ old.0.count) × (new.0.number ≡ old.0.number)) × (new.1 ≡ old.1) };
 
-    ghost rests = { λ old new. ((new.node ≡ old.node) × (new.number ≡ old.number)) × ((new.logs ≡ old.logs) × (new.count ≡ old.count)) };
+    ghost rests = { λ old new. (((new.0.node ≡ old.0.node) × (new.0.number ≡ old.0.number)) × ((new.0.logs ≡ old.0.logs) × (new.0.count ≡ old.0.count))) × (new.1 ≡ old.1) };
 
     ghost pass = { λ entered. record { job = entered.job; key = entered.key; session = entered.session } };
 
-    ghost shows_live = { λ kept live. AreLive kept.node kept.logs live };
+    ghost shows_live = { λ r live. AreLive r.0.node r.0.logs live };
 
-    ghost idle = { λ kept. front_of kept.node.works.works ≡ None };
+    ghost idle = { λ r. front_of r.0.node.works.works ≡ None };
 
-    ghost misses = { λ kept receipt. is_no (agreement (receipt.node == kept.number) receipt.entry (journal_of kept.logs receipt.job.0)) };
+    ghost misses = { λ r receipt. is_no (agreement (receipt.receipt.node == r.0.number) receipt.receipt.entry (journal_of r.0.logs receipt.receipt.job.0)) };
 
     fn number(&self) -> u32 {
-        Kept::number(self)
+        self.kept.number()
     }
 
-    fn step(&mut self, event: &Event) -> Result<Made<Receipt<L>, Mail<L>, Erase>, OutOfMemory> {
-        let made = Kept::step(self, event)?;
-        Ok(made.into_parts())
-    }
-
-    fn step_after(
+    fn step<R: Wait>(
         &mut self,
-        receipt: &Receipt<L>,
+        rt: &R,
         event: &Event,
-    ) -> Result<Made<Receipt<L>, Mail<L>, Erase>, Refusal> {
-        let made = Kept::step_after(self, receipt, event)?;
-        Ok(made.into_parts())
+    ) -> Result<Made<RecordedReceipt<L, S>, RecordedMail<L, S>, Erase>, OutOfMemory> {
+        self.record_step(rt, event)
     }
 
-    fn arrive(&mut self, posted: Posted<L>) -> Result<Made<Receipt<L>, Mail<L>, Erase>, Refusal> {
-        let made = Kept::arrive(self, posted)?;
-        Ok(made.into_parts())
+    fn step_after<R: Wait>(
+        &mut self,
+        rt: &R,
+        receipt: &RecordedReceipt<L, S>,
+        event: &Event,
+    ) -> Result<Made<RecordedReceipt<L, S>, RecordedMail<L, S>, Erase>, Refusal> {
+        self.record_step_after(rt, receipt, event)
+    }
+
+    fn arrive<R: Wait>(
+        &mut self,
+        rt: &R,
+        posted: RecordedPosted<L, S>,
+    ) -> Result<Made<RecordedReceipt<L, S>, RecordedMail<L, S>, Erase>, Refusal> {
+        self.record_arrival(rt, posted)
     }
 
     fn fold(&mut self, job: JobNo) {
-        let _ = self.checkpoint(job);
+        let Recorded { kept, place: _ } = self;
+        let _ = kept.checkpoint(job);
     }
 
     fn sweep(&mut self, in_turn: bool, job: Option<JobNo>) {
+        let Recorded { kept, place: _ } = self;
         if in_turn {
-            Kept::sweep(self);
+            kept.sweep();
         }
         if let Some(job) = job {
             // without memory for a fold, the next command makes up for it
-            let _ = self.sweep_job(job);
+            let _ = kept.sweep_job(job);
         }
     }
 
     fn has_work(&self) -> bool {
-        Kept::has_work(self)
+        self.kept.has_work()
     }
 
-    fn misses(&self, receipt: &Receipt<L>) -> bool {
-        matches!(self.agrees(receipt), Agreement::No)
+    fn misses(&self, receipt: &RecordedReceipt<L, S>) -> bool {
+        matches!(self.kept.agrees(&receipt.receipt), Agreement::No)
     }
 
-    fn input(receipt: &Receipt<L>) -> Option<&Judged> {
-        receipt.input().as_ref()
+    fn input(receipt: &RecordedReceipt<L, S>) -> Option<&Judged> {
+        receipt.receipt.input().as_ref()
     }
 
-    fn job(receipt: &Receipt<L>) -> JobNo {
-        receipt.job()
+    fn job(receipt: &RecordedReceipt<L, S>) -> JobNo {
+        receipt.receipt.job()
     }
 
     fn keys(erase: &Erase) -> &[DeviceKey] {
@@ -150,7 +165,8 @@ impl<L: Ledger> JournaledNode for Kept<L> {
     }
 
     fn enter(&mut self, job: JobNo, key: &JobKey) -> Result<Entered<L>, Refusal> {
-        Kept::enter(self, job, key)
+        let Recorded { kept, place: _ } = self;
+        kept.enter(job, key)
     }
 
     fn session(entered: &Entered<L>) -> u32 {
@@ -158,23 +174,26 @@ impl<L: Ledger> JournaledNode for Kept<L> {
     }
 
     fn wants(&self, job: JobNo, command: &Command<Bytes>) -> bool {
-        self.node().wants(job, command)
+        self.kept.node().wants(job, command)
     }
 
     fn share_copy(&mut self, job: JobNo, id: &ObjectId) -> Option<Bytes> {
-        Kept::share_copy(self, job, id)
+        let Recorded { kept, place: _ } = self;
+        kept.share_copy(job, id)
     }
 
     fn expect(&mut self, job: JobNo, id: &ObjectId, hashed: Hashed) {
-        Kept::expect(self, job, id, hashed);
+        let Recorded { kept, place: _ } = self;
+        kept.expect(job, id, hashed);
     }
 
     fn compare(&mut self, job: JobNo, id: &ObjectId) -> bool {
-        Kept::compare(self, job, id)
+        let Recorded { kept, place: _ } = self;
+        kept.compare(job, id)
     }
 
     fn extent_wanted(&self, job: JobNo, command: &Command<Bytes>) -> Option<u32> {
-        self.node().extent_wanted(job, command)
+        self.kept.node().extent_wanted(job, command)
     }
 
     fn length_with_last(
@@ -186,20 +205,23 @@ impl<L: Ledger> JournaledNode for Kept<L> {
         index: ChunkIndex,
         len: usize,
     ) -> Option<u32> {
-        self.node()
+        self.kept
+            .node()
             .length_with_last(job, from, id, number, index, len)
     }
 
     fn copy_part(&self, job: JobNo, id: &ObjectId, offset: u32, len: u32) -> Option<Bytes> {
-        self.node().copy_part(job, id, offset, len)
+        self.kept.node().copy_part(job, id, offset, len)
     }
 
     fn prepare(&mut self, job: JobNo, prepared: Prepared) -> Prepared {
-        Kept::prepare(self, job, prepared)
+        let Recorded { kept, place: _ } = self;
+        kept.prepare(job, prepared)
     }
 
     fn take_gone(&mut self) -> Option<JobRow> {
-        Kept::take_gone(self)
+        let Recorded { kept, place: _ } = self;
+        kept.take_gone()
     }
 
     fn nothing_prepared() -> Prepared {
@@ -222,47 +244,99 @@ impl<L: Ledger> JournaledNode for Kept<L> {
     }
 
     fn usage(&self, job: JobNo) -> Result<Usage, Refusal> {
-        self.node().usage(job)
+        self.kept.node().usage(job)
     }
 
     fn live_jobs(&self, alloc: Global) -> Result<Vec<LiveJob>, OutOfMemory> {
-        live_jobs_of(alloc, self)
+        live_jobs_of(alloc, &self.kept)
     }
 
     fn entries(&self) -> u64 {
-        Kept::entries(self)
+        self.kept.entries()
     }
 
     ghost ends = { Prim.search rules };
 }
 
-impl<L: Ledger> SeatedNode for Kept<L> {
+impl<L: Ledger + HistoryName, S: ClusterShape> SeatedNode for Recorded<L, S> {
+    ghost use Rattle.std.specs.Prelude.{◌≡◌, ◌≤◌, ◌+◌, ◌-◌};
     ghost use Rattle.job_admission.specs.Admissions.{largest_memory};
 
-    type Share = Share<L>;
+    type Share = Seats<L, S>;
 
-    ghost parts = { λ share. share.parts };
+    type Seat = Seat<L, S>;
 
-    ghost amount = { λ share. share.amount };
+    ghost parts = { λ share. share.0.0 };
 
-    ghost all_parts = { L.parts };
+    ghost amount = { λ share. share.0.1 };
 
-    ghost most_memory = { largest_memory };
+    ghost all_parts = { S.nodes };
 
-    fn split_seat(share: &mut Share<L>) -> Share<L> {
-        share.split_off(1, 0)
+    ghost next_number = { λ share. S.nodes + 1 - share.1 };
+
+    ghost seat_number = { λ seat. seat };
+
+    ghost may_have = { λ memory. (memory ≤ largest_memory) × (memory ≡ S.memory) };
+
+    fn split_seat(share: &mut Seats<L, S>) -> Seat<L, S> {
+        share.split()
     }
 
-    fn seated(alloc: Global, number: u32, memory: u64, seat: Share<L>) -> Kept<L> {
-        Kept::new(alloc, number, memory, seat)
+    fn seated(alloc: Global, number: u32, memory: u64, seat: Seat<L, S>) -> Recorded<L, S> {
+        Recorded::seated(alloc, number, memory, seat)
     }
 
-    fn nothing_beside<H: Keeper<Kept<L>>, R: Wait>(
+    fn directory(alloc: Global, rest: Seats<L, S>) -> RecordedDirectory<L, S> {
+        rest.into_directory(alloc)
+    }
+
+    fn nothing_beside<H: Keeper<Recorded<L, S>>, R: Wait>(
         rt: &R,
         nodes: &[H],
-        other: &mut Share<L>,
-        access: &Access<Kept<L>>,
+        other: &mut Seats<L, S>,
+        access: &Access<Recorded<L, S>>,
     ) {
         nothing_beside(rt, nodes, other, access);
+    }
+}
+
+impl<L: Ledger + HistoryName, S: ClusterShape> Posted for RecordedPosted<L, S> {
+    ghost use Rattle.std.specs.Prelude.{option_map};
+    ghost use Rattle.node_journal.specs.Recorded.{HasPassed};
+
+    type Directory = RecordedDirectory<L, S>;
+
+    ghost of_job = { λ posted. posted.0.job };
+
+    ghost sender = { λ posted. posted.0.from };
+
+    ghost addressee = { λ posted. posted.0.to };
+
+    ghost content = { λ posted. posted.0.message };
+
+    ghost passes = { λ old new posted answer. HasPassed old.0 new.0 posted.0 (option_map (λ p. p.0) answer) };
+
+    fn job(&self) -> JobNo {
+        self.posted.job()
+    }
+
+    fn from(&self) -> Endpoint {
+        self.posted.from()
+    }
+
+    fn to(&self) -> Endpoint {
+        self.posted.to()
+    }
+
+    fn message(&self) -> &Message {
+        self.posted.message()
+    }
+
+    fn through<R: Wait>(
+        self,
+        rt: &R,
+        directory: &mut RecordedDirectory<L, S>,
+    ) -> Result<Option<RecordedPosted<L, S>>, OutOfMemory> {
+        self.pass_through(rt, directory)
     }
 }

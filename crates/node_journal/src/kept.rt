@@ -11,14 +11,18 @@ ghost use Rattle.private_store.specs.declared.schedules.NodeEvent.TheVariants as
 ghost use Rattle.private_store.specs.laws.Answers.{wants_memory, is_small_reply};
 ghost use Rattle.job_admission.specs.Admissions.{largest_memory, sessions_entered, enter_check, entered};
 ghost use Rattle.spill_work.specs.Line.{front_of};
+ghost use Rattle.node_core.specs.Hosted.{Shows};
 ghost use Rattle.node_core.specs.Steps.{job_at, NodeStep};
+ghost use Rattle.private_store.specs.rules.Contents.{View};
+ghost use Rattle.private_store.specs.rules.Private.{no_store, view_of};
+ghost use Rattle.obj_id.specs.declared.messages.Endpoint.TheVariants as place;
 ghost use Rattle.node_core.specs.Judged.{IsJudged, IsArrivalJudged, IsSmall};
 ghost use Rattle.node_core.specs.Outcomes.{node_given_of};
 ghost use Rattle.node_journal.specs.declared.entries.Agreement.TheVariants.{No};
 ghost use Rattle.node_journal.specs.declared.entries.Entry.{Entry};
 ghost use Rattle.node_journal.specs.Logs.{journal_of, list_of, was_kept};
 ghost use Rattle.node_journal.specs.MemoryLast.{IsStepLast};
-ghost use Rattle.node_journal.specs.Posts.{IsAstray, is_entered};
+ghost use Rattle.node_journal.specs.Posts.{IsArrival, IsAstray, is_entered};
 ghost use Rattle.private_store.specs.rules.Cluster.{arrival_of};
 ghost use Rattle.private_store.specs.rules.Jobs.{same_job};
 ghost use Rattle.obj_id.specs.declared.messages.Arrival.{Arrival};
@@ -78,6 +82,9 @@ impl<L: Ledger> Kept<L> {
         requires ledger_share { (ledger_share.parts ≡ 1) × (ledger_share.amount ≡ 0) }
         ensures number { result.number ≡ number }
         ensures admissions { result.node.admissions ≡ record { memory = memory; greatest = 0; live = [] } }
+        ensures works { result.node.works ≡ record { works = []; used = [] } }
+        ensures grants { result.node.grants ≡ [] }
+        ensures shows { (job : ℕ) → Shows result.node job (view_of (no_store job)) }
         ensures count { result.count ≡ 0 }
         ensures empty { result.logs ≡ [] }
     {
@@ -133,6 +140,8 @@ impl<L: Ledger> Kept<L> {
     /// finds no memory, or if 1,152,921,504,606,846,975 entries were made. Then nothing has changed.
     pub fn arrive(&mut self, posted: Posted<L>) -> Result<Made<L>, Refusal>
         ensures stale { IsErrOf result Stale ↔ IsAstray self.old.number posted }
+        ensures here { OnOk result (posted.to ≡ place.Node self.old.number) }
+        ensures is { OnOk result (IsArrival (arrival_of posted.from posted.message)) }
         ensures node { IfOk result (λ r. (a : Arrival) → arrival_of posted.from posted.message ≡ Some a → NodeStep self.old.node (node_event.Arrive posted.job a) (node_given_of r.outcome) self.new.node) }
         ensures journal { IfOk result (λ r. (a : Arrival) → arrival_of posted.from posted.message ≡ Some a → (other : ℕ) → journal_of self.new.logs other
             ≡ journal_after self.old.node (self.old.count + 1) (node_event.Arrive posted.job a) r.outcome.judged (node_given_of r.outcome) other (journal_of self.old.logs other)) }
@@ -300,6 +309,7 @@ impl<L: Ledger> Kept<L> {
         ensures refusals { IfErr result (λ r. (r ≡ NotAdmitted) ⊎ (r ≡ TooMany)) }
         ensures refused { (r : Refusal) → IsErrOf result r → enter_check self.old.node.admissions job key.now ≡ Some r }
         ensures err { OnErr result (self.new.node ≡ self.old.node) }
+        ensures views { (job : ℕ) (view : View) → Shows self.new.node job view ↔ Shows self.old.node job view }
         ensures journal { (self.new.logs ≡ self.old.logs) × (self.new.count ≡ self.old.count) × (self.new.number ≡ self.old.number) }
     {
         let Kept {

@@ -207,39 +207,3 @@ pub(crate) fn arrival(from: Endpoint, message: Message) -> Option<Arrival>
         _ => None,
     }
 }
-
-impl<L: Ledger> node_gate::Posted for Posted<L> {
-    ghost use Rattle.std.specs.Prelude.{IfSome, option_map};
-    ghost use Rattle.std.specs.Option.{option_to_list};
-    ghost use Rattle.node_journal.specs.Posts.{post_of, directory_message_in, PassesOn};
-
-    ghost of_job = { λ posted. posted.job };
-
-    ghost sender = { λ posted. posted.from };
-
-    ghost addressee = { λ posted. posted.to };
-
-    ghost content = { λ posted. posted.message };
-
-    ghost passes = { λ old new posted answer. PassesOn old new posted.job (directory_message_in posted.message) (option_to_list (option_map post_of answer)) × IfSome answer (λ p. (p.job ≡ posted.job) × (p.from ≡ place.Directory) × (p.entry ≡ posted.entry)) };
-
-    fn job(&self) -> JobNo {
-        self.job
-    }
-
-    fn from(&self) -> Endpoint {
-        self.from
-    }
-
-    fn to(&self) -> Endpoint {
-        self.to
-    }
-
-    fn message(&self) -> &Message {
-        &self.message
-    }
-
-    fn through(self, directory: &mut Directory) -> Result<Option<Posted<L>>, OutOfMemory> {
-        Posted::through(self, directory)
-    }
-}

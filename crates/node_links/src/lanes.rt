@@ -29,10 +29,9 @@ impl<M: Posted> OutLanes<M> {
     /// New links from the node of this number to one that has these turns, with their other ends.
     pub(crate) fn open(
         alloc: Global,
-        number: u32,
+        source: usize,
         turns: Arc<Turns>,
     ) -> io::Result<(OutLanes<M>, InLanes<M>)> {
-        let source = number as usize;
         let mut senders = lists::with_capacity(alloc, LANES)?;
         let mut receivers = lists::with_capacity(alloc, LANES)?;
         for _ in 0..LANES {

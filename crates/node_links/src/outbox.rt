@@ -4,14 +4,13 @@ use crate::lanes::OutLanes;
 use memory_growth::{boxes, lists};
 use node_gate::Posted;
 use obj_id::Endpoint;
-use owner_directory::Directory;
 use std::alloc::Global;
 use std::io;
 use std::sync::{Arc, Mutex, Wait};
 
 /// The directory of the cluster, and a way to each other node, by number.
 pub struct Outbox<M: Posted> {
-    directory: Arc<Mutex<Directory>>,
+    directory: Arc<Mutex<M::Directory>>,
     nodes: Vec<Option<OutLanes<M>>>,
 }
 
@@ -29,13 +28,13 @@ impl<M: Posted> Outbox<M> {
     /// The ways out of the node of this number, one to each other node that has an inbox.
     pub fn open(
         alloc: Global,
-        number: u32,
-        directory: &Arc<Mutex<Directory>>,
+        number: usize,
+        directory: &Arc<Mutex<M::Directory>>,
         inboxes: &mut [Inbox<M>],
     ) -> io::Result<Outbox<M>> {
         let mut nodes = Vec::new(alloc);
         for (node, inbox) in inboxes.iter_mut().enumerate() {
-            if node == number as usize {
+            if node == number {
                 lists::push(&mut nodes, None)?;
             } else {
                 let turns = boxes::another(&inbox.turns)?;
@@ -58,7 +57,7 @@ impl<M: Posted> Outbox<M> {
     /// Hands a message over to its place.
     pub fn deliver<R: Wait>(&self, rt: &R, posted: M) -> Delivery<M> {
         match posted.to() {
-            Endpoint::Directory => match posted.through(&mut *self.directory.lock(rt)) {
+            Endpoint::Directory => match posted.through(rt, &mut *self.directory.lock(rt)) {
                 Err(_) => Delivery::Lost,
                 Ok(None) => Delivery::Over,
                 Ok(Some(located)) => Delivery::Answered(located),

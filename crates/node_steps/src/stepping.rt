@@ -73,7 +73,7 @@ pub fn step_call_after<K: JournaledNode, R: Wait, P: Pause>(
         command,
     };
     housekeeping.pause.before_step(kept.number(), &event);
-    let made = kept.step_after(receipt, &event)?;
+    let made = kept.step_after(rt, receipt, &event)?;
     Ok(finish_step(rt, kept, housekeeping, made))
 }
 
@@ -93,7 +93,7 @@ pub fn step_event<K: JournaledNode, R: Wait, P: Pause>(
     ensures number { K.node_number kept.new ≡ K.node_number kept.old }
 {
     housekeeping.pause.before_step(kept.number(), event);
-    let made = kept.step(event)?;
+    let made = kept.step(rt, event)?;
     Ok(finish_step(rt, kept, housekeeping, made))
 }
 
@@ -208,7 +208,7 @@ pub fn step_arrival<K: JournaledNode, R: Wait, P: Pause>(
     ensures refused { IfErr result (λ r. (r ≡ NoMemory) ⊎ (r ≡ Stale)) }
     ensures number { K.node_number kept.new ≡ K.node_number kept.old }
 {
-    let made = kept.arrive(posted)?;
+    let made = kept.arrive(rt, posted)?;
     Ok(finish_step(rt, kept, housekeeping, made))
 }
 

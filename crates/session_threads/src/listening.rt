@@ -1,7 +1,7 @@
 //! Listeners, and the sessions of the streams that they accept.
 use crate::Session;
 use memory_growth::{OutOfMemory, boxes};
-use node_gate::JournaledNode;
+use node_gate::{JournaledNode, Posted};
 use node_housekeeping::Pause;
 use session_engine::serve;
 use shared_nodes::SharedNode;
@@ -55,6 +55,7 @@ where
     K::Receipt: Send + 'static,
     K::Mail: Send + 'static,
     K::Posted: Send + 'static,
+    <K::Posted as Posted>::Directory: Send + 'static,
     K::Erase: Send + 'static,
     K::Entered: Send + 'static,
     K::Prepared: Send + 'static,
@@ -76,6 +77,7 @@ where
     K::Receipt: Send + 'static,
     K::Mail: Send + 'static,
     K::Posted: Send + 'static,
+    <K::Posted as Posted>::Directory: Send + 'static,
     K::Erase: Send + 'static,
     K::Entered: Send + 'static,
     K::Prepared: Send + 'static,
@@ -104,6 +106,7 @@ where
     K::Receipt: Send + 'static,
     K::Mail: Send + 'static,
     K::Posted: Send + 'static,
+    <K::Posted as Posted>::Directory: Send + 'static,
     K::Erase: Send + 'static,
     K::Entered: Send + 'static,
     K::Prepared: Send + 'static,

@@ -2,12 +2,13 @@
 ghost use Rattle.std.specs.Prelude.{◌≡◌, true};
 ghost use Rattle.world_core.specs.Worlds.{is_shape};
 
+use cluster_history::{ClusterShape, HistoryName};
 use cluster_threads::{Cluster, Working, work};
 use control_socket::{Connecting, connect_control, take_input};
 use memory_growth::{MOST_ROOM, OutOfMemory, boxes, lists, text_of};
-use node_gate::JournaledNode;
+use node_gate::{JournaledNode, Posted};
 use node_housekeeping::{NoPause, Report};
-use node_journal::Kept;
+use node_journal::{Recorded, Unnamed};
 use operator_service::{serve_text, write_report};
 use program_lines::Fault;
 use schedule_runs::Serving;
@@ -23,7 +24,7 @@ use std::fs::Files;
 use std::io::{BufRead, BufReader, Read, Write};
 use std::marker::Brand;
 use std::net::Net;
-use std::sync::ledger::{Blank, Ledger};
+use std::sync::ledger::Ledger;
 use std::sync::{Arc, Wait};
 use std::thread::Threads;
 use std::time::Clock;
@@ -63,15 +64,34 @@ pub fn serve<
         return Err(tell(host, ServeFault::Fault(Fault::NoMemory)))
     };
     let mut writer = Patient::new(writer, host);
-    let blank = Blank::new(u64::from(serving.shape.nodes));
-    serve_named::<Brand, R, BufReader<Patient<I, HostRuntime>>, Patient<O, HostRuntime>>(
+    serve_shaped::<Brand, R, BufReader<Patient<I, HostRuntime>>, Patient<O, HostRuntime>>(
         rt,
         host,
         serving,
-        blank,
         &mut reader,
         &mut writer,
     )
+}
+
+/// Serves a cluster of this shape, whose history begins here.
+fn serve_shaped<
+    S: ClusterShape + Send + Sync + 'static,
+    R: Threads + Wait + Clock + Files + Net + Copy + Send + 'static,
+    I: BufRead,
+    O: Write,
+>(
+    rt: R,
+    host: HostRuntime,
+    serving: Serving<'_>,
+    reader: &mut I,
+    writer: &mut O,
+) -> Result<(), PrintedFault>
+    requires shape { is_shape serving.shape ≡ true }
+    requires nodes { serving.shape.nodes ≡ S.nodes }
+    requires memory { serving.shape.memory ≡ S.memory }
+{
+    let unnamed = Unnamed::<S>::new(serving.shape.nodes);
+    serve_named::<Brand, S, R, I, O>(rt, host, serving, unnamed, reader, writer)
 }
 
 /// Writes the fault to standard error. Whoever reads none is served all the same.
@@ -112,7 +132,8 @@ fn memory_fault(host: &HostRuntime, serving: &Serving<'_>) -> Option<ServeFault>
 
 /// The same, under a name.
 fn serve_named<
-    L: Ledger + Send + Sync + 'static,
+    L: Ledger + HistoryName + Send + Sync + 'static,
+    S: ClusterShape + Send + Sync + 'static,
     R: Threads + Wait + Clock + Files + Net + Copy + Send + 'static,
     I: BufRead,
     O: Write,
@@ -120,18 +141,20 @@ fn serve_named<
     rt: R,
     host: HostRuntime,
     serving: Serving<'_>,
-    blank: Blank,
+    unnamed: Unnamed<S>,
     reader: &mut I,
     writer: &mut O,
 ) -> Result<(), PrintedFault>
     requires shape { is_shape serving.shape ≡ true }
-    requires name { blank.name ≡ L.name }
-    requires parts { blank.parts ≡ L.parts }
-    requires nodes { blank.parts ≡ serving.shape.nodes }
+    requires nodes { serving.shape.nodes ≡ S.nodes }
+    requires memory { serving.shape.memory ≡ S.memory }
+    requires name { (unnamed.blank.name ≡ L.name) × (unnamed.blank.parts ≡ L.parts) }
+    requires book { unnamed.opened.seen.book ≡ L.book }
+    requires all { unnamed.opened.nodes ≡ S.nodes }
 {
-    let (_book, seats) = blank.open::<L>();
+    let seats = unnamed.named::<L>();
     let shape = serving.shape;
-    let Ok(cluster) = Cluster::<Kept<L>>::start(
+    let Ok(cluster) = Cluster::<Recorded<L, S>>::start(
         host.alloc(),
         shape.nodes,
         shape.memory,
@@ -161,6 +184,7 @@ where
     K::Receipt: Send + 'static,
     K::Mail: Send + 'static,
     K::Posted: Send + 'static,
+    <K::Posted as Posted>::Directory: Send + 'static,
     K::Erase: Send + 'static,
     K::Entered: Send + 'static,
     K::Prepared: Send + 'static,
@@ -196,7 +220,7 @@ where
 
 /// Waits for the open sessions, and ends all that serves the nodes. The report is given to who asked for the end on the control
 /// socket, unless it isn't to be told.
-fn end_nodes<K: JournaledNode, R: Threads + Wait + Files>(
+fn end_nodes<K: JournaledNode, R: Threads + Wait + Clock + Files>(
     rt: &R,
     cluster: Cluster<K>,
     served: Served<K>,
@@ -246,6 +270,7 @@ where
     K::Receipt: Send + 'static,
     K::Mail: Send + 'static,
     K::Posted: Send + 'static,
+    <K::Posted as Posted>::Directory: Send + 'static,
     K::Erase: Send + 'static,
     K::Entered: Send + 'static,
     K::Prepared: Send + 'static,
@@ -306,6 +331,7 @@ where
     K::Receipt: Send + 'static,
     K::Mail: Send + 'static,
     K::Posted: Send + 'static,
+    <K::Posted as Posted>::Directory: Send + 'static,
     K::Erase: Send + 'static,
     K::Entered: Send + 'static,
     K::Prepared: Send + 'static,
@@ -352,6 +378,7 @@ where
     K::Receipt: Send + 'static,
     K::Mail: Send + 'static,
     K::Posted: Send + 'static,
+    <K::Posted as Posted>::Directory: Send + 'static,
     K::Erase: Send + 'static,
     K::Entered: Send + 'static,
     K::Prepared: Send + 'static,
@@ -380,6 +407,7 @@ where
     K::Receipt: Send + 'static,
     K::Mail: Send + 'static,
     K::Posted: Send + 'static,
+    <K::Posted as Posted>::Directory: Send + 'static,
     K::Erase: Send + 'static,
     K::Entered: Send + 'static,
     K::Prepared: Send + 'static,

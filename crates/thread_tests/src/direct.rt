@@ -3,9 +3,10 @@ use crate::objects::{admit, is_hello, object, response, seal_hello};
 use crate::trials::{Trial, try_out};
 use assertions::{holds, same};
 use bytes::Bytes;
+use cluster_history::{ClusterShape, HistoryName};
 use memory_growth::OutOfMemory;
 use node_housekeeping::Report;
-use node_journal::{Kept, Receipt};
+use node_journal::{Recorded, RecordedReceipt};
 use obj_id::{Command, JobNo, Quota, Reply};
 use shared_nodes::SharedNode;
 use std::alloc::Global;
@@ -28,11 +29,11 @@ const NARROW: Quota = Quota {
 };
 
 /// The job is admitted, and an object is created, written, sealed, held, read and released. The last receipt.
-pub(crate) fn six_commands<L: Ledger, R: Wait + Abort>(
+pub(crate) fn six_commands<L: Ledger + HistoryName, S: ClusterShape, R: Wait + Abort>(
     rt: &R,
     alloc: Global,
-    node: &SharedNode<Kept<L>>,
-) -> Result<Receipt<L>, OutOfMemory> {
+    node: &SharedNode<Recorded<L, S>>,
+) -> Result<RecordedReceipt<L, S>, OutOfMemory> {
     let id = object(rt, JOB, 1);
     admit(rt, node, JOB, QUOTA);
     seal_hello(rt, alloc, node, id)?;
@@ -44,14 +45,15 @@ pub(crate) fn six_commands<L: Ledger, R: Wait + Abort>(
 }
 
 /// A Usage that is called after the receipt, a change of the quotas and the job's end: none is refused.
-pub(crate) fn live_on<L: Ledger, R: Wait + Abort>(
+pub(crate) fn live_on<L: Ledger + HistoryName, S: ClusterShape, R: Wait + Abort>(
     rt: &R,
-    node: &SharedNode<Kept<L>>,
-    earlier: &Receipt<L>,
+    node: &SharedNode<Recorded<L, S>>,
+    earlier: &RecordedReceipt<L, S>,
 ) {
     let (reply, receipt) = node.call_after(rt, earlier, JOB, 1, Command::Usage);
     holds!(rt; uses_all_of(&reply));
     let later = receipt.expect(rt, "a receipt");
+    let (later, earlier) = (later.receipt(), earlier.receipt());
     same!(rt; (later.node(), later.job(), later.number() > earlier.number()), (0, JOB, true));
     holds!(rt; matches!(node.requota(rt, JOB, NARROW).0, Reply::Ok));
     holds!(rt; matches!(node.end_job(rt, JOB).0, Reply::Ok));

@@ -5,10 +5,11 @@ use crate::objects::{admit, object, response, seal_hello};
 use crate::trials::{Trial, try_out};
 use assertions::{holds, same};
 use bytes::Bytes;
+use cluster_history::{ClusterShape, HistoryName};
 use memory_growth::{OutOfMemory, boxes};
-use node_gate::JournaledNode;
+use node_gate::{JournaledNode, Posted};
 use node_housekeeping::WorkDone;
-use node_journal::Kept;
+use node_journal::Recorded;
 use obj_id::{Command, JobNo, Kind, Quota, Refusal, Reply};
 use shared_nodes::SharedNode;
 use spill_device::{FaultyDevice, MemoryDevice, SpillDevice};
@@ -56,6 +57,7 @@ where
     K::Receipt: Send + 'static,
     K::Mail: Send + 'static,
     K::Posted: Send + 'static,
+    <K::Posted as Posted>::Directory: Send + 'static,
     K::Erase: Send + 'static,
     K::Entered: Send + 'static,
     K::Prepared: Send + 'static,
@@ -66,9 +68,9 @@ where
 }
 
 /// Whether the other job's Get is answered while somebody is kept at the gate, which is opened then.
-fn is_answered_beside<L: Ledger, R: Wait + Abort>(
+fn is_answered_beside<L: Ledger + HistoryName, S: ClusterShape, R: Wait + Abort>(
     rt: &R,
-    node: &SharedNode<Kept<L>>,
+    node: &SharedNode<Recorded<L, S>>,
     gate: &Gate,
 ) -> bool {
     let is_reached = gate.await_arrival();
@@ -78,9 +80,13 @@ fn is_answered_beside<L: Ledger, R: Wait + Abort>(
 
 /// A round in which this call of the device is made: what it came to, and the device. If the call is kept, the other job is answered
 /// meanwhile.
-fn round_with<L: Ledger + Send + Sync + 'static, R: Threads + Wait + Abort + Copy + Send + 'static>(
+fn round_with<
+    L: Ledger + HistoryName + Send + Sync + 'static,
+    S: ClusterShape + Send + Sync + 'static,
+    R: Threads + Wait + Abort + Copy + Send + 'static,
+>(
     rt: R,
-    node: &Arc<SharedNode<Kept<L>>>,
+    node: &Arc<SharedNode<Recorded<L, S>>>,
     device: Device,
     call: DeviceCall,
 ) -> io::Result<(WorkDone, Device)> {
@@ -94,10 +100,10 @@ fn round_with<L: Ledger + Send + Sync + 'static, R: Threads + Wait + Abort + Cop
 }
 
 /// Both jobs are admitted, and the other one seals an object of 20 bytes.
-fn begin<L: Ledger, R: Wait + Abort>(
+fn begin<L: Ledger + HistoryName, S: ClusterShape, R: Wait + Abort>(
     rt: &R,
     alloc: Global,
-    node: &SharedNode<Kept<L>>,
+    node: &SharedNode<Recorded<L, S>>,
 ) -> Result<(), OutOfMemory> {
     admit(rt, node, SPILLED, ONE);
     admit(rt, node, OTHER, ONE);
@@ -105,7 +111,10 @@ fn begin<L: Ledger, R: Wait + Abort>(
 }
 
 /// The job's first object is in the way of its second.
-fn ask_for_write<L: Ledger, R: Wait + Abort>(rt: &R, node: &SharedNode<Kept<L>>) {
+fn ask_for_write<L: Ledger + HistoryName, S: ClusterShape, R: Wait + Abort>(
+    rt: &R,
+    node: &SharedNode<Recorded<L, S>>,
+) {
     let (first, second) = (object(rt, SPILLED, 1), object(rt, SPILLED, 2));
     let create = Command::Create {
         id: first,
@@ -123,7 +132,10 @@ fn ask_for_write<L: Ledger, R: Wait + Abort>(rt: &R, node: &SharedNode<Kept<L>>)
 }
 
 /// The first object was written: the second takes its room, and gives it back, and the first is asked for.
-fn ask_for_read<L: Ledger, R: Wait + Abort>(rt: &R, node: &SharedNode<Kept<L>>) {
+fn ask_for_read<L: Ledger + HistoryName, S: ClusterShape, R: Wait + Abort>(
+    rt: &R,
+    node: &SharedNode<Recorded<L, S>>,
+) {
     let (first, second) = (object(rt, SPILLED, 1), object(rt, SPILLED, 2));
     let create = Command::Create {
         id: second,
@@ -136,7 +148,10 @@ fn ask_for_read<L: Ledger, R: Wait + Abort>(rt: &R, node: &SharedNode<Kept<L>>) 
 }
 
 /// The read that failed is answered once, and asked for again.
-fn ask_for_read_again<L: Ledger, R: Wait + Abort>(rt: &R, node: &SharedNode<Kept<L>>) {
+fn ask_for_read_again<L: Ledger + HistoryName, S: ClusterShape, R: Wait + Abort>(
+    rt: &R,
+    node: &SharedNode<Recorded<L, S>>,
+) {
     let first = object(rt, SPILLED, 1);
     let reply = response(rt, node, SPILLED, Command::Get(first));
     holds!(rt; matches!(reply, Reply::Refused(Refusal::DeviceFailed)));
@@ -144,7 +159,10 @@ fn ask_for_read_again<L: Ledger, R: Wait + Abort>(rt: &R, node: &SharedNode<Kept
 }
 
 /// The first object is back, and goes, and what lies on the device with it.
-fn ask_for_erase<L: Ledger, R: Wait + Abort>(rt: &R, node: &SharedNode<Kept<L>>) {
+fn ask_for_erase<L: Ledger + HistoryName, S: ClusterShape, R: Wait + Abort>(
+    rt: &R,
+    node: &SharedNode<Recorded<L, S>>,
+) {
     let first = object(rt, SPILLED, 1);
     holds!(rt; matches!(response(rt, node, SPILLED, Command::Get(first)), Reply::Got(32)));
     holds!(rt; matches!(response(rt, node, SPILLED, Command::Release(first)), Reply::Ok));
@@ -157,9 +175,15 @@ fn is_pending(reply: &Reply<Bytes>) -> bool {
 
 /// Writes the first object, and reads it back: the device.
 fn write_and_read<
-    L: Ledger + Send + Sync + 'static,
+    L: Ledger + HistoryName + Send + Sync + 'static,
+    S: ClusterShape + Send + Sync + 'static,
     R: Threads + Wait + Abort + Copy + Send + 'static,
->(rt: R, node: &Arc<SharedNode<Kept<L>>>, device: Device, is_failing: bool) -> io::Result<Device> {
+>(
+    rt: R,
+    node: &Arc<SharedNode<Recorded<L, S>>>,
+    device: Device,
+    is_failing: bool,
+) -> io::Result<Device> {
     ask_for_write(&rt, node);
     let (written, device) = round_with(rt, node, device, DeviceCall::Write)?;
     ask_for_read(&rt, node);
@@ -176,12 +200,13 @@ fn write_and_read<
 
 /// One kind of call is kept at a gate, and perhaps the call of this number fails at the device beneath.
 pub(crate) fn call_beside<
-    L: Ledger + Send + Sync + 'static,
+    L: Ledger + HistoryName + Send + Sync + 'static,
+    S: ClusterShape + Send + Sync + 'static,
     R: Threads + Wait + Abort + Copy + Send + 'static,
 >(
     rt: R,
     alloc: Global,
-    node: &Arc<SharedNode<Kept<L>>>,
+    node: &Arc<SharedNode<Recorded<L, S>>>,
     kept: DeviceCall,
     failing: u64,
 ) -> io::Result<()> {

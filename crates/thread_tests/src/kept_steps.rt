@@ -4,18 +4,19 @@ ghost use Rattle.std.specs.Prelude.{◌≡◌};
 use crate::gates::Gate;
 use crate::objects::admit;
 use assertions::same;
+use cluster_history::{ClusterShape, HistoryName};
 use cluster_threads::Cluster;
 use memory_growth::boxes;
-use node_gate::JournaledNode;
+use node_gate::{JournaledNode, Posted};
 use node_housekeeping::{Pause, Report};
-use node_journal::Kept;
+use node_journal::{Recorded, Unnamed};
 use obj_id::{Command, JobNo, Quota, Reply};
 use private_store::Event;
 use shared_nodes::SharedNode;
 use std::alloc::Global;
 use std::marker::Brand;
 use std::process::Abort;
-use std::sync::ledger::{Blank, Ledger};
+use std::sync::ledger::Ledger;
 use std::sync::{Arc, Wait};
 use std::test::Fail;
 use std::thread::{JoinHandle, Threads};
@@ -65,6 +66,7 @@ where
     K::Receipt: Send + 'static,
     K::Mail: Send + 'static,
     K::Posted: Send + 'static,
+    <K::Posted as Posted>::Directory: Send + 'static,
     K::Erase: Send + 'static,
     K::Entered: Send + 'static,
     K::Prepared: Send + 'static,
@@ -76,42 +78,62 @@ where
 
 /// A command at a node is kept until one at another node is answered.
 fn step_beside<
-    L: Ledger + Send + Sync + 'static,
+    L: Ledger + HistoryName + Send + Sync + 'static,
+    S: ClusterShape + Send + Sync + 'static,
     R: Threads + Wait + Abort + Copy + Send + 'static,
->(rt: R, cluster: &Cluster<Kept<L>, KeptCommands>, gate: &Gate) -> io::Result<()> {
+>(rt: R, cluster: &Cluster<Recorded<L, S>, KeptCommands>, gate: &Gate) -> io::Result<()> {
     let kept = cluster.node(0).expect(&rt, "a node");
     let other = cluster.node(1).expect(&rt, "a node");
     admit(&rt, kept, JOB, QUOTA);
     admit(&rt, other, JOB, QUOTA);
     let calling = start_usage(rt, boxes::another(kept)?, JOB)?;
     let is_reached = gate.await_arrival();
-    let beside = usage_at(&rt, other, JOB).map(|receipt| receipt.node());
+    let beside = usage_at(&rt, other, JOB).map(|receipt| receipt.receipt().node());
     let is_kept = gate.open();
-    let at_last = calling.join(&rt).map(|receipt| receipt.node());
+    let at_last = calling.join(&rt).map(|receipt| receipt.receipt().node());
     same!(rt; (is_reached, is_kept, beside, at_last), (true, true, Some(1), Some(0)));
     Ok(())
 }
 
 /// The same, at two nodes of their own under the name: what the report says then.
-fn try_at<L: Ledger + Send + Sync + 'static, R: Threads + Wait + Abort + Copy + Send + 'static>(
+fn try_at<
+    L: Ledger + HistoryName + Send + Sync + 'static,
+    S: ClusterShape + Send + Sync + 'static,
+    R: Threads + Wait + Abort + Copy + Send + 'static,
+>(
     rt: R,
     alloc: Global,
-    blank: Blank,
+    gate: &Arc<Gate>,
+    pause: KeptCommands,
+    unnamed: Unnamed<S>,
 ) -> io::Result<Report>
-    requires name { blank.name ≡ L.name }
-    requires parts { blank.parts ≡ L.parts }
-    requires count { blank.parts ≡ 2 }
+    requires nodes { 2 ≡ S.nodes }
+    requires memory { 1024 ≡ S.memory }
+    requires name { (unnamed.blank.name ≡ L.name) × (unnamed.blank.parts ≡ L.parts) }
+    requires book { unnamed.opened.seen.book ≡ L.book }
+    requires all { unnamed.opened.nodes ≡ S.nodes }
+{
+    let seats = unnamed.named::<L>();
+    let cluster = Cluster::<Recorded<L, S>, _>::start(alloc, 2, 1024, seats, pause)?;
+    let stepped = step_beside(rt, &cluster, gate);
+    let report = cluster.close(&rt, Vec::new(alloc));
+    stepped?;
+    Ok(report)
+}
+
+/// The same, of this shape.
+fn try_shaped<
+    S: ClusterShape + Send + Sync + 'static,
+    R: Threads + Wait + Abort + Copy + Send + 'static,
+>(rt: R, alloc: Global) -> io::Result<Report>
+    requires nodes { 2 ≡ S.nodes }
+    requires memory { 1024 ≡ S.memory }
 {
     let gate = boxes::counted(alloc, Gate::new())?;
     let pause = KeptCommands {
         gate: boxes::another(&gate)?,
     };
-    let (_book, seats) = blank.open::<L>();
-    let cluster = Cluster::<Kept<L>, _>::start(alloc, 2, 1024, seats, pause)?;
-    let stepped = step_beside(rt, &cluster, &gate);
-    let report = cluster.close(&rt, Vec::new(alloc));
-    stepped?;
-    Ok(report)
+    try_at::<Brand, S, R>(rt, alloc, &gate, pause, Unnamed::new(2))
 }
 
 /// The same, under a new name.
@@ -119,8 +141,7 @@ fn try_out<R: Threads + Wait + Abort + Copy + Send + 'static>(
     rt: R,
     alloc: Global,
 ) -> io::Result<Report> {
-    let blank = Blank::new(2);
-    try_at::<Brand, R>(rt, alloc, blank)
+    try_shaped::<Brand, R>(rt, alloc)
 }
 
 #[test]

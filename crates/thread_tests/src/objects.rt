@@ -1,9 +1,10 @@
 //! Jobs and their objects at a node, called as a direct caller does.
 use assertions::holds;
 use bytes::Bytes;
+use cluster_history::{ClusterShape, HistoryName};
 use memory_growth::{OutOfMemory, lists, shared};
 use node_housekeeping::Pause;
-use node_journal::Kept;
+use node_journal::Recorded;
 use obj_id::{Command, JobKey, JobNo, Kind, ObjectId, Quota, Reply, TaskNo};
 use shared_nodes::SharedNode;
 use std::alloc::Global;
@@ -19,9 +20,9 @@ pub(crate) fn object(rt: &impl Abort, job: JobNo, index: u32) -> ObjectId {
 }
 
 /// Admits the job: it isn't refused.
-pub(crate) fn admit<L: Ledger, P: Pause, R: Wait + Abort>(
+pub(crate) fn admit<L: Ledger + HistoryName, S: ClusterShape, P: Pause, R: Wait + Abort>(
     rt: &R,
-    node: &SharedNode<Kept<L>, P>,
+    node: &SharedNode<Recorded<L, S>, P>,
     job: JobNo,
     quota: Quota,
 ) {
@@ -30,9 +31,9 @@ pub(crate) fn admit<L: Ledger, P: Pause, R: Wait + Abort>(
 }
 
 /// The answer to a command of the job's first session.
-pub(crate) fn response<L: Ledger, R: Wait>(
+pub(crate) fn response<L: Ledger + HistoryName, S: ClusterShape, R: Wait>(
     rt: &R,
-    node: &SharedNode<Kept<L>>,
+    node: &SharedNode<Recorded<L, S>>,
     job: JobNo,
     command: Command<Bytes>,
 ) -> Reply<Bytes> {
@@ -40,10 +41,10 @@ pub(crate) fn response<L: Ledger, R: Wait>(
 }
 
 /// Creates an object of 20 bytes, writes the first five of them, and seals it: none of it is refused.
-pub(crate) fn seal_hello<L: Ledger, R: Wait + Abort>(
+pub(crate) fn seal_hello<L: Ledger + HistoryName, S: ClusterShape, R: Wait + Abort>(
     rt: &R,
     alloc: Global,
-    node: &SharedNode<Kept<L>>,
+    node: &SharedNode<Recorded<L, S>>,
     id: ObjectId,
 ) -> Result<(), OutOfMemory> {
     let hello = shared::from_vec(lists::copied(alloc, b"Hello")?)?;

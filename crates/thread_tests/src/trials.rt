@@ -6,15 +6,16 @@ use crate::fetches::{ask_beside, fetch};
 use crate::kept_calls::call_beside;
 use crate::kept_devices::DeviceCall;
 use crate::sessions::two_sessions;
+use cluster_history::{ClusterShape, HistoryName};
 use cluster_threads::Cluster;
 use node_housekeeping::{NoPause, Report};
-use node_journal::Kept;
+use node_journal::{Recorded, Unnamed};
 use std::alloc::Global;
 use std::io;
 use std::marker::Brand;
 use std::process::Abort;
 use std::sync::Wait;
-use std::sync::ledger::{Blank, Ledger};
+use std::sync::ledger::Ledger;
 use std::thread::Threads;
 use std::time::Clock;
 
@@ -47,9 +48,10 @@ impl Trial {
 
 /// Carries the trial out at the cluster.
 fn carry_out<
-    L: Ledger + Send + Sync + 'static,
+    L: Ledger + HistoryName + Send + Sync + 'static,
+    S: ClusterShape + Send + Sync + 'static,
     R: Threads + Wait + Clock + Abort + Copy + Send + 'static,
->(rt: R, alloc: Global, trial: &Trial, cluster: &mut Cluster<Kept<L>>) -> io::Result<()> {
+>(rt: R, alloc: Global, trial: &Trial, cluster: &mut Cluster<Recorded<L, S>>) -> io::Result<()> {
     if matches!(trial, Trial::Fetch) {
         cluster.connect(rt)?;
     }
@@ -69,19 +71,33 @@ fn carry_out<
 
 /// The same, at a cluster of its own under the name: what the report says then.
 fn try_at<
-    L: Ledger + Send + Sync + 'static,
+    L: Ledger + HistoryName + Send + Sync + 'static,
+    S: ClusterShape + Send + Sync + 'static,
     R: Threads + Wait + Clock + Abort + Copy + Send + 'static,
->(rt: R, alloc: Global, trial: &Trial, nodes: u32, blank: Blank) -> io::Result<Report>
-    requires name { blank.name ≡ L.name }
-    requires parts { blank.parts ≡ L.parts }
-    requires count { blank.parts ≡ nodes }
+>(rt: R, alloc: Global, trial: &Trial, nodes: u32, unnamed: Unnamed<S>) -> io::Result<Report>
+    requires nodes { nodes ≡ S.nodes }
+    requires memory { 1024 ≡ S.memory }
+    requires name { (unnamed.blank.name ≡ L.name) × (unnamed.blank.parts ≡ L.parts) }
+    requires book { unnamed.opened.seen.book ≡ L.book }
+    requires all { unnamed.opened.nodes ≡ S.nodes }
 {
-    let (_book, seats) = blank.open::<L>();
-    let mut cluster = Cluster::<Kept<L>, _>::start(alloc, nodes, 1024, seats, NoPause)?;
+    let seats = unnamed.named::<L>();
+    let mut cluster = Cluster::<Recorded<L, S>, _>::start(alloc, nodes, 1024, seats, NoPause)?;
     let carried_out = carry_out(rt, alloc, trial, &mut cluster);
     let report = cluster.close(&rt, Vec::new(alloc));
     carried_out?;
     Ok(report)
+}
+
+/// The same, of this shape.
+fn try_shaped<
+    S: ClusterShape + Send + Sync + 'static,
+    R: Threads + Wait + Clock + Abort + Copy + Send + 'static,
+>(rt: R, alloc: Global, trial: &Trial, nodes: u32) -> io::Result<Report>
+    requires nodes { nodes ≡ S.nodes }
+    requires memory { 1024 ≡ S.memory }
+{
+    try_at::<Brand, S, R>(rt, alloc, trial, nodes, Unnamed::new(nodes))
 }
 
 /// The same, under a new name.
@@ -91,6 +107,5 @@ pub(crate) fn try_out<R: Threads + Wait + Clock + Abort + Copy + Send + 'static>
     trial: &Trial,
 ) -> io::Result<Report> {
     let nodes = trial.nodes();
-    let blank = Blank::new(u64::from(nodes));
-    try_at::<Brand, R>(rt, alloc, trial, nodes, blank)
+    try_shaped::<Brand, R>(rt, alloc, trial, nodes)
 }

@@ -41,8 +41,8 @@ AreNew-push memory many nodes node h k = record {
 none_yet : (job : ℕ) → (job == 0) ≡ false → false ≡ nat_le job 0
 none_yet job z = grind (arith, nat_tests)
 
-new_node : (nodes memory place : ℕ) (node : Hosted) → IsNew memory place node → IsNodeAfter nodes memory place node []
-new_node nodes memory place node k = record {
+pub new_is_after : (nodes memory place : ℕ) (node : Hosted) → IsNew memory place node → IsNodeAfter nodes memory place node []
+new_is_after nodes memory place node k = record {
   number = k.number;
   size = ap (λ a. a.memory) k.admissions;
   lives = ap (λ a. lives_of a.live) k.admissions;
@@ -57,7 +57,7 @@ pub new_world : (nodes memory : ℕ) (hosted : List Hosted) (tables : DirectoryR
     → IsAfter nodes memory (record { nodes = hosted; tables = tables; messages = messages }) []
 new_world nodes memory hosted tables messages h empty nothing = record {
   count = h.count;
-  each_node = λ place node f. new_node nodes memory place node (h.each place node f);
+  each_node = λ place node f. new_is_after nodes memory place node (h.each place node f);
   each_job = λ job. record { messages = ap (λ m. sent_of m job) nothing; locations = ap (λ t. locations_of t (record { 0 = job })) empty; replies = refl };
   due = refl;
 }

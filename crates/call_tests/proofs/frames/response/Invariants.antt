@@ -1,5 +1,5 @@
 use Rattle.call_tests.proofs.frames.response.Given as goal
 
--- the name is that of the ledger which the call opens
-abbrev pub ghosts-response_by : goal.ghosts-response_by
-ghosts-response_by g a = record { name = a.blank.name; parts = a.blank.parts }
+-- the shape is that of the nodes which the trial starts
+abbrev pub ghosts-response_of : goal.ghosts-response_of
+ghosts-response_of g a = record { nodes = 1; memory = 1024 }

@@ -1,5 +1,5 @@
 use Rattle.store_server.proofs.serving.serve.Given as goal
 
--- the name is that of the ledger which the call opens
-abbrev pub ghosts-serve_named : goal.ghosts-serve_named
-ghosts-serve_named g a = record { name = a.blank.name; parts = a.blank.parts }
+-- the shape is that of the nodes which are asked for
+abbrev pub ghosts-serve_shaped : goal.ghosts-serve_shaped
+ghosts-serve_shaped g a = record { nodes = a.serving.shape.nodes; memory = a.serving.shape.memory }

@@ -1,5 +1,5 @@
 use Rattle.thread_tests.proofs.trials.try_out.Given as goal
 
--- the name is that of the ledger which the call opens
-abbrev pub ghosts-try_at : goal.ghosts-try_at
-ghosts-try_at g a = record { name = a.blank.name; parts = a.blank.parts }
+-- the shape is that of the nodes which the trial starts
+abbrev pub ghosts-try_shaped : goal.ghosts-try_shaped
+ghosts-try_shaped g a = record { nodes = a.nodes; memory = 1024 }

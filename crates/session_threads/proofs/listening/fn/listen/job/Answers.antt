@@ -28,3 +28,6 @@ accept_all-requires-send-K-Prepared g c κs within = search sendable depth 60
 
 pub accept_all-requires-send-K-Gone : goal.accept_all-requires-send-K-Gone
 accept_all-requires-send-K-Gone g c κs within = search sendable depth 60
+
+pub accept_all-requires-send-K-Posted-Directory : goal.accept_all-requires-send-K-Posted-Directory
+accept_all-requires-send-K-Posted-Directory g c κs within = search sendable depth 60

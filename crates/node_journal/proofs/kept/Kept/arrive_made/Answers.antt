@@ -4,7 +4,7 @@ use Rattle.node_core.specs.Outcomes.{node_given_of}
 use Rattle.node_journal.specs.declared.entries.Entry.{Entry}
 use Rattle.node_journal.specs.Journals.{entry_for}
 use Rattle.node_journal.specs.Posts.{is_entered}
-use Rattle.node_journal.proofs.gate.KeptJournaledNode.arrive.Goals as goal
+use Rattle.node_journal.proofs.kept.Kept.arrive_made.Goals as goal
 
 pub returns-clause-once : goal.returns-clause-once
 returns-clause-once g c a is =

@@ -2,7 +2,7 @@ use Rattle.std.proofs.Common.{◌+◌, sym, subst}
 use Rattle.node_gate.specs.Calls.{IsSmallCall}
 use Rattle.node_journal.specs.Witnesses.{IsCalledBy, witness_of}
 use Rattle.node_journal.proofs.Calls.{called_by, small_call}
-use Rattle.node_journal.proofs.gate.KeptJournaledNode.step.Goals as goal
+use Rattle.node_journal.proofs.kept.Kept.step_made_after.Goals as goal
 
 pub returns-clause-called : goal.returns-clause-called
 returns-clause-called g c =

@@ -1,0 +1,8 @@
+mod Others
+mod Carried
+mod Going
+mod Adding
+mod Sending
+mod Placed
+mod Served
+pub mod ForCallers
