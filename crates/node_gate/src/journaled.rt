@@ -28,7 +28,7 @@ pub struct LiveJob {
 
 /// A node with its journal, which is stepped by one thread at a time. Nothing that it makes can be made by those that step it.
 pub trait JournaledNode: Drop + Sized {
-    ghost use Rattle.std.specs.Prelude.{◌≡◌, ◌⊎◌, ◌↔◌, ◌<◌, ℕ, Bool, List, IfOk, IfErr, OnErr, IsErrOf, true, false};
+    ghost use Rattle.std.specs.Prelude.{◌≡◌, ◌⊎◌, ◌↔◌, ◌<◌, ℕ, Bool, List, IfOk, IfErr, IfSome, OnErr, IsErrOf, true, false};
     ghost use Rattle.std.specs.Iterator.{IsFinite};
     ghost use Rattle.obj_id.specs.declared.ids.JobNo.{JobNo};
     ghost use Rattle.obj_id.specs.declared.commands.Reply.{Reply};
@@ -92,6 +92,9 @@ pub trait JournaledNode: Drop + Sized {
     // what more is said of a session's command
     ghost called_by: { Event → Reply (List ℕ) → Self.Receipt → Type 0 };
 
+    // the step of the second came after that of the first
+    ghost rises: { Self.Receipt → Self.Receipt → Type 0 };
+
     // nothing was done
     ghost untouched: { Self → Self → Type 0 };
 
@@ -120,15 +123,19 @@ pub trait JournaledNode: Drop + Sized {
     fn number(&self) -> u32
         ensures { result ≡ node_number self.now };
 
-    /// One step of an event of a session, the operator or a worker. The error is out of memory.
+    /// One step of an event of a session, the operator or a worker, after that of an earlier receipt, if one is shown. The error is out of
+    /// memory.
+    // (an `Option` of a reference would want a lifetime also if it is `None`)
     fn step<R: Wait>(
         &mut self,
         rt: &R,
         event: &Event,
+        earlier: &Option<Self::Receipt>,
     ) -> Result<Made<Self::Receipt, Self::Mail, Self::Erase>, OutOfMemory>
         ensures once { IfOk result (λ m. steps event.now m.reply (posts m.mail) m.receipt self.old self.new) }
         ensures stepped { IfOk result (λ m. receipt_of event.now m.reply m.receipt) }
         ensures called { IfOk result (λ m. called_by event.now m.reply m.receipt) }
+        ensures rises { IfOk result (λ m. IfSome earlier.now (λ r. rises r m.receipt)) }
         ensures small { IfOk result (λ m. IsSmallCall event.now m.reply) }
         ensures node { IfOk result (λ m. made_at m.receipt ≡ node_number self.old) }
         ensures same { OnErr result (untouched self.old self.new) }
@@ -145,6 +152,7 @@ pub trait JournaledNode: Drop + Sized {
         ensures called { IfOk result (λ m. called_by event.now m.reply m.receipt) }
         ensures small { IfOk result (λ m. IsSmallCall event.now m.reply) }
         ensures later { IfOk result (λ m. (made_at m.receipt ≡ made_at receipt.now) × (entry_number receipt.now < entry_number m.receipt)) }
+        ensures rises { IfOk result (λ m. rises receipt.now m.receipt) }
         ensures node { IfOk result (λ m. made_at m.receipt ≡ node_number self.old) }
         ensures same { OnErr result (untouched self.old self.new) }
         ensures refusal { IfErr result (λ r. (r ≡ NoMemory) ⊎ (r ≡ Stale)) }

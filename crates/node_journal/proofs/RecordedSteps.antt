@@ -1,5 +1,5 @@
 -- A node's step at its place in the history: the entry may come next, and what the node and its mail show then.
-use Rattle.std.proofs.Common.{◌≡◌, ℕ, ◌+◌, ◌<◌, ◌==◌, Bool, true, false, cond, List, [], ◌∷◌, ◌++◌, append-nil, length, reverse, Some, None, Option, refl, sym, ap, subst, ◌∙◌, arith}
+use Rattle.std.proofs.Common.{◌≡◌, ℕ, ◌+◌, ◌<◌, ◌==◌, Bool, true, false, cond, List, [], ◌∷◌, ◌++◌, append-nil, append_assoc, length, reverse, Some, None, Option, refl, sym, ap, subst, ◌∙◌, arith}
 use Rattle.std.specs.Prelude.{if◌then◌else◌, is_some, nat_le, option_map, IfSome, ◌↔◌, Result, Ok, Err, OnOk, OnErr}
 use Rattle.std.specs.Option.{option_to_list}
 use Rattle.std.proofs.lemmas.Bool.Decides.{nat_tests}
@@ -46,7 +46,7 @@ use Rattle.cluster_history.proofs.ForCallers.{node_now, event_follows, after_eve
 use Rattle.node_journal.specs.declared.posts.Mail.{Mail}
 use Rattle.node_journal.specs.declared.posts.Posted.{Posted}
 use Rattle.node_journal.specs.Posts.{DeliversPost, PassesOn, directory_message_in, post_of, posts_left}
-use Rattle.node_journal.specs.Recorded.{IsRecorded, IsDirectoryRecorded, IsLastIn, event_entry, delivery_entry}
+use Rattle.node_journal.specs.Recorded.{ComesAfter, IsRecorded, IsDirectoryRecorded, IsLastIn, event_entry, delivery_entry}
 
 both₁ : {A B C : Type 0} → ∥ A ∥₁ → ∥ B ∥₁ → (A → B → C) → ∥ C ∥₁
 both₁ a b f = ∥∥₁_elim a squash₁ (λ x. ∥∥₁_map b (f x))
@@ -60,6 +60,21 @@ module _ (known between now : List Traced) (entry : Traced) (is : now ≡ (known
 -- the entry is the last one
 pub last_of : (nodes memory place : ℕ) (known seen now : List Traced) (entry : Traced) → GoesOn nodes memory place known seen now entry → IsLastIn entry now
 last_of nodes memory place known seen now entry g = record { earlier = known ++ g.between; ends = g.log }
+
+-- what the place itself knew comes before it
+pub own_goes_on : (nodes memory place : ℕ) (known seen now : List Traced) (entry : Traced) → GoesOn nodes memory place known seen now entry → GoesOn nodes memory place known known now entry
+own_goes_on nodes memory place known seen now entry g = record { between = g.between; log = g.log; none = g.none; after = (g.between, refl); grown = g.grown }
+
+-- and so does all of which what was seen goes on
+pub comes_after : (nodes memory place : ℕ) (known seen now : List Traced) (entry : Traced) → GoesOn nodes memory place known seen now entry → (earlier : List Traced) → IsPrefix earlier seen → ComesAfter earlier now
+comes_after nodes memory place known seen now entry g earlier begins = record { before = known ++ g.between; entry = entry; log = g.log; begins = (begins.0 ++ g.after.0, sym (append_assoc earlier begins.0 g.after.0) ∙ (ap (λ rest. rest ++ g.after.0) begins.1 ∙ g.after.1)) }
+
+-- the same, as the parts of a delivery are called
+pub delivered_by : (nodes memory at : ℕ) (known now : List Traced) (job job' : JobNo) → job' ≡ job → (from from' : Endpoint) → from' ≡ from → (to to' : Endpoint) → to' ≡ to → (message message' : Message) → message' ≡ message
+    → (sending sending' : List Traced) → sending' ≡ sending → (index index' : ℕ) → index' ≡ index → (whole whole' : Reply (List ℕ)) → whole' ≡ whole → GoesOn nodes memory at known sending' now (delivery_entry nodes job' from' to' message' sending' index' whole')
+    → GoesOn nodes memory at known sending now (delivery_entry nodes job from to message sending index whole)
+delivered_by nodes memory at known now job job' j from from' f to to' t message message' m sending sending' s index index' n whole whole' w =
+    subst (λ (p : List Traced × Traced). GoesOn nodes memory at known p.0 now p.1) (λ i. (s i, delivery_entry nodes (j i) (f i) (t i) (m i) (s i) (n i) (w i)))
 
 -- ---- what is sent for the job of the receipt
 
@@ -176,6 +191,10 @@ is_for (message.ToPeer m) = refl
 pub told_some : {A : Type 0} (o : Option A) → is_some o ≡ true → (x : A) × (o ≡ Some x)
 told_some (Some x) t = (x, refl)
 told_some None t = absurd cc
+
+-- what the directory is asked whether it is for it
+pub is_told : (message asked : Message) (answer : Bool) → asked ≡ message → answer ≡ is_some (directory_message_in asked) → answer ≡ true → is_some (directory_message_in message) ≡ true
+is_told message asked answer same is told = ap (λ m. is_some (directory_message_in m)) (sym same) ∙ (sym is ∙ told)
 
 pub told_none : {A : Type 0} (o : Option A) → is_some o ≡ false → o ≡ None
 told_none (Some x) t = absurd cc

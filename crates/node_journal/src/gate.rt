@@ -25,7 +25,7 @@ use std::sync::ledger::Ledger;
 impl<L: Ledger + HistoryName, S: ClusterShape> JournaledNode for Recorded<L, S> {
     ghost use Rattle.std.specs.Prelude.{◌≡◌, ◌==◌, Some, None};
     ghost use Rattle.cluster_history.specs.Rules.{GoesOn};
-    ghost use Rattle.node_journal.specs.Recorded.{IsLastIn, delivery_entry, event_entry};
+    ghost use Rattle.node_journal.specs.Recorded.{ComesAfter, IsLastIn, delivery_entry, event_entry};
     ghost use Rattle.std.proofs.Common.{rules};
     ghost use Rattle.obj_id.specs.declared.messages.Arrival.{Arrival};
     ghost use Rattle.private_store.specs.declared.schedules.NodeEvent.TheVariants as node_event;
@@ -71,13 +71,16 @@ impl<L: Ledger + HistoryName, S: ClusterShape> JournaledNode for Recorded<L, S> 
     ghost arrives = { λ posted response sent receipt old new. (a : Arrival) → arrival_of posted.0.from posted.0.message ≡ Some a → IsOneArrival posted.0.job a response sent (witness_of receipt.receipt) (seen_node old.0.node old.0.count old.0.logs) (seen_node new.0.node new.0.count new.0.logs)
         × GoesOn S.nodes S.memory old.1.0 old.1.1 posted.1.0 new.1.1 (delivery_entry S.nodes posted.0.job posted.0.from posted.0.to posted.0.message posted.1.0 posted.1.1 response) };
 
-    ghost arrived = { λ posted receipt. (a : Arrival) → arrival_of posted.0.from posted.0.message ≡ Some a → IsArrived posted.0.job a (witness_of receipt.receipt) };
+    ghost arrived = { λ posted receipt. (a : Arrival) → arrival_of posted.0.from posted.0.message ≡ Some a → IsArrived posted.0.job a (witness_of receipt.receipt)
+        × IsLastIn (delivery_entry S.nodes posted.0.job posted.0.from posted.0.to posted.0.message posted.1.0 posted.1.1 (witness_of receipt.receipt).whole) receipt.sight };
 
     ghost astray = { λ r posted. IsAstray r.0.number posted.0 };
 
     ghost receipt_of = { λ e response receipt. IsReceiptOf e response (witness_of receipt.receipt) × IsLastIn (event_entry receipt.receipt.node e response) receipt.sight };
 
     ghost called_by = { λ e response receipt. IsCalledBy e response (witness_of receipt.receipt) × IsLastIn (event_entry receipt.receipt.node e response) receipt.sight };
+
+    ghost rises = { λ earlier later. ComesAfter earlier.sight later.sight };
 
     ghost untouched = { λ old new. IsUntouched (seen_node old.0.node old.0.count old.0.logs) (seen_node new.0.node new.0.count new.0.logs) × (new.1 ≡ old.1) };
 
@@ -103,8 +106,9 @@ impl<L: Ledger + HistoryName, S: ClusterShape> JournaledNode for Recorded<L, S> 
         &mut self,
         rt: &R,
         event: &Event,
+        earlier: &Option<RecordedReceipt<L, S>>,
     ) -> Result<Made<RecordedReceipt<L, S>, RecordedMail<L, S>, Erase>, OutOfMemory> {
-        self.record_step(rt, event)
+        self.record_step(rt, event, earlier)
     }
 
     fn step_after<R: Wait>(
@@ -302,7 +306,7 @@ impl<L: Ledger + HistoryName, S: ClusterShape> SeatedNode for Recorded<L, S> {
 
 impl<L: Ledger + HistoryName, S: ClusterShape> Posted for RecordedPosted<L, S> {
     ghost use Rattle.std.specs.Prelude.{option_map};
-    ghost use Rattle.node_journal.specs.Recorded.{HasPassed};
+    ghost use Rattle.node_journal.specs.Recorded.{GoesThrough, HasPassed};
 
     type Directory = RecordedDirectory<L, S>;
 
@@ -314,7 +318,7 @@ impl<L: Ledger + HistoryName, S: ClusterShape> Posted for RecordedPosted<L, S> {
 
     ghost content = { λ posted. posted.0.message };
 
-    ghost passes = { λ old new posted answer. HasPassed old.0 new.0 posted.0 (option_map (λ p. p.0) answer) };
+    ghost passes = { λ old new posted answer. HasPassed old.0 new.0 posted.0 (option_map (λ p. p.0) answer) × GoesThrough S.nodes S.memory old.1.0 new.1.0 posted.0 posted.1 (option_map (λ p. p.1) answer) };
 
     fn job(&self) -> JobNo {
         self.posted.job()

@@ -1,16 +1,19 @@
 //! A node with its journal at its place in the history of its cluster: each step is an entry of both.
-ghost use Rattle.std.specs.Prelude.{◌≡◌, ◌⊎◌, ◌↔◌, ◌≤◌, ◌<◌, ◌+◌, Some, None, IfOk, IfErr, OnErr, IsErrOf};
+ghost use Rattle.std.specs.Prelude.{◌≡◌, ◌⊎◌, ◌↔◌, ◌≤◌, ◌<◌, ◌+◌, ◌^◌, List, Some, None, IfOk, IfErr, IfSome, OnErr, IsErrOf};
+ghost use mathlib.Core.List.{IsPrefix};
 ghost use Rattle.job_admission.specs.Admissions.{largest_memory};
 ghost use Rattle.obj_id.specs.declared.messages.Arrival.{Arrival};
 ghost use Rattle.obj_id.specs.declared.refusals.Refusal.TheVariants.{NoMemory, Stale};
 ghost use Rattle.private_store.specs.declared.schedules.NodeEvent.TheVariants as node_event;
+ghost use Rattle.private_store.specs.declared.schedules.Traced.{Traced};
 ghost use Rattle.private_store.specs.rules.Cluster.{arrival_of};
 ghost use Rattle.obj_id.specs.declared.messages.Endpoint.TheVariants as place;
-ghost use Rattle.cluster_history.specs.Rules.{GoesOn};
+ghost use Rattle.cluster_history.specs.Histories.{count_at};
+ghost use Rattle.cluster_history.specs.Rules.{GoesOn, MayFollow};
 ghost use Rattle.cluster_history.specs.Sending.{IsMailOf};
 ghost use Rattle.node_gate.specs.Calls.{IsSmallCall};
 ghost use Rattle.node_journal.specs.Posts.{posts_left, IsAstray};
-ghost use Rattle.node_journal.specs.Recorded.{IsLastIn, IsRecorded, delivery_entry, event_entry};
+ghost use Rattle.node_journal.specs.Recorded.{ComesAfter, IsLastIn, IsRecorded, delivery_entry, event_entry};
 ghost use Rattle.node_journal.specs.Stepping.{IsOneArrival, IsOneStep, IsUntouched, seen_node};
 ghost use Rattle.node_journal.specs.Witnesses.{IsArrived, IsCalledBy, IsReceiptOf, witness_of};
 
@@ -117,15 +120,17 @@ impl<L: Ledger + HistoryName, S: ClusterShape> Recorded<L, S> {
         }
     }
 
-    /// One step of an event. The error is out of memory.
+    /// One step of an event, after that of an earlier receipt, if one is shown. The error is out of memory.
     pub(crate) fn record_step<R: Wait>(
         &mut self,
         rt: &R,
         event: &Event,
+        earlier: &Option<RecordedReceipt<L, S>>,
     ) -> Result<Made<RecordedReceipt<L, S>, RecordedMail<L, S>, Erase>, OutOfMemory>
         ensures once { IfOk result (λ m. IsOneStep (node_event.Own event.now) m.reply (posts_left m.mail.0) (witness_of m.receipt.receipt) (seen_node self.old.0.node self.old.0.count self.old.0.logs) (seen_node self.new.0.node self.new.0.count self.new.0.logs) × GoesOn S.nodes S.memory self.old.1.0 self.old.1.1 self.old.1.1 self.new.1.1 (event_entry self.old.0.number event.now m.reply)) }
         ensures stepped { IfOk result (λ m. IsReceiptOf event.now m.reply (witness_of m.receipt.receipt) × IsLastIn (event_entry m.receipt.receipt.node event.now m.reply) m.receipt.sight) }
         ensures called { IfOk result (λ m. IsCalledBy event.now m.reply (witness_of m.receipt.receipt) × IsLastIn (event_entry m.receipt.receipt.node event.now m.reply) m.receipt.sight) }
+        ensures rises { IfOk result (λ m. IfSome earlier.now (λ r. ComesAfter r.sight m.receipt.sight)) }
         ensures small { IfOk result (λ m. IsSmallCall event.now m.reply) }
         ensures node { IfOk result (λ m. m.receipt.receipt.node ≡ self.old.0.number) }
         ensures same { OnErr result (IsUntouched (seen_node self.old.0.node self.old.0.count self.old.0.logs) (seen_node self.new.0.node self.new.0.count self.new.0.logs) × (self.new.1 ≡ self.old.1)) }
@@ -134,8 +139,8 @@ impl<L: Ledger + HistoryName, S: ClusterShape> Recorded<L, S> {
         let Recorded { kept, place } = self;
         let made = kept.step_made(event)?;
         let count = kept.entries() - 1;
-        let before = place.sight();
-        place.add::<R, Receipt<L>, Happened>(rt, count, &made.receipt, &before);
+        let before = known_with(place, earlier);
+        add_event(rt, place, count, &made.receipt, &before);
         Ok(with_sight(made, place.sight()))
     }
 
@@ -150,6 +155,7 @@ impl<L: Ledger + HistoryName, S: ClusterShape> Recorded<L, S> {
         ensures called { IfOk result (λ m. IsCalledBy event.now m.reply (witness_of m.receipt.receipt) × IsLastIn (event_entry m.receipt.receipt.node event.now m.reply) m.receipt.sight) }
         ensures small { IfOk result (λ m. IsSmallCall event.now m.reply) }
         ensures later { IfOk result (λ m. (m.receipt.receipt.node ≡ receipt.now.receipt.node) × (receipt.now.receipt.entry.number < m.receipt.receipt.entry.number)) }
+        ensures rises { IfOk result (λ m. ComesAfter receipt.now.sight m.receipt.sight) }
         ensures node { IfOk result (λ m. m.receipt.receipt.node ≡ self.old.0.number) }
         ensures same { OnErr result (IsUntouched (seen_node self.old.0.node self.old.0.count self.old.0.logs) (seen_node self.new.0.node self.new.0.count self.new.0.logs) × (self.new.1 ≡ self.old.1)) }
         ensures refusal { IfErr result (λ r. (r ≡ NoMemory) ⊎ (r ≡ Stale)) }
@@ -158,8 +164,9 @@ impl<L: Ledger + HistoryName, S: ClusterShape> Recorded<L, S> {
         let Recorded { kept, place } = self;
         let made = kept.step_made_after(&receipt.receipt, event)?;
         let count = kept.entries() - 1;
-        let before = place.sight();
-        place.add::<R, Receipt<L>, Happened>(rt, count, &made.receipt, &before);
+        let mut before = place.sight();
+        before.learn(&receipt.sight);
+        add_event(rt, place, count, &made.receipt, &before);
         Ok(with_sight(made, place.sight()))
     }
 
@@ -172,7 +179,8 @@ impl<L: Ledger + HistoryName, S: ClusterShape> Recorded<L, S> {
     ) -> Result<Made<RecordedReceipt<L, S>, RecordedMail<L, S>, Erase>, Refusal>
         ensures once { IfOk result (λ m. (a : Arrival) → arrival_of posted.0.from posted.0.message ≡ Some a → IsOneArrival posted.0.job a m.reply (posts_left m.mail.0) (witness_of m.receipt.receipt) (seen_node self.old.0.node self.old.0.count self.old.0.logs) (seen_node self.new.0.node self.new.0.count self.new.0.logs)
             × GoesOn S.nodes S.memory self.old.1.0 self.old.1.1 posted.1.0 self.new.1.1 (delivery_entry S.nodes posted.0.job posted.0.from posted.0.to posted.0.message posted.1.0 posted.1.1 m.reply)) }
-        ensures arrived { IfOk result (λ m. (a : Arrival) → arrival_of posted.0.from posted.0.message ≡ Some a → IsArrived posted.0.job a (witness_of m.receipt.receipt)) }
+        ensures arrived { IfOk result (λ m. (a : Arrival) → arrival_of posted.0.from posted.0.message ≡ Some a → IsArrived posted.0.job a (witness_of m.receipt.receipt)
+            × IsLastIn (delivery_entry S.nodes posted.0.job posted.0.from posted.0.to posted.0.message posted.1.0 posted.1.1 (witness_of m.receipt.receipt).whole) m.receipt.sight) }
         ensures node { IfOk result (λ m. m.receipt.receipt.node ≡ self.old.0.number) }
         ensures of_job { IfOk result (λ m. m.receipt.receipt.job ≡ posted.0.job) }
         ensures stale { IsErrOf result Stale ↔ IsAstray self.old.0.number posted.0 }
@@ -198,6 +206,40 @@ impl<L: Ledger + HistoryName, S: ClusterShape> Recorded<L, S> {
         place.add::<R, Delivered<L, S>, Delivery>(rt, count, &delivered, &delivered.sight);
         Ok(with_sight(made, place.sight()))
     }
+}
+
+/// All that a place knows, and what an earlier receipt has, if one is shown.
+fn known_with<L: Ledger + HistoryName, S: ClusterShape>(
+    place: &Place<L, S>,
+    earlier: &Option<RecordedReceipt<L, S>>,
+) -> Sight<L, S>
+    ensures known { IsPrefix place.now.1 result }
+    ensures earlier { IfSome earlier.now (λ r. IsPrefix r.sight result) }
+{
+    let mut known = place.sight();
+    if let Some(receipt) = earlier {
+        known.learn(&receipt.sight);
+    }
+    known
+}
+
+/// Adds the entry of an event to the history, after what was seen of it, the place's own among it.
+fn add_event<R: Wait, L: Ledger + HistoryName, S: ClusterShape>(
+    rt: &R,
+    place: &mut Place<L, S>,
+    count: u64,
+    receipt: &Receipt<L>,
+    seen: &Sight<L, S>,
+)
+    requires few { count + 1 < 2 ^ 64 }
+    requires counted { count_at S.nodes place.old.0 place.old.1 ≡ count }
+    requires here { receipt.now.node ≡ place.old.0 }
+    requires follows { (before : List Traced) → MayFollow S.nodes S.memory place.old.0 place.old.1 before (event_entry receipt.now.node receipt.now.asked.value receipt.now.whole.value) }
+    ensures place { place.new.0 ≡ place.old.0 }
+    ensures goes_on { GoesOn S.nodes S.memory place.old.0 place.old.1 place.old.1 place.new.1 (event_entry receipt.now.node receipt.now.asked.value receipt.now.whole.value) }
+    ensures after { (earlier : List Traced) → IsPrefix earlier seen.now → ComesAfter earlier place.new.1 }
+{
+    place.add::<R, Receipt<L>, Happened>(rt, count, receipt, seen);
 }
 
 /// What a step gave, with the history up to it, whose newest entry sent the mail.

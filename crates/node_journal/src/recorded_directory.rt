@@ -1,7 +1,7 @@
 //! The directory at its place in the history of its cluster.
 ghost use Rattle.std.specs.Prelude.{◌≡◌, [], IfOk, OnErr, is_some, option_map};
 ghost use Rattle.node_journal.specs.Posts.{directory_message_in};
-ghost use Rattle.node_journal.specs.Recorded.{HasPassed};
+ghost use Rattle.node_journal.specs.Recorded.{GoesThrough, HasPassed};
 ghost use Rattle.obj_id.specs.declared.messages.Endpoint.TheVariants as place;
 
 use crate::recorded_posts::RecordedPosted;
@@ -97,6 +97,7 @@ impl<L: Ledger + HistoryName, S: ClusterShape> RecordedPosted<L, S> {
     ) -> Result<Option<RecordedPosted<L, S>>, OutOfMemory>
         requires { self.0.to ≡ place.Directory }
         ensures passes { IfOk result (λ answer. HasPassed directory.old.0 directory.new.0 self.0 (option_map (λ p. p.0) answer)) }
+        ensures goes_on { IfOk result (λ answer. GoesThrough S.nodes S.memory directory.old.1.0 directory.new.1.0 self.0 self.1 (option_map (λ p. p.1) answer)) }
         ensures same { OnErr result (directory.new ≡ directory.old) }
     {
         let RecordedDirectory {

@@ -1,10 +1,10 @@
 //! The steps of a node that is locked, with what follows at once.
-ghost use Rattle.std.specs.Prelude.{◌≡◌, ◌⊎◌, ◌<◌, true, false, IfOk, IfErr, OnErr, IfSome, IfNone, IsErrOf, ◌↔◌};
+ghost use Rattle.std.specs.Prelude.{◌≡◌, ◌⊎◌, ◌<◌, true, false, Some, IfOk, IfErr, OnErr, IfSome, IfNone, IsErrOf, ◌↔◌};
 ghost use Rattle.obj_id.specs.declared.commands.Command.TheVariants as command;
 ghost use Rattle.obj_id.specs.declared.refusals.Refusal.TheVariants.{NoMemory, Stale};
 ghost use Rattle.private_store.specs.declared.schedules.Event.TheVariants as event;
 ghost use Rattle.private_store.specs.laws.Answers.{is_small_reply};
-ghost use Rattle.node_gate.specs.Calls.{IsSmallCall};
+ghost use Rattle.node_gate.specs.Calls.{IsNext, IsSmallCall};
 ghost use Rattle.node_steps.specs.Stepping.{FoldsAfter, HasArrived, IsOneLeave};
 
 use crate::auditing::audit_one;
@@ -24,16 +24,17 @@ pub struct Stepped<T, M> {
     pub mail: M,
 }
 
-/// A session's command. The error is out of memory.
+/// A session's command, after the step of an earlier receipt, if one is shown. The error is out of memory.
 pub fn step_call<K: JournaledNode, R: Wait, P: Pause>(
     rt: &R,
     kept: &mut K,
     housekeeping: &Housekeeping<P>,
+    earlier: &Option<K::Receipt>,
     job: JobNo,
     session: u32,
     command: Command<Bytes>,
 ) -> Result<Stepped<K::Receipt, K::Mail>, OutOfMemory>
-    ensures called { IfOk result (λ s. K.called_by (event.Call job session command) s.reply s.receipt) }
+    ensures called { IfOk result (λ s. IsNext K.called_by K.rises earlier.now (event.Call job session command) s.reply s.receipt) }
     ensures small { IfOk result (λ s. is_small_reply s.reply ≡ true) }
     ensures once { IfOk result (λ s. K.steps (event.Call job session command) s.reply (K.posts s.mail) s.receipt kept.old kept.new) }
     ensures node { IfOk result (λ s. K.made_at s.receipt ≡ K.node_number kept.old) }
@@ -45,7 +46,7 @@ pub fn step_call<K: JournaledNode, R: Wait, P: Pause>(
         session,
         command,
     };
-    step_event(rt, kept, housekeeping, &event)
+    step_event(rt, kept, housekeeping, earlier, &event)
 }
 
 /// The same, if the journal doesn't say No of the receipt: otherwise the error is `Stale`.
@@ -58,7 +59,7 @@ pub fn step_call_after<K: JournaledNode, R: Wait, P: Pause>(
     session: u32,
     command: Command<Bytes>,
 ) -> Result<Stepped<K::Receipt, K::Mail>, Refusal>
-    ensures called { IfOk result (λ s. K.called_by (event.Call job session command) s.reply s.receipt) }
+    ensures called { IfOk result (λ s. IsNext K.called_by K.rises (Some receipt.now) (event.Call job session command) s.reply s.receipt) }
     ensures later { IfOk result (λ s. (K.made_at s.receipt ≡ K.made_at receipt.now) × (K.entry_number receipt.now < K.entry_number s.receipt)) }
     ensures small { IfOk result (λ s. is_small_reply s.reply ≡ true) }
     ensures once { IfOk result (λ s. K.steps (event.Call job session command) s.reply (K.posts s.mail) s.receipt kept.old kept.new) }
@@ -77,15 +78,16 @@ pub fn step_call_after<K: JournaledNode, R: Wait, P: Pause>(
     Ok(finish_step(rt, kept, housekeeping, made))
 }
 
-/// An event of a session, the operator or a worker. The error is out of memory.
+/// An event of a session, the operator or a worker, after the step of an earlier receipt, if one is shown. The error is out of memory.
 pub fn step_event<K: JournaledNode, R: Wait, P: Pause>(
     rt: &R,
     kept: &mut K,
     housekeeping: &Housekeeping<P>,
+    earlier: &Option<K::Receipt>,
     event: &Event,
 ) -> Result<Stepped<K::Receipt, K::Mail>, OutOfMemory>
     ensures stepped { IfOk result (λ s. K.receipt_of event.now s.reply s.receipt) }
-    ensures called { IfOk result (λ s. K.called_by event.now s.reply s.receipt) }
+    ensures called { IfOk result (λ s. IsNext K.called_by K.rises earlier.now event.now s.reply s.receipt) }
     ensures small { IfOk result (λ s. IsSmallCall event.now s.reply) }
     ensures once { IfOk result (λ s. K.steps event.now s.reply (K.posts s.mail) s.receipt kept.old kept.new) }
     ensures node { IfOk result (λ s. K.made_at s.receipt ≡ K.node_number kept.old) }
@@ -93,7 +95,7 @@ pub fn step_event<K: JournaledNode, R: Wait, P: Pause>(
     ensures number { K.node_number kept.new ≡ K.node_number kept.old }
 {
     housekeeping.pause.before_step(kept.number(), event);
-    let made = kept.step(rt, event)?;
+    let made = kept.step(rt, event, earlier)?;
     Ok(finish_step(rt, kept, housekeeping, made))
 }
 
@@ -110,7 +112,7 @@ pub fn step_order<K: JournaledNode, R: Wait, P: Pause>(
     ensures same { OnErr result (K.untouched kept.old kept.new) }
     ensures number { K.node_number kept.new ≡ K.node_number kept.old }
 {
-    let stepped = step_event(rt, kept, housekeeping, event)?;
+    let stepped = step_event(rt, kept, housekeeping, &None, event)?;
     audit_one(rt, kept, &housekeeping.tallies, &stepped.receipt);
     Ok(stepped)
 }
@@ -157,7 +159,7 @@ pub fn step_take<K: JournaledNode, R: Wait, P: Pause>(
     ensures number { K.node_number kept.new ≡ K.node_number kept.old }
 {
     if kept.has_work() {
-        Some(step_event(rt, kept, housekeeping, &Event::Take))
+        Some(step_event(rt, kept, housekeeping, &None, &Event::Take))
     } else {
         None
     }
@@ -178,6 +180,7 @@ pub fn step_mark<K: JournaledNode, R: Wait, P: Pause>(
         rt,
         kept,
         housekeeping,
+        &None,
         mark.job,
         mark.session,
         Command::Leave,

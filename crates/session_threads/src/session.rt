@@ -57,13 +57,14 @@ impl<'a, K: JournaledNode, R: Wait + Clock, P: Pause> Session<'a, K, R, P> {
     }
 }
 
-/// Who enters has the number that the node gave to this job and key. After each answer the last receipt is of this job, session, command and reply, or the reply is `NoMemory`. After the session was
-/// left, the last receipt is of its Leave, or the same as before.
+/// Who enters has the number that the node gave to this job and key. After each answer the last receipt is of this job, session, command and
+/// reply, and of a step that came after that of the receipt before; or the reply is `NoMemory`, and the last receipt the same as before.
+/// After the session was left, the last receipt is of its Leave, or the same as before.
 impl<'a, K: JournaledNode, R: Wait + Clock, P: Pause> Gate for Session<'a, K, R, P> {
     ghost use Rattle.std.specs.Prelude.{option_map};
     ghost use Rattle.session_threads.specs.Gates.{IsWitnessed, IsLetIn};
 
-    ghost gives = { λ before asked response after. IsWitnessed K.called_by asked response before.receipts.last after.receipts.last × IsLetIn asked response (option_map K.pass after.entered) };
+    ghost gives = { λ before asked response after. IsWitnessed K.called_by K.rises asked response before.receipts.last after.receipts.last × IsLetIn asked response (option_map K.pass after.entered) };
 
     fn enter(&mut self, job: JobNo, key: JobKey) -> Result<u32, Refusal> {
         let entered = self.node.enter(self.rt, job, &key)?;
@@ -76,7 +77,8 @@ impl<'a, K: JournaledNode, R: Wait + Clock, P: Pause> Gate for Session<'a, K, R,
         if let Err(error) = self.node.make_room(self.rt, &mut self.receipts) {
             return framed(out_of_memory(error));
         }
-        let (reply, receipt) = self.node.call(self.rt, job, session, command);
+        let last = self.receipts.last();
+        let (reply, receipt) = self.node.call_next(self.rt, last, job, session, command);
         if let Some(receipt) = receipt {
             self.receipts.add(receipt);
         }
@@ -87,9 +89,10 @@ impl<'a, K: JournaledNode, R: Wait + Clock, P: Pause> Gate for Session<'a, K, R,
         if let Err(error) = self.node.make_room(self.rt, &mut self.receipts) {
             return framed(out_of_memory(error));
         }
+        let last = self.receipts.last();
         let (reply, receipt) = self
             .node
-            .call_wait_of(self.rt, job, session, awaited, self.client);
+            .call_wait_next(self.rt, last, job, session, awaited, self.client);
         if let Some(receipt) = receipt {
             self.receipts.add(receipt);
         }
@@ -101,7 +104,8 @@ impl<'a, K: JournaledNode, R: Wait + Clock, P: Pause> Gate for Session<'a, K, R,
             self.node.leave_later(self.rt, job, session);
             return;
         }
-        if let Some(receipt) = self.node.leave(self.rt, job, session) {
+        let last = self.receipts.last();
+        if let Some(receipt) = self.node.leave(self.rt, last, job, session) {
             self.receipts.add(receipt);
         }
     }

@@ -21,3 +21,8 @@ pub answered_small : {T M : Type 0} (stepped : Result (Stepped T M) OutOfMemory)
     → IfOk stepped (λ s. is_small_reply s.reply ≡ true) → is_small_reply response ≡ true
 answered_small (Ok s) response given is small = ap is_small_reply is.0 ∙ small
 answered_small (Err e) response given is small = ap is_small_reply is.0
+
+-- what is said of a receipt, if there is one, is said by what tells more of it
+pub given_then : {T : Type 0} (given : Option T) {A : Type 0} {P Q : T → Type 0} → MatchOption given A P → ((r : T) → P r → Q r) → MatchOption given A Q
+given_then None none then = none
+given_then (Some r) told then = then r told

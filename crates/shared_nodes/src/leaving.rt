@@ -10,11 +10,18 @@ use obj_id::{Command, JobNo};
 use std::sync::Wait;
 
 impl<K: JournaledNode, P: Pause> SharedNode<K, P> {
-    /// Leaves a session, with the receipt of the entry. If there is no memory for that, the session is marked.
-    pub fn leave<R: Wait>(&self, rt: &R, job: JobNo, session: u32) -> Option<K::Receipt>
-        ensures { IfSome result (λ r. IsLast K.called_by job session r) }
+    /// Leaves a session whose last receipt is shown, if it has one, with the receipt of the entry. If there is no memory for that, the
+    /// session is marked.
+    pub fn leave<R: Wait>(
+        &self,
+        rt: &R,
+        last: &Option<K::Receipt>,
+        job: JobNo,
+        session: u32,
+    ) -> Option<K::Receipt>
+        ensures { IfSome result (λ r. IsLast K.called_by K.rises last.now job session r) }
     {
-        let (_, receipt) = self.call(rt, job, session, Command::Leave);
+        let (_, receipt) = self.call_next(rt, last, job, session, Command::Leave);
         if receipt.is_none() {
             self.leave_later(rt, job, session);
         }

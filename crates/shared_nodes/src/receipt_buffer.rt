@@ -35,6 +35,13 @@ impl<T: Drop> ReceiptBuffer<T> {
         }
     }
 
+    /// The last one, if there is one.
+    pub fn last(&self) -> &Option<T>
+        ensures { result.now ≡ self.now.last }
+    {
+        &self.last
+    }
+
     /// Adds the receipt of a step, for which there is room.
     pub fn add(&mut self, receipt: T)
         requires memory { vec_len self.old.earlier < vec_capacity self.old.earlier }

@@ -5,6 +5,7 @@ ghost use Rattle.obj_id.specs.declared.commands.Reply.TheVariants as reply;
 ghost use Rattle.obj_id.specs.declared.refusals.Refusal.TheVariants.{NoMemory, NotAdmitted, Stale, TooMany};
 ghost use Rattle.private_store.specs.laws.Answers.{is_small_reply};
 ghost use Rattle.private_store.specs.declared.schedules.Event.TheVariants as event;
+ghost use Rattle.node_gate.specs.Calls.{IsNext};
 ghost use Rattle.shared_nodes.specs.Rounds.{IsHandedIn, IsWorkTaken};
 ghost use Rattle.shared_nodes.specs.Gathering.{receipts_in_order};
 ghost use Rattle.private_store.specs.rules.Frames.{tried};
@@ -90,8 +91,23 @@ impl<K: JournaledNode, P: Pause> SharedNode<K, P> {
         ensures called { MatchOption result.1 (result.0 ≡ reply.Refused NoMemory) (λ r. K.called_by (event.Call job session command) result.0 r) }
         ensures small { is_small_reply result.0 ≡ true }
     {
+        self.call_next(rt, &None, job, session, command)
+    }
+
+    /// The same, of a session whose last receipt is shown, if it has one: the step comes after that of the receipt.
+    pub fn call_next<R: Wait>(
+        &self,
+        rt: &R,
+        last: &Option<K::Receipt>,
+        job: JobNo,
+        session: u32,
+        command: Command<Bytes>,
+    ) -> (Reply<Bytes>, Option<K::Receipt>)
+        ensures called { MatchOption result.1 (result.0 ≡ reply.Refused NoMemory) (λ r. IsNext K.called_by K.rises last.now (event.Call job session command) result.0 r) }
+        ensures small { is_small_reply result.0 ≡ true }
+    {
         self.leave_marked(rt);
-        let stepped = self.step_command(rt, job, session, command);
+        let stepped = self.step_command(rt, last, job, session, command);
         self.answer(rt, stepped)
     }
 
@@ -99,21 +115,30 @@ impl<K: JournaledNode, P: Pause> SharedNode<K, P> {
     fn step_command<R: Wait>(
         &self,
         rt: &R,
+        last: &Option<K::Receipt>,
         job: JobNo,
         session: u32,
         command: Command<Bytes>,
     ) -> Result<Stepped<K::Receipt, K::Mail>, OutOfMemory>
-        ensures called { IfOk result (λ s. K.called_by (event.Call job session command) s.reply s.receipt) }
+        ensures called { IfOk result (λ s. IsNext K.called_by K.rises last.now (event.Call job session command) s.reply s.receipt) }
         ensures small { IfOk result (λ s. is_small_reply s.reply ≡ true) }
     {
         let (queued, mut kept) = self.lock_for(rt, job, &command);
         if kept.wants(job, &command) {
             drop(kept);
             drop(queued);
-            return self.step_prepared(rt, job, session, command);
+            return self.step_prepared(rt, last, job, session, command);
         }
         let (reaches_others, removes) = (may_reach_others(&command), may_remove(&command));
-        let stepped = step_call(rt, &mut *kept, &self.housekeeping, job, session, command);
+        let stepped = step_call(
+            rt,
+            &mut *kept,
+            &self.housekeeping,
+            last,
+            job,
+            session,
+            command,
+        );
         sweep_after(&mut *kept, job, reaches_others, &stepped);
         let spent = spent_by(&mut *kept, job, removes);
         drop(kept);
@@ -160,20 +185,21 @@ impl<K: JournaledNode, P: Pause> SharedNode<K, P> {
     fn step_prepared<R: Wait>(
         &self,
         rt: &R,
+        last: &Option<K::Receipt>,
         job: JobNo,
         session: u32,
         command: Command<Bytes>,
     ) -> Result<Stepped<K::Receipt, K::Mail>, OutOfMemory>
-        ensures called { IfOk result (λ s. K.called_by (event.Call job session command) s.reply s.receipt) }
+        ensures called { IfOk result (λ s. IsNext K.called_by K.rises last.now (event.Call job session command) s.reply s.receipt) }
         ensures small { IfOk result (λ s. is_small_reply s.reply ≡ true) }
     {
         if let Command::Seal(id) = &command {
             let id = *id;
-            return self.step_seal(rt, job, session, id);
+            return self.step_seal(rt, last, job, session, id);
         }
         let making = self.housekeeping.makers.of(job).lock(rt);
         let prepared = self.prepare_place(rt, job, &command);
-        let stepped = self.step_with(rt, prepared, job, session, command);
+        let stepped = self.step_with(rt, prepared, last, job, session, command);
         drop(making);
         stepped
     }
@@ -182,17 +208,19 @@ impl<K: JournaledNode, P: Pause> SharedNode<K, P> {
     fn step_seal<R: Wait>(
         &self,
         rt: &R,
+        last: &Option<K::Receipt>,
         job: JobNo,
         session: u32,
         id: ObjectId,
     ) -> Result<Stepped<K::Receipt, K::Mail>, OutOfMemory>
-        ensures called { IfOk result (λ s. K.called_by (event.Call job session (command.Seal id)) s.reply s.receipt) }
+        ensures called { IfOk result (λ s. IsNext K.called_by K.rises last.now (event.Call job session (command.Seal id)) s.reply s.receipt) }
         ensures small { IfOk result (λ s. is_small_reply s.reply ≡ true) }
     {
         let seals = &self.housekeeping.seals;
         seals.begin(rt, job, &id);
         self.prepare_seal(rt, job, &id);
-        let stepped = self.step_with(rt, K::nothing_prepared(), job, session, Command::Seal(id));
+        let nothing = K::nothing_prepared();
+        let stepped = self.step_with(rt, nothing, last, job, session, Command::Seal(id));
         seals.end(rt, job, &id);
         stepped
     }
@@ -202,17 +230,26 @@ impl<K: JournaledNode, P: Pause> SharedNode<K, P> {
         &self,
         rt: &R,
         prepared: K::Prepared,
+        last: &Option<K::Receipt>,
         job: JobNo,
         session: u32,
         command: Command<Bytes>,
     ) -> Result<Stepped<K::Receipt, K::Mail>, OutOfMemory>
-        ensures called { IfOk result (λ s. K.called_by (event.Call job session command) s.reply s.receipt) }
+        ensures called { IfOk result (λ s. IsNext K.called_by K.rises last.now (event.Call job session command) s.reply s.receipt) }
         ensures small { IfOk result (λ s. is_small_reply s.reply ≡ true) }
     {
         let queued = self.housekeeping.queues.of(job).lock(rt);
         let mut kept = self.lock(rt);
         let before = kept.prepare(job, prepared);
-        let stepped = step_call(rt, &mut *kept, &self.housekeeping, job, session, command);
+        let stepped = step_call(
+            rt,
+            &mut *kept,
+            &self.housekeeping,
+            last,
+            job,
+            session,
+            command,
+        );
         let rest = kept.prepare(job, before);
         drop(kept);
         drop(queued);
@@ -231,7 +268,7 @@ impl<K: JournaledNode, P: Pause> SharedNode<K, P> {
         session: u32,
         command: Command<Bytes>,
     ) -> (Reply<Bytes>, Option<K::Receipt>)
-        ensures called { MatchOption result.1 ((result.0 ≡ reply.Refused NoMemory) ⊎ (result.0 ≡ reply.Refused Stale)) (λ r. K.called_by (event.Call job session command) result.0 r) }
+        ensures called { MatchOption result.1 ((result.0 ≡ reply.Refused NoMemory) ⊎ (result.0 ≡ reply.Refused Stale)) (λ r. IsNext K.called_by K.rises (Some receipt.now) (event.Call job session command) result.0 r) }
         ensures later { IfSome result.1 (λ r. (K.made_at r ≡ K.made_at receipt.now) × (K.entry_number receipt.now < K.entry_number r)) }
         ensures small { is_small_reply result.0 ≡ true }
     {
@@ -272,24 +309,25 @@ impl<K: JournaledNode, P: Pause> SharedNode<K, P> {
         ensures called { MatchOption result.1 (result.0 ≡ reply.Refused NoMemory) (λ r. K.called_by (event.Call job session (tried awaited)) result.0 r) }
         ensures small { is_small_reply result.0 ≡ true }
     {
-        self.call_wait_of(rt, job, session, awaited, None)
+        self.call_wait_next(rt, &None, job, session, awaited, None)
     }
 
-    /// The same of a client's stream: it isn't tried again if its other end was closed, which is looked at after each wait and every
-    /// two seconds of it.
-    pub fn call_wait_of<R: Wait + Clock>(
+    /// The same, of a session whose last receipt is shown, if it has one, and of a client's stream: it isn't tried again if its other end
+    /// was closed, which is looked at after each wait and every two seconds of it.
+    pub fn call_wait_next<R: Wait + Clock>(
         &self,
         rt: &R,
+        last: &Option<K::Receipt>,
         job: JobNo,
         session: u32,
         awaited: Awaited,
         client: Option<&UnixStream>,
     ) -> (Reply<Bytes>, Option<K::Receipt>)
-        ensures called { MatchOption result.1 (result.0 ≡ reply.Refused NoMemory) (λ r. K.called_by (event.Call job session (tried awaited)) result.0 r) }
+        ensures called { MatchOption result.1 (result.0 ≡ reply.Refused NoMemory) (λ r. IsNext K.called_by K.rises last.now (event.Call job session (tried awaited)) result.0 r) }
         ensures small { is_small_reply result.0 ≡ true }
     {
         for _ in rt.forever() {
-            let (reply, receipt, is_over) = self.try_once(rt, job, session, &awaited, client);
+            let (reply, receipt, is_over) = self.try_once(rt, last, job, session, &awaited, client);
             if is_over {
                 return (reply, receipt);
             }
@@ -301,15 +339,16 @@ impl<K: JournaledNode, P: Pause> SharedNode<K, P> {
     fn try_once<R: Wait + Clock>(
         &self,
         rt: &R,
+        last: &Option<K::Receipt>,
         job: JobNo,
         session: u32,
         awaited: &Awaited,
         client: Option<&UnixStream>,
     ) -> (Reply<Bytes>, Option<K::Receipt>, bool)
-        ensures called { MatchOption result.1 (result.0 ≡ reply.Refused NoMemory) (λ r. K.called_by (event.Call job session (tried awaited.now)) result.0 r) }
+        ensures called { MatchOption result.1 (result.0 ≡ reply.Refused NoMemory) (λ r. IsNext K.called_by K.rises last.now (event.Call job session (tried awaited.now)) result.0 r) }
         ensures small { is_small_reply result.0 ≡ true }
     {
-        let (stepped, seen) = self.step_awaited(rt, job, session, awaited);
+        let (stepped, seen) = self.step_awaited(rt, last, job, session, awaited);
         match stepped {
             Ok(
                 Stepped {
@@ -339,11 +378,12 @@ impl<K: JournaledNode, P: Pause> SharedNode<K, P> {
     fn step_awaited<R: Wait>(
         &self,
         rt: &R,
+        last: &Option<K::Receipt>,
         job: JobNo,
         session: u32,
         awaited: &Awaited,
     ) -> (Result<Stepped<K::Receipt, K::Mail>, OutOfMemory>, Versions)
-        ensures called { IfOk result.0 (λ s. K.called_by (event.Call job session (tried awaited.now)) s.reply s.receipt) }
+        ensures called { IfOk result.0 (λ s. IsNext K.called_by K.rises last.now (event.Call job session (tried awaited.now)) s.reply s.receipt) }
         ensures small { IfOk result.0 (λ s. is_small_reply s.reply ≡ true) }
     {
         self.leave_marked(rt);
@@ -354,9 +394,17 @@ impl<K: JournaledNode, P: Pause> SharedNode<K, P> {
             drop(kept);
             drop(queued);
             let seen = self.housekeeping.waiting.seen(rt, job);
-            return (self.step_prepared(rt, job, session, command), seen);
+            return (self.step_prepared(rt, last, job, session, command), seen);
         }
-        let stepped = step_call(rt, &mut *kept, &self.housekeeping, job, session, command);
+        let stepped = step_call(
+            rt,
+            &mut *kept,
+            &self.housekeeping,
+            last,
+            job,
+            session,
+            command,
+        );
         sweep_after(&mut *kept, job, false, &stepped);
         let seen = self.housekeeping.waiting.seen(rt, job);
         let spent = spent_by(&mut *kept, job, true);
@@ -427,7 +475,7 @@ impl<K: JournaledNode, P: Pause> SharedNode<K, P> {
         let (job, prepared) = prepare_finish::<K>(self.housekeeping.alloc, event);
         let mut kept = self.kept.lock(rt);
         let before = kept.prepare(job, prepared);
-        let stepped = step_event(rt, &mut *kept, &self.housekeeping, event);
+        let stepped = step_event(rt, &mut *kept, &self.housekeeping, &None, event);
         let rest = kept.prepare(job, before);
         drop(kept);
         drop(rest);

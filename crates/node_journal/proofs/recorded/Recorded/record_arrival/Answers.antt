@@ -2,7 +2,8 @@ use Rattle.std.proofs.Common.{ℕ, ◌≡◌, ◌+◌, ◌-◌, ◌≤◌, Some,
 use Rattle.private_store.specs.rules.Cluster.{arrival_of}
 use Rattle.cluster_history.specs.Histories.{count_at}
 use Rattle.node_journal.specs.Witnesses.{IsArrived, witness_of}
-use Rattle.node_journal.proofs.RecordedSteps.{delivery_may, delivery_mail, delivery_recorded}
+use Rattle.node_journal.specs.Recorded.{IsLastIn}
+use Rattle.node_journal.proofs.RecordedSteps.{delivered_by, delivery_may, delivery_mail, delivery_recorded, last_of}
 use Rattle.node_journal.proofs.recorded.Recorded.record_arrival.Goals as goal
 
 pub overflow_sub-count : goal.overflow_sub-count
@@ -53,7 +54,16 @@ invariant_of-self-2 g c =
 
 pub returns-clause-arrived : goal.returns-clause-arrived
 returns-clause-arrived g c a is =
+    let made = c.in_ok-made.made in
     let done = c.in_ok-made.ensures in
-    let same = c.into_parts-posted.ensures.parts.0 in
-    subst (λ t. IsArrived c.args.posted.0.job a (witness_of t)) (sym c.with_sight.ensures.receipt.0)
-    (subst (λ p. IsArrived p.job a (witness_of c.in_ok-made.made.receipt)) same (done.arrived a (subst (λ p. arrival_of p.from p.message ≡ Some a) (sym same) is)))
+    let given = c.with_sight.ensures.receipt in
+    let parts = c.into_parts-posted.ensures.parts in
+    let own = c.args.posted in
+    let arrives = subst (λ p. arrival_of p.from p.message ≡ Some a) (sym parts.0) is in
+    let happened = subst (λ t. IsArrived own.0.job a (witness_of t)) (sym given.0) (subst (λ p. IsArrived p.job a (witness_of made.receipt)) parts.0 (done.arrived a arrives)) in
+    let whole = ap (λ t. (witness_of t).whole) given.0 ∙ (done.once a arrives).step.whole in
+    let went = delivered_by _ _ _ _ _
+    _ _ (c.job-job.ensures ∙ ap (λ p. p.job) parts.0) _ _ (c.from-from.ensures ∙ ap (λ p. p.from) parts.0) _ _ (c.to-to.ensures ∙ ap (λ p. p.to) parts.0) _ _ ((c.of-message.ensures ∙ c.message.ensures) ∙ ap (λ p. p.message) parts.0)
+    _ _ parts.1.0 _ _ parts.1.1 _ _ (c.of.ensures ∙ sym whole) c.add.ensures.goes_on
+    in
+    (happened, subst (IsLastIn _) (sym (given.1 ∙ c.sight-2.ensures)) (last_of _ _ _ _ _ _ _ went))

@@ -1,10 +1,5 @@
-use Rattle.private_store.specs.declared.schedules.Event.TheVariants as event
-use Rattle.shared_nodes.proofs.Answering.{answered, answered_small}
+use Rattle.shared_nodes.proofs.Answering.{given_then}
 use Rattle.shared_nodes.proofs.shared.SharedNode.call.Goals as goal
 
 pub returns-clause-called : goal.returns-clause-called
-returns-clause-called g c =
-    answered c.step_command-stepped.result c.answer.result.0 c.answer.result.1 (g.K.JournaledNode.called_by (event.Call c.args.job c.args.session c.args.command)) c.answer.ensures c.step_command-stepped.ensures.called
-
-pub returns-clause-small : goal.returns-clause-small
-returns-clause-small g c = answered_small c.step_command-stepped.result c.answer.result.0 c.answer.result.1 c.answer.ensures c.step_command-stepped.ensures.small
+returns-clause-called g c = given_then c.call_next.result.1 c.call_next.ensures.called (λ r next. next.is_called)
