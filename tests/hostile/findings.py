@@ -13,8 +13,8 @@ MOST_P99, MOST_LONGEST = 3.0, 5.0
 # of the memory after a trial to that before; and what an allocator may keep in any case: glibc's has up to eight arenas a processor, for the
 # threads of sessions, and keeps the last 128 KiB and more of each
 MOST_MEMORY, ALLOCATORS_SHARE = 1.2, 8 << 20
-# of a live job at a node, before it is folded: 65,536 lines
-JOURNAL = 20 << 20
+# of a live job at a node, before it is folded: 8,192 lines, and room for a step
+JOURNAL = 3 << 20
 
 
 class Check(NamedTuple):

@@ -26,7 +26,7 @@ AFTERWARDS = 5
 # each line of a journal, of which it keeps so many of a live job at a node, and for an ended job. A command makes at most so many lines,
 # with what its messages and works make
 BYTES_AT_FIRST, BYTES_A_SESSION, BYTES_A_LINE, BYTES_AN_ENDED_JOB = 24 << 20, 1_152 << 10, 320, 16 << 10
-MOST_LINES, LINES_A_COMMAND = 65_536, 2
+MOST_LINES, LINES_A_COMMAND = 8_192, 2
 
 Program = Union[Server, Supervised]
 # an object and its bytes

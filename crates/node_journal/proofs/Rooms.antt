@@ -44,7 +44,7 @@ none_full own grantees job n few = by (own == job) (list_any (is_its job) grante
         let none : lines_due own grantees job ≡ 0 = ap (λ b. count_by (is_its job) grantees + cond b 1 0) s ∙ ap (λ k. k + 0) (count_none job grantees e) in
         sym (ap (λ k. nat_lt most_lines (n + k)) none ∙ small n few)
       where
-        small : (n : ℕ) → n ≤ 65536 → nat_lt 65536 (n + 0) ≡ false
+        small : (n : ℕ) → n ≤ 8192 → nat_lt 8192 (n + 0) ≡ false
         small n few = grind (arith, nat_tests, few)
 
 pub full_is : (own : ℕ) (grantees : List JobNo) (job n : ℕ) (a : Bool) (rest : List JobNo) → n ≤ most_lines → rest ≡ []
@@ -106,10 +106,10 @@ stays_few own job grantees j made full is some few = by full is
     one true = omega arith
     one false = omega arith
 
-    room : (n due : ℕ) → false ≡ nat_lt 65536 (n + due) → n + due ≤ 65536
+    room : (n due : ℕ) → false ≡ nat_lt 8192 (n + due) → n + due ≤ 8192
     room n due h = grind (arith, nat_tests, h)
 
-    by : (full : Bool) → full ≡ list_is_full own grantees job (length j.list) → length (with_lines (folded_if full j) made).list ≤ 65536
+    by : (full : Bool) → full ≡ list_is_full own grantees job (length j.list) → length (with_lines (folded_if full j) made).list ≤ 8192
     by true is = omega (arith, few, some, count_few job grantees, one (own == job))
     by false is = omega (arith, few, room (length j.list) (lines_due own grantees job) is, length-append j.list made)
 
@@ -135,8 +135,8 @@ arrival_few own number job notes j after entry silent is =
     (made_few own job [] entry (notes_for number (inputs_noted notes) job) (subst (λ ns. length (notes_for number (inputs_noted ns) job) ≤ 0) (sym silent) (omega arith))))
 
 pub fold_few : (b : Bool) (j after : Journal) → after ≡ folded_if b j → length j.list ≤ most_lines → length after.list ≤ most_lines
-fold_few b j after is few = subst (λ (k : Journal). length k.list ≤ 65536) (sym is) (by b)
+fold_few b j after is few = subst (λ (k : Journal). length k.list ≤ 8192) (sym is) (by b)
   where
-    by : (b : Bool) → length (folded_if b j).list ≤ 65536
+    by : (b : Bool) → length (folded_if b j).list ≤ 8192
     by true = omega arith
     by false = few

@@ -106,13 +106,13 @@ sweep_numbered count dead j after e h = subst (AreEntriesNumbered count) (sym e)
     by false entries = h
 
 pub sweep_few : (dead : Bool) (j after : Journal) → after ≡ swept_if dead j → length j.list ≤ most_lines → length after.list ≤ most_lines
-sweep_few dead j after e few = subst (λ (k : Journal). length k.list ≤ 65536) (sym e) (by dead (has_entries j))
+sweep_few dead j after e few = subst (λ (k : Journal). length k.list ≤ 8192) (sym e) (by dead (has_entries j))
   where
-    parts : (entries : Bool) → length (by_parts entries (nat_le many_lines (length j.list)) j).list ≤ 65536
+    parts : (entries : Bool) → length (by_parts entries (nat_le many_lines (length j.list)) j).list ≤ 8192
     parts true = fold_few (nat_le many_lines (length j.list)) j _ refl few
     parts false = omega arith
 
-    by : (dead entries : Bool) → length (if dead then by_parts entries (nat_le many_lines (length j.list)) j else j).list ≤ 65536
+    by : (dead entries : Bool) → length (if dead then by_parts entries (nat_le many_lines (length j.list)) j else j).list ≤ 8192
     by true entries = parts entries
     by false entries = few
 

@@ -57,7 +57,7 @@ fresh job = record { base = record { store = unbegun_replay job; taken = 0 }; co
 
 -- the lines that a list has at most
 abbrev pub most_lines : ℕ
-most_lines = 65536
+most_lines = 8192
 
 -- ---- what a step adds
 

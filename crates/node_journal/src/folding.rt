@@ -12,7 +12,7 @@ use plain_store::PlainStore;
 use std::alloc::Global;
 
 /// The lines that a job's list has at most.
-pub const MOST_LINES: usize = 65_536;
+pub const MOST_LINES: usize = 8_192;
 
 /// What a job's lines are folded into.
 #[derive(Drop)]

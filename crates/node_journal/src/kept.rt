@@ -57,7 +57,7 @@ const LISTS_SWEPT: usize = 2;
 /// Whenever it can be seen, the node shows of every job number a view of which the job's journal tells: the replay of its
 /// lines on its base gives that view without its contents, and each entry that is an input has the answer that the replay gives
 /// there. A Take's entry gives the first work of its job that isn't taken there. The numbers of the lines rise and are above what is
-/// covered, and no list is longer than 65,536 lines.
+/// covered, and no list is longer than 8,192 lines.
 #[derive(Drop)]
 pub struct Kept<L: Ledger> {
     alloc: Global,
@@ -100,7 +100,7 @@ impl<L: Ledger> Kept<L> {
 
     /// Steps the node by one event, and adds one entry, which the receipt names, and after it a note to each job that the
     /// step told of a grant. The entry stands under the event's job, and a Take's under the job whose work it gives. A list that
-    /// might become longer than 65,536 lines by that is folded first: its base is then the replay of its old base and lines, and
+    /// might become longer than 8,192 lines by that is folded first: its base is then the replay of its old base and lines, and
     /// it has the new lines alone.
     ///
     /// The error is out of memory: for its entry or a fold, or since 1,152,921,504,606,846,975 entries were made; or for the step
@@ -133,7 +133,7 @@ impl<L: Ledger> Kept<L> {
     }
 
     /// A message that was posted to this node arrives, by `Node::arrive`, and adds one entry to its job's list, which the receipt
-    /// names. It tells nobody of a grant, so there is no note. The list is folded first if it has 65,536 lines: its base is then
+    /// names. It tells nobody of a grant, so there is no note. The list is folded first if it has 8,192 lines: its base is then
     /// the replay of its old base and lines, and it has the new entry alone.
     ///
     /// `Stale` if it was posted to another place, or isn't made for a node; and `NoMemory` if the message, its entry or a fold

@@ -62,7 +62,7 @@ impl Log {
     /// Makes room for so many lines more. A list that is half full has room for all lines at once, and for those of a step before it is
     /// folded: it would be moved to a place of twice its size for that step alone.
     fn reserve(&mut self, more: usize) -> Result<(), OutOfMemory>
-        requires { more ≤ 65536 }
+        requires { more ≤ 8192 }
         ensures journal { self.new.journal ≡ self.old.journal }
         ensures spare { self.old.spare ≤ self.new.spare }
         ensures room { OnOk result (more ≤ self.new.spare) }
@@ -212,7 +212,7 @@ impl Logs {
 
     /// Makes room for so many lines of the job.
     fn grow(&mut self, job: JobNo, more: usize) -> Result<(), OutOfMemory>
-        requires { more ≤ 65536 }
+        requires { more ≤ 8192 }
         ensures journals { (other : ℕ) → journal_of self.new other ≡ journal_of self.old other }
         ensures spare { (other : ℕ) → spare_of self.old other ≤ spare_of self.new other }
         ensures room { OnOk result (more ≤ spare_of self.new job.0) }

@@ -5,7 +5,9 @@ use Rattle.memory_growth.specs.declared.OutOfMemory.{OutOfMemory}
 use Rattle.obj_id.specs.declared.commands.Reply.{Reply}
 use Rattle.obj_id.specs.declared.commands.Reply.TheVariants as reply
 use Rattle.obj_id.specs.declared.refusals.Refusal.TheVariants.{NoMemory}
+use Rattle.private_store.specs.declared.schedules.Event.{Event}
 use Rattle.private_store.specs.laws.Answers.{is_small_reply}
+use Rattle.node_gate.specs.Calls.{IsNext}
 use Rattle.node_steps.specs.declared.stepping.Stepped.{Stepped}
 
 -- the answer, with its receipt if there is one
@@ -22,7 +24,8 @@ pub answered_small : {T M : Type 0} (stepped : Result (Stepped T M) OutOfMemory)
 answered_small (Ok s) response given is small = ap is_small_reply is.0 ∙ small
 answered_small (Err e) response given is small = ap is_small_reply is.0
 
--- what is said of a receipt, if there is one, is said by what tells more of it
-pub given_then : {T : Type 0} (given : Option T) {A : Type 0} {P Q : T → Type 0} → MatchOption given A P → ((r : T) → P r → Q r) → MatchOption given A Q
-given_then None none then = none
-given_then (Some r) told then = then r told
+-- what is said of a session's command that came after others is said of it
+pub called_of : {T : Type 0} (called : Event → Reply (List ℕ) → T → Type 0) (rises : T → T → Type 0) (earlier : Option T) (e : Event) (response : Reply (List ℕ)) (given : Option T)
+    → MatchOption given (response ≡ reply.Refused NoMemory) (λ r. IsNext called rises earlier e response r) → MatchOption given (response ≡ reply.Refused NoMemory) (λ r. called e response r)
+called_of called rises earlier e response None none = none
+called_of called rises earlier e response (Some r) next = next.is_called
