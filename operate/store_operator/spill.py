@@ -15,6 +15,7 @@ from pathlib import Path
 from typing import Iterator, NamedTuple, Optional, Sequence, Tuple
 
 from .jobs import Over
+from .sockets import Identity
 
 LOCK = "lock"
 _SPILLED = re.compile(r"(0|[1-9][0-9]{0,9})\.(0|[1-9][0-9]{0,19})(\.part)?", re.ASCII)
@@ -40,6 +41,8 @@ class SpillFolders:
         self.above = above
         self.nodes = tuple(nodes)
         self._lock: Optional[int] = None
+        # which folders were swept for the server that runs: others may have come into their places since
+        self._own: Tuple[Identity, ...] = ()
 
     def take(self) -> int:
         """Makes what is missing, and locks. The lock's descriptor, for the server: it stays locked as long as anyone has it open."""
@@ -72,22 +75,30 @@ class SpillFolders:
         return lock
 
     def sweep(self) -> int:
-        """Removes the files that a server which has ended left, and nothing else. How many there were.
+        """Removes the files that a server which has ended left, and nothing else. How many there were. From here on the folders are the
+        next server's.
 
-        What has such a name and is no file is a fault: the server would write through a link.
+        What has such a name and is no file is a fault: the server would write through a link. So is a folder that a live server has,
+        whoever started it: it needs what is there.
         """
-        return sum(_sweep(folder) for folder in self.nodes)
+        swept = [_sweep(folder) for folder in self.nodes]
+        self._own = tuple(own for own, _ in swept)
+        return sum(count for _, count in swept)
+
+    def clear(self) -> int:
+        """The same, once that server has ended. If another folder has come into the place of its own nothing is removed there."""
+        return sum(_sweep(folder, own)[1] for folder, own in zip(self.nodes, self._own))
 
     def sweep_jobs(self, over: Sequence[Over]) -> int:
         """Removes what lies there of jobs that are over, by node: a server reads none of it any more. How many files there were.
 
         The server goes on meanwhile, and may remove the same files: neither minds that one has gone.
         """
-        return sum(_sweep_jobs(folder, jobs) for folder, jobs in zip(self.nodes, over))
+        return sum(_sweep_jobs(folder, own, jobs) for folder, own, jobs in zip(self.nodes, self._own, over))
 
     def spilled(self) -> Tuple[Spilled, ...]:
-        """What lies there now, by node."""
-        return tuple(_spilled_in(folder) for folder in self.nodes)
+        """What lies in the server's folders now, by node."""
+        return tuple(_spilled_in(folder, own) for folder, own in zip(self.nodes, self._own))
 
     def give_up(self) -> None:
         """Unlocks, once the server has ended too."""
@@ -115,23 +126,25 @@ def _make(folder: Path) -> None:
         raise SpillFault(f"spill folder {folder}: others may use it (mode {mode:04o}): chmod 700 {folder}")
 
 
-def _sweep(folder: Path) -> int:
-    there = _open(folder)
-    try:
+def _sweep(folder: Path, own: Optional[Identity] = None) -> Tuple[Identity, int]:
+    """Which folder it is, and how many files were removed."""
+    with _opened(folder, own) as there:
+        # a live server has it locked as long as it runs
+        try:
+            fcntl.flock(there, fcntl.LOCK_EX | fcntl.LOCK_NB)
+        except BlockingIOError:
+            raise SpillFault(f"spill folder {folder}: a live server uses it") from None
         found = list(_spilled(there))
         for name, about in found:
             if not stat.S_ISREG(about.st_mode):
                 raise SpillFault(f"spill folder {folder}: {name} is no file, and a spilled object would go there: remove it")
         for name, _ in found:
             os.unlink(name, dir_fd=there)
-        return len(found)
-    finally:
-        os.close(there)
+        return _identity(there), len(found)
 
 
-def _sweep_jobs(folder: Path, over: Over) -> int:
-    there = _open(folder)
-    try:
+def _sweep_jobs(folder: Path, own: Identity, over: Over) -> int:
+    with _opened(folder, own) as there:
         count = 0
         for name, about in _spilled(there):
             if over.has(int(name.partition(".")[0])) and stat.S_ISREG(about.st_mode):
@@ -139,25 +152,33 @@ def _sweep_jobs(folder: Path, over: Over) -> int:
                     os.unlink(name, dir_fd=there)
                     count += 1
         return count
-    finally:
-        os.close(there)
 
 
-def _spilled_in(folder: Path) -> Spilled:
-    there = _open(folder)
-    try:
+def _spilled_in(folder: Path, own: Identity) -> Spilled:
+    with _opened(folder, own) as there:
         sizes = [about.st_size for _, about in _spilled(there) if stat.S_ISREG(about.st_mode)]
         room = os.fstatvfs(there)
-    finally:
-        os.close(there)
     return Spilled(len(sizes), sum(sizes), room.f_bavail * room.f_frsize)
 
 
-def _open(folder: Path) -> int:
+@contextlib.contextmanager
+def _opened(folder: Path, own: Optional[Identity] = None) -> Iterator[int]:
+    """The folder's descriptor. A fault if it isn't there, or isn't this one."""
     try:
-        return os.open(folder, _FOLDER)
+        there = os.open(folder, _FOLDER)
     except OSError as error:
         raise SpillFault(f"spill folder {folder}: {error.strerror}") from error
+    try:
+        if own is not None and own != _identity(there):
+            raise SpillFault(f"spill folder {folder}: it was moved or removed, and this is another one")
+        yield there
+    finally:
+        os.close(there)
+
+
+def _identity(there: int) -> Identity:
+    found = os.fstat(there)
+    return Identity(found.st_dev, found.st_ino)
 
 
 def _spilled(folder: int) -> Iterator[Tuple[str, os.stat_result]]:

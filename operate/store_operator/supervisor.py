@@ -137,7 +137,7 @@ class Supervisor:
         self.jobs.begin()
         tidying = asyncio.ensure_future(self._tidying.run())
         try:
-            self._sweep()
+            self._tell_removed(self.spill.sweep())
             self.server = await Server.start(self.settings, self._lock, self._heard)
             self._log.info("started the server: process %d", self.server.process_id)
             await self._bring_up(self.server)
@@ -293,8 +293,7 @@ class Supervisor:
         await self._until(timeout=self._pause)
         self._pause = min(2 * self._pause, _LONGEST_PAUSE)
 
-    def _sweep(self) -> None:
-        count = self.spill.sweep()
+    def _tell_removed(self, count: int) -> None:
         if count:
             self._log.info("removed %d spilled files", count)
 
@@ -312,7 +311,7 @@ class Supervisor:
         try:
             if self.settings.ready:
                 self.settings.ready.unlink(missing_ok=True)
-            self._sweep()
+            self._tell_removed(self.spill.clear())
         except (SpillFault, OSError) as fault:
             self._log.warning("%s", fault)
 

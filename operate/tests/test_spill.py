@@ -8,8 +8,13 @@ import signal
 import subprocess
 import unittest
 from pathlib import Path
+from typing import List
 
-from driving import KEY, Place, fill, is_running, until
+from driving import KEY, PROGRAM, Place, fill, is_running, until
+
+import store_client
+from store_operator.spill import SpillFault, SpillFolders
+from store_testing.server import Server
 
 # what a store's own files are called, and what only looks like it
 OWN = ("1.1", "4294967295.18446744073709551615", "0.0", "7.12.part")
@@ -72,6 +77,25 @@ class Sweeps(unittest.TestCase):
             self.assertEqual(place.end(daemon), 0)
             self.assertEqual(victim.read_text(), "kept")
             self.assertIn("9.9 is no file", place.log())
+
+
+    def test_a_folder_that_has_come_into_the_place_of_a_moved_one_is_left_at_the_end(self) -> None:
+        with Place() as place:
+            spill, moved = folder(place), place.path / "moved"
+            folders = SpillFolders(spill.parent, [spill])
+            folders.take()
+            self.addCleanup(folders.give_up)
+            self.assertEqual(folders.sweep(), 0)
+            (spill / "1.1").write_text("own")
+            spill.rename(moved)
+            spill.mkdir(mode=0o700)
+            (spill / "1.1").write_text("another's")
+            self.assertRaisesRegex(SpillFault, "it was moved or removed, and this is another one", folders.clear)
+            self.assertEqual((spill / "1.1").read_text(), "another's")
+            shutil.rmtree(spill)
+            self.assertRaisesRegex(SpillFault, "No such file", folders.clear)
+            moved.rename(spill)
+            self.assertEqual((folders.clear(), place.spilled()), (1, []))
 
 
 class EndedJobs(unittest.TestCase):
@@ -193,6 +217,44 @@ class InUse(unittest.TestCase):
             until(lambda: not is_running(server), "the server's end")
             other.start_ready()
             self.assertEqual(place.spilled(), [])
+
+    def test_a_server_that_was_started_by_hand_keeps_its_folder(self) -> None:
+        with Place() as place, Server([PROGRAM], place.path, 1, 1 << 20, name="hand", key_of=lambda _: bytes.fromhex(KEY)) as server:
+            server.admit(0, 1, 65536, 1 << 20)
+            with store_client.connect(server.path(), 1, bytes.fromhex(KEY)) as session:
+                ids = fill(session)
+                names = until(place.spilled, "a spilled object")
+                said = place.refused()
+                self.assertEqual(place.spilled(), names)
+                self.assertEqual(self.whole(session, ids), len(ids))
+                self.assertEqual(said, f"store-daemon: spill folder {place.path}/spill/0: a live server uses it")
+
+    def test_what_has_come_into_the_place_of_a_moved_folder_is_another_server_s(self) -> None:
+        with Place() as place, Place() as other:
+            place.start_ready()
+            (place.path / "spill").rename(place.path / "moved")
+            other.write(1, (1,), spill=str(place.path / "spill"))
+            other.start_ready()
+            with other.session() as session:
+                ids = fill(session)
+                names = until(place.spilled, "a spilled object")
+                with place.control() as control:
+                    self.assertEqual(control.status()["spilled_files"], 0)
+                self.assertEqual(place.ask("end 0 1"), "n0 op ok")
+                until(lambda: "it was moved or removed, and this is another one" in place.log(), "a sweep of ended jobs")
+                os.kill(place.server(), signal.SIGKILL)
+                until(lambda: "can't be started: spill folder" in place.log(), "another start")
+                self.assertIn(f"spill folder {place.path}/spill/0: a live server uses it", place.log())
+                self.assertEqual(place.spilled(), names)
+                self.assertEqual(self.whole(session, ids), len(ids))
+
+    def whole(self, session: store_client.Connection, ids: "List[store_client.ObjectId]") -> int:
+        """How many of the objects that fill the session's window have the bytes that were put."""
+        count = 0
+        for number, one in enumerate(ids):
+            with session.get(one) as view:
+                count += bytes(view) == bytes([number]) * 20_000
+        return count
 
 
 if __name__ == "__main__":
