@@ -113,6 +113,8 @@ def _make(folder: Path) -> None:
         folder.mkdir(mode=0o700, exist_ok=True)
         # by a descriptor, so that what is looked at is what is used; the last name is no link
         there = os.open(folder, _FOLDER)
+    except FileNotFoundError:
+        raise SpillFault(f"spill folder {folder}: there is no folder {folder.parent}: make it for the user that runs this") from None
     except OSError as error:
         raise SpillFault(f"spill folder {folder}: {error.strerror}") from error
     try:

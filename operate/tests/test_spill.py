@@ -178,6 +178,13 @@ class Refusals(unittest.TestCase):
             (place.path / "spill").write_text("")
             self.assertEqual(place.refused(), f"store-daemon: spill folder {place.path}/spill: File exists")
 
+    def test_a_folder_with_none_above_it(self) -> None:
+        with Place(spill="missing/spill") as place:
+            above = place.path / "missing"
+            due = f"store-daemon: spill folder {above}/spill: there is no folder {above}: make it for the user that runs this"
+            self.assertEqual(place.refused(), due)
+            self.assertFalse(above.exists())
+
     @unittest.skipIf(os.geteuid() != 0, "only root can give a folder away")
     def test_a_folder_of_another_user(self) -> None:
         with Place() as place:
