@@ -6,7 +6,7 @@ import argparse
 import os
 import sys
 import time
-from typing import Callable, Optional, Sequence, Union
+from typing import Callable, Optional, Sequence, TypeVar, Union
 
 from . import Connection, ObjectId, Refused, State, StoreError, Task, Usage, __version__, connect
 from .checks import LAST_NUMBER, key_bytes, seconds, whole_number
@@ -15,6 +15,7 @@ from .putting import Progress
 from .requests import Pieces
 from .steps import GRACE
 
+T = TypeVar("T")
 # adds a command: its word, what runs it, and what it does
 _Adding = Callable[[str, Callable[[Connection, argparse.Namespace], None], str], argparse.ArgumentParser]
 
@@ -137,11 +138,18 @@ def _number(what: str, least: int = 0) -> Callable[[str], int]:
 
     def read(text: str) -> int:
         try:
-            return whole_number(int(text), what, least, LAST_NUMBER)
+            number = int(text)
+        except ValueError:
+            raise argparse.ArgumentTypeError(f"{what} is a whole number, not {text!r}") from None
+        try:
+            return whole_number(number, what, least, LAST_NUMBER)
         except ValueError as error:
             raise argparse.ArgumentTypeError(str(error)) from None
 
     return read
+
+
+_job = _number("a job", 1)
 
 
 def _seconds(text: str) -> float:
@@ -184,16 +192,28 @@ def arguments() -> argparse.ArgumentParser:
 
 
 def _connecting() -> argparse.ArgumentParser:
-    """Where the store is, and who speaks. What the environment says is the default, which is read likewise."""
-    place = os.environ
+    """Where the store is, and who speaks."""
     parser = argparse.ArgumentParser(prog="store-client", description=_ABOUT)
     parser.add_argument("--version", action="version", version=f"%(prog)s {__version__}")
-    parser.add_argument("--socket", default=place.get("STORE_SOCKET"), help="the socket of a node, PATH.0 for the first")
-    parser.add_argument("--job", default=place.get("STORE_JOB"), type=_number("a job", 1), help="the job's number")
+    parser.add_argument("--socket", help="the socket of a node, PATH.0 for the first")
+    parser.add_argument("--job", type=_job, help="the job's number")
     keys = parser.add_mutually_exclusive_group()
-    keys.add_argument("--key", default=place.get("STORE_KEY"), type=_key, help="the job's key")
+    keys.add_argument("--key", type=_key, help="the job's key")
     keys.add_argument("--key-file", type=_key_file, metavar="FILE", help="a file with the job's key")
     return parser
+
+
+def _known(parser: argparse.ArgumentParser, given: Optional[T], option: str, name: str, read: Callable[[str], T]) -> T:
+    """What the command line gives, or otherwise the environment, in which nothing is as if it weren't there."""
+    if given is not None:
+        return given
+    text = os.environ.get(name)
+    if not text:
+        parser.error(f"{option} is needed, or {name} in the environment")
+    try:
+        return read(text)
+    except argparse.ArgumentTypeError as error:
+        parser.error(f"{name} in the environment: {error}")
 
 
 def _add_objects(command: _Adding) -> None:
@@ -245,12 +265,11 @@ def main(words: Optional[Sequence[str]] = None) -> int:
     """Runs a command line. 0, or 1 after a fault or a refusal, which is told, or 130 if it is interrupted."""
     parser = arguments()
     chosen = parser.parse_args(words)
-    key = chosen.key_file or chosen.key
-    for name, value in (("--socket", chosen.socket), ("--job", chosen.job), ("--key-file", key)):
-        if value is None:
-            parser.error(f"{name} is needed, or STORE_{name[2:].split('-')[0].upper()} in the environment")
+    socket = _known(parser, chosen.socket, "--socket", "STORE_SOCKET", str)
+    job = _known(parser, chosen.job, "--job", "STORE_JOB", _job)
+    key = _known(parser, chosen.key_file or chosen.key, "--key-file", "STORE_KEY", _key)
     try:
-        with connect(chosen.socket, chosen.job, key, _patience(chosen)) as store:
+        with connect(socket, job, key, _patience(chosen)) as store:
             chosen.run(store, chosen)
     except (StoreError, OSError, ValueError, ImportError) as error:
         print(f"store-client: {error}", file=sys.stderr)

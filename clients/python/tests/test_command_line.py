@@ -181,14 +181,15 @@ class CommandLine(unittest.TestCase):
         with tempfile.NamedTemporaryFile("w", suffix=".key") as file:
             file.write(key(1).hex() + "\n")
             file.flush()
-            done = self.run_as(1, "--key-file", file.name, "usage", place={"STORE_KEY": key(2).hex()})
-            self.assertEqual((done.returncode, done.stderr), (0, b""))
+            for other in (key(2).hex(), "no key", ""):
+                done = self.run_as(1, "--key-file", file.name, "usage", place={"STORE_KEY": other})
+                self.assertEqual((done.returncode, done.stderr), (0, b""))
 
     def test_wrong_words_are_told_without_a_traceback(self) -> None:
         for words, told in [
             ("--job -1 usage", "a job is 1 to 4294967295, not -1"),
             ("--job 4294967296 usage", "a job is 1 to 4294967295, not 4294967296"),
-            ("--job one usage", "argument --job"),
+            ("--job one usage", "argument --job: a job is a whole number, not 'one'"),
             ("--key 00 usage", "a key is 64 hexadecimal digits"),
             ("--key-file /nowhere usage", "No such file"),
             ("get t1.1 --timeout -1", "from 0 on"),
@@ -233,6 +234,18 @@ class CommandLine(unittest.TestCase):
             told = f"store-client: {self.server.path}: the connection was lost: the server didn't answer in time\n"
             self.assertEqual((done.returncode, done.stderr.decode()), (1, told))
             self.assertLess(time.monotonic() - began, PATIENCE / 4)
+
+    def test_what_is_wrong_in_the_environment_is_named(self) -> None:
+        for name, value, told in [
+            ("STORE_JOB", "one", "STORE_JOB in the environment: a job is a whole number, not 'one'"),
+            ("STORE_JOB", "0", "STORE_JOB in the environment: a job is 1 to 4294967295, not 0"),
+            ("STORE_KEY", "00", "STORE_KEY in the environment: a key is 64 hexadecimal digits"),
+            ("STORE_KEY", "", "--key-file is needed, or STORE_KEY in the environment"),
+            ("STORE_SOCKET", "", "--socket is needed, or STORE_SOCKET in the environment"),
+        ]:
+            done = self.run_as(1, "usage", place={name: value})
+            said = done.stderr.decode().splitlines()[-1]
+            self.assertEqual((done.returncode, said), (2, f"store-client: error: {told}"))
 
     def test_what_is_missing_is_named(self) -> None:
         done = subprocess.run([sys.executable, "-m", "store_client", "usage"], capture_output=True, check=False, timeout=PATIENCE,
