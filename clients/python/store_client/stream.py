@@ -70,6 +70,9 @@ class Stream:
                 self._await(True, end)
         while len(answers) < len(requests):
             self._replies.receive(lambda spaces: self._await_and_receive(spaces, end), requests, answers)
+        if self._replies.has_more:
+            # it would be taken for the answer to the next request
+            raise ProtocolError("more came than was asked for")
         return answers
 
     def _send(self, unsent: List[Any]) -> bool:
@@ -167,6 +170,11 @@ class _Replies:
         # of the Reads that are due: what is to be filled of a head and a body for each, the next one last, and all heads
         self._spaces: List[memoryview] = []
         self._heads = memoryview(b"")
+
+    @property
+    def has_more(self) -> bool:
+        """Whether something has come after the last answer."""
+        return self._start < self._end
 
     def receive(self, take: Receive, requests: Sequence[Request[Any]], answers: List[Answer]) -> bool:
         """Reads what has come, up to the last answer. Whether anything had."""

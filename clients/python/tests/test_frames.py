@@ -116,6 +116,17 @@ class Frames(unittest.TestCase):
         with self.assertRaises(store_client.ConnectionLost):
             self.ask("list", bytes.fromhex("00000009" "84" "000000"))
 
+    def test_more_than_was_asked_for(self) -> None:
+        """It isn't taken for the answer to the next call."""
+        for more in (self.frame_of["ok"], b"\0"):
+            script = Script([self.frame_of["ok"], self.frame_of["ok"] + more, self.frame_of["ok"]], hang=True)
+            self.addCleanup(script.close)
+            with store_client.connect(script.path, 1, key(1)) as store:
+                with self.assertRaisesRegex(store_client.ProtocolError, "more came than was asked for"):
+                    call(store, "seal t1.1")
+                with self.assertRaisesRegex(store_client.ConnectionLost, "the connection was given up: more came"):
+                    call(store, "seal t1.2")
+
 
 class Cut:
     """A socket that has so many bytes at each call, and then nothing."""
