@@ -9,7 +9,7 @@ import threading
 import time
 from typing import Callable, Dict, Iterator, List, NamedTuple, Sequence
 
-from findings import ALLOCATORS_SHARE, Check, compared, given_back
+from findings import ALLOCATORS_SHARE, JOURNAL, Check, compared, given_back
 from host import PATIENCE, Host, attacked, close_all, raw_streams
 
 import store_client
@@ -33,6 +33,8 @@ LARGE_ENOUGH = 60.0
 OK = frame(0x80)
 # bytes of the answer to a Usage
 USAGE = len(frame(0x85, bytes(48)))
+# eight times what a job's list in a node's journal has before it is folded
+LINES = 65_536
 # what a session takes, with its thread's stack and an allocator's arena
 SESSION = 512 * KIB
 
@@ -164,6 +166,34 @@ def _send_until_full(streams: "List[socket.socket]", hello: bytes, seconds: floa
                 # whole frames or not: each stream goes on where it stopped
                 stream.send(burst)
         time.sleep(0.05)
+
+
+def journals_of_small_jobs(scale: Scale, jobs: int = 4) -> List[Check]:
+    """How much memory does a job's journal take, however small its window?"""
+    those = range(CROWDED + 1, CROWDED + 1 + jobs)
+    with hosts(scale, 1) as (host,):
+        for job in those:
+            host.admit(job, 64 * KIB)
+            with host.session(job) as session:
+                session.usage()
+        before = host.figures()
+        for job in those:
+            _fill_journal(host, job)
+        taken = host.figures().resident - before.resident
+        for job in those:
+            host.end_job(job)
+        return [Check("MiB for each job", taken / jobs / MIB, JOURNAL / MIB), *given_back(host, before)]
+
+
+def _fill_journal(host: Host, job: int, burst: int = 200) -> None:
+    """Many more steps than a list has before it is folded."""
+    with socket.socket(socket.AF_UNIX) as stream:
+        stream.settimeout(PATIENCE)
+        stream.connect(host.path())
+        ask(stream, hello(job), OK)
+        for _ in range(LINES // burst - 1):
+            stream.sendall(burst * frame(0x11))
+            assert len(receive(stream, burst * USAGE)) == burst * USAGE, "a Usage wasn't answered"
 
 
 # ---- waits
@@ -535,7 +565,7 @@ def a_close_by_the_daemon(scale: Scale) -> List[Check]:
 
 
 _TRIALS: Sequence[Trial] = (
-    grants_to_nobody, never_read_without_key, never_read_with_key, waiters_that_went_away, waiters_100, waiters_400,
+    grants_to_nobody, never_read_without_key, never_read_with_key, journals_of_small_jobs, waiters_that_went_away, waiters_100, waiters_400,
     waiters_at_another_node, seals_of_1_session, seals_of_4_sessions, seals_beside_a_writer, versions_of_a_copy, floods_of_32_sessions,
     restores_of_1_session, fetches_of_1_session, fetches_of_4_sessions, ends_of_large_jobs, connections_without_key,
     connections_that_come_and_go, a_close_by_the_daemon,
