@@ -18,6 +18,9 @@ MOST_BYTES = 65_536
 # the most bytes of an object
 LARGEST = 16_777_216
 
+# the bytes of an item of a List: of a copy of the job's own, and of an object that another job granted
+_OWN, _GRANTED = 34, 33
+
 
 class Command(enum.IntEnum):
     """The kinds of the commands' frames."""
@@ -73,38 +76,42 @@ def numbers(*values: int) -> bytes:
 
 def read_list(body: bytes, prefix: bytes = b"") -> tuple[list[OwnItem], list[GrantedItem]]:
     """The job's own copies whose ids begin so, and what others granted. `ValueError` or `struct.error` for what is no such body."""
-    (count,) = struct.unpack_from(">I", body, 0)
-    at = 4
+    end = _own_end(body)
     own = []
-    for _ in range(count):
+    for at in range(4, end, _OWN):
         # of a thousand copies hardly any may be wanted, and most of the time is taken by what is made of them
         if body.startswith(prefix, at):
             state, kind, length = struct.unpack_from(">BBI", body, at + 28)
-            own.append(OwnItem(ObjectId.from_bytes(body[at : at + 28]), State(state), Kind(kind), _length(length)))
-        at += 34
-    (count,) = struct.unpack_from(">I", body, at)
-    at += 4
+            # a fetch that hasn't found the object has none
+            least = 0 if state == State.FETCHING else 1
+            own.append(OwnItem(ObjectId.from_bytes(body[at : at + 28]), State(state), Kind(kind), _length(length, least)))
     granted = []
-    for _ in range(count):
+    for at in range(end + 4, len(body), _GRANTED):
         length, depth = struct.unpack_from(">IB", body, at + 28)
-        granted.append(GrantedItem(ObjectId.from_bytes(body[at : at + 28]), _length(length), depth))
-        at += 33
-    if at != len(body):
-        raise ValueError("bytes after the last item")
+        granted.append(GrantedItem(ObjectId.from_bytes(body[at : at + 28]), _length(length, 1), depth))
     return own, granted
 
 
 def read_names(body: bytes) -> Dict[bytes, int]:
     """The same, as bytes of ids alone: of the job's own copies with their states, of others' with none."""
-    (count,) = struct.unpack_from(">I", body, 0)
-    granted = 4 + 34 * count
-    names = {body[at : at + 28]: body[at + 28] for at in range(4, granted, 34)}
-    names.update((body[at : at + 28], -1) for at in range(granted + 4, len(body), 33))
+    end = _own_end(body)
+    names = {body[at : at + 28]: body[at + 28] for at in range(4, end, _OWN)}
+    names.update((body[at : at + 28], -1) for at in range(end + 4, len(body), _GRANTED))
     return names
 
 
-def _length(length: int) -> int:
-    if length > LARGEST:
+def _own_end(body: bytes) -> int:
+    """Where the job's own copies end in the body of a List, which is as long as it says."""
+    (own,) = struct.unpack_from(">I", body, 0)
+    end = 4 + _OWN * int(own)
+    (granted,) = struct.unpack_from(">I", body, end)
+    if end + 4 + _GRANTED * granted != len(body):
+        raise ValueError(f"{own} copies and {granted} objects of others in {len(body)} bytes")
+    return end
+
+
+def _length(length: int, least: int) -> int:
+    if not least <= length <= LARGEST:
         raise ValueError(f"no object has {length} bytes")
     return length
 

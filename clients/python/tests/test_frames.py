@@ -109,12 +109,26 @@ class Frames(unittest.TestCase):
             ("get t1.1", "00000005" "82" "01000001"),
             ("get t1.1", "00000005" "82" "00000000"),
             ("list", "0000002b" "84" "00000001" + item + "0100" "01000001" "00000000"),
+            ("list", "0000002b" "84" "00000001" + item + "0100" "00000000" "00000000"),
             ("list", "0000002a" "84" "00000000" "00000001" + item + "ffffffff" "01"),
+            ("list", "0000002a" "84" "00000000" "00000001" + item + "00000000" "01"),
         ]:
             with self.assertRaises(store_client.ProtocolError, msg=said):
                 self.ask(said, bytes.fromhex(digits))
         with self.assertRaises(store_client.ConnectionLost):
             self.ask("list", bytes.fromhex("00000009" "84" "000000"))
+
+    def test_a_list_that_is_not_as_long_as_it_says(self) -> None:
+        """However it is read, and at once: no more items are looked for than there are."""
+        requests, fetch = Requests(1), "00" * 19 + "01" "00000001" "00000001" "0300" "00000000"
+        asked: List[Request[Any]] = [requests.list(), requests.list(b"another"), requests.names()]
+        for digits in ("", "00000000", "ffffffff" "00000000", "00000001" + "00" * 30, "00000000" "00000001", "00000000" "00000000" "00"):
+            for request in asked:
+                with self.assertRaises(store_client.ProtocolError, msg=digits):
+                    request.answer(frames.Reply.LIST, bytes.fromhex(digits))
+        body = bytes.fromhex("00000001" + fetch + "00000000")
+        told = [request.answer(frames.Reply.LIST, body) for request in asked]
+        self.assertEqual([len(told[0][0]), told[1], list(told[2].values())], [1, ([], []), [store_client.State.FETCHING]])
 
     def test_more_than_was_asked_for(self) -> None:
         """It isn't taken for the answer to the next call."""
