@@ -49,7 +49,9 @@ class Reloading:
         return settings
 
     async def _take(self, settings: Settings) -> None:
-        orders = [order for job in settings.jobs for order in self._orders(job)]
+        # the server would take an order for a node that it hasn't as a fault, and end
+        nodes = self._supervisor.settings.nodes
+        orders = [order for job in settings.jobs if job.node < nodes for order in self._orders(job)]
         for order in orders:
             try:
                 answer = await self._supervisor.carry_out(order)

@@ -49,6 +49,20 @@ class Reload(unittest.TestCase):
             self.assertIn("WARNING these options have changed, and want a restart: memory, log_level, grace\n", said)
             self.assertIn("grace=0.5", place.ask("status"))
 
+    def test_a_node_more_wants_a_restart_and_ends_nothing(self) -> None:
+        with Place() as place:
+            place.start_ready()
+            server = place.server()
+            with place.session() as session:
+                kept = session.put(b"kept")
+            place.write(2, (1, 2))
+            said = self.reload(place, "the settings were read again: 1 orders")
+            self.assertIn("WARNING these options have changed, and want a restart: nodes\n", said)
+            self.assertNotIn("the server says", said)
+            with place.session() as session, session.get(kept) as view:
+                self.assertEqual(bytes(view), b"kept")
+            self.assertEqual((place.server(), place.ask("jobs 0")), (server, "n0 op jobs 1:65536:1048576 2:65536:1048576"))
+
     def test_a_wrong_file_changes_nothing(self) -> None:
         with Place() as place:
             place.start_ready()
