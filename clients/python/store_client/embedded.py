@@ -175,4 +175,4 @@ def local(
     in a checkout of the repository the one that its scripts take. The timeout is that of `connect`, and of the start. The keeper is for
     the processes that use its `pool`: this one has none, since all ends with it.
     """
-    return LocalStore(memory, device, timeout)
+    return LocalStore(memory, device, timeout, keeper)

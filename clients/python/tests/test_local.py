@@ -7,6 +7,7 @@ import gc
 import importlib
 import multiprocessing
 import os
+import pickle
 import shutil
 import signal
 import subprocess
@@ -136,6 +137,16 @@ class Use(Local):
                 for number, (first, id) in enumerate(done):
                     with store.get(ObjectId.from_bytes(id)) as view:
                         self.assertEqual((first, bytes(view)), (number, bytes([number]) * 1000))
+        self.assert_nothing_is_left()
+
+    def test_its_pools_have_a_keeper_unless_it_is_not_wanted(self) -> None:
+        for wanted in (False, True):
+            with store_client.local("1M", keeper=wanted) as store:
+                pools = (store.pool(), pickle.loads(pickle.dumps(store.pool())))
+                for number, pool in enumerate(pools, 1):
+                    with pool:
+                        pool.put(b"Hello", store.task(1).object(number))
+                self.assertEqual(len(list(self.temporary.glob("store-keepers-*"))), int(wanted))
         self.assert_nothing_is_left()
 
     def test_a_child_that_ends_leaves_the_server(self) -> None:
