@@ -28,6 +28,7 @@ from .settings import Place, Settings, SettingsFault, metrics_place, read_settin
 from .sockets import SocketFault
 from .spill import SpillFault
 from .supervisor import StartFault, Supervisor
+from .terminal import Terminal
 from .watching import tell_watchdog
 
 
@@ -64,32 +65,22 @@ def open_log(path: Optional[Path], level: int) -> logging.Logger:
     return log
 
 
-def has_terminal() -> bool:
-    """Whether the process has one that is still there."""
-    try:
-        os.close(os.open("/dev/tty", os.O_RDWR | os.O_NOCTTY | os.O_CLOEXEC))
-    except OSError:
-        return False
-    return True
-
-
-def take_signals(supervisor: Supervisor, reloading: Reloading) -> None:
-    """SIGHUP tells of new settings. If it comes since the terminal has gone that the daemon was started from it ends it."""
-    loop, had_terminal = asyncio.get_running_loop(), has_terminal()
+def take_signals(supervisor: Supervisor, reloading: Reloading, terminal: Terminal) -> None:
+    """SIGHUP tells of new settings. If it comes since the terminal has just gone that the daemon was started from it ends it, unless it was
+    started by nohup."""
+    loop, outlasts = asyncio.get_running_loop(), signal.getsignal(signal.SIGHUP) is signal.SIG_IGN
 
     def read_again() -> None:
-        if had_terminal and not has_terminal():
-            supervisor.stop(False)
-        else:
+        if not terminal.has_just_gone:
             reloading.ask()
+        elif not outlasts:
+            supervisor.stop(False)
 
     for number in (signal.SIGTERM, signal.SIGINT):
         # as a shell does it in the background
         if signal.getsignal(number) is not signal.SIG_IGN:
             loop.add_signal_handler(number, supervisor.stop, False)
-    # nohup means that no end of a terminal ends it
-    if signal.getsignal(signal.SIGHUP) is not signal.SIG_IGN:
-        loop.add_signal_handler(signal.SIGHUP, read_again)
+    loop.add_signal_handler(signal.SIGHUP, read_again)
 
 
 async def serve(settings: Settings, read: Callable[[], Settings], log: logging.Logger) -> None:
@@ -97,9 +88,9 @@ async def serve(settings: Settings, read: Callable[[], Settings], log: logging.L
     looks = Looks(supervisor)
     metrics = Metrics(looks)
     control, served = Control(supervisor, looks, metrics, log), MetricsServer(settings, looks, metrics)
-    reloading = Reloading(supervisor, read, log)
-    take_signals(supervisor, reloading)
-    aside = [asyncio.ensure_future(tell_watchdog()), asyncio.ensure_future(reloading.run())]
+    reloading, terminal = Reloading(supervisor, read, log), Terminal()
+    take_signals(supervisor, reloading, terminal)
+    aside = [asyncio.ensure_future(work) for work in (tell_watchdog(), reloading.run(), terminal.watch())]
     try:
         # of two daemons with the same settings only one goes on from here
         supervisor.take()

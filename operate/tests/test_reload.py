@@ -2,14 +2,19 @@
 
 from __future__ import annotations
 
+import contextlib
 import os
 import pty
 import signal
 import subprocess
 import sys
+import time
 import unittest
 
 from driving import DAEMON, KEY, PATIENCE, Place, is_running, until
+
+# seconds after the end of a terminal in which no signal tells of it any more
+LONG_AFTER = 5.0
 
 
 class Reload(unittest.TestCase):
@@ -109,6 +114,38 @@ class Reload(unittest.TestCase):
             until(lambda: not is_running(server), "the server's end")
             until(lambda: not (place.path / "control").exists(), "the daemon's end")
             self.assertIn("the server has ended: report", place.log())
+
+    def test_long_after_the_end_of_its_terminal_it_reads_again(self) -> None:
+        """In the background it isn't told of that end."""
+        with Place() as place:
+            words = f"{sys.executable} {DAEMON} {place.settings} > {place.path}/out 2> {place.path}/log"
+            process, terminal = pty.fork()
+            if process == 0:
+                os.posix_spawn("/bin/sh", ["sh", "-c", f"echo $$ > {place.path}/daemon; exec {words}"], os.environ, setpgroup=0)
+                signal.pause()
+            until(lambda: (place.path / "out").exists() and place.said(), "ready")
+            daemon, server = int((place.path / "daemon").read_text()), place.server()
+            self.addCleanup(self.kill, daemon)
+            os.close(terminal)
+            os.waitpid(process, 0)
+            time.sleep(LONG_AFTER)
+            place.write(1, (1, 2))
+            os.kill(daemon, signal.SIGHUP)
+            until(lambda: "the settings were read again: 1 orders" in place.log(), "a reading")
+            self.assertEqual((place.server(), place.ask("jobs 0")), (server, "n0 op jobs 1:65536:1048576 2:65536:1048576"))
+            place.ask("close now")
+            until(lambda: not is_running(daemon), "the daemon's end")
+
+    def kill(self, process: int) -> None:
+        with contextlib.suppress(ProcessLookupError):
+            os.kill(process, signal.SIGKILL)
+
+    def test_under_nohup_it_reads_again(self) -> None:
+        with Place() as place:
+            place.start_ready(["nohup"])
+            place.write(1, (1, 2))
+            self.reload(place, "the settings were read again: 1 orders")
+            self.assertEqual(place.ask("jobs 0"), "n0 op jobs 1:65536:1048576 2:65536:1048576")
 
 
 class Check(unittest.TestCase):
