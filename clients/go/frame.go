@@ -160,7 +160,7 @@ func write(id ObjectID, offset uint32, data []byte) request {
 func get(kind byte, id ObjectID, length *int) request {
 	take := func(body *body) {
 		told := body.number()
-		body.check(told >= 1 && told <= Largest)
+		body.check(isLength(told))
 		*length = int(told)
 	}
 	return request{kind: kind, fields: idBytes(id), due: kindGot, least: 4, most: 4, take: take}
@@ -309,8 +309,16 @@ func items[T any](b *body, read func(*body) T) []T {
 
 func ownItem(b *body) OwnItem {
 	item := OwnItem{b.id(), State(b.byte()), CopyKind(b.byte()), b.number()}
-	b.check(item.State <= Away && item.Kind <= Secondary)
+	// a fetch that hasn't found the object has no length
+	b.check(item.State <= Away && item.Kind <= Secondary && (isLength(item.Length) || item.State == Fetching && item.Length == 0))
 	return item
 }
 
-func grantedItem(b *body) GrantedItem { return GrantedItem{b.id(), b.number(), b.byte()} }
+func grantedItem(b *body) GrantedItem {
+	item := GrantedItem{b.id(), b.number(), b.byte()}
+	b.check(isLength(item.Length))
+	return item
+}
+
+// isLength says whether an object may be so long.
+func isLength(length uint32) bool { return length >= 1 && length <= Largest }

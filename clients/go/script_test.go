@@ -169,7 +169,11 @@ func together(answers ...said) said {
 func listed(states ...State) said {
 	body := addNumber(nil, uint32(len(states)))
 	for _, state := range states {
-		body = addNumber(append(append(body, idBytes(anyID())...), byte(state), byte(Secondary)), 0)
+		length := uint32(1)
+		if state == Fetching {
+			length = 0
+		}
+		body = addNumber(append(append(body, idBytes(anyID())...), byte(state), byte(Secondary)), length)
 	}
 	return reply(kindListed, addNumber(body, 0)...)
 }
