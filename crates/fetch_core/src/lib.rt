@@ -20,7 +20,6 @@ use memory_growth::{OutOfMemory, lists, shared};
 use obj_id::limits::CHUNK_SIZE;
 use obj_id::{ChunkIndex, Digest, FetchNo, Location, NodeNo, ObjectId, PeerMessage};
 use private_store::FetchFault;
-use sha2::{Digest as _, Sha256};
 use std::alloc::Global;
 use std::marker::Model;
 
@@ -299,7 +298,7 @@ fn chunk_at(bytes: &Bytes, index: u32) -> Result<Option<Bytes>, OutOfMemory>
 fn digest_of(bytes: &[u8]) -> Digest
     ensures { result ≡ digest_of_lem bytes.now }
 {
-    Digest(Sha256::digest(bytes))
+    Digest(fast_sha256::digest(bytes))
 }
 
 /// How long the chunk of this index is, in an object of `length` bytes; 0 after its end.

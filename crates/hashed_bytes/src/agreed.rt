@@ -5,7 +5,6 @@ ghost use Rattle.hashed_bytes.specs.Agreeing.{Agrees};
 
 use crate::{Hashed, are_same};
 use obj_id::Digest;
-use sha2::{Digest as _, Sha256};
 use std::marker::Model;
 
 /// So many bytes are compared at a time, which takes some 20 microseconds.
@@ -75,7 +74,7 @@ impl Agreed {
     {
         match &self.hashed {
             Some(hashed) if self.same == len && hashed.as_slice().len() == len => hashed.digest(),
-            _ => Digest(Sha256::digest(&bytes[..len])),
+            _ => Digest(fast_sha256::digest(&bytes[..len])),
         }
     }
 }

@@ -2,9 +2,6 @@
 //! the first hole of some length is found in one descent.
 #![tactic(auto)]
 
-#[cfg(test)]
-mod tests;
-
 ghost use Rattle.std.specs.Prelude.{◌≡◌, ◌^◌, ◌<◌, ◌≤◌, [], is_some};
 ghost use Rattle.augmented_tree.specs.Shape.{items, depth, HasSummaries};
 ghost use Rattle.hole_tree.specs.Holes.{hole_offset, IsAnyHole, IsGreatest, AreHolesRising, put_hole, take_hole, has_hole, hole_at, first_fitting};

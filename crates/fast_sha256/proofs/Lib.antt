@@ -1,0 +1,5 @@
+mod Bits
+mod Lanes
+mod Twins
+mod OneRound
+mod Messages
