@@ -132,22 +132,6 @@ adds_moves nodes memory place within known v begins e old of counted follows cs 
   goes nodes memory place within known v begins e old of counted follows cs log kept pre ((cell cs place).0 == old) refl,
 )
 
--- of an exchange that found what it expected
-pub went_on : (nodes memory place old new : ℕ) (known other v w : List Traced) (e : Traced) (found : ℕ) → MatchBool (found == old) (Added nodes memory (step place old new e) v w) (Unit {0}) → found ≡ old
-    → IsPrefix known v → IsPrefix other v → count_at nodes place known ≡ old → GoesOn nodes memory place known other w e
-went_on nodes memory place old new known other v w e found told is begins also counted =
-    let here : (found == old) ≡ true = grind (arith, nat_tests) in
-    let a : Added nodes memory (step place old new e) v w = subst (λ b. MatchBool b (Added nodes memory (step place old new e) v w) (Unit {0})) here told in
-    let rest : List Traced = begins.0 ++ a.between in
-    let split : known ++ rest ≡ v ++ a.between = sym (append_assoc known begins.0 a.between) ∙ ap (λ l. l ++ a.between) begins.1 in
-    record {
-      between = rest;
-      log = a.log ∙ ap (λ l. l ++ e ∷ []) (sym split);
-      none = rest_none nodes place known rest old counted (ap (count_at nodes place) split ∙ a.count);
-      after = subst (IsPrefix other) (sym split) (also.0 ++ a.between, sym (append_assoc other also.0 a.between) ∙ ap (λ l. l ++ a.between) also.1);
-      grown = subst (λ l. ∥ IsGrown nodes memory (reverse l) ∥₁) (sym split) a.grown;
-    }
-
 -- one more stands at the place afterwards
 pub count_more : (nodes memory place : ℕ) (known other now : List Traced) (e : Traced) → GoesOn nodes memory place known other now e → stands_at nodes e.step ≡ place
     → count_at nodes place now ≡ count_at nodes place known + 1
