@@ -48,7 +48,7 @@ impl<K: JournaledNode, P: Pause> SharedNode<K, P> {
 
     /// Leaves the session that was marked first: what that sends. None if no session is marked, or there is no memory for it.
     fn leave_first<R: Wait>(&self, rt: &R) -> Option<K::Mail> {
-        let mut kept = self.kept.lock(rt);
+        let mut kept = self.lock(rt);
         let sessions = &self.housekeeping.sessions;
         let mark = sessions.first_marked(rt)?;
         let mail = step_mark(rt, &mut *kept, &self.housekeeping, mark)?;

@@ -15,12 +15,12 @@ impl<K: JournaledNode, P: Pause> SharedNode<K, P> {
     pub fn usage<R: Wait>(&self, rt: &R, job: JobNo) -> Result<Usage, Refusal>
         ensures { IfErr result (λ refusal. refusal ≡ NotAdmitted) }
     {
-        self.kept.lock(rt).usage(job)
+        self.lock(rt).usage(job)
     }
 
     /// The live jobs, by rising number. The error is out of memory.
     pub fn live_jobs<R: Wait>(&self, rt: &R) -> Result<Vec<LiveJob>, OutOfMemory> {
-        self.kept.lock(rt).live_jobs(self.housekeeping.alloc)
+        self.lock(rt).live_jobs(self.housekeeping.alloc)
     }
 
     /// How many sessions are open.

@@ -34,9 +34,9 @@ impl<K: JournaledNode, P: Pause> SharedNode<K, P> {
         let Some(hashed) = self.hash_copy(rt, job, id) else {
             return;
         };
-        self.kept.lock(rt).expect(job, id, hashed);
+        self.lock(rt).expect(job, id, hashed);
         for _ in 0..LONGEST_OBJECT {
-            if !self.kept.lock(rt).compare(job, id) {
+            if !self.lock(rt).compare(job, id) {
                 return;
             }
         }
@@ -49,7 +49,7 @@ impl<K: JournaledNode, P: Pause> SharedNode<K, P> {
         job: JobNo,
         command: &Command<Bytes>,
     ) -> K::Prepared {
-        let wanted = self.kept.lock(rt).extent_wanted(job, command);
+        let wanted = self.lock(rt).extent_wanted(job, command);
         match wanted {
             Some(len) => K::prepared_zeros(self.housekeeping.alloc, len),
             None => K::nothing_prepared(),
@@ -58,7 +58,7 @@ impl<K: JournaledNode, P: Pause> SharedNode<K, P> {
 
     /// The bytes of a copy with their digest, which is computed while the node isn't locked.
     fn hash_copy<R: Wait>(&self, rt: &R, job: JobNo, id: &ObjectId) -> Option<Hashed> {
-        let bytes = self.kept.lock(rt).share_copy(job, id)?;
+        let bytes = self.lock(rt).share_copy(job, id)?;
         Some(Hashed::new(bytes))
     }
 
@@ -72,7 +72,7 @@ impl<K: JournaledNode, P: Pause> SharedNode<K, P> {
 
     /// The bytes of the object of which no chunk but this one is missing, with their digest.
     fn hash_with_last<R: Wait>(&self, rt: &R, job: JobNo, chunk: &Chunk<'_>) -> Option<Hashed> {
-        let len = self.kept.lock(rt).length_with_last(
+        let len = self.lock(rt).length_with_last(
             job,
             chunk.from,
             chunk.id,
@@ -104,7 +104,7 @@ impl<K: JournaledNode, P: Pause> SharedNode<K, P> {
         index: u32,
     ) -> Option<Bytes> {
         let offset = index.saturating_mul(CHUNK_SIZE);
-        self.kept.lock(rt).copy_part(job, id, offset, CHUNK_SIZE)
+        self.lock(rt).copy_part(job, id, offset, CHUNK_SIZE)
     }
 }
 

@@ -11,8 +11,9 @@ use node_steps::{audit, audit_one};
 use std::alloc::Global;
 use std::sync::Wait;
 
-/// The receipts that an actor gathers at most until it looks for them.
-pub const MOST_RECEIPTS: usize = 128;
+/// The receipts that an actor gathers at most until it looks for them. While it does the node is locked, for a microsecond or two: no longer
+/// than others look whether it is before they sleep.
+pub const MOST_RECEIPTS: usize = 16;
 
 /// The receipts of one actor at one node that weren't looked for yet: a session's, a worker's or those of a link's end.
 #[derive(Drop)]
@@ -56,7 +57,7 @@ impl<T: Drop> ReceiptBuffer<T> {
 }
 
 impl<K: JournaledNode, P: Pause> SharedNode<K, P> {
-    /// Makes room for the receipt of a step, before the step. If 128 are there, all but the last are looked for under one lock
+    /// Makes room for the receipt of a step, before the step. If 16 are there, all but the last are looked for under one lock
     /// of the node, and forgotten. The error is out of memory, and then nothing has changed.
     pub fn make_room<R: Wait>(
         &self,
@@ -72,7 +73,7 @@ impl<K: JournaledNode, P: Pause> SharedNode<K, P> {
         if receipts.earlier.len() + 1 == MOST_RECEIPTS {
             audit(
                 rt,
-                &*self.kept.lock(rt),
+                &*self.lock(rt),
                 &self.housekeeping.tallies,
                 &receipts.earlier,
             );
@@ -83,7 +84,7 @@ impl<K: JournaledNode, P: Pause> SharedNode<K, P> {
 
     /// Looks for all that are there, under one lock of the node: what their actor does at its end.
     pub fn audit_all<R: Wait>(&self, rt: &R, receipts: &ReceiptBuffer<K::Receipt>) {
-        let kept = self.kept.lock(rt);
+        let kept = self.lock(rt);
         audit(rt, &*kept, &self.housekeeping.tallies, &receipts.earlier);
         if let Some(last) = &receipts.last {
             audit_one(rt, &*kept, &self.housekeeping.tallies, last);

@@ -147,9 +147,9 @@ impl<K: JournaledNode, P: Pause> SharedNode<K, P> {
         stepped
     }
 
-    /// Locks the node, for which a session of each queue waits at most. A thread that sleeps is woken late, and most holds are over after a
+    /// Locks the node, for whose steps a session of each queue waits at most. A thread that sleeps is woken late, and most holds are over after a
     /// microsecond, so it looks for some ten of them first.
-    fn lock<R: Wait>(&self, rt: &R) -> MutexGuard<'_, K> {
+    pub(crate) fn lock<R: Wait>(&self, rt: &R) -> MutexGuard<'_, K> {
         for _ in 0..LOOKS {
             if let Some(kept) = self.kept.try_lock() {
                 return kept;
@@ -446,7 +446,7 @@ impl<K: JournaledNode, P: Pause> SharedNode<K, P> {
     pub fn end_job<R: Wait>(&self, rt: &R, job: JobNo) -> (Reply<Bytes>, Option<K::Receipt>)
         ensures { MatchOption result.1 (result.0 ≡ reply.Refused NoMemory) (λ r. K.receipt_of (event.JobEnd job) result.0 r) }
     {
-        let mut kept = self.kept.lock(rt);
+        let mut kept = self.lock(rt);
         let stepped = step_end(rt, &mut *kept, &self.housekeeping, job);
         let gone = kept.take_gone();
         drop(kept);
@@ -458,7 +458,7 @@ impl<K: JournaledNode, P: Pause> SharedNode<K, P> {
     fn order<R: Wait>(&self, rt: &R, event: &Event) -> (Reply<Bytes>, Option<K::Receipt>)
         ensures { MatchOption result.1 (result.0 ≡ reply.Refused NoMemory) (λ r. K.receipt_of event.now result.0 r) }
     {
-        let mut kept = self.kept.lock(rt);
+        let mut kept = self.lock(rt);
         let stepped = step_order(rt, &mut *kept, &self.housekeeping, event);
         drop(kept);
         self.answer(rt, stepped)
@@ -473,7 +473,7 @@ impl<K: JournaledNode, P: Pause> SharedNode<K, P> {
         ensures { MatchOption result.1 (result.0 ≡ reply.Refused NoMemory) (λ r. K.receipt_of event.now result.0 r) }
     {
         let (job, prepared) = prepare_finish::<K>(self.housekeeping.alloc, event);
-        let mut kept = self.kept.lock(rt);
+        let mut kept = self.lock(rt);
         let before = kept.prepare(job, prepared);
         let stepped = step_event(rt, &mut *kept, &self.housekeeping, &None, event);
         let rest = kept.prepare(job, before);
@@ -523,7 +523,7 @@ impl<K: JournaledNode, P: Pause> SharedNode<K, P> {
     fn take<R: Wait>(&self, rt: &R) -> (Reply<Bytes>, Option<K::Receipt>)
         ensures { MatchOption result.1 ((result.0 ≡ reply.NoWork) ⊎ (result.0 ≡ reply.Refused NoMemory)) (λ r. K.receipt_of event.Take result.0 r) }
     {
-        let mut kept = self.kept.lock(rt);
+        let mut kept = self.lock(rt);
         let stepped = step_take(rt, &mut *kept, &self.housekeeping);
         drop(kept);
         match stepped {
@@ -537,7 +537,7 @@ impl<K: JournaledNode, P: Pause> SharedNode<K, P> {
         ensures entered { IfOk result (λ e. ((K.pass e).job ≡ job) × ((K.pass e).key ≡ key.now)) }
         ensures refused { IfErr result (λ r. (r ≡ NotAdmitted) ⊎ (r ≡ TooMany)) }
     {
-        self.kept.lock(rt).enter(job, key)
+        self.lock(rt).enter(job, key)
     }
 
     /// A message that was posted to the node arrives, what the step sends is handed over, and the receipt is of the message's entry.
@@ -548,7 +548,7 @@ impl<K: JournaledNode, P: Pause> SharedNode<K, P> {
     {
         let job = posted.job();
         let prepared = self.prepare_arrival(rt, &posted);
-        let mut kept = self.kept.lock(rt);
+        let mut kept = self.lock(rt);
         let before = kept.prepare(job, prepared);
         let stepped = step_arrival(rt, &mut *kept, &self.housekeeping, posted);
         let rest = kept.prepare(job, before);
@@ -561,7 +561,7 @@ impl<K: JournaledNode, P: Pause> SharedNode<K, P> {
 
     /// What the directory answered to a message of the node arrives: whether it isn't lost.
     pub(crate) fn arrive_located<R: Wait>(&self, rt: &R, located: K::Posted) -> bool {
-        step_located(rt, &mut *self.kept.lock(rt), &self.housekeeping, located)
+        step_located(rt, &mut *self.lock(rt), &self.housekeeping, located)
     }
 
     /// Hands over what a step has sent, and gives its answer and its receipt. There is none if there was no memory for the step.
@@ -598,17 +598,12 @@ impl<K: JournaledNode, P: Pause> SharedNode<K, P> {
     /// Looks for the entry of a receipt that was given by this node, and counts it if the journal says that it isn't there. One
     /// that was folded isn't counted.
     pub fn check<R: Wait>(&self, rt: &R, receipt: &K::Receipt) {
-        audit_one(
-            rt,
-            &*self.kept.lock(rt),
-            &self.housekeeping.tallies,
-            receipt,
-        );
+        audit_one(rt, &*self.lock(rt), &self.housekeeping.tallies, receipt);
     }
 
     /// How many entries the journal has.
     pub fn entries<R: Wait>(&self, rt: &R) -> u64 {
-        self.kept.lock(rt).entries()
+        self.lock(rt).entries()
     }
 
     /// What its steps leave to be done.
