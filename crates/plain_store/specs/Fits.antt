@@ -1,5 +1,5 @@
 -- Places that extents leave, one after the other.
-use Rattle.std.specs.Prelude.{◌≡◌, ℕ, ◌%◌, ◌^◌, ◌<◌, ◌≤◌, Bool, true, false, not, List, ◌++◌, filter, filter_map, is_some}
+use Rattle.std.specs.Prelude.{◌≡◌, ℕ, ◌%◌, ◌^◌, ◌<◌, ◌≤◌, Bool, true, false, not, List, ◌++◌, filter, filter_map, is_some, length, take}
 use Rattle.std.specs.List.{list_all}
 use Rattle.obj_id.specs.declared.works.Extent.{Extent}
 use Rattle.obj_id.specs.declared.ids.ObjectId.{ObjectId}
@@ -38,3 +38,10 @@ extents_left out copies = filter_map (λ e. extent_of e.1) (filter (λ e. not (i
 -- whether n bytes have room without those that are out and these
 abbrev pub is_room_without : Shape → ℕ → List ObjectId → List ObjectId → Bool
 is_room_without store n out ids = is_some (offset_without store n (out ++ ids))
+
+-- for n bytes to have room fewer than `least` of the ids are too few, and the first `most` are enough
+pub record IsBracket (store : Shape) (n : ℕ) (out ids : List ObjectId) (least most : ℕ) : Type 0 where
+  pub rising : least ≤ most
+  pub within : most ≤ length ids
+  pub enough : is_room_without store n out (take most ids) ≡ true
+  pub few : (j : ℕ) → j < least → is_room_without store n out (take j ids) ≡ false

@@ -63,8 +63,8 @@ impl PlainStore {
         Ok(ids)
     }
 
-    /// How room for an object of `length` bytes is made. Takes at most as many tries as there are copies, and each at most
-    /// the square of their number. The error is out of memory.
+    /// How room for an object of `length` bytes is made. Takes some twenty tries for each class of victims, and fewer if few have to go; each costs
+    /// at most the square of the number of copies. The error is out of memory.
     pub(crate) fn plan(&self, alloc: Global, length: u32) -> Result<Plan, OutOfMemory>
         requires { is_quota self.now.shape.quota ≡ true }
         ensures { IfOk result (λ p. shown_plan p ≡ plan_lem self.now.order self.now.shape length) }

@@ -1,14 +1,14 @@
 //! Where an object goes in the window if some copies are not there.
 ghost use Rattle.std.specs.List.Sorted.{IsPermutation, IsNonDecreasingBy};
 ghost use Rattle.obj_id.specs.declared.works.Extent.{Extent};
-ghost use Rattle.std.specs.Prelude.{◌≡◌, ◌++◌, ◌≤◌, if◌then◌else◌, None, is_some, take, IfOk, OnOk};
+ghost use Rattle.std.specs.Prelude.{◌≡◌, ◌++◌, ◌≤◌, if◌then◌else◌, None, is_some, take, false, IfOk, IfSome, IfNone, OnOk};
 ghost use Rattle.std.specs.Option.{option_map};
 ghost use Rattle.obj_id.specs.declared.ids.ObjectId.{ObjectId};
 ghost use Rattle.private_store.specs.rules.Tables.{is_among as is_among_lem};
 ghost use Rattle.private_store.specs.rules.Copies.{extent_of as extent_of_lem};
 ghost use Rattle.private_store.specs.rules.Limits.{widest_window};
 ghost use Rattle.private_store.specs.rules.Room.{offset_without, shortest as shortest_lem};
-ghost use Rattle.plain_store.specs.Fits.{extents_left as extents_left_lem, is_room_without};
+ghost use Rattle.plain_store.specs.Fits.{extents_left as extents_left_lem, is_room_without, IsBracket};
 
 use crate::copies::PlainCopy;
 use crate::first_fit::first;
@@ -60,6 +60,12 @@ fn sort_extents(extents: &mut Vec<Extent>)
     extents.sort_unstable_by_key(|extent| extent.offset);
 }
 
+/// How many of a list have to go: fewer than `least` are too few, and the first `most` are enough.
+struct Bracket {
+    least: usize,
+    most: usize,
+}
+
 impl PlainStore {
     /// Where an object of `length` bytes would go if these copies were not there. Takes a walk over the copies with one
     /// over `out` each, a sort, and memory for the extents. The error is out of memory.
@@ -77,8 +83,84 @@ impl PlainStore {
         Ok(first(&extents, self.quota.window, length))
     }
 
+    /// Whether an object of `length` bytes would have room if these copies were not there, and these. The error is out of memory.
+    fn has_room_without(
+        &self,
+        alloc: Global,
+        length: u32,
+        out: &[ObjectId],
+        ids: &[ObjectId],
+    ) -> Result<bool, OutOfMemory>
+        requires { self.now.shape.quota.window ≤ widest_window }
+        ensures { IfOk result (λ has. has ≡ is_room_without self.now.shape length out.now ids.now) }
+    {
+        let mut gone = lists::copied(alloc, out)?;
+        lists::extend_from_slice(&mut gone, ids)?;
+        let offset = self.offset_without(alloc, length, &gone)?;
+        Ok(offset.is_some())
+    }
+
+    /// How many of the ids have to go, beside those that are out already, for an object of `length` bytes to have room. `None` if all of them
+    /// are too few. Tries none, one, three, and so on. The error is out of memory.
+    fn bracket(
+        &self,
+        alloc: Global,
+        length: u32,
+        out: &[ObjectId],
+        ids: &[ObjectId],
+    ) -> Result<Option<Bracket>, OutOfMemory>
+        requires { self.now.shape.quota.window ≤ widest_window }
+        ensures some { IfOk result (λ found. IfSome found (λ b. IsBracket self.now.shape length out.now ids.now b.least b.most)) }
+        ensures none { IfOk result (λ found. IfNone found (is_room_without self.now.shape length out.now ids.now ≡ false)) }
+    {
+        let (mut least, mut most) = (0, 0);
+        while most < ids.len() {
+            if self.has_room_without(alloc, length, out, &ids[..most])? {
+                return Ok(Some(Bracket { least, most }));
+            }
+            least = most + 1;
+            most = (most + most + 1).min(ids.len());
+        }
+        if self.has_room_without(alloc, length, out, ids)? {
+            Ok(Some(Bracket {
+                least,
+                most: ids.len(),
+            }))
+        } else {
+            Ok(None)
+        }
+    }
+
+    /// The same, with no doubt left. Tries as often as the doubt can be halved. The error is out of memory.
+    fn bisect(
+        &self,
+        alloc: Global,
+        length: u32,
+        out: &[ObjectId],
+        ids: &[ObjectId],
+        bracket: Bracket,
+    ) -> Result<usize, OutOfMemory>
+        requires window { self.now.shape.quota.window ≤ widest_window }
+        requires bracket { IsBracket self.now.shape length out.now ids.now bracket.least bracket.most }
+        ensures { IfOk result (λ count. IsBracket self.now.shape length out.now ids.now count count) }
+    {
+        let Bracket {
+            mut least,
+            mut most,
+        } = bracket;
+        while least < most {
+            let middle = least + (most - least) / 2;
+            if self.has_room_without(alloc, length, out, &ids[..middle])? {
+                most = middle;
+            } else {
+                least = middle + 1;
+            }
+        }
+        Ok(most)
+    }
+
     /// The shortest beginning of the ids without which, and without those that are out already, an object of `length`
-    /// bytes has room. `None` if there is none. Takes `offset_without` for each beginning. The error is out of memory.
+    /// bytes has room. `None` if there is none. If few have to go, few are tried: with more gone there is room, too. The error is out of memory.
     pub(crate) fn shortest(
         &self,
         alloc: Global,
@@ -89,18 +171,10 @@ impl PlainStore {
         requires { self.now.shape.quota.window ≤ widest_window }
         ensures { IfOk result (λ taken. option_map (λ v. v.items) taken ≡ shortest_lem (is_room_without self.now.shape length out.now) ids.now) }
     {
-        let mut taken = Vec::new(alloc);
-        let mut gone = lists::copied(alloc, out)?;
-        for id in ids {
-            if self.offset_without(alloc, length, &gone)?.is_some() {
-                return Ok(Some(taken));
-            }
-            lists::push(&mut taken, *id)?;
-            lists::push(&mut gone, *id)?;
-        }
-        if self.offset_without(alloc, length, &gone)?.is_some() {
-            return Ok(Some(taken));
-        }
-        Ok(None)
+        let Some(bracket) = self.bracket(alloc, length, out, ids)? else {
+            return Ok(None);
+        };
+        let count = self.bisect(alloc, length, out, ids, bracket)?;
+        Ok(Some(lists::copied(alloc, &ids[..count])?))
     }
 }
