@@ -145,8 +145,8 @@ def asking(script: Script) -> Iterator[Operation]:
             return [(step.sent, step.head, view[: step.length]) for step in steps]
 
         def ask_all(asked: Sequence[Asked]) -> None:
-            for sent, head, part in asked:
-                ask(stream, buffer, sent, head, part)
+            for sent, due, part in asked:
+                ask(stream, buffer, sent, due, part)
 
         ask_all(ready(script.before))
         told = b""

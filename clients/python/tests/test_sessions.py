@@ -6,7 +6,6 @@ import array
 import dataclasses
 import os
 import re
-import resource
 import subprocess
 import sys
 import threading
