@@ -15,11 +15,12 @@ use std::alloc::Global;
 use std::io::{Read, Write};
 use wire_frames::Reader;
 
-/// How many bytes are read at once, at most, before an accepted Hello: so who never says one takes little memory.
+/// How many bytes are read at once, at most, until more of them came together after an accepted Hello: so sessions that never say one take
+/// little memory, and those whose commands are small.
 const FIRST_PIECE_SIZE: usize = 4_096;
 
-/// How many bytes are read at once, at most, after it.
-const PIECE_SIZE: usize = 65_536;
+/// How many bytes are read at once, at most, from there on: the longest frame, and small ones beside it.
+const PIECE_SIZE: usize = 66_560;
 
 /// Of how many bytes the items are there at once, at most.
 const PART_SIZE: usize = 1_024;
@@ -130,18 +131,19 @@ impl Session {
             if count == 0 {
                 return Ok(end_of(&self.frames));
             }
-            self.widen(&mut buffer);
+            let is_full = count == buffer.len();
+            self.widen(&mut buffer, is_full);
         }
         // more reads than there are numbers
         Err(SessionFault::Read)
     }
 
-    /// Makes room for more at once, once the session has entered. Without memory for it the session goes on as it did.
-    fn widen(&self, buffer: &mut Vec<u8>)
+    /// Makes room for more at once, once the session has entered and the buffer was full. Without memory for it the session goes on as it did.
+    fn widen(&self, buffer: &mut Vec<u8>, is_full: bool)
         requires { 0 < vec_len buffer.old }
         ensures { 0 < vec_len buffer.new }
     {
-        if self.session_id.is_none() || buffer.len() == PIECE_SIZE {
+        if !is_full || self.session_id.is_none() || buffer.len() == PIECE_SIZE {
             return;
         }
         if let Ok(wider) = lists::filled(self.alloc, 0u8, PIECE_SIZE) {

@@ -9,4 +9,4 @@ filled_some list n x are some =
     omega (arith, len, some, list.ok)
 
 pub returns-in-Ok : goal.returns-in-Ok
-returns-in-Ok c = filled_some c.in-Ok.wider 65536 0 c.in-Ok.ensures (omega arith)
+returns-in-Ok c = filled_some c.in-Ok.wider 66560 0 c.in-Ok.ensures (omega arith)
