@@ -1,10 +1,10 @@
 //! Calls at nodes behind locks, with the receipts that they give.
+use crate::named::Named;
 use assertions::{holds, same};
 use bytes::Bytes;
-use cluster_history::{ClusterShape, HistoryName};
 use cluster_threads::Cluster;
 use memory_growth::{OutOfMemory, lists, shared, texts};
-use node_journal::{Recorded, RecordedReceipt};
+use node_gate::JournaledNode;
 use obj_id::{Command, JobKey, JobNo, Kind, ObjectId, Quota, Refusal, Reply, TaskNo};
 use private_store::StepAnswer;
 use schedule_text::answer_text;
@@ -14,7 +14,6 @@ use shared_nodes::SharedNode;
 use std::alloc::Global;
 use std::process::Abort;
 use std::sync::Wait;
-use std::sync::ledger::Ledger;
 use std::time::Clock;
 
 pub(crate) const JOB: JobNo = JobNo(1);
@@ -73,13 +72,13 @@ fn command(alloc: Global, id: ObjectId, turn: u64) -> Result<Command<Bytes>, Out
 }
 
 /// The answer to the command of this turn, which is called once more if memory ran out, and its receipt.
-fn called<L: Ledger + HistoryName, S: ClusterShape, R: Wait>(
+fn called<K: JournaledNode, R: Wait>(
     rt: &R,
     alloc: Global,
-    node: &SharedNode<Recorded<L, S>>,
+    node: &SharedNode<K>,
     id: ObjectId,
     turn: u64,
-) -> Result<(Reply<Bytes>, Option<RecordedReceipt<L, S>>), OutOfMemory> {
+) -> Result<(Reply<Bytes>, Option<K::Receipt>), OutOfMemory> {
     let first = node.call(rt, JOB, 1, command(alloc, id, turn)?);
     if matches!(&first.0, Reply::Refused(Refusal::NoMemory)) {
         return Ok(node.call(rt, JOB, 1, command(alloc, id, turn)?));
@@ -88,12 +87,15 @@ fn called<L: Ledger + HistoryName, S: ClusterShape, R: Wait>(
 }
 
 /// Calls the commands one after another: each answer is the one that is due, and each receipt names the next entry. The last.
-fn call_all<L: Ledger + HistoryName, S: ClusterShape, R: Wait + Abort>(
+fn call_all<K: JournaledNode, R: Wait + Abort>(
     rt: &R,
     alloc: Global,
-    node: &SharedNode<Recorded<L, S>>,
+    node: &SharedNode<K>,
     id: ObjectId,
-) -> Result<Option<RecordedReceipt<L, S>>, OutOfMemory> {
+) -> Result<Option<K::Receipt>, OutOfMemory>
+where
+    K::Receipt: Named,
+{
     let mut last = None;
     let mut response = String::new(alloc);
     for turn in 0..6u64 {
@@ -101,11 +103,7 @@ fn call_all<L: Ledger + HistoryName, S: ClusterShape, R: Wait + Abort>(
         let text = answer_text(alloc, JOB, &StepAnswer::Response(reply))?;
         texts::push_str(&mut response, text.as_str())?;
         texts::push_str(&mut response, "\n")?;
-        let named = receipt.as_ref().map(|receipt| (
-            receipt.receipt().node(),
-            receipt.receipt().job(),
-            receipt.receipt().number(),
-        ));
+        let named = receipt.as_ref().map(|receipt| receipt.named());
         same!(rt; named, Some((0, JOB, turn + 2)));
         last = receipt;
     }
@@ -127,15 +125,14 @@ pub(crate) fn answered(rt: &impl Abort, reply: Reply<Bytes>) -> Reply<Bytes> {
 }
 
 /// A command that is called after the receipt of an earlier one.
-fn call_later<L: Ledger + HistoryName, S: ClusterShape, R: Wait + Abort>(
-    rt: &R,
-    cluster: &Cluster<Recorded<L, S>>,
-    earlier: &RecordedReceipt<L, S>,
-) {
+fn call_later<K: JournaledNode, R: Wait + Abort>(rt: &R, cluster: &Cluster<K>, earlier: &K::Receipt)
+where
+    K::Receipt: Named,
+{
     if let Some(node) = cluster.node(0) {
         let (reply, receipt) = node.call_after(rt, earlier, JOB, 1, Command::Usage);
         holds!(rt; is_used(&answered(rt, reply), 32));
-        same!(rt; receipt.map(|receipt| receipt.receipt().number()), Some(8));
+        same!(rt; receipt.map(|receipt| receipt.named()), Some((0, JOB, 8)));
     }
     // another node's journal says No of it
     if let Some(node) = cluster.node(1) {
@@ -146,19 +143,12 @@ fn call_later<L: Ledger + HistoryName, S: ClusterShape, R: Wait + Abort>(
 }
 
 /// Admits the job, and once more if memory ran out.
-pub(crate) fn admit<L: Ledger + HistoryName, S: ClusterShape, R: Wait>(
-    rt: &R,
-    node: &SharedNode<Recorded<L, S>>,
-) {
+pub(crate) fn admit<K: JournaledNode, R: Wait>(rt: &R, node: &SharedNode<K>) {
     admit_with(rt, node, QUOTA);
 }
 
 /// The same, with this quota.
-pub(crate) fn admit_with<L: Ledger + HistoryName, S: ClusterShape, R: Wait>(
-    rt: &R,
-    node: &SharedNode<Recorded<L, S>>,
-    quota: Quota,
-) {
+pub(crate) fn admit_with<K: JournaledNode, R: Wait>(rt: &R, node: &SharedNode<K>, quota: Quota) {
     let (reply, _) = node.admit(rt, JOB, quota, JobKey([0; 32]));
     if matches!(&reply, Reply::Refused(Refusal::NoMemory)) {
         node.admit(rt, JOB, quota, JobKey([0; 32]));
@@ -166,10 +156,7 @@ pub(crate) fn admit_with<L: Ledger + HistoryName, S: ClusterShape, R: Wait>(
 }
 
 /// Ends the job, and once more if memory ran out.
-fn end<L: Ledger + HistoryName, S: ClusterShape, R: Wait>(
-    rt: &R,
-    node: &SharedNode<Recorded<L, S>>,
-) -> Reply<Bytes> {
+fn end<K: JournaledNode, R: Wait>(rt: &R, node: &SharedNode<K>) -> Reply<Bytes> {
     let (reply, _) = node.end_job(rt, JOB);
     if matches!(&reply, Reply::Refused(Refusal::NoMemory)) {
         return node.end_job(rt, JOB).0;
@@ -178,20 +165,20 @@ fn end<L: Ledger + HistoryName, S: ClusterShape, R: Wait>(
 }
 
 /// Narrows the job's window to what lies in it, and ends the job: neither is refused.
-fn narrow_and_end<L: Ledger + HistoryName, S: ClusterShape, R: Wait + Abort>(
-    rt: &R,
-    node: &SharedNode<Recorded<L, S>>,
-) {
+fn narrow_and_end<K: JournaledNode, R: Wait + Abort>(rt: &R, node: &SharedNode<K>) {
     holds!(rt; matches!(answered(rt, node.requota(rt, JOB, NARROW).0), Reply::Ok));
     holds!(rt; matches!(end(rt, node), Reply::Ok));
 }
 
 /// Six commands of a direct caller, and one admission by the cluster, whose receipt alone it gathers.
-pub(crate) fn call_six<L: Ledger + HistoryName, S: ClusterShape, R: Wait + Abort>(
+pub(crate) fn call_six<K: JournaledNode, R: Wait + Abort>(
     rt: &R,
     alloc: Global,
-    cluster: &Cluster<Recorded<L, S>>,
-) -> Result<(), OutOfMemory> {
+    cluster: &Cluster<K>,
+) -> Result<(), OutOfMemory>
+where
+    K::Receipt: Named,
+{
     let node = cluster.node(0).expect(rt, "a node");
     admit(rt, node);
     call_all(rt, alloc, node, object(rt, 1))?;
@@ -199,21 +186,24 @@ pub(crate) fn call_six<L: Ledger + HistoryName, S: ClusterShape, R: Wait + Abort
 }
 
 /// A receipt of node 0 is shown to node 1, whose journal says No of it.
-fn show_to_another<L: Ledger + HistoryName, S: ClusterShape, R: Wait + Abort>(
+fn show_to_another<K: JournaledNode, R: Wait + Abort>(
     rt: &R,
-    cluster: &Cluster<Recorded<L, S>>,
-    receipt: &RecordedReceipt<L, S>,
+    cluster: &Cluster<K>,
+    receipt: &K::Receipt,
 ) {
     let node = cluster.node(1).expect(rt, "a node");
     node.check(rt, receipt);
 }
 
 /// The six commands, one that shows the last receipt of them, and the operator's three orders.
-pub(crate) fn call_with_receipts<L: Ledger + HistoryName, S: ClusterShape, R: Wait + Abort>(
+pub(crate) fn call_with_receipts<K: JournaledNode, R: Wait + Abort>(
     rt: &R,
     alloc: Global,
-    cluster: &Cluster<Recorded<L, S>>,
-) -> Result<(), OutOfMemory> {
+    cluster: &Cluster<K>,
+) -> Result<(), OutOfMemory>
+where
+    K::Receipt: Named,
+{
     let node = cluster.node(0).expect(rt, "a node");
     admit(rt, node);
     let last = call_all(rt, alloc, node, object(rt, 1))?;
@@ -225,9 +215,9 @@ pub(crate) fn call_with_receipts<L: Ledger + HistoryName, S: ClusterShape, R: Wa
 }
 
 /// A Release or a Get of the session, called once more if memory ran out.
-fn called_again<L: Ledger + HistoryName, S: ClusterShape, R: Wait>(
+fn called_again<K: JournaledNode, R: Wait>(
     rt: &R,
-    node: &SharedNode<Recorded<L, S>>,
+    node: &SharedNode<K>,
     id: ObjectId,
     is_get: bool,
 ) -> Reply<Bytes> {
@@ -247,9 +237,9 @@ fn get_or_release(id: ObjectId, is_get: bool) -> Command<Bytes> {
 }
 
 /// The session holds the object and ends: the hold is gone at the next step.
-fn hold_and_leave<L: Ledger + HistoryName, S: ClusterShape, R: Wait + Clock + Abort>(
+fn hold_and_leave<K: JournaledNode, R: Wait + Clock + Abort>(
     rt: &R,
-    node: &SharedNode<Recorded<L, S>>,
+    node: &SharedNode<K>,
     id: ObjectId,
 ) {
     let reply = called_again(rt, node, id, true);
@@ -260,11 +250,14 @@ fn hold_and_leave<L: Ledger + HistoryName, S: ClusterShape, R: Wait + Clock + Ab
 }
 
 /// Each Leave is made once: at once, or before the next step if memory ran out, as it may if the journal's list has to grow.
-pub(crate) fn leave_often<L: Ledger + HistoryName, S: ClusterShape, R: Wait + Clock + Abort>(
+pub(crate) fn leave_often<K: JournaledNode, R: Wait + Clock + Abort>(
     rt: &R,
     alloc: Global,
-    cluster: &Cluster<Recorded<L, S>>,
-) -> Result<(), OutOfMemory> {
+    cluster: &Cluster<K>,
+) -> Result<(), OutOfMemory>
+where
+    K::Receipt: Named,
+{
     let node = cluster.node(0).expect(rt, "a node");
     let id = object(rt, 1);
     admit(rt, node);

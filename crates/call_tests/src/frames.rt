@@ -6,6 +6,7 @@ use assertions::same;
 use cluster_history::{ClusterShape, HistoryName};
 use cluster_threads::Cluster;
 use memory_growth::{OutOfMemory, lists};
+use node_gate::JournaledNode;
 use node_housekeeping::NoPause;
 use node_journal::{Recorded, Unnamed};
 use session_engine::{Ended, SessionFault, serve};
@@ -59,10 +60,10 @@ struct Served {
 }
 
 /// Serves the stream at the node.
-fn told_at<L: Ledger + HistoryName, S: ClusterShape, R: Wait + Clock>(
+fn told_at<K: JournaledNode, R: Wait + Clock>(
     rt: &R,
     alloc: Global,
-    node: &SharedNode<Recorded<L, S>>,
+    node: &SharedNode<K>,
     input: &[u8],
 ) -> Result<Served, OutOfMemory> {
     let mut written = lists::with_capacity(alloc, ROOM)?;
@@ -72,7 +73,19 @@ fn told_at<L: Ledger + HistoryName, S: ClusterShape, R: Wait + Clock>(
     Ok(Served { outcome, written })
 }
 
-/// Serves the stream at a node of one job, which has a window of 64 bytes.
+/// Serves the stream at the cluster's node, to which a job is admitted that has a window of 64 bytes.
+fn told_by<K: JournaledNode, R: Wait + Clock + Abort>(
+    rt: &R,
+    alloc: Global,
+    cluster: &Cluster<K>,
+    input: &[u8],
+) -> Result<Served, OutOfMemory> {
+    let node = cluster.node(0).expect(rt, "a node");
+    admit(rt, node);
+    told_at(rt, alloc, node, input)
+}
+
+/// The same, at a cluster of its own under the name.
 fn response_by<L: Ledger + HistoryName, S: ClusterShape, R: Wait + Clock + Abort>(
     rt: &R,
     alloc: Global,
@@ -87,9 +100,7 @@ fn response_by<L: Ledger + HistoryName, S: ClusterShape, R: Wait + Clock + Abort
 {
     let seats = unnamed.named::<L>();
     let cluster = Cluster::<Recorded<L, S>, _>::start(alloc, 1, 1024, seats, NoPause)?;
-    let node = cluster.node(0).expect(rt, "a node");
-    admit(rt, node);
-    Ok(told_at(rt, alloc, node, input)?)
+    Ok(told_by(rt, alloc, &cluster, input)?)
 }
 
 /// The same, of this shape.

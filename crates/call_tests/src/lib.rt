@@ -7,6 +7,8 @@ mod calls;
 #[cfg(test)]
 mod frames;
 #[cfg(test)]
+mod named;
+#[cfg(test)]
 mod trials;
 #[cfg(test)]
 mod works;

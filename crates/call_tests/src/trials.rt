@@ -2,11 +2,13 @@
 ghost use Rattle.std.specs.Prelude.{◌≡◌};
 
 use crate::calls::{call_six, call_with_receipts, leave_often};
+use crate::named::Named;
 use crate::works::{ask_for_deleted, work_at_a_failing_device};
 use assertions::{holds, same};
 use cluster_history::{ClusterShape, HistoryName};
 use cluster_threads::Cluster;
 use memory_growth::OutOfMemory;
+use node_gate::JournaledNode;
 use node_housekeeping::{NoPause, Report};
 use node_journal::{Recorded, Unnamed};
 use obj_id::{Refusal, Reply};
@@ -39,12 +41,15 @@ impl Trial {
     }
 
     /// Carries it out at a cluster of so many nodes: whether all was answered as it is due if no message is lost.
-    fn carry_out<L: Ledger + HistoryName, S: ClusterShape, R: Wait + Clock + Abort>(
+    fn carry_out<K: JournaledNode, R: Wait + Clock + Abort>(
         &self,
         rt: &R,
         alloc: Global,
-        cluster: &Cluster<Recorded<L, S>>,
-    ) -> Result<bool, OutOfMemory> {
+        cluster: &Cluster<K>,
+    ) -> Result<bool, OutOfMemory>
+    where
+        K::Receipt: Named,
+    {
         match self {
             Trial::DirectCalls => call_six(rt, alloc, cluster)?,
             Trial::LaterCall => call_with_receipts(rt, alloc, cluster)?,

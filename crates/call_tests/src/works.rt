@@ -2,17 +2,15 @@
 use crate::calls::{JOB, admit_with, answered, object};
 use assertions::{holds, same};
 use bytes::Bytes;
-use cluster_history::{ClusterShape, HistoryName};
 use cluster_threads::Cluster;
+use node_gate::JournaledNode;
 use node_housekeeping::WorkDone;
-use node_journal::Recorded;
 use obj_id::{Command, Kind, ObjectId, Quota, Refusal, Reply};
 use shared_nodes::SharedNode;
 use spill_device::{FaultyDevice, MemoryDevice, SpillDevice};
 use std::alloc::Global;
 use std::process::Abort;
 use std::sync::Wait;
-use std::sync::ledger::Ledger;
 
 /// Room for one object of 32 bytes, and for one on the device.
 const ONE: Quota = Quota {
@@ -43,18 +41,18 @@ fn command(asked: &Asked) -> Command<Bytes> {
 }
 
 /// The answer, unless it is that memory ran out: that ends the test.
-fn response<L: Ledger + HistoryName, S: ClusterShape, R: Wait + Abort>(
+fn response<K: JournaledNode, R: Wait + Abort>(
     rt: &R,
-    node: &SharedNode<Recorded<L, S>>,
+    node: &SharedNode<K>,
     asked: &Asked,
 ) -> Reply<Bytes> {
     answered(rt, node.call(rt, JOB, 1, command(asked)).0)
 }
 
 /// The first object is in the way of the second: a write of it that failed is answered once, and then it is written.
-fn spill_the_first<L: Ledger + HistoryName, S: ClusterShape, R: Wait + Abort, D: SpillDevice>(
+fn spill_the_first<K: JournaledNode, R: Wait + Abort, D: SpillDevice>(
     rt: &R,
-    node: &SharedNode<Recorded<L, S>>,
+    node: &SharedNode<K>,
     device: &mut D,
 ) {
     let (first, second) = (object(rt, 1), object(rt, 2));
@@ -69,9 +67,9 @@ fn spill_the_first<L: Ledger + HistoryName, S: ClusterShape, R: Wait + Abort, D:
 }
 
 /// The second object makes way, and the first comes back from the device.
-fn restore_the_first<L: Ledger + HistoryName, S: ClusterShape, R: Wait + Abort, D: SpillDevice>(
+fn restore_the_first<K: JournaledNode, R: Wait + Abort, D: SpillDevice>(
     rt: &R,
-    node: &SharedNode<Recorded<L, S>>,
+    node: &SharedNode<K>,
     device: &mut D,
 ) {
     let (first, second) = (object(rt, 1), object(rt, 2));
@@ -83,10 +81,10 @@ fn restore_the_first<L: Ledger + HistoryName, S: ClusterShape, R: Wait + Abort, 
 }
 
 /// Nine commands, an admission, and three works, each taken and finished, at a device that fails once.
-pub(crate) fn work_at_a_failing_device<L: Ledger + HistoryName, S: ClusterShape, R: Wait + Abort>(
+pub(crate) fn work_at_a_failing_device<K: JournaledNode, R: Wait + Abort>(
     rt: &R,
     alloc: Global,
-    cluster: &Cluster<Recorded<L, S>>,
+    cluster: &Cluster<K>,
 ) {
     let node = cluster.node(0).expect(rt, "a node");
     let mut device = FaultyDevice::new(MemoryDevice::new(alloc), 1);
@@ -97,9 +95,9 @@ pub(crate) fn work_at_a_failing_device<L: Ledger + HistoryName, S: ClusterShape,
 }
 
 /// What node 1 is answered, asked twice, of an object that was sealed and deleted at node 0.
-pub(crate) fn ask_for_deleted<L: Ledger + HistoryName, S: ClusterShape, R: Wait + Abort>(
+pub(crate) fn ask_for_deleted<K: JournaledNode, R: Wait + Abort>(
     rt: &R,
-    cluster: &Cluster<Recorded<L, S>>,
+    cluster: &Cluster<K>,
 ) -> Reply<Bytes> {
     let first = object(rt, 1);
     let node = cluster.node(0).expect(rt, "a node");

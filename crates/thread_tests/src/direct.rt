@@ -1,18 +1,17 @@
 //! The whole case of a direct caller, with the numbers of its report.
+use crate::named::Named;
 use crate::objects::{admit, is_hello, object, response, seal_hello};
 use crate::trials::{Trial, try_out};
 use assertions::{holds, same};
 use bytes::Bytes;
-use cluster_history::{ClusterShape, HistoryName};
 use memory_growth::OutOfMemory;
+use node_gate::JournaledNode;
 use node_housekeeping::Report;
-use node_journal::{Recorded, RecordedReceipt};
 use obj_id::{Command, JobNo, Quota, Reply};
 use shared_nodes::SharedNode;
 use std::alloc::Global;
 use std::process::Abort;
 use std::sync::Wait;
-use std::sync::ledger::Ledger;
 use std::test::Fail;
 
 const JOB: JobNo = JobNo(1);
@@ -29,11 +28,11 @@ const NARROW: Quota = Quota {
 };
 
 /// The job is admitted, and an object is created, written, sealed, held, read and released. The last receipt.
-pub(crate) fn six_commands<L: Ledger + HistoryName, S: ClusterShape, R: Wait + Abort>(
+pub(crate) fn six_commands<K: JournaledNode, R: Wait + Abort>(
     rt: &R,
     alloc: Global,
-    node: &SharedNode<Recorded<L, S>>,
-) -> Result<RecordedReceipt<L, S>, OutOfMemory> {
+    node: &SharedNode<K>,
+) -> Result<K::Receipt, OutOfMemory> {
     let id = object(rt, JOB, 1);
     admit(rt, node, JOB, QUOTA);
     seal_hello(rt, alloc, node, id)?;
@@ -45,16 +44,18 @@ pub(crate) fn six_commands<L: Ledger + HistoryName, S: ClusterShape, R: Wait + A
 }
 
 /// A Usage that is called after the receipt, a change of the quotas and the job's end: none is refused.
-pub(crate) fn live_on<L: Ledger + HistoryName, S: ClusterShape, R: Wait + Abort>(
+pub(crate) fn live_on<K: JournaledNode, R: Wait + Abort>(
     rt: &R,
-    node: &SharedNode<Recorded<L, S>>,
-    earlier: &RecordedReceipt<L, S>,
-) {
+    node: &SharedNode<K>,
+    earlier: &K::Receipt,
+)
+where
+    K::Receipt: Named,
+{
     let (reply, receipt) = node.call_after(rt, earlier, JOB, 1, Command::Usage);
     holds!(rt; uses_all_of(&reply));
-    let later = receipt.expect(rt, "a receipt");
-    let (later, earlier) = (later.receipt(), earlier.receipt());
-    same!(rt; (later.node(), later.job(), later.number() > earlier.number()), (0, JOB, true));
+    let (node_no, job, later) = receipt.expect(rt, "a receipt").named();
+    same!(rt; (node_no, job, later > earlier.named().2), (0, JOB, true));
     holds!(rt; matches!(node.requota(rt, JOB, NARROW).0, Reply::Ok));
     holds!(rt; matches!(node.end_job(rt, JOB).0, Reply::Ok));
 }

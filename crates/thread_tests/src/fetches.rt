@@ -1,17 +1,16 @@
 //! What is sealed at one node is fetched at another one, and a message that finds no room is counted.
+use crate::named::Named;
 use crate::objects::{admit, is_hello, object, response, seal_hello};
 use crate::trials::{Trial, try_out};
 use assertions::{holds, same};
-use cluster_history::{ClusterShape, HistoryName};
 use memory_growth::OutOfMemory;
-use node_journal::Recorded;
+use node_gate::JournaledNode;
 use obj_id::{Command, JobNo, Quota, Refusal, Reply};
 use private_store::Awaited;
 use shared_nodes::SharedNode;
 use std::alloc::Global;
 use std::process::Abort;
 use std::sync::Wait;
-use std::sync::ledger::Ledger;
 use std::test::Fail;
 use std::time::Clock;
 
@@ -29,23 +28,23 @@ const MOST_IN_LINK: u64 = 1_024;
 const TOO_MANY: u64 = 3;
 
 /// Asks for the object at the node until it is there, and reads it.
-fn get_and_read<L: Ledger + HistoryName, S: ClusterShape, R: Wait + Clock + Abort>(
-    rt: &R,
-    node: &SharedNode<Recorded<L, S>>,
-) {
+fn get_and_read<K: JournaledNode, R: Wait + Clock + Abort>(rt: &R, node: &SharedNode<K>)
+where
+    K::Receipt: Named,
+{
     let id = object(rt, JOB, 1);
     let (reply, receipt) = node.call_wait(rt, JOB, 1, Awaited::Get(id));
     holds!(rt; matches!(reply, Reply::Got(20)));
-    same!(rt; receipt.map(|receipt| receipt.receipt().node()), Some(1));
+    same!(rt; receipt.map(|receipt| receipt.named().0), Some(1));
     holds!(rt; is_hello(&response(rt, node, JOB, Command::Read { id, offset: 0, count: 20 })));
 }
 
 /// The job is admitted at both nodes, and seals an object at the first.
-fn begin<L: Ledger + HistoryName, S: ClusterShape, R: Wait + Abort>(
+fn begin<K: JournaledNode, R: Wait + Abort>(
     rt: &R,
     alloc: Global,
-    sealing: &SharedNode<Recorded<L, S>>,
-    fetching: &SharedNode<Recorded<L, S>>,
+    sealing: &SharedNode<K>,
+    fetching: &SharedNode<K>,
 ) -> Result<(), OutOfMemory> {
     admit(rt, sealing, JOB, QUOTA);
     admit(rt, fetching, JOB, QUOTA);
@@ -53,22 +52,22 @@ fn begin<L: Ledger + HistoryName, S: ClusterShape, R: Wait + Abort>(
 }
 
 /// An object is fetched at a node that is connected with the one where it was sealed.
-pub(crate) fn fetch<L: Ledger + HistoryName, S: ClusterShape, R: Wait + Clock + Abort>(
+pub(crate) fn fetch<K: JournaledNode, R: Wait + Clock + Abort>(
     rt: &R,
     alloc: Global,
-    sealing: &SharedNode<Recorded<L, S>>,
-    fetching: &SharedNode<Recorded<L, S>>,
-) -> Result<(), OutOfMemory> {
+    sealing: &SharedNode<K>,
+    fetching: &SharedNode<K>,
+) -> Result<(), OutOfMemory>
+where
+    K::Receipt: Named,
+{
     begin(rt, alloc, sealing, fetching)?;
     get_and_read(rt, fetching);
     Ok(())
 }
 
 /// Asks for the object again and again: each time but the first it asks the other node for the chunks, too.
-fn ask_often<L: Ledger + HistoryName, S: ClusterShape, R: Wait + Abort>(
-    rt: &R,
-    node: &SharedNode<Recorded<L, S>>,
-) {
+fn ask_often<K: JournaledNode, R: Wait + Abort>(rt: &R, node: &SharedNode<K>) {
     let id = object(rt, JOB, 1);
     for _ in 0..1 + MOST_IN_LINK + TOO_MANY {
         let reply = response(rt, node, JOB, Command::Get(id));
@@ -77,11 +76,11 @@ fn ask_often<L: Ledger + HistoryName, S: ClusterShape, R: Wait + Abort>(
 }
 
 /// It is asked for at a node from which nobody receives.
-pub(crate) fn ask_beside<L: Ledger + HistoryName, S: ClusterShape, R: Wait + Abort>(
+pub(crate) fn ask_beside<K: JournaledNode, R: Wait + Abort>(
     rt: &R,
     alloc: Global,
-    sealing: &SharedNode<Recorded<L, S>>,
-    fetching: &SharedNode<Recorded<L, S>>,
+    sealing: &SharedNode<K>,
+    fetching: &SharedNode<K>,
 ) -> Result<(), OutOfMemory> {
     begin(rt, alloc, sealing, fetching)?;
     ask_often(rt, fetching);

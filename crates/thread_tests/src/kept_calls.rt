@@ -5,17 +5,14 @@ use crate::objects::{admit, object, response, seal_hello};
 use crate::trials::{Trial, try_out};
 use assertions::{holds, same};
 use bytes::Bytes;
-use cluster_history::{ClusterShape, HistoryName};
 use memory_growth::{OutOfMemory, boxes};
 use node_gate::{JournaledNode, Posted};
 use node_housekeeping::WorkDone;
-use node_journal::Recorded;
 use obj_id::{Command, JobNo, Kind, Quota, Refusal, Reply};
 use shared_nodes::SharedNode;
 use spill_device::{FaultyDevice, MemoryDevice, SpillDevice};
 use std::alloc::Global;
 use std::process::Abort;
-use std::sync::ledger::Ledger;
 use std::sync::{Arc, Wait};
 use std::test::Fail;
 use std::thread::{JoinHandle, Threads};
@@ -68,9 +65,9 @@ where
 }
 
 /// Whether the other job's Get is answered while somebody is kept at the gate, which is opened then.
-fn is_answered_beside<L: Ledger + HistoryName, S: ClusterShape, R: Wait + Abort>(
+fn is_answered_beside<K: JournaledNode, R: Wait + Abort>(
     rt: &R,
-    node: &SharedNode<Recorded<L, S>>,
+    node: &SharedNode<K>,
     gate: &Gate,
 ) -> bool {
     let is_reached = gate.await_arrival();
@@ -80,16 +77,22 @@ fn is_answered_beside<L: Ledger + HistoryName, S: ClusterShape, R: Wait + Abort>
 
 /// A round in which this call of the device is made: what it came to, and the device. If the call is kept, the other job is answered
 /// meanwhile.
-fn round_with<
-    L: Ledger + HistoryName + Send + Sync + 'static,
-    S: ClusterShape + Send + Sync + 'static,
-    R: Threads + Wait + Abort + Copy + Send + 'static,
->(
+fn round_with<K: JournaledNode + Send + 'static, R: Threads + Wait + Abort + Copy + Send + 'static>(
     rt: R,
-    node: &Arc<SharedNode<Recorded<L, S>>>,
+    node: &Arc<SharedNode<K>>,
     device: Device,
     call: DeviceCall,
-) -> io::Result<(WorkDone, Device)> {
+) -> io::Result<(WorkDone, Device)>
+where
+    K::Receipt: Send + 'static,
+    K::Mail: Send + 'static,
+    K::Posted: Send + 'static,
+    <K::Posted as Posted>::Directory: Send + 'static,
+    K::Erase: Send + 'static,
+    K::Entered: Send + 'static,
+    K::Prepared: Send + 'static,
+    K::Gone: Send + 'static,
+{
     let is_kept = device.kept == call;
     let gate = boxes::another(&device.gate)?;
     let working = start_round(rt, boxes::another(node)?, device)?;
@@ -100,10 +103,10 @@ fn round_with<
 }
 
 /// Both jobs are admitted, and the other one seals an object of 20 bytes.
-fn begin<L: Ledger + HistoryName, S: ClusterShape, R: Wait + Abort>(
+fn begin<K: JournaledNode, R: Wait + Abort>(
     rt: &R,
     alloc: Global,
-    node: &SharedNode<Recorded<L, S>>,
+    node: &SharedNode<K>,
 ) -> Result<(), OutOfMemory> {
     admit(rt, node, SPILLED, ONE);
     admit(rt, node, OTHER, ONE);
@@ -111,10 +114,7 @@ fn begin<L: Ledger + HistoryName, S: ClusterShape, R: Wait + Abort>(
 }
 
 /// The job's first object is in the way of its second.
-fn ask_for_write<L: Ledger + HistoryName, S: ClusterShape, R: Wait + Abort>(
-    rt: &R,
-    node: &SharedNode<Recorded<L, S>>,
-) {
+fn ask_for_write<K: JournaledNode, R: Wait + Abort>(rt: &R, node: &SharedNode<K>) {
     let (first, second) = (object(rt, SPILLED, 1), object(rt, SPILLED, 2));
     let create = Command::Create {
         id: first,
@@ -132,10 +132,7 @@ fn ask_for_write<L: Ledger + HistoryName, S: ClusterShape, R: Wait + Abort>(
 }
 
 /// The first object was written: the second takes its room, and gives it back, and the first is asked for.
-fn ask_for_read<L: Ledger + HistoryName, S: ClusterShape, R: Wait + Abort>(
-    rt: &R,
-    node: &SharedNode<Recorded<L, S>>,
-) {
+fn ask_for_read<K: JournaledNode, R: Wait + Abort>(rt: &R, node: &SharedNode<K>) {
     let (first, second) = (object(rt, SPILLED, 1), object(rt, SPILLED, 2));
     let create = Command::Create {
         id: second,
@@ -148,10 +145,7 @@ fn ask_for_read<L: Ledger + HistoryName, S: ClusterShape, R: Wait + Abort>(
 }
 
 /// The read that failed is answered once, and asked for again.
-fn ask_for_read_again<L: Ledger + HistoryName, S: ClusterShape, R: Wait + Abort>(
-    rt: &R,
-    node: &SharedNode<Recorded<L, S>>,
-) {
+fn ask_for_read_again<K: JournaledNode, R: Wait + Abort>(rt: &R, node: &SharedNode<K>) {
     let first = object(rt, SPILLED, 1);
     let reply = response(rt, node, SPILLED, Command::Get(first));
     holds!(rt; matches!(reply, Reply::Refused(Refusal::DeviceFailed)));
@@ -159,10 +153,7 @@ fn ask_for_read_again<L: Ledger + HistoryName, S: ClusterShape, R: Wait + Abort>
 }
 
 /// The first object is back, and goes, and what lies on the device with it.
-fn ask_for_erase<L: Ledger + HistoryName, S: ClusterShape, R: Wait + Abort>(
-    rt: &R,
-    node: &SharedNode<Recorded<L, S>>,
-) {
+fn ask_for_erase<K: JournaledNode, R: Wait + Abort>(rt: &R, node: &SharedNode<K>) {
     let first = object(rt, SPILLED, 1);
     holds!(rt; matches!(response(rt, node, SPILLED, Command::Get(first)), Reply::Got(32)));
     holds!(rt; matches!(response(rt, node, SPILLED, Command::Release(first)), Reply::Ok));
@@ -175,15 +166,19 @@ fn is_pending(reply: &Reply<Bytes>) -> bool {
 
 /// Writes the first object, and reads it back: the device.
 fn write_and_read<
-    L: Ledger + HistoryName + Send + Sync + 'static,
-    S: ClusterShape + Send + Sync + 'static,
+    K: JournaledNode + Send + 'static,
     R: Threads + Wait + Abort + Copy + Send + 'static,
->(
-    rt: R,
-    node: &Arc<SharedNode<Recorded<L, S>>>,
-    device: Device,
-    is_failing: bool,
-) -> io::Result<Device> {
+>(rt: R, node: &Arc<SharedNode<K>>, device: Device, is_failing: bool) -> io::Result<Device>
+where
+    K::Receipt: Send + 'static,
+    K::Mail: Send + 'static,
+    K::Posted: Send + 'static,
+    <K::Posted as Posted>::Directory: Send + 'static,
+    K::Erase: Send + 'static,
+    K::Entered: Send + 'static,
+    K::Prepared: Send + 'static,
+    K::Gone: Send + 'static,
+{
     ask_for_write(&rt, node);
     let (written, device) = round_with(rt, node, device, DeviceCall::Write)?;
     ask_for_read(&rt, node);
@@ -200,16 +195,19 @@ fn write_and_read<
 
 /// One kind of call is kept at a gate, and perhaps the call of this number fails at the device beneath.
 pub(crate) fn call_beside<
-    L: Ledger + HistoryName + Send + Sync + 'static,
-    S: ClusterShape + Send + Sync + 'static,
+    K: JournaledNode + Send + 'static,
     R: Threads + Wait + Abort + Copy + Send + 'static,
->(
-    rt: R,
-    alloc: Global,
-    node: &Arc<SharedNode<Recorded<L, S>>>,
-    kept: DeviceCall,
-    failing: u64,
-) -> io::Result<()> {
+>(rt: R, alloc: Global, node: &Arc<SharedNode<K>>, kept: DeviceCall, failing: u64) -> io::Result<()>
+where
+    K::Receipt: Send + 'static,
+    K::Mail: Send + 'static,
+    K::Posted: Send + 'static,
+    <K::Posted as Posted>::Directory: Send + 'static,
+    K::Erase: Send + 'static,
+    K::Entered: Send + 'static,
+    K::Prepared: Send + 'static,
+    K::Gone: Send + 'static,
+{
     begin(&rt, alloc, node)?;
     let device = KeptDevice {
         inner: FaultyDevice::new(MemoryDevice::new(alloc), failing),

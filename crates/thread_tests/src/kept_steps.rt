@@ -2,6 +2,7 @@
 ghost use Rattle.std.specs.Prelude.{◌≡◌};
 
 use crate::gates::Gate;
+use crate::named::Named;
 use crate::objects::admit;
 use assertions::same;
 use cluster_history::{ClusterShape, HistoryName};
@@ -78,19 +79,28 @@ where
 
 /// A command at a node is kept until one at another node is answered.
 fn step_beside<
-    L: Ledger + HistoryName + Send + Sync + 'static,
-    S: ClusterShape + Send + Sync + 'static,
+    K: JournaledNode + Send + 'static,
     R: Threads + Wait + Abort + Copy + Send + 'static,
->(rt: R, cluster: &Cluster<Recorded<L, S>, KeptCommands>, gate: &Gate) -> io::Result<()> {
+>(rt: R, cluster: &Cluster<K, KeptCommands>, gate: &Gate) -> io::Result<()>
+where
+    K::Receipt: Named + Send + 'static,
+    K::Mail: Send + 'static,
+    K::Posted: Send + 'static,
+    <K::Posted as Posted>::Directory: Send + 'static,
+    K::Erase: Send + 'static,
+    K::Entered: Send + 'static,
+    K::Prepared: Send + 'static,
+    K::Gone: Send + 'static,
+{
     let kept = cluster.node(0).expect(&rt, "a node");
     let other = cluster.node(1).expect(&rt, "a node");
     admit(&rt, kept, JOB, QUOTA);
     admit(&rt, other, JOB, QUOTA);
     let calling = start_usage(rt, boxes::another(kept)?, JOB)?;
     let is_reached = gate.await_arrival();
-    let beside = usage_at(&rt, other, JOB).map(|receipt| receipt.receipt().node());
+    let beside = usage_at(&rt, other, JOB).map(|receipt| receipt.named().0);
     let is_kept = gate.open();
-    let at_last = calling.join(&rt).map(|receipt| receipt.receipt().node());
+    let at_last = calling.join(&rt).map(|receipt| receipt.named().0);
     same!(rt; (is_reached, is_kept, beside, at_last), (true, true, Some(1), Some(0)));
     Ok(())
 }

@@ -14,6 +14,8 @@ mod kept_devices;
 #[cfg(test)]
 mod kept_steps;
 #[cfg(test)]
+mod named;
+#[cfg(test)]
 mod objects;
 #[cfg(test)]
 mod sessions;

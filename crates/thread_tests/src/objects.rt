@@ -1,16 +1,14 @@
 //! Jobs and their objects at a node, called as a direct caller does.
 use assertions::holds;
 use bytes::Bytes;
-use cluster_history::{ClusterShape, HistoryName};
 use memory_growth::{OutOfMemory, lists, shared};
+use node_gate::JournaledNode;
 use node_housekeeping::Pause;
-use node_journal::Recorded;
 use obj_id::{Command, JobKey, JobNo, Kind, ObjectId, Quota, Reply, TaskNo};
 use shared_nodes::SharedNode;
 use std::alloc::Global;
 use std::process::Abort;
 use std::sync::Wait;
-use std::sync::ledger::Ledger;
 
 pub(crate) const KEY: JobKey = JobKey([0; 32]);
 
@@ -20,9 +18,9 @@ pub(crate) fn object(rt: &impl Abort, job: JobNo, index: u32) -> ObjectId {
 }
 
 /// Admits the job: it isn't refused.
-pub(crate) fn admit<L: Ledger + HistoryName, S: ClusterShape, P: Pause, R: Wait + Abort>(
+pub(crate) fn admit<K: JournaledNode, P: Pause, R: Wait + Abort>(
     rt: &R,
-    node: &SharedNode<Recorded<L, S>, P>,
+    node: &SharedNode<K, P>,
     job: JobNo,
     quota: Quota,
 ) {
@@ -31,9 +29,9 @@ pub(crate) fn admit<L: Ledger + HistoryName, S: ClusterShape, P: Pause, R: Wait 
 }
 
 /// The answer to a command of the job's first session.
-pub(crate) fn response<L: Ledger + HistoryName, S: ClusterShape, R: Wait>(
+pub(crate) fn response<K: JournaledNode, R: Wait>(
     rt: &R,
-    node: &SharedNode<Recorded<L, S>>,
+    node: &SharedNode<K>,
     job: JobNo,
     command: Command<Bytes>,
 ) -> Reply<Bytes> {
@@ -41,10 +39,10 @@ pub(crate) fn response<L: Ledger + HistoryName, S: ClusterShape, R: Wait>(
 }
 
 /// Creates an object of 20 bytes, writes the first five of them, and seals it: none of it is refused.
-pub(crate) fn seal_hello<L: Ledger + HistoryName, S: ClusterShape, R: Wait + Abort>(
+pub(crate) fn seal_hello<K: JournaledNode, R: Wait + Abort>(
     rt: &R,
     alloc: Global,
-    node: &SharedNode<Recorded<L, S>>,
+    node: &SharedNode<K>,
     id: ObjectId,
 ) -> Result<(), OutOfMemory> {
     let hello = shared::from_vec(lists::copied(alloc, b"Hello")?)?;

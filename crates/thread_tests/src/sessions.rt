@@ -2,10 +2,8 @@
 use crate::objects::{KEY, admit, is_hello, object, seal_hello};
 use crate::trials::{Trial, try_out};
 use assertions::{holds, same};
-use cluster_history::{ClusterShape, HistoryName};
 use memory_growth::OutOfMemory;
 use node_gate::JournaledNode;
-use node_journal::Recorded;
 use obj_id::{Command, JobNo, Quota, Refusal, Reply};
 use session_engine::Gate;
 use session_threads::Session;
@@ -13,7 +11,6 @@ use shared_nodes::SharedNode;
 use std::alloc::Global;
 use std::process::Abort;
 use std::sync::Wait;
-use std::sync::ledger::Ledger;
 use std::test::Fail;
 use std::time::Clock;
 
@@ -46,22 +43,17 @@ fn hold_beside<G: Gate, H: Gate>(rt: &impl Abort, holding: &mut G, ending: &mut 
     same!(rt; (holder, other), (1, 2));
 }
 
-/// The same at a node, any: that of the trial would take its proof beyond what the prover does.
-fn hold_at<K: JournaledNode, R: Wait + Clock + Abort>(rt: &R, node: &SharedNode<K>) {
-    let mut holding = Session::new(rt, node);
-    let mut ending = Session::new(rt, node);
-    hold_beside(rt, &mut holding, &mut ending);
-}
-
 /// One session holds an object, and the other one ends.
-pub(crate) fn two_sessions<L: Ledger + HistoryName, S: ClusterShape, R: Wait + Clock + Abort>(
+pub(crate) fn two_sessions<K: JournaledNode, R: Wait + Clock + Abort>(
     rt: &R,
     alloc: Global,
-    node: &SharedNode<Recorded<L, S>>,
+    node: &SharedNode<K>,
 ) -> Result<(), OutOfMemory> {
     admit(rt, node, JOB, QUOTA);
     seal_hello(rt, alloc, node, object(rt, JOB, 1))?;
-    hold_at(rt, node);
+    let mut holding = Session::new(rt, node);
+    let mut ending = Session::new(rt, node);
+    hold_beside(rt, &mut holding, &mut ending);
     Ok(())
 }
 

@@ -5,9 +5,11 @@ use crate::direct::{live_on, six_commands};
 use crate::fetches::{ask_beside, fetch};
 use crate::kept_calls::call_beside;
 use crate::kept_devices::DeviceCall;
+use crate::named::Named;
 use crate::sessions::two_sessions;
 use cluster_history::{ClusterShape, HistoryName};
 use cluster_threads::Cluster;
+use node_gate::{JournaledNode, Posted};
 use node_housekeeping::{NoPause, Report};
 use node_journal::{Recorded, Unnamed};
 use std::alloc::Global;
@@ -46,7 +48,7 @@ impl Trial {
     }
 }
 
-/// Carries the trial out at the cluster.
+/// Carries the trial out at the cluster, which is connected first if anything is fetched there.
 fn carry_out<
     L: Ledger + HistoryName + Send + Sync + 'static,
     S: ClusterShape + Send + Sync + 'static,
@@ -55,6 +57,24 @@ fn carry_out<
     if matches!(trial, Trial::Fetch) {
         cluster.connect(rt)?;
     }
+    carry_out_at(rt, alloc, trial, cluster)
+}
+
+/// The same, at one that is connected.
+fn carry_out_at<
+    K: JournaledNode + Send + 'static,
+    R: Threads + Wait + Clock + Abort + Copy + Send + 'static,
+>(rt: R, alloc: Global, trial: &Trial, cluster: &Cluster<K>) -> io::Result<()>
+where
+    K::Receipt: Named + Send + 'static,
+    K::Mail: Send + 'static,
+    K::Posted: Send + 'static,
+    <K::Posted as Posted>::Directory: Send + 'static,
+    K::Erase: Send + 'static,
+    K::Entered: Send + 'static,
+    K::Prepared: Send + 'static,
+    K::Gone: Send + 'static,
+{
     let node = cluster.node(0).expect(&rt, "a node");
     match trial {
         Trial::SixCommands => {

@@ -10,3 +10,9 @@ connect-requires-send-K g c κs within = param_send 0 _ (arg_send _ no _ (record
 
 pub connect-requires-send-K-Gone : goal.connect-requires-send-K-Gone
 connect-requires-send-K-Gone g c κs within = search (row_send, sendable) depth 40
+
+pub carry_out_at-requires-send-K : goal.carry_out_at-requires-send-K
+carry_out_at-requires-send-K g c κs within = param_send 0 _ (arg_send _ no _ (recorded_send (param 0 g.row.L) (param 1 g.row.S) g.L.Ledger g.L.HistoryName g.S.ClusterShape))
+
+pub carry_out_at-requires-send-K-Gone : goal.carry_out_at-requires-send-K-Gone
+carry_out_at-requires-send-K-Gone g c κs within = search (row_send, sendable) depth 40
