@@ -1,11 +1,14 @@
 //! The streams of a node's open sessions.
+use crate::open_stream::{ListedSession, OpenStream};
 use memory_growth::{OutOfMemory, boxes, lists};
+use obj_id::JobNo;
 use std::alloc::Global;
 use std::net::Shutdown;
 use std::os::fd::AsRawFd;
 use std::os::unix::net::UnixStream;
 use std::sync::atomic::{AtomicU32, Ordering};
 use std::sync::{Arc, Mutex, Wait};
+use std::time::{Clock, Instant};
 
 /// How many descriptors are left to the workers' devices: two for each of the most nodes that there may be. A stream that would take one of
 /// them isn't served.
@@ -14,7 +17,7 @@ const SPARE: u32 = 16;
 /// Streams that are served.
 #[derive(Drop)]
 struct Streams {
-    open: Vec<Arc<UnixStream>>,
+    open: Vec<Arc<OpenStream>>,
     // what all of them were shut down for, and those that come later are
     shut: Option<Shutdown>,
 }
@@ -52,18 +55,19 @@ impl OpenStreams {
     }
 
     /// A stream is served from now on. Without memory for its place it is closed.
-    pub fn open<R: Wait>(
+    pub fn open<R: Wait + Clock>(
         &self,
         rt: &R,
         alloc: Global,
         stream: UnixStream,
-    ) -> Result<Arc<UnixStream>, OutOfMemory> {
-        let stream = boxes::counted(alloc, stream)?;
+    ) -> Result<Arc<OpenStream>, OutOfMemory> {
+        let opened = Instant::now(rt).ok();
+        let stream = boxes::counted(alloc, OpenStream::new(stream, opened))?;
         let shared = boxes::another(&stream)?;
         let mut streams = self.streams.lock(rt);
         lists::push(&mut streams.open, shared)?;
         if let Some(how) = streams.shut {
-            let _ = stream.shutdown(how);
+            let _ = stream.stream().shutdown(how);
         }
         Ok(stream)
     }
@@ -76,7 +80,7 @@ impl OpenStreams {
         let place = streams
             .open
             .iter()
-            .position(|open| open.as_raw_fd() == number);
+            .position(|open| open.stream().as_raw_fd() == number);
         if let Some(place) = place {
             let _ = streams.open.swap_remove(place);
         }
@@ -86,8 +90,37 @@ impl OpenStreams {
     pub fn shut<R: Wait>(&self, rt: &R, how: Shutdown) {
         let mut streams = self.streams.lock(rt);
         streams.shut = Some(how);
-        for stream in &streams.open {
-            let _ = stream.shutdown(how);
+        for open in &streams.open {
+            let _ = open.stream().shutdown(how);
         }
+    }
+
+    /// Shuts down the stream of this job's session both ways, so that it ends as if its client had gone: whether it is open.
+    pub fn shut_session<R: Wait>(&self, rt: &R, job: JobNo, session: u32) -> bool {
+        let streams = self.streams.lock(rt);
+        for open in &streams.open {
+            if open.is_of(job, session) {
+                let _ = open.stream().shutdown(Shutdown::Both);
+                return true;
+            }
+        }
+        false
+    }
+
+    /// What is noted of each session whose Hello was taken.
+    pub fn listed<R: Wait + Clock>(
+        &self,
+        rt: &R,
+        alloc: Global,
+    ) -> Result<Vec<ListedSession>, OutOfMemory> {
+        let now = Instant::now(rt).ok();
+        let streams = self.streams.lock(rt);
+        let mut listed = lists::with_room_for(alloc, &streams.open)?;
+        for open in &streams.open {
+            if let Some(session) = open.listed(now) {
+                lists::push(&mut listed, session)?;
+            }
+        }
+        Ok(listed)
     }
 }

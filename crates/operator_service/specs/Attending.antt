@@ -23,7 +23,7 @@ use Rattle.program_lines.specs.declared.taking.LineTaken.{LineTaken}
 use Rattle.program_lines.specs.declared.taking.LineTaken.TheVariants.{Line, TooLong}
 use Rattle.program_lines.specs.ControlLines.{IsControlLine, IsAskedWithin}
 use Rattle.schedule_text.specs.Lines.{with_line_feed}
-use Rattle.operator_service.specs.Looks.{IsLookText}
+use Rattle.operator_service.specs.Looks.{IsLookText, IsKickText}
 use Rattle.operator_service.specs.Servings.{IsCarriedOut, IsWritten, report_line}
 use Rattle.program_lines.specs.TakenLines.{IsUnbroken}
 
@@ -54,6 +54,7 @@ IsAnswer receipt_of (asked.Order (order.Change node c)) line = IsChangeLine rece
 IsAnswer receipt_of (asked.Order order.Close) line = IsClosingLine line
 IsAnswer receipt_of asked.CloseNow line = IsClosingLine line
 IsAnswer receipt_of (asked.Look node what) line = IsLookText node what line
+IsAnswer receipt_of (asked.Kick node job session) line = IsKickText node job.0 session line
 
 -- after it nothing more is read
 abbrev pub is_closing : ControlLine → Bool

@@ -1,5 +1,5 @@
 -- What the operator is shown of a node, as lines.
-use Rattle.std.specs.Prelude.{◌≡◌, ℕ, List, [], ◌∷◌, ◌++◌, codes, decimal, ⊤}
+use Rattle.std.specs.Prelude.{◌≡◌, ◌⊎◌, ℕ, List, [], ◌∷◌, ◌++◌, codes, decimal, ⊤}
 use Rattle.obj_id.specs.declared.commands.Reply.{Reply}
 use Rattle.obj_id.specs.declared.commands.Reply.TheVariants as reply
 use Rattle.obj_id.specs.declared.refusals.Refusal.TheVariants.{NotAdmitted}
@@ -7,6 +7,7 @@ use Rattle.private_store.specs.declared.schedules.StepAnswer.TheVariants.{Respon
 use Rattle.schedule_text.specs.declared.prefixes.Prefix.TheVariants.{Operator}
 use Rattle.schedule_text.specs.Printing.{line_text}
 use Rattle.node_gate.specs.declared.journaled.LiveJob.{LiveJob}
+use Rattle.node_housekeeping.specs.declared.open_stream.ListedSession.{ListedSession}
 use Rattle.program_lines.specs.declared.control_lines.Look.{Look}
 use Rattle.program_lines.specs.declared.control_lines.Look.TheVariants as look
 use Rattle.schedule_text.specs.Lines.{with_line_feed}
@@ -25,13 +26,34 @@ jobs_line node jobs = with_line_feed (codes "n" ++ decimal node ++ codes " op jo
 abbrev pub sessions_line : ℕ → ℕ → List ℕ
 sessions_line node sessions = with_line_feed (codes "n" ++ decimal node ++ codes " op sessions " ++ decimal sessions)
 
+-- a session with its job, its age in seconds and how many commands it gave, after a space
+abbrev pub stream_text : ListedSession → List ℕ
+stream_text listed = codes " " ++ decimal listed.session ++ codes ":" ++ decimal listed.job.0 ++ codes ":" ++ decimal listed.seconds ++ codes ":" ++ decimal listed.commands
+
+abbrev pub streams_text : List ListedSession → List ℕ
+streams_text [] = []
+streams_text (listed ∷ sessions) = stream_text listed ++ streams_text sessions
+
+abbrev pub streams_line : ℕ → List ListedSession → List ℕ
+streams_line node sessions = with_line_feed (codes "n" ++ decimal node ++ codes " op streams" ++ streams_text sessions)
+
+-- the stream of this job's session was shut down, or there is none
+abbrev pub kicked_line : ℕ → ℕ → ℕ → List ℕ
+kicked_line node job session = with_line_feed (codes "n" ++ decimal node ++ codes " op kicked " ++ decimal job ++ codes " " ++ decimal session)
+
+abbrev pub no_session_line : ℕ → ℕ → ℕ → List ℕ
+no_session_line node job session = with_line_feed (codes "n" ++ decimal node ++ codes " op no session " ++ decimal job ++ codes " " ++ decimal session)
+
+abbrev pub IsKickText : ℕ → ℕ → ℕ → List ℕ → Type 0
+IsKickText node job session line = (line ≡ kicked_line node job session) ⊎ (line ≡ no_session_line node job session)
+
 -- a job's usage, or that it isn't live
 abbrev pub IsUsageReply : Reply (List ℕ) → Type 0
 IsUsageReply (reply.Usage usage) = ⊤
 IsUsageReply (reply.Refused refusal) = refusal ≡ NotAdmitted
 IsUsageReply _ = ⊥
 
--- the line that shows it: what a session is told of its job, the live jobs, or how many sessions are open
+-- the line that shows it: what a session is told of its job, the live jobs, how many sessions are open, or which
 pub record IsJobsLine (node : ℕ) (line : List ℕ) : Type 0 where
   pub jobs : List LiveJob
   pub is : line ≡ jobs_line node jobs
@@ -45,7 +67,12 @@ pub record IsSessionsLine (node : ℕ) (line : List ℕ) : Type 0 where
   pub sessions : ℕ
   pub is : line ≡ sessions_line node sessions
 
+pub record IsStreamsLine (node : ℕ) (line : List ℕ) : Type 0 where
+  pub sessions : List ListedSession
+  pub is : line ≡ streams_line node sessions
+
 abbrev pub IsLookText : ℕ → Look → List ℕ → Type 0
 IsLookText node look.Jobs line = IsJobsLine node line
 IsLookText node (look.Usage job) line = IsUsageLine node line
 IsLookText node look.Sessions line = IsSessionsLine node line
+IsLookText node look.Streams line = IsStreamsLine node line

@@ -5,14 +5,15 @@ ghost use Rattle.std.specs.Str.{IsUtf8};
 ghost use Rattle.schedule_text.specs.Fields.{Reads};
 ghost use Rattle.program_lines.specs.ControlLines.{IsControlLine};
 ghost use Rattle.operator_service.specs.Attending.{HasAttended, IsAnswered, IsChangeLine, IsClosingLine, IsAnswerMade, IsNone, IsAnswerText, Replies, closing_line as closing_line_lem, no_order_line as no_order_line_lem};
-ghost use Rattle.operator_service.specs.Looks.{IsLookText};
+ghost use Rattle.operator_service.specs.Looks.{IsKickText, IsLookText};
 ghost use Rattle.operator_service.specs.Servings.{StopsReply};
 
-use crate::looks::look_text;
+use crate::looks::{kick_text, look_text};
 use crate::serving::{carry_out, node_at, report_line, write_out};
 use memory_growth::{OutOfMemory, text_of, texts};
 use node_gate::JournaledNode;
 use node_housekeeping::Report;
+use obj_id::JobNo;
 use private_store::StepAnswer;
 use program_lines::{
     Change, ControlLine, Fault, LineTaken, Look, Order, read_control_line, take_line,
@@ -23,10 +24,11 @@ use std::alloc::Global;
 use std::io::{Read, Write};
 use std::str;
 use std::sync::{Arc, Wait};
+use std::time::Clock;
 
 /// The words that are orders, as a line that is none is answered.
 const ORDERS: &str =
-    "admit NODE JOB WINDOW DEVICE KEY, quota NODE JOB WINDOW DEVICE, end NODE JOB, jobs NODE, usage NODE JOB, sessions NODE, close, close now";
+    "admit NODE JOB WINDOW DEVICE KEY, quota NODE JOB WINDOW DEVICE, end NODE JOB, jobs NODE, usage NODE JOB, sessions NODE, streams NODE, kick NODE JOB SESSION, close, close now";
 
 /// What closes the server for a control connection.
 pub trait Closing {
@@ -48,7 +50,7 @@ struct Answer {
 /// one that begins with `#` have none. A line that is no order is answered so, with its number, counted from 1, and so is one of more
 /// than 4,096 bytes. A fault is of this connection alone, and the next line has no answer; only if the output failed nobody knows what
 /// was written.
-pub fn attend<K: JournaledNode, R: Wait, I: Read, O: Write, C: Closing>(
+pub fn attend<K: JournaledNode, R: Wait + Clock, I: Read, O: Write, C: Closing>(
     rt: &R,
     alloc: Global,
     nodes: &[Arc<SharedNode<K>>],
@@ -78,7 +80,7 @@ pub fn attend<K: JournaledNode, R: Wait, I: Read, O: Write, C: Closing>(
 }
 
 /// Answers the line of this number, and hands the answer over: whether it is the last.
-fn reply_to<K: JournaledNode, R: Wait, O: Write, C: Closing>(
+fn reply_to<K: JournaledNode, R: Wait + Clock, O: Write, C: Closing>(
     rt: &R,
     alloc: Global,
     nodes: &[Arc<SharedNode<K>>],
@@ -104,7 +106,7 @@ fn reply_to<K: JournaledNode, R: Wait, O: Write, C: Closing>(
 }
 
 /// The answer to what was taken as the line of this number.
-fn answer_of<K: JournaledNode, R: Wait, C: Closing>(
+fn answer_of<K: JournaledNode, R: Wait + Clock, C: Closing>(
     rt: &R,
     alloc: Global,
     nodes: &[Arc<SharedNode<K>>],
@@ -123,7 +125,7 @@ fn answer_of<K: JournaledNode, R: Wait, C: Closing>(
 }
 
 /// The answer to the text of a line.
-fn answer_to<K: JournaledNode, R: Wait, C: Closing>(
+fn answer_to<K: JournaledNode, R: Wait + Clock, C: Closing>(
     rt: &R,
     alloc: Global,
     nodes: &[Arc<SharedNode<K>>],
@@ -158,7 +160,7 @@ fn hear_asked(alloc: Global, text: &[u8], nodes: u32) -> Result<Option<ControlLi
 }
 
 /// Does what was asked for, and answers.
-fn answer_asked<K: JournaledNode, R: Wait, C: Closing>(
+fn answer_asked<K: JournaledNode, R: Wait + Clock, C: Closing>(
     rt: &R,
     alloc: Global,
     nodes: &[Arc<SharedNode<K>>],
@@ -177,6 +179,10 @@ fn answer_asked<K: JournaledNode, R: Wait, C: Closing>(
         },
         ControlLine::Look(node, look) => match node_at(nodes, node) {
             Some(shared) => look_answer(rt, alloc, shared, node, look),
+            None => no_order(alloc, number),
+        },
+        ControlLine::Kick { node, job, session } => match node_at(nodes, node) {
+            Some(shared) => kick_answer(rt, alloc, shared, node, job, session),
             None => no_order(alloc, number),
         },
     }
@@ -217,7 +223,7 @@ fn change_answer<K: JournaledNode, R: Wait>(
 }
 
 /// The answer that shows something of a node.
-fn look_answer<K: JournaledNode, R: Wait>(
+fn look_answer<K: JournaledNode, R: Wait + Clock>(
     rt: &R,
     alloc: Global,
     shared: &SharedNode<K>,
@@ -228,6 +234,23 @@ fn look_answer<K: JournaledNode, R: Wait>(
 {
     Ok(Answer {
         line: look_text(rt, alloc, shared, node, look)?,
+        is_last: false,
+    })
+}
+
+/// Shuts down the stream of this job's session at the node of this number, and answers.
+fn kick_answer<K: JournaledNode, R: Wait>(
+    rt: &R,
+    alloc: Global,
+    shared: &SharedNode<K>,
+    node: u32,
+    job: JobNo,
+    session: u32,
+) -> Result<Answer, OutOfMemory>
+    ensures { IfOk result (λ answer. IsKickText node job.0 session (string_bytes answer.line) × (answer.is_last ≡ false)) }
+{
+    Ok(Answer {
+        line: kick_text(rt, alloc, shared, node, job, session)?,
         is_last: false,
     })
 }

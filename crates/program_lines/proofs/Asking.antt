@@ -18,11 +18,16 @@ module _ (nodes : ℕ) (word : List ℕ) (is : word ≡ codes "usage") where
   sound (a ∷ []) n look.Sessions h = absurd h
   sound (a ∷ b ∷ []) n look.Sessions h = absurd h
   sound (a ∷ b ∷ c ∷ fields) n look.Sessions h = absurd h
+  sound [] n look.Streams h = absurd h
+  sound (a ∷ []) n look.Streams h = absurd h
+  sound (a ∷ b ∷ []) n look.Streams h = absurd h
+  sound (a ∷ b ∷ c ∷ fields) n look.Streams h = absurd h
 
   whole : (fields : List (List ℕ)) (found : Option LookAt) → ((x : LookAt) → IsJobLook nodes fields x → found ≡ Some x) → (n : ℕ) (l : Look) → IsLookAfter nodes word fields (record { node = n; look = l }) → found ≡ Some (record { node = n; look = l })
   whole fields found h n (look.Usage j) of = h (record { node = n; look = look.Usage j }) of.1
   whole fields found h n look.Jobs of = let e : codes "usage" ≡ codes "jobs" = sym is ∙ of.0 in absurd (cc)
   whole fields found h n look.Sessions of = let e : codes "usage" ≡ codes "sessions" = sym is ∙ of.0 in absurd (cc)
+  whole fields found h n look.Streams of = let e : codes "usage" ≡ codes "streams" = sym is ∙ of.0 in absurd (cc)
 
   found_is : (fields : List (List ℕ)) (found : Option LookAt) → IfSome found (IsJobLook nodes fields) → IfSome found (IsLookAfter nodes word fields)
   found_is fields (Some x) h = sound fields x.node x.look h

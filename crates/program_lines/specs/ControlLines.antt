@@ -1,12 +1,13 @@
 -- Which order a line of a control connection spells.
 use Rattle.std.specs.Prelude.{◌≡◌, ℕ, ◌<◌, List, [], ◌∷◌, codes}
-use Rattle.schedule_text.specs.Fields.{IsJob, IsNode, fields_of}
+use Rattle.schedule_text.specs.Fields.{IsJob, IsNode, IsNumber, fields_of}
 use Rattle.schedule_text.specs.Reading.{IsNodeAlone}
 use Rattle.program_lines.specs.declared.control_lines.ControlLine.{ControlLine}
 use Rattle.program_lines.specs.declared.control_lines.ControlLine.TheVariants as asked
 use Rattle.program_lines.specs.declared.control_lines.Look.{Look}
 use Rattle.program_lines.specs.declared.control_lines.Look.TheVariants as look
 use Rattle.program_lines.specs.declared.control_lines.LookAt.{LookAt}
+use Rattle.program_lines.specs.declared.control_lines.SessionAt.{SessionAt}
 use Rattle.program_lines.specs.Orders.{IsOrder, IsWithin}
 
 -- the first word of a line that asks for this
@@ -14,6 +15,7 @@ abbrev pub look_word : Look → List ℕ
 look_word look.Jobs = codes "jobs"
 look_word (look.Usage job) = codes "usage"
 look_word look.Sessions = codes "sessions"
+look_word look.Streams = codes "streams"
 
 -- `NODE JOB`, each in its field
 abbrev pub IsUsageOf : ℕ → List ℕ → List ℕ → ℕ → Look → Type 0
@@ -29,6 +31,7 @@ abbrev pub IsLookFields : ℕ → List (List ℕ) → ℕ → Look → Type 0
 IsLookFields nodes fields node look.Jobs = IsNodeAlone nodes fields node
 IsLookFields nodes fields node (look.Usage job) = IsJobLook nodes fields (record { node = node; look = look.Usage job })
 IsLookFields nodes fields node look.Sessions = IsNodeAlone nodes fields node
+IsLookFields nodes fields node look.Streams = IsNodeAlone nodes fields node
 
 abbrev pub IsLookAfter : ℕ → List ℕ → List (List ℕ) → LookAt → Type 0
 IsLookAfter nodes word fields x = (word ≡ look_word x.look) × IsLookFields nodes fields x.node x.look
@@ -37,14 +40,32 @@ abbrev pub IsLookLine : ℕ → List (List ℕ) → LookAt → Type 0
 IsLookLine nodes [] x = ⊥
 IsLookLine nodes (word ∷ fields) x = IsLookAfter nodes word fields x
 
--- a line of the operator's, `close now`, `jobs NODE`, `usage NODE JOB` or `sessions NODE`
+-- `NODE JOB SESSION`, each in its field
+abbrev pub IsSessionAt : ℕ → List ℕ → List ℕ → List ℕ → SessionAt → Type 0
+IsSessionAt nodes node job session x = IsNode nodes node x.node × IsJob job x.job × IsNumber session x.session
+
+abbrev pub IsKickFields : ℕ → List (List ℕ) → SessionAt → Type 0
+IsKickFields nodes (node ∷ job ∷ session ∷ []) x = IsSessionAt nodes node job session x
+IsKickFields nodes _ x = ⊥
+
+-- `kick` and these
+abbrev pub IsKickAfter : ℕ → List ℕ → List (List ℕ) → SessionAt → Type 0
+IsKickAfter nodes word fields x = (word ≡ codes "kick") × IsKickFields nodes fields x
+
+abbrev pub IsKickLine : ℕ → List (List ℕ) → SessionAt → Type 0
+IsKickLine nodes [] x = ⊥
+IsKickLine nodes (word ∷ fields) x = IsKickAfter nodes word fields x
+
+-- a line of the operator's, `close now`, `jobs NODE`, `usage NODE JOB`, `sessions NODE`, `streams NODE` or `kick NODE JOB SESSION`
 abbrev pub IsControlLine : ℕ → List ℕ → ControlLine → Type 0
 IsControlLine nodes text (asked.Order order) = IsOrder nodes text order
 IsControlLine nodes text asked.CloseNow = text ≡ codes "close now"
 IsControlLine nodes text (asked.Look node what) = IsLookLine nodes (fields_of text) (record { node = node; look = what })
+IsControlLine nodes text (asked.Kick node job session) = IsKickLine nodes (fields_of text) (record { node = node; job = job; session = session })
 
 -- it is for one of so many nodes, or for the whole cluster
 abbrev pub IsAskedWithin : ℕ → ControlLine → Type 0
 IsAskedWithin count (asked.Order order) = IsWithin count order
 IsAskedWithin count asked.CloseNow = Unit {0}
 IsAskedWithin count (asked.Look node what) = node < count
+IsAskedWithin count (asked.Kick node job session) = node < count

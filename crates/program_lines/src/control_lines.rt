@@ -2,7 +2,7 @@
 ghost use Rattle.std.specs.Prelude.{◌≡◌, IfOk, map};
 ghost use Rattle.schedule_text.specs.Fields.{Reads};
 ghost use Rattle.schedule_text.specs.Reading.{IsNodeAlone};
-ghost use Rattle.program_lines.specs.ControlLines.{IsControlLine, IsJobLook, IsLookAfter, IsLookLine};
+ghost use Rattle.program_lines.specs.ControlLines.{IsControlLine, IsJobLook, IsKickAfter, IsKickFields, IsKickLine, IsLookAfter, IsLookLine};
 
 use crate::operator::{Order, read_order};
 use memory_growth::OutOfMemory;
@@ -19,6 +19,8 @@ pub enum Look {
     Usage(JobNo),
     /// How many sessions are open.
     Sessions,
+    /// Which sessions are open.
+    Streams,
 }
 
 /// What a line of a control connection asks for.
@@ -30,10 +32,12 @@ pub enum ControlLine {
     CloseNow,
     /// Something is shown of the node of this number.
     Look(u32, Look),
+    /// The stream of this job's session at this node is shut down.
+    Kick { node: u32, job: JobNo, session: u32 },
 }
 
-/// What the text of a line, without its line feed, asks of nodes of this number: an order, `close now`, `jobs NODE`, `usage NODE JOB`
-/// or `sessions NODE`. `None` exactly if it is no such line.
+/// What the text of a line, without its line feed, asks of nodes of this number: an order, `close now`, `jobs NODE`, `usage NODE JOB`,
+/// `sessions NODE`, `streams NODE` or `kick NODE JOB SESSION`. `None` exactly if it is no such line.
 pub fn read_control_line(
     alloc: Global,
     text: &str,
@@ -48,6 +52,9 @@ pub fn read_control_line(
     if let Some(LookAt { node, look }) = look_line(&fields, nodes) {
         return Ok(Some(ControlLine::Look(node, look)));
     }
+    if let Some(SessionAt { node, job, session }) = kick_line(&fields, nodes) {
+        return Ok(Some(ControlLine::Kick { node, job, session }));
+    }
     match read_order(alloc, text, nodes)? {
         Some(order) => Ok(Some(ControlLine::Order(order))),
         None => Ok(None),
@@ -61,7 +68,15 @@ struct LookAt {
     look: Look,
 }
 
-/// `jobs NODE`, `usage NODE JOB` or `sessions NODE`.
+/// A job's session at a node.
+#[derive(Clone, Copy, Debug, PartialEq, Eq)]
+struct SessionAt {
+    node: u32,
+    job: JobNo,
+    session: u32,
+}
+
+/// `jobs NODE`, `usage NODE JOB`, `sessions NODE` or `streams NODE`.
 fn look_line(fields: &[&str], nodes: u32) -> Option<LookAt>
     ensures { Reads result (IsLookLine nodes (map (λ field. field.now) fields.now)) }
 {
@@ -83,6 +98,9 @@ fn look_after(word: &str, fields: &[&str], nodes: u32) -> Option<LookAt>
     }
     if word == "usage" {
         return job_look(fields, nodes);
+    }
+    if word == "streams" {
+        return node_look(fields, nodes, Look::Streams);
     }
     None
 }
@@ -107,4 +125,37 @@ fn job_look(fields: &[&str], nodes: u32) -> Option<LookAt>
         node,
         look: Look::Usage(job),
     })
+}
+
+/// `kick NODE JOB SESSION`.
+fn kick_line(fields: &[&str], nodes: u32) -> Option<SessionAt>
+    ensures { Reads result (IsKickLine nodes (map (λ field. field.now) fields.now)) }
+{
+    let [word, fields @ ..] = fields else {
+        return None
+    };
+    kick_after(word, fields, nodes)
+}
+
+/// The session, by the first word and the fields after it.
+fn kick_after(word: &str, fields: &[&str], nodes: u32) -> Option<SessionAt>
+    ensures { Reads result (IsKickAfter nodes word.now (map (λ field. field.now) fields.now)) }
+{
+    if word == "kick" {
+        return session_at(fields, nodes);
+    }
+    None
+}
+
+/// `NODE JOB SESSION`.
+fn session_at(fields: &[&str], nodes: u32) -> Option<SessionAt>
+    ensures { Reads result (IsKickFields nodes (map (λ field. field.now) fields.now)) }
+{
+    let [node, job, session] = fields else {
+        return None
+    };
+    let node = fields::node(node, nodes)?;
+    let job = fields::job(job)?;
+    let session = fields::number(session)?;
+    Some(SessionAt { node, job, session })
 }

@@ -2,7 +2,7 @@
 use crate::Session;
 use memory_growth::{OutOfMemory, boxes};
 use node_gate::{JournaledNode, Posted};
-use node_housekeeping::Pause;
+use node_housekeeping::{OpenStream, Pause};
 use session_engine::serve;
 use shared_nodes::SharedNode;
 use std::alloc::Global;
@@ -134,7 +134,7 @@ fn serve_stream<K: JournaledNode, P: Pause, R: Wait + Clock>(
     // without memory for its place among the open ones it is closed
     if let Ok(stream) = node.housekeeping().streams.open(rt, alloc, stream) {
         serve_open(rt, alloc, node, &*stream);
-        node.housekeeping().streams.close(rt, &*stream);
+        node.housekeeping().streams.close(rt, stream.stream());
     }
     node.housekeeping().sessions.end(rt);
 }
@@ -144,9 +144,10 @@ fn serve_open<K: JournaledNode, P: Pause, R: Wait + Clock>(
     rt: &R,
     alloc: Global,
     node: &SharedNode<K, P>,
-    stream: &UnixStream,
+    open: &OpenStream,
 ) {
-    let mut session = Session::of_stream(rt, node, stream);
+    let mut session = Session::of_stream(rt, node, open);
+    let stream = open.stream();
     let mut reader = stream;
     // so that the answers to what came in one piece leave together; without memory for it the stream is closed
     if let Ok(mut writer) = BufWriter::new(alloc, stream) {

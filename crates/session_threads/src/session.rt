@@ -3,12 +3,11 @@
 use crate::frames::framed;
 use bytes::Bytes;
 use node_gate::JournaledNode;
-use node_housekeeping::{NoPause, Pause};
+use node_housekeeping::{NoPause, OpenStream, Pause};
 use obj_id::{Command, JobKey, JobNo, Refusal, Reply};
 use private_store::Awaited;
 use session_engine::Gate;
 use shared_nodes::{ReceiptBuffer, SharedNode, out_of_memory};
-use std::os::unix::net::UnixStream;
 use std::sync::Wait;
 use std::time::Clock;
 
@@ -20,8 +19,8 @@ pub struct Session<'a, K: JournaledNode, R: Wait + Clock, P = NoPause> {
     receipts: ReceiptBuffer<K::Receipt>,
     // the session that the node let in last
     entered: Option<K::Entered>,
-    // whose end is looked for while a call waits
-    client: Option<&'a UnixStream>,
+    // whose end is looked for while a call waits, and of which the operator is told
+    client: Option<&'a OpenStream>,
 }
 
 impl<'a, K: JournaledNode, R: Wait + Clock, P: Pause> Session<'a, K, R, P> {
@@ -40,7 +39,7 @@ impl<'a, K: JournaledNode, R: Wait + Clock, P: Pause> Session<'a, K, R, P> {
     pub(crate) fn of_stream(
         rt: &'a R,
         node: &'a SharedNode<K, P>,
-        client: &'a UnixStream,
+        client: &'a OpenStream,
     ) -> Session<'a, K, R, P> {
         Session {
             rt,
@@ -48,6 +47,13 @@ impl<'a, K: JournaledNode, R: Wait + Clock, P: Pause> Session<'a, K, R, P> {
             receipts: ReceiptBuffer::new(node.housekeeping().alloc),
             entered: None,
             client: Some(client),
+        }
+    }
+
+    /// A command was taken from the client's stream.
+    fn count_command(&self) {
+        if let Some(client) = self.client {
+            client.note_command();
         }
     }
 
@@ -70,10 +76,14 @@ impl<'a, K: JournaledNode, R: Wait + Clock, P: Pause> Gate for Session<'a, K, R,
         let entered = self.node.enter(self.rt, job, &key)?;
         let session = K::session(&entered);
         self.entered = Some(entered);
+        if let Some(client) = self.client {
+            client.note_session(job, session);
+        }
         Ok(session)
     }
 
     fn call(&mut self, job: JobNo, session: u32, command: Command<Bytes>) -> Reply<Bytes> {
+        self.count_command();
         if let Err(error) = self.node.make_room(self.rt, &mut self.receipts) {
             return framed(out_of_memory(error));
         }
@@ -86,13 +96,15 @@ impl<'a, K: JournaledNode, R: Wait + Clock, P: Pause> Gate for Session<'a, K, R,
     }
 
     fn call_wait(&mut self, job: JobNo, session: u32, awaited: Awaited) -> Reply<Bytes> {
+        self.count_command();
         if let Err(error) = self.node.make_room(self.rt, &mut self.receipts) {
             return framed(out_of_memory(error));
         }
         let last = self.receipts.last();
+        let client = self.client.map(|client| client.stream());
         let (reply, receipt) = self
             .node
-            .call_wait_next(self.rt, last, job, session, awaited, self.client);
+            .call_wait_next(self.rt, last, job, session, awaited, client);
         if let Some(receipt) = receipt {
             self.receipts.add(receipt);
         }

@@ -5,10 +5,11 @@ ghost use Rattle.obj_id.specs.declared.refusals.Refusal.TheVariants.{NotAdmitted
 use crate::SharedNode;
 use memory_growth::OutOfMemory;
 use node_gate::{JournaledNode, LiveJob};
-use node_housekeeping::Pause;
+use node_housekeeping::{ListedSession, Pause};
 use obj_id::{JobNo, Refusal, Usage};
 use std::net::Shutdown;
 use std::sync::Wait;
+use std::time::Clock;
 
 impl<K: JournaledNode, P: Pause> SharedNode<K, P> {
     /// A job's quotas and what is used of them. `NotAdmitted` if the job isn't live. Takes no memory.
@@ -26,6 +27,21 @@ impl<K: JournaledNode, P: Pause> SharedNode<K, P> {
     /// How many sessions are open.
     pub fn open_sessions<R: Wait>(&self, rt: &R) -> usize {
         self.housekeeping.sessions.count(rt)
+    }
+
+    /// The open sessions whose Hello was taken, in any order. The error is out of memory.
+    pub fn listed_sessions<R: Wait + Clock>(
+        &self,
+        rt: &R,
+    ) -> Result<Vec<ListedSession>, OutOfMemory> {
+        self.housekeeping
+            .streams
+            .listed(rt, self.housekeeping.alloc)
+    }
+
+    /// Shuts down the stream of this job's session, if it is open: whether it is. The session then ends as if its client had gone.
+    pub fn kick<R: Wait>(&self, rt: &R, job: JobNo, session: u32) -> bool {
+        self.housekeeping.streams.shut_session(rt, job, session)
     }
 
     /// Waits for the open sessions to end.
