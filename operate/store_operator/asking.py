@@ -12,6 +12,9 @@ from typing import Dict, List, NamedTuple, Optional, Tuple, Union
 _PATIENCE, _END = 90.0, 30.0
 _NO_DAEMON = (errno.ENOENT, errno.ECONNREFUSED)
 
+# in the answer to a line whose first word isn't known
+_UNKNOWN = ": the orders are "
+
 Mark = Union[str, int, float, List[int]]
 
 
@@ -39,6 +42,16 @@ class UsageRow(NamedTuple):
     device_used: int
     copies: int
     works: int
+
+
+class SessionRow(NamedTuple):
+    """An open session whose Hello was taken: whole seconds since its stream was opened, and the commands that were taken from it."""
+
+    node: int
+    session: int
+    job: int
+    seconds: int
+    commands: int
 
 
 class Daemon:
@@ -118,6 +131,26 @@ class Daemon:
 
     def sessions(self, node: int) -> int:
         return _whole(self._told(f"sessions {node}", f"n{node} op sessions"), 1)[0]
+
+    def streams(self, node: int) -> List[SessionRow]:
+        """By job and number."""
+        start = f"n{node} op streams"
+        rows = [SessionRow(node, *_whole(row.split(":"), 4)) for row in _after(self._ask_newer(f"streams {node}"), start)]
+        return sorted(rows, key=lambda row: (row.job, row.session))
+
+    def kick(self, node: int, job: int, session: int) -> str:
+        """The server's answer."""
+        return self._ask_newer(f"kick {node} {job} {session}")
+
+    def _ask_newer(self, line: str) -> str:
+        """The answer to a line that an older server, or an older daemon, doesn't have: a fault then says so."""
+        answer = self.ask(line)
+        word = line.split(" ")[0]
+        if answer.startswith(f"not done: this server has no line {word}"):
+            raise AskFault(f"this server has no line {word}: its program is older than that")
+        if _UNKNOWN in answer:
+            raise AskFault(f"this daemon has no line {word}: it is older than that, and is started again after an upgrade")
+        return answer
 
     def _marks(self, line: str, start: str) -> Dict[str, str]:
         fields = (field.partition("=") for field in self._told(line, start))

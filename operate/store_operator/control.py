@@ -16,7 +16,7 @@ from .limits import needed_descriptors
 from .looking import PATIENCE, Looks, rows_text
 from .metrics import Metrics
 from .orders import (
-    LONGEST_LINE, Admit, Close, End, Jobs, NotAnOrder, Order, Ping, Prometheus, Quota, Sessions, Usage, Usages, read_order,
+    LONGEST_LINE, Admit, Close, End, Jobs, Kick, NotAnOrder, Order, Ping, Prometheus, Quota, Sessions, Streams, Usage, Usages, read_order,
 )
 from .supervisor import NotDone, Supervisor
 from .watching import moment
@@ -138,6 +138,8 @@ class Control:
     async def _carry_out(self, order: Order) -> str:
         if isinstance(order, (Admit, Quota, End)):
             return await self._supervisor.carry_out(order)
+        if isinstance(order, Kick):
+            return await self._supervisor.kick(f"kick {order.node} {order.job} {order.session}")
         if isinstance(order, Close):
             self._supervisor.stop(order.at_once)
             await self._supervisor.ended.wait()
@@ -151,6 +153,8 @@ class Control:
             return f"n{order.node} op jobs{''.join(jobs)}"
         if isinstance(order, Sessions):
             return f"n{order.node} op sessions {self._looks.sessions()[order.node]}"
+        if isinstance(order, Streams):
+            return await self._supervisor.relay(f"streams {order.node}")
         if isinstance(order, Usage):
             return await self._usage(order)
         if isinstance(order, Usages):

@@ -10,14 +10,14 @@ import shutil
 import sys
 import time
 from pathlib import Path
-from typing import Any, Callable, Dict, Optional, Sequence
+from typing import Any, Callable, Dict, List, Optional, Sequence
 
 from . import __version__
-from .asking import AskFault, Daemon, Mark
+from .asking import AskFault, Daemon, Mark, SessionRow
 from .keys import KeyFault, read_key
 from .refusals import explained
 from .sizes import parse_size
-from .tables import jobs_table, status_text, table, usage_table
+from .tables import jobs_table, sessions_table, status_text, table, usage_table
 from .top import see, top_text
 
 _USUAL_CONTROL = "/run/store/control"
@@ -68,12 +68,26 @@ def _metrics(daemon: Daemon, words: Words) -> int:
 
 
 def _sessions(daemon: Daemon, words: Words) -> int:
+    """Which they are is shown beside their number, if the server says it."""
     counts = {node: daemon.sessions(node) for node in _nodes(daemon, words)}
+    rows: Optional[List[SessionRow]] = None
+    try:
+        rows = [row for node in counts for row in daemon.streams(node)]
+    except AskFault as fault:
+        print(f"storectl: {fault}; so only their number is known", file=sys.stderr)
     if words.json:
-        _print_json([{"node": node, "sessions": count} for node, count in counts.items()])
+        _print_json([{"node": node, "sessions": count, "streams": _json_rows(rows, node)} for node, count in counts.items()])
     else:
         print(table(("NODE", "SESSIONS"), ((str(node), str(count)) for node, count in counts.items())))
+        if rows is not None:
+            print(f"\n{sessions_table(rows)}")
     return 0
+
+
+def _json_rows(rows: Optional[List[SessionRow]], node: int) -> Optional[List[Dict[str, int]]]:
+    if rows is None:
+        return None
+    return [{name: value for name, value in row._asdict().items() if name != "node"} for row in rows if row.node == node]
 
 
 def _status(daemon: Daemon, words: Words) -> int:
@@ -178,6 +192,17 @@ def _end(daemon: Daemon, words: Words) -> int:
     return _order(daemon, words, nodes, lambda node: f"end {node} {words.job}")
 
 
+def _kick(daemon: Daemon, words: Words) -> int:
+    """1 if there is no such session."""
+    node = _nodes(daemon, words)[0]
+    answer = daemon.kick(node, words.job, words.session)
+    if words.json:
+        _print_json({"answer": answer})
+    else:
+        print(answer)
+    return 0 if answer.startswith(f"n{node} op kicked ") else 1
+
+
 def _close(daemon: Daemon, words: Words) -> int:
     answer = daemon.end_store(words.now)
     if words.json:
@@ -242,6 +267,11 @@ def arguments() -> argparse.ArgumentParser:
     command = commands.add_parser("end", parents=[at_nodes], help="ends a job, and removes all it has there")
     command.add_argument("job", type=_number, metavar="JOB")
     command.set_defaults(run=_end)
+    command = commands.add_parser("kick", help="ends one session, as if its client had gone")
+    command.add_argument("node", type=_number, nargs=1, metavar="NODE")
+    command.add_argument("job", type=_number, metavar="JOB")
+    command.add_argument("session", type=_number, metavar="SESSION", help="the number that `sessions` shows")
+    command.set_defaults(run=_kick)
     command = commands.add_parser("close", help="ends the server and the daemon")
     command.add_argument("--now", action="store_true", help="cuts off sessions that are open")
     command.set_defaults(run=_close)
@@ -253,7 +283,7 @@ def _add_looks(commands: Any, at_nodes: argparse.ArgumentParser, of_job: argpars
     looks = {"usual": _USUAL_TIMEOUT}
     commands.add_parser("ping", help="asks all nodes whether they answer").set_defaults(run=_ping, **looks)
     commands.add_parser("status", help="shows the server's state").set_defaults(run=_status, **looks)
-    commands.add_parser("sessions", parents=[at_nodes], help="shows how many sessions are open").set_defaults(run=_sessions, **looks)
+    commands.add_parser("sessions", parents=[at_nodes], help="shows how many sessions are open, and which").set_defaults(run=_sessions, **looks)
     commands.add_parser("jobs", parents=[at_nodes], help="shows the jobs and their quotas").set_defaults(run=_jobs, **looks)
     commands.add_parser("usage", parents=[at_nodes, of_job], help="shows what they use").set_defaults(run=_usage, **looks)
     commands.add_parser("metrics", help="shows the counters in Prometheus' text format").set_defaults(run=_metrics, **looks)

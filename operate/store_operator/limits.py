@@ -10,8 +10,8 @@ SESSIONS = 1024
 # of each node beside its sessions: what it listens on, what its worker waits on, its spill folder, a spilled file, and a stream that is
 # turned away
 _OF_NODE = 5
-# standard streams, the spill folder's lock, and some that libraries open for a moment
-_OF_PROCESS = 16
+# standard streams, the spill folder's lock, the control socket, and some that connections to it and libraries open for a moment
+_OF_PROCESS = 24
 
 
 def needed_descriptors(nodes: int) -> int:

@@ -55,6 +55,20 @@ class Sessions:
 
 
 @dataclass(frozen=True)
+class Streams:
+    node: int
+
+
+@dataclass(frozen=True)
+class Kick:
+    """Ends one session: at each node the numbers of a job's sessions are its own."""
+
+    node: int
+    job: int
+    session: int
+
+
+@dataclass(frozen=True)
 class Usages:
     """Of all jobs at all nodes."""
 
@@ -82,7 +96,7 @@ class Close:
 
 
 ServerOrder = Union[Admit, Quota, End]
-Order = Union[Admit, Quota, End, Jobs, Usage, Usages, Sessions, Ping, Prometheus, Status, Close]
+Order = Union[Admit, Quota, End, Jobs, Usage, Usages, Sessions, Streams, Kick, Ping, Prometheus, Status, Close]
 
 
 class NotAnOrder(Exception):
@@ -154,7 +168,7 @@ def _job(name: str, text: str, _: int) -> int:
 
 
 _READERS: Dict[str, Callable[[str, str, int], Union[int, str]]] = {
-    "NODE": _node, "JOB": _job, "WINDOW": _bytes, "DEVICE": _bytes, "KEY": _key,
+    "NODE": _node, "JOB": _job, "SESSION": _job, "WINDOW": _bytes, "DEVICE": _bytes, "KEY": _key,
 }
 
 
@@ -179,6 +193,8 @@ _FORMS: Dict[str, _Form] = dict(
         _form("usage NODE JOB", Usage),
         _form("usages", Usages),
         _form("sessions NODE", Sessions),
+        _form("streams NODE", Streams),
+        _form("kick NODE JOB SESSION", Kick),
         _form("ping", Ping),
         _form("metrics", Prometheus),
         _form("status", Status),

@@ -19,6 +19,9 @@ _LAST_PATIENCE = 5.0
 # list, which has 15 MiB at its end, gets pages of its own from 1 MiB on, that grow in place and go back to the system with it.
 _ALLOCATOR = {"MALLOC_ARENA_MAX": "4", "MALLOC_MMAP_THRESHOLD_": str(1 << 20), "MALLOC_TRIM_THRESHOLD_": str(1 << 20)}
 
+# Beside a control socket the end of a server's input is no `close`. So this gives it one when the daemon has ended, however it did.
+_GUARD = ("/bin/sh", "-c", "read -r nothing; echo close")
+
 Said = Callable[[str], None]
 
 
@@ -30,15 +33,17 @@ def command(settings: Settings) -> List[str]:
     """The words of the program's command line."""
     return [
         str(settings.program), "serve", "--socket", str(settings.starting()), "--nodes", str(settings.nodes),
-        "--memory", str(settings.memory), "--spill", str(settings.spill), *(["--overcommit"] if settings.overcommit else []),
+        "--memory", str(settings.memory), "--spill", str(settings.spill), "--control", str(settings.server_control()),
+        *(["--overcommit"] if settings.overcommit else []),
     ]
 
 
 class Server:
     """A server that was started; `ended` is done once its process has ended and all that it said was read."""
 
-    def __init__(self, process: asyncio.subprocess.Process, said: Said) -> None:
+    def __init__(self, process: asyncio.subprocess.Process, guard: Optional[asyncio.subprocess.Process], said: Said) -> None:
         self._process = process
+        self._guard = guard
         self._said = said
         self._asked: Deque["asyncio.Future[str]"] = deque()
         self.ended: "asyncio.Task[int]" = asyncio.ensure_future(self._run())
@@ -57,7 +62,13 @@ class Server:
             *command(settings), stdin=pipe, stdout=pipe, stderr=pipe, env=names, umask=mask(settings.socket_mode), start_new_session=True,
             restore_signals=False, pass_fds=(lock,),
         )
-        return cls(process, said)
+        try:
+            return cls(process, await _guard(process), said)
+        except OSError:
+            # nobody would end it
+            process.kill()
+            await process.wait()
+            raise
 
     @property
     def process_id(self) -> int:
@@ -95,6 +106,7 @@ class Server:
         """Reads until the server ends. Its status, or less than 0 for the signal that ended it."""
         await asyncio.gather(self._answers(), self._complaints())
         status = await self._process.wait()
+        await self._dismiss_guard()
         while self._asked:
             self._settle(self._asked.popleft(), None)
         return status
@@ -110,6 +122,12 @@ class Server:
         async for line in _lines(self._process.stderr):
             self._said(line)
 
+    async def _dismiss_guard(self) -> None:
+        """It has nobody to tell any more."""
+        if self._guard is not None and self._guard.stdin is not None:
+            self._guard.stdin.close()
+            await self._guard.wait()
+
     @staticmethod
     def _settle(answer: "asyncio.Future[str]", line: Optional[str]) -> None:
         if answer.done():
@@ -118,6 +136,17 @@ class Server:
             answer.set_exception(ServerEnded())
         else:
             answer.set_result(line)
+
+
+async def _guard(server: asyncio.subprocess.Process) -> Optional[asyncio.subprocess.Process]:
+    """Waits for the end of the daemon, which alone has the other end of its standard input. None if the server has ended by then."""
+    assert server.stdin is not None
+    try:
+        lines = server.stdin.get_extra_info("pipe").fileno()
+    except ValueError:
+        return None
+    quiet = asyncio.subprocess.DEVNULL
+    return await asyncio.create_subprocess_exec(*_GUARD, stdin=asyncio.subprocess.PIPE, stdout=lines, stderr=quiet, start_new_session=True)
 
 
 async def _lines(stream: Optional[asyncio.StreamReader]) -> AsyncIterator[str]:

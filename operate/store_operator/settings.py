@@ -91,6 +91,10 @@ class Settings:
         """Where the server makes the nodes' sockets, in order."""
         return tuple(Path(f"{self.starting()}.{node}") for node in range(self.nodes))
 
+    def server_control(self) -> Path:
+        """Where the server itself takes orders, also those that its standard input hasn't. Its path is no longer than a node's."""
+        return Path(f"{self.starting()}.c")
+
     def folders(self) -> Tuple[Path, ...]:
         """The folders that the nodes spill into, in order."""
         return tuple(self.spill / str(node) for node in range(self.nodes))

@@ -21,6 +21,7 @@ from .notify import tell_manager
 from .orders import End, ServerOrder, server_line, told
 from .ready import write_new
 from .refusals import explained
+from .relaying import Unanswered, relay
 from .server import Server, ServerEnded
 from .settings import Settings
 from .sockets import SocketFault
@@ -92,6 +93,20 @@ class Supervisor:
     async def carry_out(self, order: ServerOrder) -> str:
         """The server's answer to an order."""
         return await self._give(self.running(), order)
+
+    async def relay(self, line: str) -> str:
+        """The answer of the server's own control socket."""
+        self.running()
+        try:
+            return await relay(self.settings.server_control(), line, _PATIENCE)
+        except Unanswered as why:
+            raise NotDone(str(why)) from why
+
+    async def kick(self, line: str) -> str:
+        """The same of a line that ends a session: the log tells of it."""
+        answer = await self.relay(line)
+        self._log.info("%s: %s", line, answer)
+        return answer
 
     def running(self) -> Server:
         """The server, if it serves and answered the last look. `NotDone` otherwise, at once."""
@@ -228,7 +243,10 @@ class Supervisor:
                 self._tidying.job_ended()
 
     def _all_sockets(self) -> List[Path]:
-        return [*self.settings.sockets(), *self.settings.starting_sockets()]
+        return [*self.settings.sockets(), *self._made_by_server()]
+
+    def _made_by_server(self) -> List[Path]:
+        return [*self.settings.starting_sockets(), self.settings.server_control()]
 
     def _over(self) -> List[Over]:
         return [self.jobs.over(node) for node in range(self.settings.nodes)]
@@ -307,7 +325,7 @@ class Supervisor:
         """The server has ended: its sockets and its spilled objects go."""
         self._remove_own()
         self._epoch.remove()
-        sockets.remove(self.settings.starting_sockets())
+        sockets.remove(self._made_by_server())
         try:
             if self.settings.ready:
                 self.settings.ready.unlink(missing_ok=True)

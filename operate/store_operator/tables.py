@@ -4,10 +4,12 @@ from __future__ import annotations
 
 from typing import Dict, Iterable, List, Sequence
 
-from .asking import JobRow, Mark, UsageRow
+from .asking import JobRow, Mark, SessionRow, UsageRow
 from .sizes import size_text
 
 _GAP = "  "
+# of an age, in seconds
+_UNITS = (("d", 86_400), ("h", 3_600), ("m", 60))
 # of a status, in bytes
 _SIZES = ("resident", "spilled_bytes", "spill_free")
 
@@ -27,6 +29,19 @@ def jobs_table(jobs: Iterable[JobRow]) -> str:
 def usage_table(usages: Iterable[UsageRow]) -> str:
     head = ("NODE", "JOB", "WINDOW", "USED", "DEVICE", "USED", "COPIES", "WORKS")
     return table(head, (_usage_cells(row) for row in usages))
+
+
+def sessions_table(sessions: Iterable[SessionRow]) -> str:
+    rows = ((str(row.node), str(row.session), str(row.job), age_text(row.seconds), str(row.commands)) for row in sessions)
+    return table(("NODE", "SESSION", "JOB", "AGE", "COMMANDS"), rows)
+
+
+def age_text(seconds: int) -> str:
+    """In the greatest unit of which it is at least two, without what is left over."""
+    for letter, unit in _UNITS:
+        if seconds >= 2 * unit:
+            return f"{seconds // unit}{letter}"
+    return f"{seconds}s"
 
 
 def _usage_cells(row: UsageRow) -> Sequence[str]:

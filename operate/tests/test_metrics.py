@@ -95,7 +95,7 @@ class Counted(unittest.TestCase):
                 'store_window_used_bytes{node="0",job="2"}': 0, 'store_device_bytes{node="0",job="1"}': 1 << 20,
                 'store_copies{node="1",job="2"}': 1, 'store_works{node="1",job="2"}': 0, "store_up": 1, "store_nodes": 2,
                 'store_sessions{node="0"}': 0, 'store_sessions{node="1"}': 1, "store_restarts_total": 0, "store_admissions_total": 4,
-                "store_descriptors_needed": 2074, "store_usage_faults": 0, 'store_spilled_bytes{node="0"}': 0,
+                "store_descriptors_needed": 2082, "store_usage_faults": 0, 'store_spilled_bytes{node="0"}': 0,
             }
             self.assertEqual({name: found.get(name) for name in due}, due)
             above = ("uptime_seconds", "resident_bytes", "threads", "descriptors", 'spill_free_bytes{node="1"}', "look_seconds")

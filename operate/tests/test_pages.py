@@ -102,7 +102,8 @@ class Formula(unittest.TestCase):
             with Place(nodes) as place:
                 place.start_ready()
                 sessions = [place.session(1, node) for node in range(nodes) for _ in range(2)]
-                due = [threads_of(nodes, len(sessions)), 4 + 3 * nodes + len(sessions)]
+                # the control socket takes two of each
+                due = [threads_of(nodes, len(sessions)) + 2, 4 + 3 * nodes + len(sessions) + 2]
                 with place.control() as daemon:
                     # those that only looked whether the server listens have gone, after a moment
                     until(lambda: counts(daemon) == due, f"{due} at {nodes} nodes")

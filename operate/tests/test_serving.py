@@ -259,7 +259,7 @@ class Limits(unittest.TestCase):
         with Place(2) as place:
             place.start_ready(["bash", "-c", 'ulimit -n 300; exec "$@"', "_"])
             self.assertEqual(self.limit(place), 300)
-            self.assertIn("limit of 300 descriptors: 2074 are needed for 1024 sessions at each of 2 nodes", place.log())
+            self.assertIn("limit of 300 descriptors: 2082 are needed for 1024 sessions at each of 2 nodes", place.log())
 
     def test_the_allocator_gives_memory_back_unless_it_is_set_otherwise(self) -> None:
         none: Dict[str, str] = {}
