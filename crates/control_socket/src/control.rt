@@ -387,6 +387,11 @@ pub struct Asking<'a, K: JournaledNode, C: Clock> {
 }
 
 impl<'a, K: JournaledNode, C: Clock> Closing for Asking<'a, K, C> {
+    ghost use Rattle.std.specs.Prelude.{⊤};
+
+    // threads end the server, and what they do no clause says
+    ghost closes = { λ asking now report. ⊤ };
+
     fn close<R: Wait>(&self, rt: &R, now: bool) -> Option<Report> {
         self.control.course.stop(rt, None);
         if now {

@@ -45,16 +45,18 @@ abbrev pub closing_line : Option Report → List ℕ
 closing_line (Some report) = report_line report
 closing_line None = with_line_feed (codes "not done: a fault ends the server")
 
-pub record IsClosingLine (line : List ℕ) : Type 0 where
+pub record IsClosingLine (closes : Option Report → Type 0) (line : List ℕ) : Type 0 where
   pub report : Option Report
+  pub closed : closes report
   pub is : line ≡ closing_line report
 
-abbrev pub IsAnswer : {T : Type 0} → (Event → Reply (List ℕ) → T → Type 0) → ControlLine → List ℕ → Type 0
-IsAnswer receipt_of (asked.Order (order.Change node c)) line = IsChangeLine receipt_of node c line
-IsAnswer receipt_of (asked.Order order.Close) line = IsClosingLine line
-IsAnswer receipt_of asked.CloseNow line = IsClosingLine line
-IsAnswer receipt_of (asked.Look node what) line = IsLookText node what line
-IsAnswer receipt_of (asked.Kick node job session) line = IsKickText node job.0 session line
+-- the server is let close as it was asked for: `close now` ends the open sessions
+abbrev pub IsAnswer : {T : Type 0} → (Event → Reply (List ℕ) → T → Type 0) → (Bool → Option Report → Type 0) → ControlLine → List ℕ → Type 0
+IsAnswer receipt_of closes (asked.Order (order.Change node c)) line = IsChangeLine receipt_of node c line
+IsAnswer receipt_of closes (asked.Order order.Close) line = IsClosingLine (closes false) line
+IsAnswer receipt_of closes asked.CloseNow line = IsClosingLine (closes true) line
+IsAnswer receipt_of closes (asked.Look node what) line = IsLookText node what line
+IsAnswer receipt_of closes (asked.Kick node job session) line = IsKickText node job.0 session line
 
 -- after it nothing more is read
 abbrev pub is_closing : ControlLine → Bool
@@ -69,27 +71,27 @@ pub record IsNoAsked (nodes count : ℕ) (text : List ℕ) : Type 0 where
 
 -- a line with this number, without its line feed, was answered so, and whether it was the last: what is skipped has no answer, an order
 -- its own, and any other line is answered that it is none
-pub data IsHandled {T : Type 0} (receipt_of : Event → Reply (List ℕ) → T → Type 0) (nodes count number : ℕ) (text : List ℕ) : List ℕ → Bool → Type 0 where
-  skipped : is_skipped text ≡ true → IsHandled receipt_of nodes count number text [] false
-  long : LONGEST_LINE < length text → IsHandled receipt_of nodes count number text (no_order_line number) false
-  none : IsNoAsked nodes count text → IsHandled receipt_of nodes count number text (no_order_line number) false
-  answered : (a : ControlLine) (line : List ℕ) → IsControlLine nodes text a → IsAnswer receipt_of a line → IsHandled receipt_of nodes count number text line (is_closing a)
+pub data IsHandled (answers : ControlLine → List ℕ → Type 0) (nodes count number : ℕ) (text : List ℕ) : List ℕ → Bool → Type 0 where
+  skipped : is_skipped text ≡ true → IsHandled answers nodes count number text [] false
+  long : LONGEST_LINE < length text → IsHandled answers nodes count number text (no_order_line number) false
+  none : IsNoAsked nodes count text → IsHandled answers nodes count number text (no_order_line number) false
+  answered : (a : ControlLine) (line : List ℕ) → IsControlLine nodes text a → answers a line → IsHandled answers nodes count number text line (is_closing a)
 
 -- the answer that was made of it
-abbrev pub IsAnswered : {T : Type 0} → (Event → Reply (List ℕ) → T → Type 0) → ℕ → ℕ → ℕ → List ℕ → Answer → Type 0
-IsAnswered receipt_of nodes count number text a = IsHandled receipt_of nodes count number text (string_bytes a.line) a.is_last
+abbrev pub IsAnswered : (ControlLine → List ℕ → Type 0) → ℕ → ℕ → ℕ → List ℕ → Answer → Type 0
+IsAnswered answers nodes count number text a = IsHandled answers nodes count number text (string_bytes a.line) a.is_last
 
 -- what was made of an order: its answer, or that it is none, since there is no such node
 pub record IsNone (number : ℕ) (a : Answer) : Type 0 where
   pub line : string_bytes a.line ≡ no_order_line number
   pub further : a.is_last ≡ false
 
-pub record IsAnswerOf {T : Type 0} (receipt_of : Event → Reply (List ℕ) → T → Type 0) (what : ControlLine) (a : Answer) : Type 0 where
-  pub line : IsAnswer receipt_of what (string_bytes a.line)
+pub record IsAnswerOf (answers : ControlLine → List ℕ → Type 0) (what : ControlLine) (a : Answer) : Type 0 where
+  pub line : answers what (string_bytes a.line)
   pub last : a.is_last ≡ is_closing what
 
-abbrev pub IsAnswerMade : {T : Type 0} → (Event → Reply (List ℕ) → T → Type 0) → ℕ → ℕ → ControlLine → Answer → Type 0
-IsAnswerMade receipt_of count number what a = IsAnswerOf receipt_of what a ⊎ ((IsAskedWithin count what → ⊥) × IsNone number a)
+abbrev pub IsAnswerMade : (ControlLine → List ℕ → Type 0) → ℕ → ℕ → ControlLine → Answer → Type 0
+IsAnswerMade answers count number what a = IsAnswerOf answers what a ⊎ ((IsAskedWithin count what → ⊥) × IsNone number a)
 
 -- the text that was taken, of which only a line that isn't too long was kept
 abbrev pub IsAnswerText : LineTaken → List ℕ → List ℕ → Type 0
@@ -97,9 +99,9 @@ IsAnswerText Line line text = text ≡ line
 IsAnswerText TooLong line text = LONGEST_LINE < length text
 
 -- a line is answered, and the answer written
-pub record Replies {T : Type 0} (receipt_of : Event → Reply (List ℕ) → T → Type 0) (nodes count number : ℕ) (text : List ℕ) (written_old written_new : Option (List ℕ)) (is_last : Bool) : Type 0 where
+pub record Replies (answers : ControlLine → List ℕ → Type 0) (nodes count number : ℕ) (text : List ℕ) (written_old written_new : Option (List ℕ)) (is_last : Bool) : Type 0 where
   pub answer : List ℕ
-  pub handled : IsHandled receipt_of nodes count number text answer is_last
+  pub handled : IsHandled answers nodes count number text answer is_last
   pub written : Appends written_old written_new answer
 
 -- ---- the whole of a connection
@@ -111,9 +113,9 @@ pub record Attended : Type 0 where
   pub is_last : Bool
 
 -- of lines that stand newest first: each is one, with the next number, and was answered
-abbrev pub AreAttended : {T : Type 0} → (Event → Reply (List ℕ) → T → Type 0) → ℕ → ℕ → List Attended → Type 0
-AreAttended receipt_of nodes count [] = ⊤
-AreAttended receipt_of nodes count (a ∷ lines) = IsUnbroken a.text × IsHandled receipt_of nodes count (suc (length lines)) a.text a.answer a.is_last × AreAttended receipt_of nodes count lines
+abbrev pub AreAttended : (ControlLine → List ℕ → Type 0) → ℕ → ℕ → List Attended → Type 0
+AreAttended answers nodes count [] = ⊤
+AreAttended answers nodes count (a ∷ lines) = IsUnbroken a.text × IsHandled answers nodes count (suc (length lines)) a.text a.answer a.is_last × AreAttended answers nodes count lines
 
 -- the bytes that were read
 abbrev pub texts_of : List Attended → List ℕ
@@ -126,12 +128,12 @@ answers_of [] = []
 answers_of (a ∷ lines) = answers_of lines ++ a.answer
 
 -- the connection so far
-pub record Attending {T : Type 0} (receipt_of : Event → Reply (List ℕ) → T → Type 0) (nodes count number : ℕ) (read_old read_new written_old written_new : Option (List ℕ)) : Type 0 where
+pub record Attending (answers : ControlLine → List ℕ → Type 0) (nodes count number : ℕ) (read_old read_new written_old written_new : Option (List ℕ)) : Type 0 where
   -- newest first
   pub lines : List Attended
   -- the number of the next line
   pub counted : suc (length lines) ≡ number
-  pub attended : AreAttended receipt_of nodes count lines
+  pub attended : AreAttended answers nodes count lines
   pub consumed : Consumes read_old read_new (texts_of lines)
   pub written : Appends written_old written_new (answers_of lines)
 
@@ -151,12 +153,12 @@ AttendingEnds read_new lines rest (Err Folded) = ⊥
 AttendingEnds read_new lines rest (Err NoMemory) = ⊤
 
 -- the whole of it
-pub record HasAttended {T : Type 0} (receipt_of : Event → Reply (List ℕ) → T → Type 0) (nodes count : ℕ) (read_old read_new written_old written_new : Option (List ℕ)) (result : Result ⊤ Fault) : Type 0 where
+pub record HasAttended (answers : ControlLine → List ℕ → Type 0) (nodes count : ℕ) (read_old read_new written_old written_new : Option (List ℕ)) (result : Result ⊤ Fault) : Type 0 where
   -- newest first
   pub lines : List Attended
   -- what was read after them
   pub rest : List ℕ
-  pub attended : AreAttended receipt_of nodes count lines
+  pub attended : AreAttended answers nodes count lines
   pub consumed : Consumes read_old read_new (texts_of lines ++ rest)
   pub written : IsWritten written_old written_new (answers_of lines) result
   pub ends : AttendingEnds read_new lines rest result

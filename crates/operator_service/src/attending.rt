@@ -4,7 +4,7 @@ ghost use Rattle.std.specs.String.{string_bytes};
 ghost use Rattle.std.specs.Str.{IsUtf8};
 ghost use Rattle.schedule_text.specs.Fields.{Reads};
 ghost use Rattle.program_lines.specs.ControlLines.{IsControlLine};
-ghost use Rattle.operator_service.specs.Attending.{HasAttended, IsAnswered, IsChangeLine, IsClosingLine, IsAnswerMade, IsNone, IsAnswerText, Replies, closing_line as closing_line_lem, no_order_line as no_order_line_lem};
+ghost use Rattle.operator_service.specs.Attending.{HasAttended, IsAnswer, IsAnswered, IsChangeLine, IsAnswerMade, IsNone, IsAnswerText, Replies, closing_line as closing_line_lem, no_order_line as no_order_line_lem};
 ghost use Rattle.operator_service.specs.Looks.{IsKickText, IsLookText};
 ghost use Rattle.operator_service.specs.Servings.{StopsReply};
 
@@ -32,9 +32,16 @@ const ORDERS: &str =
 
 /// What closes the server for a control connection.
 pub trait Closing {
+    ghost use Rattle.std.specs.Prelude.{Bool, Option};
+    ghost use Rattle.node_housekeeping.specs.declared.report.Report.{Report};
+
+    // how it was let close, the open sessions ended or not, and the report of that
+    ghost closes: { Self → Bool → Option Report → Type 0 };
+
     /// Lets the server close, and waits for its report; with the sessions that are open ended, or only waited for. `None` if there is
     /// no report, since a fault ended the server.
-    fn close<R: Wait>(&self, rt: &R, now: bool) -> Option<Report>;
+    fn close<R: Wait>(&self, rt: &R, now: bool) -> Option<Report>
+        ensures { closes self.now now result };
 }
 
 /// The answer to a line, with its line feed, and whether it is the last.
@@ -59,7 +66,7 @@ pub fn attend<K: JournaledNode, R: Wait + Clock, I: Read, O: Write, C: Closing>(
     writer: &mut O,
     closing: &C,
 ) -> Result<(), Fault>
-    ensures { HasAttended K.receipt_of count (length nodes.now) (I.remaining reader.old) (I.remaining reader.new) (O.contents writer.old) (O.contents writer.new) result }
+    ensures { HasAttended (IsAnswer K.receipt_of (C.closes closing.now)) count (length nodes.now) (I.remaining reader.old) (I.remaining reader.new) (O.contents writer.old) (O.contents writer.new) result }
 {
     let mut line = Vec::new(alloc);
     for number in 1..u64::MAX {
@@ -91,7 +98,7 @@ fn reply_to<K: JournaledNode, R: Wait + Clock, O: Write, C: Closing>(
     writer: &mut O,
     closing: &C,
 ) -> Result<bool, Fault>
-    ensures ok { IfOk result (λ is_last. (text : List ℕ) → IsAnswerText taken line.now text → Replies K.receipt_of count (length nodes.now) number text (O.contents writer.old) (O.contents writer.new) is_last) }
+    ensures ok { IfOk result (λ is_last. (text : List ℕ) → IsAnswerText taken line.now text → Replies (IsAnswer K.receipt_of (C.closes closing.now)) count (length nodes.now) number text (O.contents writer.old) (O.contents writer.new) is_last) }
     ensures err { IfErr result (StopsReply (O.contents writer.old) (O.contents writer.new)) }
 {
     let Ok(Answer { line, is_last }) = answer_of(
@@ -116,7 +123,7 @@ fn answer_of<K: JournaledNode, R: Wait + Clock, C: Closing>(
     line: &[u8],
     closing: &C,
 ) -> Result<Answer, OutOfMemory>
-    ensures { IfOk result (λ answer. (text : List ℕ) → IsAnswerText taken line.now text → IsAnswered K.receipt_of count (length nodes.now) number text answer) }
+    ensures { IfOk result (λ answer. (text : List ℕ) → IsAnswerText taken line.now text → IsAnswered (IsAnswer K.receipt_of (C.closes closing.now)) count (length nodes.now) number text answer) }
 {
     match taken {
         LineTaken::Line => answer_to(rt, alloc, nodes, count, number, line, closing),
@@ -134,7 +141,7 @@ fn answer_to<K: JournaledNode, R: Wait + Clock, C: Closing>(
     text: &[u8],
     closing: &C,
 ) -> Result<Answer, OutOfMemory>
-    ensures { IfOk result (IsAnswered K.receipt_of count (length nodes.now) number text.now) }
+    ensures { IfOk result (IsAnswered (IsAnswer K.receipt_of (C.closes closing.now)) count (length nodes.now) number text.now) }
 {
     if is_skipped(text) {
         return Ok(Answer {
@@ -168,7 +175,7 @@ fn answer_asked<K: JournaledNode, R: Wait + Clock, C: Closing>(
     asked: ControlLine,
     closing: &C,
 ) -> Result<Answer, OutOfMemory>
-    ensures { IfOk result (IsAnswerMade K.receipt_of (length nodes.now) number asked) }
+    ensures { IfOk result (IsAnswerMade (IsAnswer K.receipt_of (C.closes closing.now)) (length nodes.now) number asked) }
 {
     match asked {
         ControlLine::Order(Order::Close) => last_answer(alloc, closing.close(rt, false)),
@@ -257,7 +264,7 @@ fn kick_answer<K: JournaledNode, R: Wait>(
 
 /// The answer to what let the server close.
 fn last_answer(alloc: Global, report: Option<Report>) -> Result<Answer, OutOfMemory>
-    ensures { IfOk result (λ answer. IsClosingLine (string_bytes answer.line) × (answer.is_last ≡ true)) }
+    ensures { IfOk result (λ answer. (string_bytes answer.line ≡ closing_line_lem report) × (answer.is_last ≡ true)) }
 {
     Ok(Answer {
         line: closing_line(alloc, report)?,
