@@ -113,7 +113,7 @@ fn rooms_of(alloc: Global, pieces: &[&[u8]]) -> Result<[usize; 4], SessionFault>
 }
 
 #[test]
-fn little_is_read_at_once_until_a_hello_is_accepted(rt: HostRuntime) -> Result<(), Fail> {
+fn little_is_read_at_once_until_more_comes_together(rt: HostRuntime) -> Result<(), Fail> {
     let alloc = rt.alloc();
     let get = bytes_of(alloc, &[GET])?;
     let hello = bytes_of(alloc, &[HELLO])?;
@@ -121,14 +121,20 @@ fn little_is_read_at_once_until_a_hello_is_accepted(rt: HostRuntime) -> Result<(
     let pieces = [get.as_slice(), stranger.as_slice(), get.as_slice()];
     same!(rt; rooms_of(alloc, &pieces), Ok([4_096; 4]));
     let pieces = [get.as_slice(), hello.as_slice(), get.as_slice()];
-    same!(rt; rooms_of(alloc, &pieces), Ok([4_096, 4_096, 65_536, 65_536]));
+    same!(rt; rooms_of(alloc, &pieces), Ok([4_096; 4]));
+    // as many as are read at once: before an accepted Hello, and after it
+    let full = with_leaves(alloc, &[GET, GET], 806)?;
+    let pieces = [full.as_slice(), stranger.as_slice(), full.as_slice()];
+    same!(rt; rooms_of(alloc, &pieces), Ok([4_096; 4]));
+    let pieces = [hello.as_slice(), full.as_slice(), get.as_slice()];
+    same!(rt; rooms_of(alloc, &pieces), Ok([4_096, 4_096, 66_560, 66_560]));
     Ok(())
 }
 
-/// The bytes of these frames, and then 2,000 Leaves.
-fn with_leaves(alloc: Global, texts: &[&str]) -> Result<Vec<u8>, Fail> {
+/// The bytes of these frames, and then so many Leaves.
+fn with_leaves(alloc: Global, texts: &[&str], leaves: u32) -> Result<Vec<u8>, Fail> {
     let mut bytes = bytes_of(alloc, texts)?;
-    for _ in 0..2_000 {
+    for _ in 0..leaves {
         lists::extend_from_slice(&mut bytes, &LEAVE_FRAME)?;
     }
     Ok(bytes)
@@ -140,18 +146,19 @@ fn pieced(alloc: Global, first: &[u8], second: &[u8]) -> Seen {
 }
 
 #[test]
-fn a_long_piece_is_answered_in_one(rt: HostRuntime) -> Result<(), Fail> {
+fn a_long_piece_is_answered_in_few(rt: HostRuntime) -> Result<(), Fail> {
     let alloc = rt.alloc();
     let hello = bytes_of(alloc, &[HELLO])?;
-    let leaves = with_leaves(alloc, &[])?;
+    let leaves = with_leaves(alloc, &[], 2_000)?;
     let wanted = Seen {
         outcome: Ok(Ended::Clean),
         written: 5 + 2_000 * 5,
-        flushes: 3,
+        // the Hello, 4 KiB, the rest, and the end
+        flushes: 4,
     };
     same!(rt; pieced(alloc, &hello, &leaves), wanted);
     // what stands after a fault isn't answered, though it is most of the piece
-    let no_frame = with_leaves(alloc, &[NO_KIND])?;
+    let no_frame = with_leaves(alloc, &[NO_KIND], 2_000)?;
     let wanted = Seen {
         outcome: Ok(Ended::Malformed),
         written: 5 + 6,
