@@ -1,6 +1,6 @@
 use Rattle.std.proofs.Common.{◌≡◌, ◌+◌, ◌<◌, slice_index, sym, refl, ap, ap₂, ◌∙◌, arith}
 use Rattle.sha2.specs.Sha256.{add32, small_sigma0, schedule}
-use Rattle.fast_sha256.proofs.Lanes.{below_four, lane, next_word_is, add_none, same_place}
+use Rattle.fast_sha256.proofs.Lanes.{each_of_four, lane, next_word_is, add_none, same_place}
 use Rattle.fast_sha256.proofs.schedule.next_four.Goals as goal
 
 pub returns : goal.returns
@@ -46,4 +46,4 @@ returns c = λ block t room wa wb wc wd.
     ∙ next_word_is block (t + 16 + 3) (slice_index a 3) (slice_index b 0) (slice_index d 0) (slice_index c.add_lanes-half.result 1) (omega arith) (omega arith)
     (lane a words t 3 _ wa n3 (omega arith)) (lane b words (t + 4) 0 _ wb n0 (omega arith))
     (lane d words (t + 12) 0 _ wd n0 (omega arith)) (half1 ∙ same_place words _ _ (omega arith)) in
-    below_four _ out0 out1 out2 out3
+    each_of_four _ out0 out1 out2 out3
