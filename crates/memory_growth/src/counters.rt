@@ -1,11 +1,23 @@
 //! Counts of things that were there.
-ghost use Rattle.std.specs.Prelude.{◌≡◌, ◌+◌, ◌<◌, ◌^◌, length, IsOk, IfOk, OnOk, OnErr};
+ghost use Rattle.std.specs.Prelude.{◌≡◌, ◌+◌, ◌<◌, ◌≤◌, ◌^◌, length, IsOk, IfOk, OnOk, OnErr};
 
 use crate::OutOfMemory;
 use std::marker::Model;
 
-/// How many things there were. It begins at none, and rises by one or by the items of a list. So only 2^60 things bring it to its end, and
-/// then it is refused as memory is.
+/// A count that has come to its end, at 2^60 things. Only a count makes it.
+#[derive(Debug, Drop)]
+pub struct CountEnded {
+    ended: (),
+}
+
+/// Who can't count on answers as without memory: no other answer is meant for it.
+impl From<CountEnded> for OutOfMemory {
+    fn from(_ended: CountEnded) -> OutOfMemory {
+        OutOfMemory::new()
+    }
+}
+
+/// How many things there were. It begins at none, and rises by one or by the items of a list. So only 2^60 things bring it to its end.
 #[derive(Debug, Drop)]
 pub struct Counter {
     count: u64,
@@ -35,26 +47,28 @@ impl Counter {
     }
 
     /// The count after the items of a list.
-    pub fn after<T>(&self, items: &[T]) -> Result<Counter, OutOfMemory>
+    pub fn after<T>(&self, items: &[T]) -> Result<Counter, CountEnded>
         ensures ok { IfOk result (λ counter. counter ≡ self.now + length items.now) }
         ensures range { OnOk result (self.now + length items.now < 2 ^ 60) }
         ensures succeeds { self.now + length items.now < 2 ^ 60 → IsOk result }
+        ensures ended { OnErr result (2 ^ 60 ≤ self.now + length items.now) }
     {
         match self.count.checked_add(items.len() as u64) {
             Some(count) if count < 1 << 60 => Ok(Counter { count }),
-            _ => Err(OutOfMemory::new()),
+            _ => Err(CountEnded { ended: () }),
         }
     }
 
     /// The count after one more.
-    pub fn next(&self) -> Result<Counter, OutOfMemory>
+    pub fn next(&self) -> Result<Counter, CountEnded>
         ensures ok { IfOk result (λ counter. counter ≡ self.now + 1) }
         ensures range { OnOk result (self.now + 1 < 2 ^ 60) }
         ensures succeeds { self.now + 1 < 2 ^ 60 → IsOk result }
+        ensures ended { OnErr result (2 ^ 60 ≤ self.now + 1) }
     {
         match self.count.checked_add(1) {
             Some(count) if count < 1 << 60 => Ok(Counter { count }),
-            _ => Err(OutOfMemory::new()),
+            _ => Err(CountEnded { ended: () }),
         }
     }
 }

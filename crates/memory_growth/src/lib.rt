@@ -18,8 +18,8 @@ pub mod texts;
 use std::io;
 use std::io::ErrorKind;
 
-/// A growth of memory was refused. It has no public constructor, no conversion makes it, and it is neither `Clone` nor `Default`: whoever has
-/// one asked this crate for memory and didn't get it.
+/// A growth of memory was refused. It has no public constructor, only a `CountEnded` is converted into it, and it is neither `Clone` nor
+/// `Default`: whoever has one asked this crate for memory and didn't get it, or counted to the end.
 #[derive(Debug, Drop)]
 pub struct OutOfMemory {
     refused: (),

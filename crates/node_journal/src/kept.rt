@@ -103,8 +103,8 @@ impl<L: Ledger> Kept<L> {
     /// might become longer than 8,192 lines by that is folded first: its base is then the replay of its old base and lines, and
     /// it has the new lines alone.
     ///
-    /// The error is out of memory: for its entry or a fold, or since 1,152,921,504,606,846,975 entries were made; or for the step
-    /// itself, and then no other refusal was due. Nothing has changed.
+    /// The error is out of memory for its entry or a fold, or for the step itself, and then no other refusal was due; or that
+    /// 1,152,921,504,606,846,975 entries were made, which it says only then. Nothing has changed.
     pub fn step(&mut self, event: &Event) -> Result<Made<L>, NotStepped>
         ensures node { IfOk result (λ r. NodeStep self.old.node (node_event.Own event.now) (node_given_of r.outcome) self.new.node) }
         ensures journal { IfOk result (λ r. (job : ℕ) → journal_of self.new.logs job
@@ -116,7 +116,7 @@ impl<L: Ledger> Kept<L> {
         ensures count { OnOk result (self.new.count ≡ self.old.count + 1) }
         ensures answered { IfOk result (λ r. is_call event.now ≡ true → wants_memory r.outcome.reply ≡ false) }
         ensures small { IfOk result (λ r. is_call event.now ≡ true → is_small_reply r.outcome.reply ≡ true) }
-        ensures memory_last { IfErr result (IsStepLast self.old.node event.now) }
+        ensures memory_last { IfErr result (IsStepLast self.old.node self.old.count event.now) }
         ensures number { self.new.number ≡ self.old.number }
         ensures same { OnErr result ((self.new.node ≡ self.old.node) × (self.new.count ≡ self.old.count)) }
         ensures unchanged { OnErr result ((job : ℕ) → journal_of self.new.logs job ≡ journal_of self.old.logs job) }
@@ -524,7 +524,7 @@ fn record<L: Ledger>(
     ensures logs { IfOk result (λ r. (job : ℕ) → journal_of logs.new job
         ≡ journal_after node.old (count.old + 1) (node_event.Own event.now) r.outcome.judged (node_given_of r.outcome) job (journal_of logs.old job)) }
     ensures few { OnOk result ((job : ℕ) → length (list_of logs.new job) ≤ most_lines) }
-    ensures memory_last { IfErr result (IsStepLast node.old event.now) }
+    ensures memory_last { IfErr result (IsStepLast node.old count.old event.now) }
     ensures count { OnOk result (count.new ≡ count.old + 1) }
     ensures err { OnErr result ((node.new ≡ node.old) × (count.new ≡ count.old)) }
     ensures unchanged { OnErr result ((job : ℕ) → journal_of logs.new job ≡ journal_of logs.old job) }
