@@ -8,7 +8,9 @@ from memory_rules.tables import GROWTH, LIBRARIES, MADE, MADE_MACROS, METHODS
 from memory_rules.text import Source, shortened
 
 ERRORS = {"AllocError", "AllocFailed"}
-KNOWN = ERRORS | {"OutOfMemory"}
+# those of memory_growth, which nobody else can make: memory ran out, or a count came to its end
+OURS_ALONE = {"OutOfMemory", "CountEnded"}
+KNOWN = ERRORS | OURS_ALONE
 # the variants that say so of a refusal, of a fault, and of a session's end
 VARIANTS = {"NoMemory", "Memory"}
 ALONE = KNOWN | VARIANTS
@@ -25,8 +27,8 @@ NAMED, GROWN, VALUE = "AllocError is named", "memory is asked for", "an error th
 RENAMED, DEFAULT, MACRO = "another name", "a default", "a macro"
 TOO_MUCH, NUMBER = "more than there is room for", "a refusal by number or name"
 DEFINED, OPENED, ELSEWHERE = "an error of its own", "an error that others can make", "text from elsewhere"
-# what the error of memory_growth may be made of by `?`
-HANDED_ON = re.compile(r"From<(?:AllocError|AllocFailed<\w+>)>$")
+# what an error of memory_growth may be made of by `?`
+HANDED_ON = re.compile(r"From<(?:AllocError|AllocFailed<\w+>|CountEnded)>$")
 
 
 class Finding(NamedTuple):
@@ -201,10 +203,10 @@ def defined(file: File) -> Iterator[Finding]:
 
 
 def opened(file: File) -> Iterator[Finding]:
-    """Ways by which others than memory_growth could make its error."""
+    """Ways by which others than memory_growth could make one of its errors."""
     source = file.source
     for index, token in enumerate(source.tokens if file.is_growth else []):
-        if token.text == "Default" or (token.text == "OutOfMemory" and is_open(source, index)):
+        if token.text == "Default" or (token.text in OURS_ALONE and is_open(source, index)):
             yield Finding(OPENED, token.line, source.place(index))
 
 

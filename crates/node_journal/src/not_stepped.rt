@@ -42,7 +42,7 @@ impl From<NotStepped> for OutOfMemory {
         match not_stepped {
             NotStepped::Entry(refused) => refused,
             NotStepped::Step(refused) => refused,
-            NotStepped::Ended(ended) => OutOfMemory::from(ended),
+            NotStepped::Ended(ended) => ended.into(),
         }
     }
 }
