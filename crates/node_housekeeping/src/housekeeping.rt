@@ -4,6 +4,7 @@ ghost use Rattle.obj_id.specs.declared.works.DeviceKey.{DeviceKey};
 ghost use Rattle.node_housekeeping.specs.declared.work_done.WorkDone.TheVariants.{Nothing, NoMemory};
 ghost use Rattle.node_housekeeping.specs.DeviceCalls.{AreErased, IsErasedIf};
 
+use crate::counts::Counts;
 use crate::device_calls::{Finishing, erase_all};
 use crate::job_locks::JobLocks;
 use crate::open_sessions::OpenSessions;
@@ -38,6 +39,7 @@ pub struct Housekeeping<P> {
     // of what its actors gather
     pub alloc: Global,
     pub tallies: Tallies,
+    pub counts: Counts,
     pub sessions: OpenSessions,
     pub streams: OpenStreams,
     pub keys: WaitingKeys,
@@ -56,6 +58,7 @@ impl<P: Pause> Housekeeping<P> {
         Housekeeping {
             alloc,
             tallies: Tallies::new(),
+            counts: Counts::new(alloc),
             sessions: OpenSessions::new(alloc),
             streams: OpenStreams::new(alloc),
             keys: WaitingKeys::new(alloc),

@@ -4,8 +4,11 @@
 #![tactic(auto)]
 
 mod client;
+mod command_kind;
+mod counts;
 mod device_calls;
 mod housekeeping;
+mod job_counts;
 mod job_locks;
 mod open_sessions;
 mod open_stream;
@@ -22,8 +25,11 @@ mod work_done;
 mod worker_bell;
 
 pub use client::is_gone;
+pub use command_kind::CommandKind;
+pub use counts::{Counts, NodeCounts};
 pub use device_calls::{Finishing, call_device};
 pub use housekeeping::Housekeeping;
+pub use job_counts::{Count, CountName, JobCounts, JobEvent};
 pub use job_locks::JobLocks;
 pub use open_sessions::{LeaveMark, MOST_SESSIONS, OpenSessions};
 pub use open_stream::{ListedSession, OpenStream};

@@ -1,3 +1,4 @@
 pub mod Attending
+pub mod Counts
 pub mod Looks
 pub mod Servings

@@ -1,5 +1,5 @@
 -- What the operator is shown of a node, as lines.
-use Rattle.std.specs.Prelude.{◌≡◌, ◌⊎◌, ℕ, List, [], ◌∷◌, ◌++◌, codes, decimal, ⊤}
+use Rattle.std.specs.Prelude.{◌≡◌, ◌⊎◌, ℕ, List, [], ◌∷◌, ◌++◌, Some, None, codes, decimal, ⊤}
 use Rattle.obj_id.specs.declared.commands.Reply.{Reply}
 use Rattle.obj_id.specs.declared.commands.Reply.TheVariants as reply
 use Rattle.obj_id.specs.declared.refusals.Refusal.TheVariants.{NotAdmitted}
@@ -11,6 +11,7 @@ use Rattle.node_housekeeping.specs.declared.open_stream.ListedSession.{ListedSes
 use Rattle.program_lines.specs.declared.control_lines.Look.{Look}
 use Rattle.program_lines.specs.declared.control_lines.Look.TheVariants as look
 use Rattle.schedule_text.specs.Lines.{with_line_feed}
+use Rattle.operator_service.specs.Counts.{IsJobCountsLine, IsNodeCountsLine}
 
 -- a job with its quotas, after a space
 abbrev pub job_text : LiveJob → List ℕ
@@ -53,7 +54,7 @@ IsUsageReply (reply.Usage usage) = ⊤
 IsUsageReply (reply.Refused refusal) = refusal ≡ NotAdmitted
 IsUsageReply _ = ⊥
 
--- the line that shows it: what a session is told of its job, the live jobs, how many sessions are open, or which
+-- the line that shows it: what a session is told of its job, the live jobs, how many sessions are open, or which, or what was counted
 pub record IsJobsLine (node : ℕ) (line : List ℕ) : Type 0 where
   pub jobs : List LiveJob
   pub is : line ≡ jobs_line node jobs
@@ -76,3 +77,5 @@ IsLookText node look.Jobs line = IsJobsLine node line
 IsLookText node (look.Usage job) line = IsUsageLine node line
 IsLookText node look.Sessions line = IsSessionsLine node line
 IsLookText node look.Streams line = IsStreamsLine node line
+IsLookText node (look.Counts None) line = IsNodeCountsLine node line
+IsLookText node (look.Counts (Some job)) line = IsJobCountsLine node job.0 line

@@ -28,7 +28,7 @@ use std::time::Clock;
 
 /// The words that are orders, as a line that is none is answered.
 const ORDERS: &str =
-    "admit NODE JOB WINDOW DEVICE KEY, quota NODE JOB WINDOW DEVICE, end NODE JOB, jobs NODE, usage NODE JOB, sessions NODE, streams NODE, kick NODE JOB SESSION, close, close now";
+    "admit NODE JOB WINDOW DEVICE KEY, quota NODE JOB WINDOW DEVICE, end NODE JOB, jobs NODE, usage NODE JOB, sessions NODE, streams NODE, counts NODE, counts NODE JOB, kick NODE JOB SESSION, close, close now";
 
 /// What closes the server for a control connection.
 pub trait Closing {

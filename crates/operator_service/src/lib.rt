@@ -2,6 +2,7 @@
 #![tactic(auto)]
 
 mod attending;
+mod counting;
 mod looks;
 mod serving;
 

@@ -3,6 +3,7 @@ ghost use Rattle.std.specs.Prelude.{◌≡◌, IfOk};
 ghost use Rattle.std.specs.String.{string_bytes};
 ghost use Rattle.operator_service.specs.Looks.{IsKickText, IsLookText, IsUsageReply, job_text as job_text_lem, jobs_text as jobs_text_lem, jobs_line as jobs_line_lem, kicked_line as kicked_line_lem, no_session_line as no_session_line_lem, sessions_line as sessions_line_lem, stream_text as stream_text_lem, streams_text as streams_text_lem, streams_line as streams_line_lem};
 
+use crate::counting::{job_counts_text, node_counts_text};
 use bytes::Bytes;
 use memory_growth::{OutOfMemory, text_of, texts};
 use node_gate::{JournaledNode, LiveJob};
@@ -34,6 +35,8 @@ pub(crate) fn look_text<K: JournaledNode, R: Wait + Clock>(
         }
         Look::Sessions => sessions_line(alloc, node, shared.open_sessions(rt)),
         Look::Streams => streams_line(alloc, node, &shared.listed_sessions(rt)?),
+        Look::Counts(None) => node_counts_text(alloc, shared, node),
+        Look::Counts(Some(job)) => job_counts_text(rt, alloc, shared, node, job),
     }
 }
 

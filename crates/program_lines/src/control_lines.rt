@@ -2,7 +2,7 @@
 ghost use Rattle.std.specs.Prelude.{◌≡◌, IfOk, map};
 ghost use Rattle.schedule_text.specs.Fields.{Reads};
 ghost use Rattle.schedule_text.specs.Reading.{IsNodeAlone};
-ghost use Rattle.program_lines.specs.ControlLines.{IsControlLine, IsJobLook, IsKickAfter, IsKickFields, IsKickLine, IsLookAfter, IsLookLine};
+ghost use Rattle.program_lines.specs.ControlLines.{IsControlLine, IsCountsLook, IsJobLook, IsKickAfter, IsKickFields, IsKickLine, IsLookAfter, IsLookLine};
 
 use crate::operator::{Order, read_order};
 use memory_growth::OutOfMemory;
@@ -21,6 +21,8 @@ pub enum Look {
     Sessions,
     /// Which sessions are open.
     Streams,
+    /// What was counted of its sessions and its lock, or of a job there.
+    Counts(Option<JobNo>),
 }
 
 /// What a line of a control connection asks for.
@@ -37,7 +39,7 @@ pub enum ControlLine {
 }
 
 /// What the text of a line, without its line feed, asks of nodes of this number: an order, `close now`, `jobs NODE`, `usage NODE JOB`,
-/// `sessions NODE`, `streams NODE` or `kick NODE JOB SESSION`. `None` exactly if it is no such line.
+/// `sessions NODE`, `streams NODE`, `counts NODE`, `counts NODE JOB` or `kick NODE JOB SESSION`. `None` exactly if it is no such line.
 pub fn read_control_line(
     alloc: Global,
     text: &str,
@@ -76,7 +78,7 @@ struct SessionAt {
     session: u32,
 }
 
-/// `jobs NODE`, `usage NODE JOB`, `sessions NODE` or `streams NODE`.
+/// `jobs NODE`, `usage NODE JOB`, `sessions NODE`, `streams NODE`, `counts NODE` or `counts NODE JOB`.
 fn look_line(fields: &[&str], nodes: u32) -> Option<LookAt>
     ensures { Reads result (IsLookLine nodes (map (λ field. field.now) fields.now)) }
 {
@@ -102,6 +104,9 @@ fn look_after(word: &str, fields: &[&str], nodes: u32) -> Option<LookAt>
     if word == "streams" {
         return node_look(fields, nodes, Look::Streams);
     }
+    if word == "counts" {
+        return counts_look(fields, nodes);
+    }
     None
 }
 
@@ -125,6 +130,30 @@ fn job_look(fields: &[&str], nodes: u32) -> Option<LookAt>
         node,
         look: Look::Usage(job),
     })
+}
+
+/// `NODE`, or `NODE JOB`, of which the counts are to be seen.
+fn counts_look(fields: &[&str], nodes: u32) -> Option<LookAt>
+    ensures { Reads result (IsCountsLook nodes (map (λ field. field.now) fields.now)) }
+{
+    match fields {
+        [node] => {
+            let node = fields::node(node, nodes)?;
+            Some(LookAt {
+                node,
+                look: Look::Counts(None),
+            })
+        }
+        [node, job] => {
+            let node = fields::node(node, nodes)?;
+            let job = fields::job(job)?;
+            Some(LookAt {
+                node,
+                look: Look::Counts(Some(job)),
+            })
+        }
+        _ => None,
+    }
 }
 
 /// `kick NODE JOB SESSION`.

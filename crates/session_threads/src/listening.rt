@@ -3,7 +3,7 @@ use crate::Session;
 use memory_growth::{OutOfMemory, boxes};
 use node_gate::{JournaledNode, Posted};
 use node_housekeeping::{OpenStream, Pause};
-use session_engine::serve;
+use session_engine::{Ended, serve};
 use shared_nodes::SharedNode;
 use std::alloc::Global;
 use std::io::BufWriter;
@@ -152,7 +152,10 @@ fn serve_open<K: JournaledNode, P: Pause, R: Wait + Clock>(
     // so that the answers to what came in one piece leave together; without memory for it the stream is closed
     if let Ok(mut writer) = BufWriter::new(alloc, stream) {
         // a fault of a client ends this session alone
-        let _ = serve(alloc, &mut reader, &mut writer, &mut session);
+        let ended = serve(alloc, &mut reader, &mut writer, &mut session);
+        if let Ok(Ended::Malformed) = ended {
+            node.housekeeping().counts.note_malformed();
+        }
     }
     session.check();
 }

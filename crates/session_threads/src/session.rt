@@ -1,14 +1,17 @@
 //! A session at a node.
+ghost use Rattle.std.specs.Prelude.{◌≡◌, true, IsTrue};
+ghost use Rattle.private_store.specs.laws.Answers.{is_small_reply};
+ghost use Rattle.wire_frames.specs.Writing.{has_reply_frame};
 
 use crate::frames::framed;
 use bytes::Bytes;
 use node_gate::JournaledNode;
-use node_housekeeping::{NoPause, OpenStream, Pause};
+use node_housekeeping::{JobCounts, NoPause, OpenStream, Pause};
 use obj_id::{Command, JobKey, JobNo, Refusal, Reply};
 use private_store::Awaited;
 use session_engine::Gate;
 use shared_nodes::{ReceiptBuffer, SharedNode, out_of_memory};
-use std::sync::Wait;
+use std::sync::{Arc, Wait};
 use std::time::Clock;
 
 /// A session at a node, with the receipts of its steps that weren't looked for yet.
@@ -21,6 +24,8 @@ pub struct Session<'a, K: JournaledNode, R: Wait + Clock, P = NoPause> {
     entered: Option<K::Entered>,
     // whose end is looked for while a call waits, and of which the operator is told
     client: Option<&'a OpenStream>,
+    // those of its job, once it has entered
+    counts: Option<Arc<JobCounts>>,
 }
 
 impl<'a, K: JournaledNode, R: Wait + Clock, P: Pause> Session<'a, K, R, P> {
@@ -32,6 +37,7 @@ impl<'a, K: JournaledNode, R: Wait + Clock, P: Pause> Session<'a, K, R, P> {
             receipts: ReceiptBuffer::new(node.housekeeping().alloc),
             entered: None,
             client: None,
+            counts: None,
         }
     }
 
@@ -47,14 +53,40 @@ impl<'a, K: JournaledNode, R: Wait + Clock, P: Pause> Session<'a, K, R, P> {
             receipts: ReceiptBuffer::new(node.housekeeping().alloc),
             entered: None,
             client: Some(client),
+            counts: None,
         }
     }
 
     /// A command was taken from the client's stream.
-    fn count_command(&self) {
+    fn count_command(&self, command: &Command<Bytes>) {
         if let Some(client) = self.client {
             client.note_command();
         }
+        if let Some(counts) = &self.counts {
+            counts.note_command(command);
+        }
+    }
+
+    /// The same of one that waits.
+    fn count_awaited(&self, awaited: &Awaited) {
+        if let Some(client) = self.client {
+            client.note_command();
+        }
+        if let Some(counts) = &self.counts {
+            counts.note_awaited(awaited);
+        }
+    }
+
+    /// Counts the answer, and gives it back, with a frame.
+    fn counted(&self, reply: Reply<Bytes>) -> Reply<Bytes>
+        requires { is_small_reply reply ≡ true }
+        ensures same { result ≡ reply }
+        ensures frame { IsTrue (has_reply_frame result) }
+    {
+        if let Some(counts) = &self.counts {
+            counts.note_answer(&reply);
+        }
+        framed(reply)
     }
 
     /// Looks for the entries of the receipts that are left, and counts those that aren't there: at the end of the session.
@@ -73,9 +105,18 @@ impl<'a, K: JournaledNode, R: Wait + Clock, P: Pause> Gate for Session<'a, K, R,
     ghost gives = { λ before asked response after. IsWitnessed K.called_by K.rises asked response before.receipts.last after.receipts.last × IsLetIn asked response (option_map K.pass after.entered) };
 
     fn enter(&mut self, job: JobNo, key: JobKey) -> Result<u32, Refusal> {
-        let entered = self.node.enter(self.rt, job, &key)?;
+        let counts = &self.node.housekeeping().counts;
+        let entered = match self.node.enter(self.rt, job, &key) {
+            Ok(entered) => entered,
+            Err(refusal) => {
+                counts.note_hello(false);
+                return Err(refusal);
+            }
+        };
+        counts.note_hello(true);
         let session = K::session(&entered);
         self.entered = Some(entered);
+        self.counts = counts.of(self.rt, job);
         if let Some(client) = self.client {
             client.note_session(job, session);
         }
@@ -83,22 +124,22 @@ impl<'a, K: JournaledNode, R: Wait + Clock, P: Pause> Gate for Session<'a, K, R,
     }
 
     fn call(&mut self, job: JobNo, session: u32, command: Command<Bytes>) -> Reply<Bytes> {
-        self.count_command();
+        self.count_command(&command);
         if let Err(error) = self.node.make_room(self.rt, &mut self.receipts) {
-            return framed(out_of_memory(error));
+            return self.counted(out_of_memory(error));
         }
         let last = self.receipts.last();
         let (reply, receipt) = self.node.call_next(self.rt, last, job, session, command);
         if let Some(receipt) = receipt {
             self.receipts.add(receipt);
         }
-        framed(reply)
+        self.counted(reply)
     }
 
     fn call_wait(&mut self, job: JobNo, session: u32, awaited: Awaited) -> Reply<Bytes> {
-        self.count_command();
+        self.count_awaited(&awaited);
         if let Err(error) = self.node.make_room(self.rt, &mut self.receipts) {
-            return framed(out_of_memory(error));
+            return self.counted(out_of_memory(error));
         }
         let last = self.receipts.last();
         let client = self.client.map(|client| client.stream());
@@ -108,7 +149,7 @@ impl<'a, K: JournaledNode, R: Wait + Clock, P: Pause> Gate for Session<'a, K, R,
         if let Some(receipt) = receipt {
             self.receipts.add(receipt);
         }
-        framed(reply)
+        self.counted(reply)
     }
 
     fn leave(&mut self, job: JobNo, session: u32) {

@@ -5,7 +5,7 @@ ghost use Rattle.obj_id.specs.declared.refusals.Refusal.TheVariants.{NotAdmitted
 use crate::SharedNode;
 use memory_growth::OutOfMemory;
 use node_gate::{JournaledNode, LiveJob};
-use node_housekeeping::{ListedSession, Pause};
+use node_housekeeping::{Count, ListedSession, NodeCounts, Pause};
 use obj_id::{JobNo, Refusal, Usage};
 use std::net::Shutdown;
 use std::sync::Wait;
@@ -37,6 +37,21 @@ impl<K: JournaledNode, P: Pause> SharedNode<K, P> {
         self.housekeeping
             .streams
             .listed(rt, self.housekeeping.alloc)
+    }
+
+    /// What was counted of its sessions and of its lock.
+    pub fn node_counts(&self) -> NodeCounts {
+        self.housekeeping.counts.of_node()
+    }
+
+    /// What was counted of a live job: nothing of another, or of one for which there was no memory when it was admitted. The error is out of
+    /// memory.
+    pub fn job_counts<R: Wait>(&self, rt: &R, job: JobNo) -> Result<Vec<Count>, OutOfMemory> {
+        let alloc = self.housekeeping.alloc;
+        match self.housekeeping.counts.of(rt, job) {
+            Some(counts) => counts.counted(alloc),
+            None => Ok(Vec::new(alloc)),
+        }
     }
 
     /// Shuts down the stream of this job's session, if it is open: whether it is. The session then ends as if its client had gone.

@@ -2,7 +2,7 @@
 use crate::SharedNode;
 use crate::receipt_buffer::ReceiptBuffer;
 use node_gate::{JournaledNode, Posted};
-use node_housekeeping::Pause;
+use node_housekeeping::{JobEvent, Pause};
 use node_links::Delivery;
 use obj_id::{Message, PeerMessage};
 use std::sync::Wait;
@@ -13,7 +13,12 @@ impl<K: JournaledNode, P: Pause> SharedNode<K, P> {
         let mut is_pulling = false;
         let mut lost = 0u64;
         for posted in mail {
-            is_pulling |= is_pull(posted.message());
+            if is_pull(posted.message()) {
+                self.housekeeping
+                    .counts
+                    .note(rt, posted.job(), JobEvent::Pull);
+                is_pulling = true;
+            }
             if !self.deliver(rt, posted) {
                 lost = lost.saturating_add(1);
             }

@@ -16,7 +16,7 @@ use crate::refusing::out_of_memory;
 use bytes::Bytes;
 use memory_growth::OutOfMemory;
 use node_gate::{Access, JournaledNode, Keeper, Posted};
-use node_housekeeping::{Housekeeping, NoPause, Pause, Versions, Waiting, is_gone};
+use node_housekeeping::{Housekeeping, JobEvent, NoPause, Pause, Versions, Waiting, is_gone};
 use node_links::Outbox;
 use node_steps::{
     Stepped, audit_one, may_reach_others, step_arrival, step_call, step_call_after, step_end,
@@ -150,14 +150,19 @@ impl<K: JournaledNode, P: Pause> SharedNode<K, P> {
     /// Locks the node, for whose steps a session of each queue waits at most. A thread that sleeps is woken late, and most holds are over after a
     /// microsecond, so it looks for some ten of them first.
     pub(crate) fn lock<R: Wait>(&self, rt: &R) -> MutexGuard<'_, K> {
+        if let Some(kept) = self.kept.try_lock() {
+            return kept;
+        }
+        self.housekeeping.counts.note_lock_wait();
         for _ in 0..LOOKS {
-            if let Some(kept) = self.kept.try_lock() {
-                return kept;
-            }
             for _ in 0..PAUSES {
                 spin_loop();
             }
+            if let Some(kept) = self.kept.try_lock() {
+                return kept;
+            }
         }
+        self.housekeeping.counts.note_lock_sleep();
         self.kept.lock(rt)
     }
 
@@ -425,7 +430,11 @@ impl<K: JournaledNode, P: Pause> SharedNode<K, P> {
     ) -> (Reply<Bytes>, Option<K::Receipt>)
         ensures { MatchOption result.1 (result.0 ≡ reply.Refused NoMemory) (λ r. K.receipt_of (event.Admit job quota key) result.0 r) }
     {
-        self.order(rt, &Event::Admit { job, quota, key })
+        let (reply, receipt) = self.order(rt, &Event::Admit { job, quota, key });
+        if matches!(&reply, Reply::Ok) {
+            self.housekeeping.counts.begin(rt, job);
+        }
+        (reply, receipt)
     }
 
     /// The operator changes a job's quotas, with the receipt of the entry, which was looked for. There is none exactly if the reply
@@ -451,7 +460,11 @@ impl<K: JournaledNode, P: Pause> SharedNode<K, P> {
         let gone = kept.take_gone();
         drop(kept);
         drop(gone);
-        self.answer(rt, stepped)
+        let (reply, receipt) = self.answer(rt, stepped);
+        if matches!(&reply, Reply::Ok) {
+            self.housekeeping.counts.end(rt, job);
+        }
+        (reply, receipt)
     }
 
     /// An event of the operator's, with the receipt of its entry, which was looked for.
@@ -555,13 +568,19 @@ impl<K: JournaledNode, P: Pause> SharedNode<K, P> {
         drop(kept);
         drop(rest);
         let Stepped { receipt, mail, .. } = stepped?;
+        self.housekeeping.counts.note(rt, job, JobEvent::Arrival);
         self.post(rt, mail);
         Ok(receipt)
     }
 
     /// What the directory answered to a message of the node arrives: whether it isn't lost.
     pub(crate) fn arrive_located<R: Wait>(&self, rt: &R, located: K::Posted) -> bool {
-        step_located(rt, &mut *self.lock(rt), &self.housekeeping, located)
+        let job = located.job();
+        let is_taken = step_located(rt, &mut *self.lock(rt), &self.housekeeping, located);
+        if is_taken {
+            self.housekeeping.counts.note(rt, job, JobEvent::Arrival);
+        }
+        is_taken
     }
 
     /// Hands over what a step has sent, and gives its answer and its receipt. There is none if there was no memory for the step.

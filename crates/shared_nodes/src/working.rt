@@ -54,6 +54,7 @@ impl<K: JournaledNode, P: Pause> SharedNode<K, P> {
         match self.take_gathering(rt, receipts) {
             Reply::Work(work) => {
                 let finishing = call_device(device, &work);
+                self.housekeeping.counts.note_device_call(rt, &finishing);
                 self.hand_in(rt, device, finishing, receipts)
             }
             other => self.housekeeping.end_take(rt, &other),

@@ -1,0 +1,79 @@
+-- What the operator is shown of what was counted.
+use Rattle.std.specs.Prelude.{◌≡◌, ◌⊎◌, ℕ, List, [], ◌∷◌, ◌++◌, codes, decimal}
+use Rattle.obj_id.specs.Refusals.{number_of}
+use Rattle.obj_id.specs.declared.commands.Reply.TheVariants as reply
+use Rattle.obj_id.specs.declared.refusals.Refusal.TheVariants.{NotAdmitted}
+use Rattle.private_store.specs.declared.schedules.StepAnswer.TheVariants.{Response}
+use Rattle.schedule_text.specs.declared.prefixes.Prefix.TheVariants.{Operator}
+use Rattle.schedule_text.specs.Lines.{with_line_feed}
+use Rattle.schedule_text.specs.Printing.{line_text}
+use Rattle.node_housekeeping.specs.declared.command_kind.CommandKind.{CommandKind}
+use Rattle.node_housekeeping.specs.declared.command_kind.CommandKind.TheVariants as kind
+use Rattle.node_housekeeping.specs.declared.counts.NodeCounts.{NodeCounts}
+use Rattle.node_housekeeping.specs.declared.job_counts.Count.{Count}
+use Rattle.node_housekeeping.specs.declared.job_counts.CountName.{CountName}
+use Rattle.node_housekeeping.specs.declared.job_counts.CountName.TheVariants as name
+use Rattle.node_housekeeping.specs.declared.job_counts.JobEvent.{JobEvent}
+use Rattle.node_housekeeping.specs.declared.job_counts.JobEvent.TheVariants as event
+
+-- a kind of command by the word that a schedule's line has for it
+abbrev pub kind_word : CommandKind → List ℕ
+kind_word kind.Create = codes "create"
+kind_word kind.Write = codes "write"
+kind_word kind.Seal = codes "seal"
+kind_word kind.Get = codes "get"
+kind_word kind.Read = codes "read"
+kind_word kind.Release = codes "release"
+kind_word kind.Unpin = codes "unpin"
+kind_word kind.Borrow = codes "borrow"
+kind_word kind.GiveUp = codes "giveup"
+kind_word kind.Delete = codes "delete"
+kind_word kind.EndTask = codes "endtask"
+kind_word kind.Grant = codes "grant"
+kind_word kind.Withdraw = codes "withdraw"
+kind_word kind.Peek = codes "peek"
+kind_word kind.List = codes "list"
+kind_word kind.Usage = codes "usage"
+kind_word kind.Leave = codes "leave"
+kind_word kind.GetWait = codes "get-wait"
+kind_word kind.CreateWait = codes "create-wait"
+
+abbrev pub event_word : JobEvent → List ℕ
+event_word event.BytesIn = codes "bytes-in"
+event_word event.BytesOut = codes "bytes-out"
+event_word event.Spill = codes "spills"
+event_word event.SpillFailed = codes "spills-failed"
+event_word event.Restore = codes "restores"
+event_word event.RestoreFailed = codes "restores-failed"
+event_word event.Pull = codes "pulls"
+event_word event.Arrival = codes "arrivals"
+
+-- a refusal by its number
+abbrev pub name_text : CountName → List ℕ
+name_text (name.Command of) = kind_word of
+name_text (name.Refused refusal) = codes "refused." ++ decimal (number_of refusal)
+name_text (name.Event of) = event_word of
+
+-- a count, after a space
+abbrev pub count_text : Count → List ℕ
+count_text count = codes " " ++ name_text count.name ++ codes ":" ++ decimal count.number
+
+abbrev pub counts_text : List Count → List ℕ
+counts_text [] = []
+counts_text (count ∷ counts) = count_text count ++ counts_text counts
+
+abbrev pub job_counts_line : ℕ → ℕ → List Count → List ℕ
+job_counts_line node job counts = with_line_feed (codes "n" ++ decimal node ++ codes " op counts " ++ decimal job ++ counts_text counts)
+
+abbrev pub node_counts_line : ℕ → NodeCounts → List ℕ
+node_counts_line node counts = with_line_feed (codes "n" ++ decimal node ++ codes " op counts hellos:" ++ decimal counts.hellos
+    ++ codes " hellos-refused:" ++ decimal counts.hellos_refused ++ codes " malformed:" ++ decimal counts.malformed
+    ++ codes " lock-waits:" ++ decimal counts.lock_waits ++ codes " lock-sleeps:" ++ decimal counts.lock_sleeps)
+
+pub record IsNodeCountsLine (node : ℕ) (line : List ℕ) : Type 0 where
+  pub counts : NodeCounts
+  pub is : line ≡ node_counts_line node counts
+
+-- the job's counts, or that it isn't live
+abbrev pub IsJobCountsLine : ℕ → ℕ → List ℕ → Type 0
+IsJobCountsLine node job line = ((counts : List Count) × (line ≡ job_counts_line node job counts)) ⊎ (line ≡ line_text (Operator node) (Response (reply.Refused NotAdmitted)))

@@ -1,0 +1,155 @@
+//! What was counted of a node and of its jobs, as lines.
+ghost use Rattle.std.specs.Prelude.{◌≡◌, IfOk};
+ghost use Rattle.std.specs.String.{string_bytes};
+ghost use Rattle.operator_service.specs.Counts.{IsJobCountsLine, IsNodeCountsLine, count_text as count_text_lem, counts_text as counts_text_lem, event_word as event_word_lem, job_counts_line as job_counts_line_lem, kind_word as kind_word_lem, name_text as name_text_lem, node_counts_line as node_counts_line_lem};
+
+use memory_growth::{OutOfMemory, text_of, texts};
+use node_gate::JournaledNode;
+use node_housekeeping::{CommandKind, Count, CountName, JobEvent, NodeCounts};
+use obj_id::{JobNo, Refusal, Reply};
+use private_store::StepAnswer;
+use schedule_text::{Prefix, answer_line};
+use shared_nodes::SharedNode;
+use std::alloc::Global;
+use std::sync::Wait;
+
+/// The line of the node's own counts.
+pub(crate) fn node_counts_text<K: JournaledNode>(
+    alloc: Global,
+    shared: &SharedNode<K>,
+    node: u32,
+) -> Result<String, OutOfMemory>
+    ensures { IfOk result (λ line. IsNodeCountsLine node (string_bytes line)) }
+{
+    node_counts_line(alloc, node, shared.node_counts())
+}
+
+/// The line of a job's counts, or that the job isn't live.
+pub(crate) fn job_counts_text<K: JournaledNode, R: Wait>(
+    rt: &R,
+    alloc: Global,
+    shared: &SharedNode<K>,
+    node: u32,
+    job: JobNo,
+) -> Result<String, OutOfMemory>
+    ensures { IfOk result (λ line. IsJobCountsLine node job.0 (string_bytes line)) }
+{
+    if shared.usage(rt, job).is_err() {
+        let refused = StepAnswer::Response(Reply::Refused(Refusal::NotAdmitted));
+        return answer_line(alloc, Prefix::Operator(node), &refused);
+    }
+    job_counts_line(alloc, node, job, &shared.job_counts(rt, job)?)
+}
+
+/// `nNODE op counts`, and each of the node's own.
+fn node_counts_line(alloc: Global, node: u32, counts: NodeCounts) -> Result<String, OutOfMemory>
+    ensures { IfOk result (λ line. string_bytes line ≡ node_counts_line_lem node counts) }
+{
+    let NodeCounts {
+        hellos,
+        hellos_refused,
+        malformed,
+        lock_waits,
+        lock_sleeps,
+    } = counts;
+    text_of!(in alloc; "n{node} op counts hellos:{hellos} hellos-refused:{hellos_refused} malformed:{malformed} lock-waits:{lock_waits} lock-sleeps:{lock_sleeps}\n")
+}
+
+/// `nNODE op counts JOB`, and each of the job's.
+fn job_counts_line(
+    alloc: Global,
+    node: u32,
+    job: JobNo,
+    counts: &[Count],
+) -> Result<String, OutOfMemory>
+    ensures { IfOk result (λ line. string_bytes line ≡ job_counts_line_lem node job.0 counts.now) }
+{
+    let number = job.0;
+    let mut line = text_of!(in alloc; "n{node} op counts {number}")?;
+    texts::push_str(&mut line, &counts_text(alloc, counts)?)?;
+    texts::push(&mut line, '\n')?;
+    Ok(line)
+}
+
+/// Each count, after a space.
+fn counts_text(alloc: Global, counts: &[Count]) -> Result<String, OutOfMemory>
+    ensures { IfOk result (λ text. string_bytes text ≡ counts_text_lem counts.now) }
+{
+    let mut text = String::new(alloc);
+    for count in counts {
+        let count = count_text(alloc, count)?;
+        texts::push_str(&mut text, &count)?;
+    }
+    Ok(text)
+}
+
+/// ` NAME:NUMBER`.
+fn count_text(alloc: Global, count: &Count) -> Result<String, OutOfMemory>
+    ensures { IfOk result (λ text. string_bytes text ≡ count_text_lem count.now) }
+{
+    let name = name_text(alloc, count.name)?;
+    let number = count.number;
+    text_of!(in alloc; " {name}:{number}")
+}
+
+/// What is counted, as a word; a refusal by its number.
+fn name_text(alloc: Global, name: CountName) -> Result<String, OutOfMemory>
+    ensures { IfOk result (λ text. string_bytes text ≡ name_text_lem name) }
+{
+    match name {
+        CountName::Command(kind) => texts::from_str(alloc, kind_word(kind)),
+        CountName::Refused(refusal) => refusal_text(alloc, refusal),
+        CountName::Event(event) => texts::from_str(alloc, event_word(event)),
+    }
+}
+
+/// `refused.` and the refusal's number.
+fn refusal_text(alloc: Global, refusal: Refusal) -> Result<String, OutOfMemory>
+    ensures { IfOk result (λ text. string_bytes text ≡ name_text_lem (CountName.Refused refusal)) }
+{
+    let number = refusal.number();
+    text_of!(in alloc; "refused.{number}")
+}
+
+/// The word of a kind of command.
+fn kind_word(kind: CommandKind) -> &'static str
+    ensures { result.now ≡ kind_word_lem kind }
+{
+    match kind {
+        CommandKind::Create => "create",
+        CommandKind::Write => "write",
+        CommandKind::Seal => "seal",
+        CommandKind::Get => "get",
+        CommandKind::Read => "read",
+        CommandKind::Release => "release",
+        CommandKind::Unpin => "unpin",
+        CommandKind::Borrow => "borrow",
+        CommandKind::GiveUp => "giveup",
+        CommandKind::Delete => "delete",
+        CommandKind::EndTask => "endtask",
+        CommandKind::Grant => "grant",
+        CommandKind::Withdraw => "withdraw",
+        CommandKind::Peek => "peek",
+        CommandKind::List => "list",
+        CommandKind::Usage => "usage",
+        CommandKind::Leave => "leave",
+        CommandKind::GetWait => "get-wait",
+        CommandKind::CreateWait => "create-wait",
+    }
+}
+
+/// The word of what else is counted.
+fn event_word(event: JobEvent) -> &'static str
+    ensures { result.now ≡ event_word_lem event }
+{
+    match event {
+        JobEvent::BytesIn => "bytes-in",
+        JobEvent::BytesOut => "bytes-out",
+        JobEvent::Spill => "spills",
+        JobEvent::SpillFailed => "spills-failed",
+        JobEvent::Restore => "restores",
+        JobEvent::RestoreFailed => "restores-failed",
+        JobEvent::Pull => "pulls",
+        JobEvent::Arrival => "arrivals",
+    }
+}
