@@ -1,4 +1,5 @@
-//! The kinds of commands, as they are counted.
+//! The kinds of commands: what is counted of them, and what those who serve nodes know of them.
+use crate::waiting::WakeScope;
 use obj_id::Command;
 use private_store::Awaited;
 
@@ -52,9 +53,30 @@ pub(crate) const KINDS: [CommandKind; COMMAND_KINDS] = [
     CommandKind::CreateWait,
 ];
 
+/// What those who serve nodes know of a kind of command.
+#[derive(Clone, Copy)]
+struct Traits {
+    // it may take copies out of the job's window
+    removes: bool,
+    // it may change or remove a copy that isn't sealed
+    meets_seals: bool,
+    // it may make a list in the journal for a job that isn't live
+    reaches_others: bool,
+    // what it may have moved, if it wasn't refused
+    wakes: WakeScope,
+}
+
+/// Of a kind that does nothing of the sort.
+const QUIET: Traits = Traits {
+    removes: false,
+    meets_seals: false,
+    reaches_others: false,
+    wakes: WakeScope::Nothing,
+};
+
 impl CommandKind {
     /// The kind of a command.
-    pub(crate) fn of<P>(command: &Command<P>) -> CommandKind {
+    pub fn of<P>(command: &Command<P>) -> CommandKind {
         match command {
             Command::Create { .. } => CommandKind::Create,
             Command::Write { .. } => CommandKind::Write,
@@ -81,6 +103,73 @@ impl CommandKind {
         match awaited {
             Awaited::Get(_) => CommandKind::GetWait,
             Awaited::Create { .. } => CommandKind::CreateWait,
+        }
+    }
+
+    /// Whether a step of it may take copies out of the job's window.
+    pub fn may_remove(self) -> bool {
+        self.traits().removes
+    }
+
+    /// Whether it may make a list in the journal for a job that isn't live.
+    pub fn reaches_others(self) -> bool {
+        self.traits().reaches_others
+    }
+
+    /// Whether it may change or remove a copy that isn't sealed. The last who keeps a primary may let go of it before it is.
+    pub(crate) fn meets_seals(self) -> bool {
+        self.traits().meets_seals
+    }
+
+    /// What a step of it may have moved that wasn't refused.
+    pub(crate) fn wakes(self) -> WakeScope {
+        self.traits().wakes
+    }
+
+    /// The table: a kind that is new has to be put somewhere.
+    fn traits(self) -> Traits {
+        match self {
+            CommandKind::Create
+            | CommandKind::CreateWait
+            | CommandKind::Get
+            | CommandKind::GetWait => Traits {
+                removes: true,
+                ..QUIET
+            },
+            CommandKind::Write => Traits {
+                meets_seals: true,
+                ..QUIET
+            },
+            CommandKind::Seal => Traits {
+                wakes: WakeScope::Copies,
+                ..QUIET
+            },
+            CommandKind::Release | CommandKind::Withdraw | CommandKind::Leave => Traits {
+                removes: true,
+                wakes: WakeScope::Copies,
+                ..QUIET
+            },
+            CommandKind::Unpin | CommandKind::GiveUp => Traits {
+                removes: true,
+                meets_seals: true,
+                wakes: WakeScope::Copies,
+                ..QUIET
+            },
+            CommandKind::Delete | CommandKind::EndTask => Traits {
+                removes: true,
+                meets_seals: true,
+                wakes: WakeScope::Fetches,
+                ..QUIET
+            },
+            CommandKind::Grant => Traits {
+                reaches_others: true,
+                ..QUIET
+            },
+            CommandKind::Read
+            | CommandKind::Borrow
+            | CommandKind::Peek
+            | CommandKind::List
+            | CommandKind::Usage => QUIET,
         }
     }
 }

@@ -1,6 +1,7 @@
 //! Which copies are being hashed for a Seal.
 ghost use Rattle.std.specs.Prelude.{◌<◌};
 
+use crate::command_kind::CommandKind;
 use obj_id::{Command, JobNo, ObjectId};
 use std::array;
 use std::sync::{Condvar, Mutex, Wait};
@@ -89,7 +90,8 @@ impl Seals {
 
     /// Whether the command would change or remove a copy that is being hashed.
     pub fn are_met<R: Wait, B>(&self, rt: &R, job: JobNo, command: &Command<B>) -> bool {
-        may_meet(command) && are_among(&*self.class(job).copies.lock(rt), job, command)
+        CommandKind::of(command).meets_seals()
+            && are_among(&*self.class(job).copies.lock(rt), job, command)
     }
 
     /// Waits until it wouldn't. No node is locked.
@@ -105,18 +107,6 @@ impl Seals {
     fn class(&self, job: JobNo) -> &SealClass {
         &self.classes[class_of(job)]
     }
-}
-
-/// Whether the command may change or remove a copy that isn't sealed. The last who keeps a primary may let go of it before it is.
-fn may_meet<B>(command: &Command<B>) -> bool {
-    matches!(
-        command,
-        Command::Write { .. }
-            | Command::Unpin(..)
-            | Command::GiveUp(..)
-            | Command::Delete(_)
-            | Command::EndTask(_)
-    )
 }
 
 /// Whether the command would change or remove one of the copies.

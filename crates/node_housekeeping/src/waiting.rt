@@ -2,8 +2,9 @@
 ghost use Rattle.std.specs.Prelude.{◌<◌};
 
 use crate::client::is_gone;
+use crate::command_kind::CommandKind;
 use bytes::Bytes;
-use obj_id::{Command, JobNo, Refusal, Reply};
+use obj_id::{JobNo, Refusal, Reply};
 use private_store::{ChunkVerdict, Judged};
 use std::array;
 use std::os::unix::net::UnixStream;
@@ -235,7 +236,7 @@ pub fn wake_scope_of(input: Option<&Judged>, reply: &Reply<Bytes>) -> WakeScope 
     }
     match input {
         None => WakeScope::Nothing,
-        Some(Judged::Call(_, command)) => wake_scope_of_call(command),
+        Some(Judged::Call(_, command)) => CommandKind::of(command).wakes(),
         Some(
             Judged::Chunk {
                 verdict: ChunkVerdict::Part,
@@ -255,27 +256,5 @@ pub fn wake_scope_of(input: Option<&Judged>, reply: &Reply<Bytes>) -> WakeScope 
         Some(Judged::End) => WakeScope::AllJobs,
         Some(Judged::Requota(_) | Judged::Received { .. } | Judged::Withdrawn { .. }) =>
             WakeScope::Copies,
-    }
-}
-
-/// The same of a command that wasn't refused.
-fn wake_scope_of_call(command: &Command<u64>) -> WakeScope {
-    match command {
-        Command::Delete(_) | Command::EndTask(_) => WakeScope::Fetches,
-        Command::Seal(_)
-        | Command::Release(_)
-        | Command::Unpin(..)
-        | Command::GiveUp(..)
-        | Command::Withdraw(..)
-        | Command::Leave => WakeScope::Copies,
-        Command::Create { .. }
-        | Command::Write { .. }
-        | Command::Get(_)
-        | Command::Read { .. }
-        | Command::Borrow(..)
-        | Command::Grant(..)
-        | Command::Peek { .. }
-        | Command::List
-        | Command::Usage => WakeScope::Nothing,
     }
 }

@@ -1,13 +1,7 @@
 //! Lists that a node's journal keeps of jobs that aren't live are folded, so that they stay small. No file is touched.
 use crate::stepping::Stepped;
-use bytes::Bytes;
 use node_gate::JournaledNode;
-use obj_id::{Command, JobNo, Refusal, Reply};
-
-/// Whether the command may make a list for a job that isn't live.
-pub fn may_reach_others(command: &Command<Bytes>) -> bool {
-    matches!(command, Command::Grant(..))
-}
+use obj_id::{JobNo, Refusal, Reply};
 
 /// Sweeps what a command of the job may have left in the journal: after one that may have made a list for a job that isn't live, the
 /// lists of the jobs whose turn it is; after one of a job that isn't live, the job's own. No step, so nothing else changes.

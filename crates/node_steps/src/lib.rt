@@ -7,7 +7,7 @@ mod journal_sweeping;
 mod stepping;
 
 pub use auditing::{audit, audit_one};
-pub use journal_sweeping::{may_reach_others, sweep_after};
+pub use journal_sweeping::sweep_after;
 pub use stepping::{
     Stepped, step_arrival, step_call, step_call_after, step_end, step_event, step_located,
     step_mark, step_order, step_take,

@@ -138,21 +138,6 @@ fn filled(alloc: Global, bytes: &Bytes) -> Option<Bytes> {
     shared::from_vec(filled).ok()
 }
 
-/// Whether a step of the command may take copies out of the job's window.
-pub(crate) fn may_remove(command: &Command<Bytes>) -> bool {
-    !matches!(
-        command,
-        Command::Write { .. }
-            | Command::Seal(_)
-            | Command::Read { .. }
-            | Command::Borrow(..)
-            | Command::Grant(..)
-            | Command::Peek { .. }
-            | Command::List
-            | Command::Usage
-    )
-}
-
 /// The memory of copies that a step of the job took out, if it may have: to be let go once the node isn't locked. No step, so
 /// nothing else changes.
 pub(crate) fn spent_by<K: JournaledNode>(

@@ -10,17 +10,19 @@ ghost use Rattle.shared_nodes.specs.Rounds.{IsHandedIn, IsWorkTaken};
 ghost use Rattle.shared_nodes.specs.Gathering.{receipts_in_order};
 ghost use Rattle.private_store.specs.rules.Frames.{tried};
 
-use crate::preparing::{may_remove, prepare_finish, spent_by};
+use crate::preparing::{prepare_finish, spent_by};
 use crate::receipt_buffer::ReceiptBuffer;
 use crate::refusing::out_of_memory;
 use bytes::Bytes;
 use memory_growth::OutOfMemory;
 use node_gate::{Access, JournaledNode, Keeper, Posted};
-use node_housekeeping::{Housekeeping, JobEvent, NoPause, Pause, Versions, Waiting, is_gone};
+use node_housekeeping::{
+    CommandKind, Housekeeping, JobEvent, NoPause, Pause, Versions, Waiting, is_gone,
+};
 use node_links::Outbox;
 use node_steps::{
-    Stepped, audit_one, may_reach_others, step_arrival, step_call, step_call_after, step_end,
-    step_event, step_located, step_order, step_take, sweep_after,
+    Stepped, audit_one, step_arrival, step_call, step_call_after, step_end, step_event,
+    step_located, step_order, step_take, sweep_after,
 };
 use obj_id::{Command, JobKey, JobNo, ObjectId, Quota, Refusal, Reply};
 use private_store::{Awaited, Event};
@@ -129,7 +131,7 @@ impl<K: JournaledNode, P: Pause> SharedNode<K, P> {
             drop(queued);
             return self.step_prepared(rt, last, job, session, command);
         }
-        let (reaches_others, removes) = (may_reach_others(&command), may_remove(&command));
+        let kind = CommandKind::of(&command);
         let stepped = step_call(
             rt,
             &mut *kept,
@@ -139,8 +141,8 @@ impl<K: JournaledNode, P: Pause> SharedNode<K, P> {
             session,
             command,
         );
-        sweep_after(&mut *kept, job, reaches_others, &stepped);
-        let spent = spent_by(&mut *kept, job, removes);
+        sweep_after(&mut *kept, job, kind.reaches_others(), &stepped);
+        let spent = spent_by(&mut *kept, job, kind.may_remove());
         drop(kept);
         drop(queued);
         drop(spent);
@@ -280,7 +282,7 @@ impl<K: JournaledNode, P: Pause> SharedNode<K, P> {
         self.leave_marked(rt);
         let queued = self.housekeeping.queues.of(job).lock(rt);
         let mut kept = self.lock(rt);
-        let (reaches_others, removes) = (may_reach_others(&command), may_remove(&command));
+        let kind = CommandKind::of(&command);
         let stepped = step_call_after(
             rt,
             &mut *kept,
@@ -290,8 +292,8 @@ impl<K: JournaledNode, P: Pause> SharedNode<K, P> {
             session,
             command,
         );
-        sweep_after(&mut *kept, job, reaches_others, &stepped);
-        let spent = spent_by(&mut *kept, job, removes);
+        sweep_after(&mut *kept, job, kind.reaches_others(), &stepped);
+        let spent = spent_by(&mut *kept, job, kind.may_remove());
         drop(kept);
         drop(queued);
         drop(spent);
