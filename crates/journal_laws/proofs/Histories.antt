@@ -21,8 +21,8 @@ use Rattle.store_facts.proofs.Tests.{both, both_left, both_right}
 use Rattle.schedule_text.specs.declared.line.Line.TheVariants as line
 use Rattle.schedule_text.specs.Reading.{is_skipped}
 use Rattle.schedule_text.proofs.ForCallers.{is_spoken, spelled_spoken}
-use Rattle.grant_laws.specs.Standing.{ArePrivate, is_response_to}
-use Rattle.grant_laws.proofs.ForCallers.{each_moment}
+use Rattle.run_laws.specs.Standing.{ArePrivate, is_response_to}
+use Rattle.run_laws.proofs.ForCallers.{each_moment}
 use Rattle.grants.specs.Table.{AreGrants}
 use Rattle.node_core.specs.declared.outcome.Note.{Note}
 use Rattle.node_core.specs.Hosted.{Hosted}

@@ -24,7 +24,7 @@ use Rattle.schedule_text.specs.declared.lines.JobAt.{JobAt}
 use Rattle.journal_text.specs.declared.entry.Entry.{Entry}
 use Rattle.journal_text.specs.declared.saved.JournalItem.{JournalItem}
 use Rattle.journal_replay.specs.Saved.{AreSound, entries_saved}
-use Rattle.grant_laws.specs.Standing.{is_response_to}
+use Rattle.run_laws.specs.Standing.{is_response_to}
 use Rattle.std.specs.List.{list_all}
 use Rattle.node_core.specs.declared.outcome.Note.{Note}
 use Rattle.node_core.specs.Hosted.{Hosted, ShowsAll}

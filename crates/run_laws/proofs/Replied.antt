@@ -8,10 +8,10 @@ use Rattle.private_store.specs.declared.schedules.StepAnswer.{StepAnswer}
 use Rattle.private_store.specs.declared.schedules.StepAnswer.TheVariants.{Response}
 use Rattle.private_store.specs.declared.schedules.Traced.{Traced}
 use Rattle.store_facts.proofs.Tests.{both, both_left, both_right}
-use Rattle.grant_laws.specs.Standing.{is_response_to, ArePrivate}
-use Rattle.grant_laws.specs.Moments.{AtEachMoment}
-use Rattle.grant_laws.specs.Telling.{heard_where_due, counting, ShowsAlike}
-use Rattle.grant_laws.proofs.ForCallers.{each_moment, others_dont_show_where_due}
+use Rattle.run_laws.specs.Standing.{is_response_to, ArePrivate}
+use Rattle.run_laws.specs.Moments.{AtEachMoment}
+use Rattle.run_laws.specs.Telling.{heard_where_due, counting, ShowsAlike}
+use Rattle.run_laws.proofs.ForCallers.{each_moment, others_dont_show_where_due}
 use Rattle.world_core.specs.Runs.{is_replied, all_replied, IsRun}
 
 -- a command is an event at a node

@@ -1,14 +1,16 @@
-//! Laws of runs of worlds, and two runs beside each other. A law is a function that does nothing; its contract is a theorem
-//! about every run, whatever its schedule is.
+//! Laws of traces and of runs of worlds, and two runs beside each other. A law is a function that does nothing; its contract is a theorem
+//! about every trace or run, whatever its schedule is.
 #![tactic(auto)]
+
+pub mod grant_laws;
 
 ghost use Rattle.std.specs.Prelude.{◌≡◌, ℕ, List, true, filter, IfOk};
 ghost use Rattle.std.specs.List.{list_all};
 ghost use Rattle.private_store.specs.declared.schedules.Step.{Step};
 ghost use Rattle.private_store.specs.declared.schedules.Traced.{Traced};
 ghost use Rattle.private_store.specs.rules.Trace.{replies_of, is_answered, Agree};
-ghost use Rattle.grant_laws.specs.Moments.{AtEachMoment};
-ghost use Rattle.grant_laws.specs.Telling.{heard_where_due, counting, ShowsAlike};
+ghost use Rattle.run_laws.specs.Moments.{AtEachMoment};
+ghost use Rattle.run_laws.specs.Telling.{heard_where_due, counting, ShowsAlike};
 ghost use Rattle.world_core.specs.Worlds.{is_shape, is_within};
 ghost use Rattle.world_core.specs.Runs.{IsRun};
 

@@ -1,8 +1,0 @@
-use Rattle.grant_laws.proofs.Agreeing.{others_dont_show, others_dont_show_where_due}
-use Rattle.grant_laws.proofs.others_grants_dont_show.Goals as goal
-
-pub returns-clause-any : goal.returns-clause-any
-returns-clause-any c = others_dont_show
-
-pub returns-clause-due : goal.returns-clause-due
-returns-clause-due c = others_dont_show_where_due
