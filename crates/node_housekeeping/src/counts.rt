@@ -123,14 +123,14 @@ impl Counts {
         let Event::Finish { job, answer, .. } = &finishing.event else {
             return;
         };
-        let (called, failed) = match &finishing.written {
-            Some(_) => (JobEvent::Spill, JobEvent::SpillFailed),
-            None => (JobEvent::Restore, JobEvent::RestoreFailed),
+        let failed = matches!(answer, DeviceAnswer::Failed);
+        let event = match (finishing.written.is_some(), failed) {
+            (true, false) => JobEvent::Spill,
+            (true, true) => JobEvent::SpillFailed,
+            (false, false) => JobEvent::Restore,
+            (false, true) => JobEvent::RestoreFailed,
         };
-        self.note(rt, *job, called);
-        if matches!(answer, DeviceAnswer::Failed) {
-            self.note(rt, *job, failed);
-        }
+        self.note(rt, *job, event);
     }
 
     /// This happened to a live job.

@@ -32,13 +32,13 @@ pub enum JobEvent {
     BytesIn,
     /// Bytes that Reads and Peeks were answered.
     BytesOut,
-    /// Writes to the device.
+    /// Writes to the device that were made.
     Spill,
-    /// Those of them that failed.
+    /// Writes to the device that failed.
     SpillFailed,
-    /// Reads from the device.
+    /// Reads from the device that were made.
     Restore,
-    /// Those of them that failed.
+    /// Reads from the device that failed.
     RestoreFailed,
     /// Askings of another node for an object's chunks.
     Pull,
