@@ -65,10 +65,18 @@ counts_text (count ∷ counts) = count_text count ++ counts_text counts
 abbrev pub job_counts_line : ℕ → ℕ → List Count → List ℕ
 job_counts_line node job counts = with_line_feed (codes "n" ++ decimal node ++ codes " op counts " ++ decimal job ++ counts_text counts)
 
+-- a node's own, of its sessions and of its lock
+abbrev pub sessions_text : NodeCounts → List ℕ
+sessions_text counts = codes " hellos:" ++ decimal counts.hellos ++ codes " hellos-refused:" ++ decimal counts.hellos_refused ++ codes " malformed:" ++ decimal counts.malformed
+
+abbrev pub lock_text : NodeCounts → List ℕ
+lock_text counts = codes " lock-waits:" ++ decimal counts.lock_waits ++ codes " lock-sleeps:" ++ decimal counts.lock_sleeps
+
+abbrev pub own_text : NodeCounts → List ℕ
+own_text counts = sessions_text counts ++ lock_text counts
+
 abbrev pub node_counts_line : ℕ → NodeCounts → List ℕ
-node_counts_line node counts = with_line_feed (codes "n" ++ decimal node ++ codes " op counts hellos:" ++ decimal counts.hellos
-    ++ codes " hellos-refused:" ++ decimal counts.hellos_refused ++ codes " malformed:" ++ decimal counts.malformed
-    ++ codes " lock-waits:" ++ decimal counts.lock_waits ++ codes " lock-sleeps:" ++ decimal counts.lock_sleeps)
+node_counts_line node counts = with_line_feed (codes "n" ++ decimal node ++ codes " op counts" ++ own_text counts)
 
 pub record IsNodeCountsLine (node : ℕ) (line : List ℕ) : Type 0 where
   pub counts : NodeCounts

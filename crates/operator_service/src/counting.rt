@@ -1,7 +1,7 @@
 //! What was counted of a node and of its jobs, as lines.
 ghost use Rattle.std.specs.Prelude.{◌≡◌, IfOk};
 ghost use Rattle.std.specs.String.{string_bytes};
-ghost use Rattle.operator_service.specs.Counts.{IsJobCountsLine, IsNodeCountsLine, count_text as count_text_lem, counts_text as counts_text_lem, event_word as event_word_lem, job_counts_line as job_counts_line_lem, kind_word as kind_word_lem, name_text as name_text_lem, node_counts_line as node_counts_line_lem};
+ghost use Rattle.operator_service.specs.Counts.{IsJobCountsLine, IsNodeCountsLine, count_text as count_text_lem, counts_text as counts_text_lem, event_word as event_word_lem, job_counts_line as job_counts_line_lem, kind_word as kind_word_lem, lock_text as lock_text_lem, name_text as name_text_lem, node_counts_line as node_counts_line_lem, own_text as own_text_lem, sessions_text as sessions_text_lem};
 
 use memory_growth::{OutOfMemory, text_of, texts};
 use node_gate::JournaledNode;
@@ -21,7 +21,7 @@ pub(crate) fn node_counts_text<K: JournaledNode>(
 ) -> Result<String, OutOfMemory>
     ensures { IfOk result (λ line. IsNodeCountsLine node (string_bytes line)) }
 {
-    node_counts_line(alloc, node, shared.node_counts())
+    node_counts_line(alloc, node, &shared.node_counts())
 }
 
 /// The line of a job's counts, or that the job isn't live.
@@ -42,17 +42,41 @@ pub(crate) fn job_counts_text<K: JournaledNode, R: Wait>(
 }
 
 /// `nNODE op counts`, and each of the node's own.
-fn node_counts_line(alloc: Global, node: u32, counts: NodeCounts) -> Result<String, OutOfMemory>
-    ensures { IfOk result (λ line. string_bytes line ≡ node_counts_line_lem node counts) }
+fn node_counts_line(alloc: Global, node: u32, counts: &NodeCounts) -> Result<String, OutOfMemory>
+    ensures { IfOk result (λ line. string_bytes line ≡ node_counts_line_lem node counts.now) }
 {
-    let NodeCounts {
-        hellos,
-        hellos_refused,
-        malformed,
-        lock_waits,
-        lock_sleeps,
-    } = counts;
-    text_of!(in alloc; "n{node} op counts hellos:{hellos} hellos-refused:{hellos_refused} malformed:{malformed} lock-waits:{lock_waits} lock-sleeps:{lock_sleeps}\n")
+    let mut line = text_of!(in alloc; "n{node} op counts")?;
+    texts::push_str(&mut line, &own_text(alloc, counts)?)?;
+    texts::push(&mut line, '\n')?;
+    Ok(line)
+}
+
+/// Each of the node's own, after a space.
+fn own_text(alloc: Global, counts: &NodeCounts) -> Result<String, OutOfMemory>
+    ensures { IfOk result (λ text. string_bytes text ≡ own_text_lem counts.now) }
+{
+    let mut text = sessions_text(alloc, counts)?;
+    texts::push_str(&mut text, &lock_text(alloc, counts)?)?;
+    Ok(text)
+}
+
+/// ` hellos:NUMBER hellos-refused:NUMBER malformed:NUMBER`.
+fn sessions_text(alloc: Global, counts: &NodeCounts) -> Result<String, OutOfMemory>
+    ensures { IfOk result (λ text. string_bytes text ≡ sessions_text_lem counts.now) }
+{
+    let hellos = counts.hellos;
+    let refused = counts.hellos_refused;
+    let malformed = counts.malformed;
+    text_of!(in alloc; " hellos:{hellos} hellos-refused:{refused} malformed:{malformed}")
+}
+
+/// ` lock-waits:NUMBER lock-sleeps:NUMBER`.
+fn lock_text(alloc: Global, counts: &NodeCounts) -> Result<String, OutOfMemory>
+    ensures { IfOk result (λ text. string_bytes text ≡ lock_text_lem counts.now) }
+{
+    let waits = counts.lock_waits;
+    let sleeps = counts.lock_sleeps;
+    text_of!(in alloc; " lock-waits:{waits} lock-sleeps:{sleeps}")
 }
 
 /// `nNODE op counts JOB`, and each of the job's.

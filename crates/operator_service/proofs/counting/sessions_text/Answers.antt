@@ -1,6 +1,6 @@
 use Rattle.std.proofs.Common.{rules}
 use Rattle.std.proofs.lemmas.List.{append_assoc}
-use Rattle.operator_service.proofs.counting.refusal_text.Goals as goal
+use Rattle.operator_service.proofs.counting.sessions_text.Goals as goal
 
 pub returns : goal.returns
 returns c = simp append_assoc (search rules)
