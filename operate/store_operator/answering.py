@@ -13,6 +13,8 @@ from typing import Sequence
 
 from store_client.requests import hello
 
+from .counting import OwnHellos
+
 _QUESTION = b"".join(bytes(part) for part in hello(0, bytes(32)).parts)
 # between two tries to connect to a server whose queue is full, in seconds
 _REST = 0.05
@@ -22,9 +24,9 @@ class Silent(Exception):
     """A node that didn't answer; the text says which and why."""
 
 
-async def ask_all(paths: Sequence[Path], patience: float) -> None:
+async def ask_all(paths: Sequence[Path], own: OwnHellos, patience: float) -> None:
     """Returns once the node at each of these sockets has answered. `Silent` if one hasn't after so many seconds."""
-    asking = [asyncio.ensure_future(_ask_node(node, path, patience)) for node, path in enumerate(paths)]
+    asking = [asyncio.ensure_future(_ask_node(node, path, own, patience)) for node, path in enumerate(paths)]
     try:
         await asyncio.gather(*asking)
     finally:
@@ -32,16 +34,16 @@ async def ask_all(paths: Sequence[Path], patience: float) -> None:
             one.cancel()
 
 
-async def _ask_node(node: int, path: Path, patience: float) -> None:
+async def _ask_node(node: int, path: Path, own: OwnHellos, patience: float) -> None:
     try:
-        await asyncio.wait_for(_ask(path), patience)
+        await asyncio.wait_for(_ask(node, path, own), patience)
     except asyncio.TimeoutError:
         raise Silent(f"node {node}: no answer for {patience:.3g} seconds") from None
     except OSError as error:
         raise Silent(f"node {node}: {error.strerror or error}") from error
 
 
-async def _ask(path: Path) -> None:
+async def _ask(node: int, path: Path, own: OwnHellos) -> None:
     """Returns at the first byte that comes, or if the node closes: it has no room for a session, and lives."""
     loop = asyncio.get_running_loop()
     with socket.socket(socket.AF_UNIX) as stream:
@@ -50,7 +52,17 @@ async def _ask(path: Path) -> None:
         # a node that closes at once may not read it
         with contextlib.suppress(ConnectionError):
             await loop.sock_sendall(stream, _QUESTION)
-            await loop.sock_recv(stream, 1)
+            own.sent(node)
+            if await _is_answered(stream):
+                return
+            own.unread(node)
+
+
+async def _is_answered(stream: socket.socket) -> bool:
+    """Whether a byte comes before the end."""
+    with contextlib.suppress(ConnectionError):
+        return await asyncio.get_running_loop().sock_recv(stream, 1) != b""
+    return False
 
 
 async def _connect(stream: socket.socket, path: Path) -> None:

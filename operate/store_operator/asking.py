@@ -8,6 +8,8 @@ import json
 import socket
 from typing import Dict, List, NamedTuple, Optional, Tuple, Union
 
+from .counts import Counts, read_counts
+
 # seconds: longer than the daemon itself waits for its server, and more than the grace period that a close may take
 _PATIENCE, _END = 90.0, 30.0
 _NO_DAEMON = (errno.ENOENT, errno.ECONNREFUSED)
@@ -128,6 +130,14 @@ class Daemon:
     def usages(self) -> List[UsageRow]:
         """Of all jobs at all nodes, at most a second old."""
         return [UsageRow(*_whole(row.split(":"), 8)) for row in self._told("usages", "usages")]
+
+    def counts(self) -> Counts:
+        """The server's own, of all nodes and of all jobs at them, at most a second old."""
+        answer = self._ask_newer("counts")
+        word, _, text = answer.partition(" ")
+        if word != "counts":
+            raise AskFault(answer)
+        return read_counts(text)
 
     def sessions(self, node: int) -> int:
         return _whole(self._told(f"sessions {node}", f"n{node} op sessions"), 1)[0]

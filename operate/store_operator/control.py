@@ -12,12 +12,15 @@ from typing import Dict, Optional, Set
 import store_client
 
 from . import sockets
+from .counts import counts_text
 from .limits import needed_descriptors
 from .looking import PATIENCE, Looks, rows_text
 from .metrics import Metrics
 from .orders import (
-    LONGEST_LINE, Admit, Close, End, Jobs, Kick, NotAnOrder, Order, Ping, Prometheus, Quota, Sessions, Streams, Usage, Usages, read_order,
+    LONGEST_LINE, Admit, AskCounts, Close, End, Jobs, Kick, NotAnOrder, Order, Ping, Prometheus, Quota, Sessions, Streams, Usage, Usages,
+    read_order,
 )
+from .relaying import Unanswered
 from .supervisor import NotDone, Supervisor
 from .watching import moment
 
@@ -159,6 +162,8 @@ class Control:
             return await self._usage(order)
         if isinstance(order, Usages):
             return rows_text(await self._looks.usages())
+        if isinstance(order, AskCounts):
+            return await self._counts()
         if isinstance(order, Ping):
             seconds = await self._looks.ping(PATIENCE)
             return f"pong nodes={self._supervisor.settings.nodes} milliseconds={1000 * seconds:.1f}"
@@ -179,6 +184,12 @@ class Control:
         except store_client.StoreError as error:
             raise NotDone(str(error)) from error
         return f"n{order.node} op usage {' '.join(map(str, row[2:]))}"
+
+    async def _counts(self) -> str:
+        try:
+            return f"counts {counts_text(await self._looks.counts())}"
+        except Unanswered as why:
+            raise NotDone(str(why)) from why
 
     async def _status(self) -> str:
         supervisor = self._supervisor

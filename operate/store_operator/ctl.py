@@ -14,10 +14,11 @@ from typing import Any, Callable, Dict, List, Optional, Sequence
 
 from . import __version__
 from .asking import AskFault, Daemon, Mark, SessionRow
+from .counts import JobCounts
 from .keys import KeyFault, read_key
 from .refusals import explained
 from .sizes import parse_size
-from .tables import jobs_table, sessions_table, status_text, table, usage_table
+from .tables import job_counts_table, jobs_table, node_counts_table, sessions_table, status_text, table, usage_table
 from .top import see, top_text
 
 _USUAL_CONTROL = "/run/store/control"
@@ -90,6 +91,21 @@ def _json_rows(rows: Optional[List[SessionRow]], node: int) -> Optional[List[Dic
     return [{name: value for name, value in row._asdict().items() if name != "node"} for row in rows if row.node == node]
 
 
+def _counts(daemon: Daemon, words: Words) -> int:
+    told, nodes = daemon.counts(), _nodes(daemon, words)
+    of_nodes = tuple(row for row in told.nodes if row.node in nodes)
+    of_jobs = tuple(row for row in told.jobs if row.node in nodes and words.job in (None, row.job))
+    if words.json:
+        _print_json([{**row._asdict(), "jobs": _json_counts(of_jobs, row.node)} for row in of_nodes])
+    else:
+        print(f"{node_counts_table(of_nodes)}\n\n{job_counts_table(of_jobs)}")
+    return 0
+
+
+def _json_counts(rows: Sequence[JobCounts], node: int) -> List[Dict[str, Any]]:
+    return [{"job": row.job, "counts": row.counts} for row in rows if row.node == node]
+
+
 def _status(daemon: Daemon, words: Words) -> int:
     status = daemon.status()
     if words.json:
@@ -130,7 +146,7 @@ def _watch(daemon: Daemon, words: Words) -> int:
 
 
 def _watched(daemon: Daemon, words: Words) -> str:
-    seen = see(daemon, _nodes(daemon, words), words.job)
+    seen = see(daemon, _nodes(daemon, words), words.job, counted=False)
     if words.json:
         return json.dumps({"status": seen.status, "usage": [row._asdict() for row in seen.rows]})
     return f"{_one_line(seen.status)}\n{usage_table(seen.rows)}"
@@ -140,7 +156,7 @@ def _top(daemon: Daemon, words: Words) -> int:
     """Again and again, until it is interrupted or the daemon ends; or once."""
     nodes, last = _nodes(daemon, words), None
     while True:
-        seen = see(daemon, nodes, words.job)
+        seen = see(daemon, nodes, words.job, counted=True)
         text = top_text(seen, last)
         print(f"{_CLEAR}{_fitting(text)}" if sys.stdout.isatty() and not words.once else text, flush=True)
         if words.once:
@@ -226,6 +242,11 @@ def _number(text: str) -> int:
     return int(text)
 
 
+def _one_node(text: str) -> List[int]:
+    """As a list of those that were asked for."""
+    return [_number(text)]
+
+
 def _seconds(text: str) -> float:
     with contextlib.suppress(ValueError):
         if 0.1 <= float(text) <= 86_400:
@@ -268,7 +289,7 @@ def arguments() -> argparse.ArgumentParser:
     command.add_argument("job", type=_number, metavar="JOB")
     command.set_defaults(run=_end)
     command = commands.add_parser("kick", help="ends one session, as if its client had gone")
-    command.add_argument("node", type=_number, nargs=1, metavar="NODE")
+    command.add_argument("node", type=_one_node, metavar="NODE")
     command.add_argument("job", type=_number, metavar="JOB")
     command.add_argument("session", type=_number, metavar="SESSION", help="the number that `sessions` shows")
     command.set_defaults(run=_kick)
@@ -286,6 +307,10 @@ def _add_looks(commands: Any, at_nodes: argparse.ArgumentParser, of_job: argpars
     commands.add_parser("sessions", parents=[at_nodes], help="shows how many sessions are open, and which").set_defaults(run=_sessions, **looks)
     commands.add_parser("jobs", parents=[at_nodes], help="shows the jobs and their quotas").set_defaults(run=_jobs, **looks)
     commands.add_parser("usage", parents=[at_nodes, of_job], help="shows what they use").set_defaults(run=_usage, **looks)
+    command = commands.add_parser("counts", help="shows the server's own counts")
+    command.add_argument("node", type=_one_node, nargs="?", metavar="NODE", help="of this node; otherwise of all")
+    command.add_argument("job", type=_number, nargs="?", metavar="JOB", help="and of this job; otherwise of all there")
+    command.set_defaults(run=_counts, **looks)
     commands.add_parser("metrics", help="shows the counters in Prometheus' text format").set_defaults(run=_metrics, **looks)
     command = commands.add_parser("watch", parents=[at_nodes, of_job], help="shows it whenever it has changed")
     command.add_argument("--every", type=_seconds, default=1.0, metavar="SECONDS", help="how often it looks")

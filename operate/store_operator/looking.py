@@ -14,6 +14,8 @@ from store_client import aio
 
 from .answering import Silent, ask_all
 from .asking import UsageRow
+from .counting import look_at_counts
+from .counts import Counts
 from .fresh import Fresh
 from .inspection import NO_PROCESS, Process, count_sessions, look_at
 from .orders import Admit
@@ -44,6 +46,7 @@ class Looks:
     def __init__(self, supervisor: Supervisor) -> None:
         self.supervisor = supervisor
         self._all = Fresh(self._look_at_all, _FRESH)
+        self._counts = Fresh(self._look_at_counts, _FRESH)
         self._disk = Fresh(lambda: aside(supervisor.spill.spilled), 0.0)
         self._nodes = Fresh(lambda: self.ping(_LONGEST_LOOK), _FRESH)
 
@@ -51,6 +54,11 @@ class Looks:
         """`NotDone` if the server doesn't serve."""
         self.supervisor.running()
         return await self._all.get()
+
+    async def counts(self) -> Counts:
+        """The server's own. `NotDone` if it doesn't serve, and `Unanswered` if it doesn't tell them."""
+        self.supervisor.running()
+        return await self._counts.get()
 
     async def usage(self, job: Admit, patience: float) -> UsageRow:
         """`store_client.StoreError` if the node refuses it, or doesn't answer for so many seconds."""
@@ -66,7 +74,7 @@ class Looks:
         begun = time.monotonic()
         self.supervisor.serving()
         try:
-            await ask_all(self.supervisor.settings.sockets(), patience)
+            await ask_all(self.supervisor.settings.sockets(), self.supervisor.own_hellos, patience)
         except Silent as why:
             raise NotDone(str(why)) from why
         return time.monotonic() - begun
@@ -89,6 +97,11 @@ class Looks:
     def sessions(self) -> List[int]:
         """How many are open, by node."""
         return count_sessions(self.supervisor.settings.starting_sockets())
+
+    async def _look_at_counts(self) -> Counts:
+        settings = self.supervisor.settings
+        jobs = sorted((job.node, job.job) for job in self.supervisor.jobs.in_order())
+        return await look_at_counts(settings.server_control(), settings.nodes, jobs, self.supervisor.own_hellos, _LONGEST_LOOK)
 
     async def _look_at_all(self) -> Look:
         begun = time.monotonic()

@@ -2,15 +2,18 @@
 
 from __future__ import annotations
 
+import asyncio
 import time
 from typing import Any, Counter, Dict, Iterable, List, NamedTuple, Sequence, Tuple
 
 from .asking import UsageRow
 from .counters import Counters
+from .counts import COMMANDS, REFUSALS, Counts, JobCounts
 from .fresh import Fresh
 from .inspection import Process
 from .limits import needed_descriptors
 from .looking import NO_LOOK, Look, Looks
+from .relaying import NoSuchLine, Unanswered
 from .spill import Spilled
 from .supervisor import NotDone
 
@@ -22,6 +25,25 @@ _OF_JOB = (
     ("device_bytes", "The job's device quota at the node."), ("device_used_bytes", "What is used of it."),
     ("copies", "Copies that the job has at the node."), ("works", "Device works of the job in flight."),
 )
+_OF_JOB_COUNTS = (
+    ("commands_total", "Commands that were taken from a job's sessions, refused ones too."),
+    ("refusals_total", "Refusals that a job's sessions were answered."),
+    ("session_bytes_total", "Bytes of a job's Writes, and of what its Reads and Peeks were answered."),
+    ("device_calls_total", "Device calls for a job's spills and restores."),
+    ("arrivals_total", "Messages of other nodes and the directory that arrived for a job."),
+)
+# by the server's name for a count of a job's: the family, and the labels in it
+_PLACES: Dict[str, Tuple[str, Labels]] = {
+    **{name: ("commands_total", {"command": name}) for name in COMMANDS},
+    **{name: ("refusals_total", {"number": number, "name": refusal}) for name, (number, refusal) in REFUSALS.items()},
+    "bytes-in": ("session_bytes_total", {"direction": "in"}),
+    "bytes-out": ("session_bytes_total", {"direction": "out"}),
+    "spills": ("device_calls_total", {"call": "spill", "result": "done"}),
+    "spills-failed": ("device_calls_total", {"call": "spill", "result": "failed"}),
+    "restores": ("device_calls_total", {"call": "restore", "result": "done"}),
+    "restores-failed": ("device_calls_total", {"call": "restore", "result": "failed"}),
+    "arrivals": ("arrivals_total", {}),
+}
 
 
 class Family(NamedTuple):
@@ -46,11 +68,7 @@ class Metrics:
     async def _look(self) -> str:
         begun = time.monotonic()
         supervisor = self._looks.supervisor
-        try:
-            look, up = await self._looks.usages(), 1
-        except NotDone:
-            look, up = NO_LOOK, 0
-        spilled = await self._looks.spilled()
+        (look, up), counted, spilled = await asyncio.gather(self._usages(), self._counts(), self._looks.spilled())
         seconds = time.monotonic() - supervisor.started if supervisor.server else 0.0
         families = [
             _one("up", "1 if the server serves and answered the last look.", up),
@@ -61,10 +79,27 @@ class Metrics:
             *_of_process(self._looks.process(), supervisor.settings.nodes),
             *_of_disk(spilled),
             *_of_jobs(look),
+            *counted,
             *_of_orders(supervisor.counters),
             _one("look_seconds", "Seconds that this look took.", round(time.monotonic() - begun, 6)),
         ]
         return "".join(map(_written, families))
+
+    async def _usages(self) -> Tuple[Look, int]:
+        """And whether the server serves and answers."""
+        try:
+            return await self._looks.usages(), 1
+        except NotDone:
+            return NO_LOOK, 0
+
+    async def _counts(self) -> List[Family]:
+        """None of a server that doesn't serve, or that counts nothing."""
+        try:
+            return [*_of_counts(await self._looks.counts()), _counts_faults(0)]
+        except (NotDone, NoSuchLine):
+            return []
+        except Unanswered:
+            return [_counts_faults(1)]
 
 
 def _written(family: Family) -> str:
@@ -112,6 +147,35 @@ def _of_jobs(look: Look) -> List[Family]:
     first = UsageRow._fields.index("window")
     found = [Family(name, False, help, samples(first + index)) for index, (name, help) in enumerate(_OF_JOB)]
     return [*found, _one("usage_faults", "Nodes whose jobs weren't all asked in the last look.", len(look.faults))]
+
+
+def _of_counts(counts: Counts) -> List[Family]:
+    hellos: List[Sample] = []
+    for row in counts.nodes:
+        hellos += [({"node": row.node, "result": "taken"}, row.hellos), ({"node": row.node, "result": "refused"}, row.hellos_refused)]
+    return [
+        *_of_job_counts(counts.jobs),
+        Family("hellos_total", True, "Hellos of clients; those of the looks at jobs are among those taken.", hellos),
+        _of_nodes("malformed_sessions_total", "Sessions that ended since what they sent was no frame.", (row.malformed for row in counts.nodes)),
+        _of_nodes("lock_waits_total", "How often a thread found the node locked.", (row.lock_waits for row in counts.nodes)),
+        _of_nodes("lock_sleeps_total", "How often a thread slept until the node wasn't locked.", (row.lock_sleeps for row in counts.nodes)),
+    ]
+
+
+def _of_job_counts(jobs: Sequence[JobCounts]) -> List[Family]:
+    samples: Dict[str, List[Sample]] = {family: [] for family, _ in _OF_JOB_COUNTS}
+    for row, name, count in ((row, name, count) for row in jobs for name, count in row.counts.items() if name in _PLACES):
+        family, labels = _PLACES[name]
+        samples[family].append(({"node": row.node, "job": row.job, **labels}, count))
+    return [Family(family, True, help, samples[family]) for family, help in _OF_JOB_COUNTS]
+
+
+def _of_nodes(name: str, help: str, values: Iterable[int]) -> Family:
+    return _by_node(name, help, values)._replace(is_counter=True)
+
+
+def _counts_faults(count: int) -> Family:
+    return _one("counts_faults", "1 if the server didn't tell its counts at the last look.", count)
 
 
 def _counted(names: Sequence[str], counts: "Counter[Any]") -> List[Sample]:

@@ -74,6 +74,11 @@ class Usages:
 
 
 @dataclass(frozen=True)
+class AskCounts:
+    """The server's own, of all nodes and of all jobs at them."""
+
+
+@dataclass(frozen=True)
 class Ping:
     pass
 
@@ -96,7 +101,7 @@ class Close:
 
 
 ServerOrder = Union[Admit, Quota, End]
-Order = Union[Admit, Quota, End, Jobs, Usage, Usages, Sessions, Streams, Kick, Ping, Prometheus, Status, Close]
+Order = Union[Admit, Quota, End, Jobs, Usage, Usages, AskCounts, Sessions, Streams, Kick, Ping, Prometheus, Status, Close]
 
 
 class NotAnOrder(Exception):
@@ -192,6 +197,7 @@ _FORMS: Dict[str, _Form] = dict(
         _form("jobs NODE", Jobs),
         _form("usage NODE JOB", Usage),
         _form("usages", Usages),
+        _form("counts", AskCounts),
         _form("sessions NODE", Sessions),
         _form("streams NODE", Streams),
         _form("kick NODE JOB SESSION", Kick),

@@ -1,9 +1,10 @@
-"""Lines that the server takes on its own control socket alone: each is given on a connection of its own."""
+"""Lines that the server takes on its own control socket alone: they are given on a connection of their own."""
 
 from __future__ import annotations
 
 import asyncio
 from pathlib import Path
+from typing import List, Sequence
 
 _LONGEST_ANSWER = 1 << 20
 # of a server that has no such line
@@ -14,23 +15,32 @@ class Unanswered(Exception):
     """A line that has no answer; the text says why."""
 
 
+class NoSuchLine(Unanswered):
+    """The server is older than the line."""
+
+
 async def relay(path: Path, line: str, patience: float) -> str:
     """The answer to a line. `Unanswered` if none comes in so many seconds, or if the server has no such line."""
+    return (await relay_all(path, [line], patience))[0]
+
+
+async def relay_all(path: Path, lines: Sequence[str], patience: float) -> List[str]:
+    """The answers to lines of one kind that are given together, in order; so many seconds are for all."""
     try:
-        answer = await asyncio.wait_for(_ask(path, line), patience)
+        answers = await asyncio.wait_for(_ask(path, lines), patience)
     except asyncio.TimeoutError:
         raise Unanswered(f"no answer for {patience:.0f} seconds; it may still be carried out") from None
     except (OSError, asyncio.IncompleteReadError, asyncio.LimitOverrunError) as error:
         raise Unanswered(f"the server's control socket: {getattr(error, 'strerror', None) or 'it ended before it answered'}") from error
-    if _NO_LINE in answer:
-        raise Unanswered(f"this server has no line {line.split(' ')[0]}: its program is older than that")
-    return answer
+    if any(_NO_LINE in answer for answer in answers):
+        raise NoSuchLine(f"this server has no line {lines[0].split(' ')[0]}: its program is older than that")
+    return answers
 
 
-async def _ask(path: Path, line: str) -> str:
+async def _ask(path: Path, lines: Sequence[str]) -> List[str]:
     reader, writer = await asyncio.open_unix_connection(str(path), limit=_LONGEST_ANSWER)
     try:
-        writer.write(f"{line}\n".encode())
-        return (await reader.readuntil(b"\n"))[:-1].decode("utf-8", "replace")
+        writer.writelines(f"{line}\n".encode() for line in lines)
+        return [(await reader.readuntil(b"\n"))[:-1].decode("utf-8", "replace") for _ in lines]
     finally:
         writer.close()

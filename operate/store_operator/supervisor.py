@@ -13,6 +13,7 @@ from typing import Any, Dict, List, Optional
 
 from . import sockets
 from .counters import Counters
+from .counting import OwnHellos
 from .epoch import EpochFile
 from .inspection import count_sessions
 from .jobs import LiveJobs, Over
@@ -71,7 +72,8 @@ class Supervisor:
         self.end = "no server was running"
         self._log = log
         self._tidying = Tidying(self.spill, self._over, log)
-        self.watcher = Watcher(settings, log)
+        self.own_hellos = OwnHellos()
+        self.watcher = Watcher(settings, self.own_hellos, log)
         self.counters = Counters()
         self._own: Dict[Path, Optional[sockets.Identity]] = {}
         self._epoch = EpochFile(settings.epoch(), settings.socket_mode, settings.socket_group)
@@ -150,6 +152,7 @@ class Supervisor:
         self.state = State.STARTING
         self.started = time.monotonic()
         self.jobs.begin()
+        self.own_hellos.begin()
         tidying = asyncio.ensure_future(self._tidying.run())
         try:
             self._tell_removed(self.spill.sweep())

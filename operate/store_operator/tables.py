@@ -5,6 +5,7 @@ from __future__ import annotations
 from typing import Dict, Iterable, List, Sequence
 
 from .asking import JobRow, Mark, SessionRow, UsageRow
+from .counts import REFUSALS, JobCounts, NodeCounts
 from .sizes import size_text
 
 _GAP = "  "
@@ -34,6 +35,21 @@ def usage_table(usages: Iterable[UsageRow]) -> str:
 def sessions_table(sessions: Iterable[SessionRow]) -> str:
     rows = ((str(row.node), str(row.session), str(row.job), age_text(row.seconds), str(row.commands)) for row in sessions)
     return table(("NODE", "SESSION", "JOB", "AGE", "COMMANDS"), rows)
+
+
+def node_counts_table(rows: Iterable[NodeCounts]) -> str:
+    return table(("NODE", "HELLOS", "REFUSED", "MALFORMED", "LOCK WAITS", "LOCK SLEEPS"), (tuple(map(str, row)) for row in rows))
+
+
+def job_counts_table(rows: Iterable[JobCounts]) -> str:
+    """A line for each count."""
+    cells = ((str(row.node), str(row.job), _count_name(name), str(count)) for row in rows for name, count in row.counts.items())
+    return table(("NODE", "JOB", "COUNT", "NUMBER"), cells)
+
+
+def _count_name(name: str) -> str:
+    """A refusal's with what it is called."""
+    return "refused {} {}".format(*REFUSALS[name]) if name in REFUSALS else name
 
 
 def age_text(seconds: int) -> str:

@@ -2,42 +2,76 @@
 
 from __future__ import annotations
 
+import contextlib
 import time
 from typing import Callable, Dict, List, NamedTuple, Optional, Sequence, Tuple
 
 from .asking import AskFault, Daemon, Mark, UsageRow
+from .counts import Counts
 from .sizes import size_text
 from .tables import table
 
 _BAR = 20
 _RUNS = "running"
 _HEAD = ("NODE", "JOB", "WINDOW", "", "USED", "OF", "DEVICE", "OF", "COPIES", "WORKS", "+USED", "+DEVICE", "+COPIES")
+# the last column, if the server counts commands
+_COMMANDS = "COMMANDS/S"
 
 
 class Seen(NamedTuple):
-    """One look: by the clock that nobody sets, with the daemon's marks and a row for each job and node."""
+    """One look: by the clock that nobody sets, with the daemon's marks and a row for each job and node; and the server's own counts, if it
+    has any."""
 
     moment: float
     status: Dict[str, Mark]
     rows: Tuple[UsageRow, ...]
+    counts: Optional[Counts] = None
 
 
-def see(daemon: Daemon, nodes: Sequence[int], job: Optional[int]) -> Seen:
-    """Of a server that doesn't answer there are no rows."""
+def see(daemon: Daemon, nodes: Sequence[int], job: Optional[int], counted: bool) -> Seen:
+    """Of a server that doesn't answer there are no rows. Counts are asked for if they are wanted."""
     status = daemon.status()
     rows: List[UsageRow] = []
+    counts: Optional[Counts] = None
     if status["state"] == _RUNS:
         try:
             rows = [row for row in daemon.usages() if row.node in nodes and job in (None, row.job)]
+            counts = _counts(daemon) if counted else None
         except AskFault as fault:
             status["state"] = str(fault)
-    return Seen(time.monotonic(), status, tuple(rows))
+    return Seen(time.monotonic(), status, tuple(rows), counts)
+
+
+def _counts(daemon: Daemon) -> Optional[Counts]:
+    """None of a server that doesn't tell them."""
+    with contextlib.suppress(AskFault):
+        return daemon.counts()
+    return None
 
 
 def top_text(seen: Seen, last: Optional[Seen]) -> str:
     before = {(row.node, row.job): row for row in last.rows} if last else {}
     rows = [_cells(row, before.get((row.node, row.job))) for row in seen.rows]
-    return "\n".join([*_header(seen, last), table(_HEAD, rows)])
+    if seen.counts is None:
+        return "\n".join([*_header(seen, last), table(_HEAD, rows)])
+    rates = _rates(seen.counts, last.counts if last and _is_same(last, seen) else None)
+    counted = [(*cells, rates.get((row.node, row.job), "")) for row, cells in zip(seen.rows, rows)]
+    return "\n".join([*_header(seen, last), table((*_HEAD, _COMMANDS), counted)])
+
+
+def _rates(counts: Counts, before: Optional[Counts]) -> Dict[Tuple[int, int], str]:
+    """The commands of each job in a second, by node and job, of those that were there before."""
+    seconds = counts.moment - before.moment if before else 0.0
+    if before is None or seconds <= 0:
+        return {}
+    first = {(row.node, row.job): row.commands for row in before.jobs}
+    changes = {(row.node, row.job): row.commands - first[row.node, row.job] for row in counts.jobs if (row.node, row.job) in first}
+    return {place: f"{change / seconds:.0f}" for place, change in changes.items()}
+
+
+def _is_same(last: Seen, seen: Seen) -> bool:
+    """Whether both looks are at one process."""
+    return last.status["process"] == seen.status["process"]
 
 
 def _header(seen: Seen, last: Optional[Seen]) -> List[str]:
@@ -75,7 +109,7 @@ def _time_text(seconds: int) -> str:
 def _processor(seen: Seen, last: Optional[Seen]) -> str:
     """In percent of one since the last look at the same process; otherwise the seconds that it took."""
     used = float(str(seen.status["processor_seconds"]))
-    if last is None or last.status["process"] != seen.status["process"] or seen.moment <= last.moment:
+    if last is None or not _is_same(last, seen) or seen.moment <= last.moment:
         return f"{used:.1f} s"
     return f"{100 * (used - float(str(last.status['processor_seconds']))) / (seen.moment - last.moment):.0f} %"
 

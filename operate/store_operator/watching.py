@@ -9,8 +9,10 @@ import time
 from typing import Optional
 
 from .answering import Silent, ask_all
+from .counting import OwnHellos
 from .notify import tell_manager
 from .settings import Settings
+from .strangers import Strangers
 
 # seconds that a look waits, and the rest after one that wasn't answered
 _PATIENCE, _REST = 5.0, 1.0
@@ -19,17 +21,20 @@ _PATIENCE, _REST = 5.0, 1.0
 class Watcher:
     """`silent_since` is the time of the first look that wasn't answered, in seconds since 1970; None of a server that answers."""
 
-    def __init__(self, settings: Settings, log: logging.Logger) -> None:
+    def __init__(self, settings: Settings, own: OwnHellos, log: logging.Logger) -> None:
         self.silent_since: Optional[float] = None
         # the same by the clock that nobody sets
         self._silent_from = 0.0
         self._settings = settings
+        self._own = own
+        self._strangers = Strangers(settings, own, log)
         self._log = log
         self._is_told = False
 
     async def run(self) -> None:
         """Returns once the server is to be started again. Otherwise it goes on until it is cancelled."""
         self.silent_since, self._is_told = None, False
+        self._strangers.begin()
         if not self._settings.watch:
             await asyncio.Event().wait()
         while not self._is_stuck():
@@ -39,11 +44,12 @@ class Watcher:
     async def _look(self) -> None:
         asked = time.monotonic()
         try:
-            await ask_all(self._settings.sockets(), min(_PATIENCE, self._settings.watch_patience))
+            await ask_all(self._settings.sockets(), self._own, min(_PATIENCE, self._settings.watch_patience))
         except Silent as why:
             self._was_silent(asked, str(why))
         else:
             self._has_answered()
+            await self._strangers.look()
 
     def _has_answered(self) -> None:
         if self.silent_since is None:

@@ -2,12 +2,13 @@
 
 from __future__ import annotations
 
+import json
 import os
 import signal
 import subprocess
 import sys
 from pathlib import Path
-from typing import Tuple
+from typing import Dict, Tuple
 
 HERE = Path(__file__).resolve().parent
 sys.path[:0] = [str(HERE.parent), str(HERE.parent.parent / "tests")]
@@ -25,8 +26,29 @@ from store_testing.waiting import until as until  # noqa: E402
 PROGRAM = program_or_end()
 CTL = str(HERE.parent / "storectl")
 CLIENT = str(HERE.parent / "store-client")
+STANDS_IN = str(HERE / "standing_in.py")
 # seconds that an answer or an end may take, on a machine that does much else
 PATIENCE = 60.0
+
+
+class Counting(Place):
+    """Its server counts what the file says. Nobody watches, if the options don't say otherwise."""
+
+    def __init__(self, nodes: int = 1, **options: str) -> None:
+        super().__init__(nodes, (1,), None, program=STANDS_IN, **{"watch": "0", **options})
+
+    def __enter__(self) -> Counting:
+        return self
+
+    def serve(self, **told: str) -> None:
+        self.tell(told)
+        self.start_ready(names={"STANDS_FOR": PROGRAM})
+
+    def tell(self, told: Dict[str, str]) -> None:
+        """Each line's answer, with `_` for a space in the line."""
+        part = self.path / "counts.part"
+        part.write_text(json.dumps({line.replace("_", " "): answer for line, answer in told.items()}))
+        part.replace(self.path / "counts")
 
 
 def ctl(place: Place, *words: str) -> Tuple[int, str, str]:

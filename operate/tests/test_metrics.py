@@ -16,11 +16,11 @@ import time
 import unittest
 from typing import Dict, List, Tuple
 
-from driving import CTL, DAEMON, KEY, PATIENCE, ROOT, Place, fill, until
+from driving import CTL, DAEMON, KEY, PATIENCE, ROOT, Counting, Place, fill, until
 
 import store_client
 
-SAMPLE = re.compile(r'(store_[a-z_]+)(?:\{([a-z]+="[A-Za-z0-9]+"(?:,[a-z]+="[A-Za-z0-9]+")*)\})? (-?[0-9]+(?:\.[0-9]+)?(?:e-[0-9]+)?)')
+SAMPLE = re.compile(r'(store_[a-z_]+)(?:\{([a-z]+="[A-Za-z0-9-]+"(?:,[a-z]+="[A-Za-z0-9-]+")*)\})? (-?[0-9]+(?:\.[0-9]+)?(?:e-[0-9]+)?)')
 
 
 class OverSocket(http.client.HTTPConnection):
@@ -156,8 +156,8 @@ class Page(unittest.TestCase):
     def test_the_operators_page_names_each_and_no_other(self) -> None:
         table = (ROOT / "docs/OPERATING.md").read_text().split("| Names, after `store_` | Of |")[1].split("\n\n")[0]
         named = [name for row in table.splitlines()[2:] for name in re.findall("`([a-z_]+)`", row.split("|")[1])]
-        with Place() as place:
-            place.start_ready()
+        with Counting() as place:
+            place.serve()
             with place.control() as daemon:
                 there = re.findall("^# TYPE store_([a-z_]+) ", daemon.metrics(), re.MULTILINE)
         self.assertEqual(sorted(named), sorted(there))

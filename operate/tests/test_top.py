@@ -15,6 +15,7 @@ from typing import Dict
 from driving import CTL, PATIENCE, Place, until
 
 from store_operator.asking import Mark, UsageRow
+from store_operator.counts import Counts, JobCounts
 from store_operator.top import Seen, top_text
 
 STATUS: Dict[str, Mark] = {
@@ -47,6 +48,14 @@ class Texts(unittest.TestCase):
         first, later = Seen(10.0, STATUS, ()), Seen(12.0, {**STATUS, "process": 8, "processor_seconds": 0.5, "seconds": 2}, ())
         self.assertIn("processor 0.5 s, ", top_text(later, first))
         self.assertIn(", up 2 s, ", top_text(later, first))
+
+    def test_commands_in_a_second_if_they_are_counted(self) -> None:
+        first = Seen(10.0, STATUS, (FIRST,), Counts(5.0, (), (JobCounts(0, 1, {"get": 10, "refused.10": 4, "bytes-in": 999}),)))
+        later = Seen(12.5, STATUS, (LATER,), Counts(7.0, (), (JobCounts(0, 1, {"get": 40, "get-wait": 30, "refused.10": 90}),)))
+        self.assertEqual(top_text(later, first).splitlines()[3:], [f"{HEAD}  COMMANDS/S", f"{ROW}          30"])
+        again = first._replace(status={**STATUS, "process": 8})
+        for before in (None, again, later, first._replace(counts=None), first._replace(counts=Counts(5.0, (), ()))):
+            self.assertTrue(top_text(later, before).endswith("  " + " " * len("COMMANDS/S")), before)
 
 
 class Shown(unittest.TestCase):
