@@ -30,6 +30,7 @@ _OF_JOB_COUNTS = (
     ("refusals_total", "Refusals that a job's sessions were answered."),
     ("session_bytes_total", "Bytes of a job's Writes, and of what its Reads and Peeks were answered."),
     ("device_calls_total", "Device calls for a job's spills and restores."),
+    ("pulls_total", "How often a job's node asked another one for chunks of an object."),
     ("arrivals_total", "Messages of other nodes and the directory that arrived for a job."),
 )
 # by the server's name for a count of a job's: the family, and the labels in it
@@ -42,6 +43,7 @@ _PLACES: Dict[str, Tuple[str, Labels]] = {
     "spills-failed": ("device_calls_total", {"call": "spill", "result": "failed"}),
     "restores": ("device_calls_total", {"call": "restore", "result": "done"}),
     "restores-failed": ("device_calls_total", {"call": "restore", "result": "failed"}),
+    "pulls": ("pulls_total", {}),
     "arrivals": ("arrivals_total", {}),
 }
 

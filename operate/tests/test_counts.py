@@ -22,23 +22,24 @@ from store_operator.counting import OwnHellos
 from store_operator.counts import Counts, CountsFault, JobCounts, NodeCounts, counts_text, read_counts, read_job, read_node
 
 NODE = "n0 op counts hellos:7 hellos-refused:1000 malformed:2 lock-waits:12 lock-sleeps:3"
-JOB = "n0 op counts 1 create:2 get-wait:5 refused.4:1 refused.10:3 bytes-in:4096 bytes-out:8192 spills:2 restores-failed:1 arrivals:6"
+JOB = "n0 op counts 1 create:2 get-wait:5 refused.4:1 refused.10:3 bytes-in:4096 bytes-out:8192 spills:2 restores-failed:1 pulls:4 arrivals:6"
 OF_JOB = {
-    "create": 2, "get-wait": 5, "refused.4": 1, "refused.10": 3, "bytes-in": 4096, "bytes-out": 8192, "spills": 2, "restores-failed": 1, "arrivals": 6,
+    "create": 2, "get-wait": 5, "refused.4": 1, "refused.10": 3, "bytes-in": 4096, "bytes-out": 8192, "spills": 2, "restores-failed": 1, "pulls": 4, "arrivals": 6,
 }
 SAMPLES = {
     'store_commands_total{node="0",job="1",command="create"}': 2, 'store_commands_total{node="0",job="1",command="get-wait"}': 5,
     'store_refusals_total{node="0",job="1",number="4",name="Absent"}': 1, 'store_refusals_total{node="0",job="1",number="10",name="Pending"}': 3,
     'store_session_bytes_total{node="0",job="1",direction="in"}': 4096, 'store_session_bytes_total{node="0",job="1",direction="out"}': 8192,
     'store_device_calls_total{node="0",job="1",call="spill",result="done"}': 2,
-    'store_device_calls_total{node="0",job="1",call="restore",result="failed"}': 1, 'store_arrivals_total{node="0",job="1"}': 6,
+    'store_device_calls_total{node="0",job="1",call="restore",result="failed"}': 1,
+    'store_pulls_total{node="0",job="1"}': 4, 'store_arrivals_total{node="0",job="1"}': 6,
     'store_hellos_total{node="0",result="taken"}': 7, 'store_hellos_total{node="0",result="refused"}': 1000,
     'store_malformed_sessions_total{node="0"}': 2, 'store_lock_waits_total{node="0"}': 12, 'store_lock_sleeps_total{node="0"}': 3,
     'store_hellos_total{node="1",result="taken"}': 0, "store_counts_faults": 0,
 }
 FAMILIES = tuple(
     f"store_{name}"
-    for name in ("commands_", "refusals_", "session_bytes_", "device_calls_", "arrivals_", "hellos_", "malformed_", "lock_", "counts_faults")
+    for name in ("commands_", "refusals_", "session_bytes_", "device_calls_", "pulls_", "arrivals_", "hellos_", "malformed_", "lock_", "counts_faults")
 )
 OLDER = "this server has no line counts: its program is older than that"
 # what the log tells of strangers
