@@ -9,8 +9,8 @@ from store_client.refusals import BY_NUMBER
 
 # the commands that are counted, by the server's names for them
 COMMANDS = (
-    "create", "write", "seal", "get", "read", "release", "unpin", "borrow", "giveup", "delete", "endtask", "grant", "withdraw", "peek", "list",
-    "usage", "leave", "get-wait", "create-wait",
+    "create", "write", "seal", "get", "read", "release", "unpin", "borrow", "giveup", "delete", "endtask", "grant", "withdraw", "peek",
+    "list", "usage", "leave", "get-wait", "create-wait",
 )
 # by the server's name for their count, the number and the name of each refusal
 REFUSALS = {f"refused.{number}": (number, refusal.__name__) for number, refusal in BY_NUMBER.items()}

@@ -8,7 +8,7 @@ import signal
 import subprocess
 import sys
 from pathlib import Path
-from typing import Dict, Tuple
+from typing import Dict, List, Tuple
 
 HERE = Path(__file__).resolve().parent
 sys.path[:0] = [str(HERE.parent), str(HERE.parent.parent / "tests")]
@@ -51,10 +51,14 @@ class Counting(Place):
         part.replace(self.path / "counts")
 
 
+def ctl_words(place: Place, *words: str) -> List[str]:
+    """The words that start storectl."""
+    return [sys.executable, CTL, "--control", str(place.path / "control"), *words]
+
+
 def ctl(place: Place, *words: str) -> Tuple[int, str, str]:
     """The status of storectl, and what is printed and complained of."""
-    command = [sys.executable, CTL, "--control", str(place.path / "control"), *words]
-    done = subprocess.run(command, capture_output=True, text=True, check=False, timeout=PATIENCE)
+    done = subprocess.run(ctl_words(place, *words), capture_output=True, text=True, check=False, timeout=PATIENCE)
     return done.returncode, done.stdout, done.stderr
 
 

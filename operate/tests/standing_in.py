@@ -2,8 +2,8 @@
 """A program that stands in for one whose control socket has the lines `counts`: it runs the program that STANDS_FOR names, and takes its
 control connections.
 
-A line `counts ..` is answered by the line that the file `counts`, in JSON beside the socket, has for it; by nothing if that is empty; otherwise
-by zeros for a node, and for a job that it doesn't live. All other lines are passed on.
+A line `counts ..` is answered by the line that the file `counts`, in JSON beside the socket, has for it; by nothing if that is empty;
+otherwise by zeros for a node, and for a job that it doesn't live. All other lines are passed on.
 """
 
 from __future__ import annotations

@@ -24,11 +24,13 @@ from store_operator.counts import Counts, CountsFault, JobCounts, NodeCounts, co
 NODE = "n0 op counts hellos:7 hellos-refused:1000 malformed:2 lock-waits:12 lock-sleeps:3"
 JOB = "n0 op counts 1 create:2 get-wait:5 refused.4:1 refused.10:3 bytes-in:4096 bytes-out:8192 spills:2 restores-failed:1 pulls:4 arrivals:6"
 OF_JOB = {
-    "create": 2, "get-wait": 5, "refused.4": 1, "refused.10": 3, "bytes-in": 4096, "bytes-out": 8192, "spills": 2, "restores-failed": 1, "pulls": 4, "arrivals": 6,
+    "create": 2, "get-wait": 5, "refused.4": 1, "refused.10": 3, "bytes-in": 4096, "bytes-out": 8192, "spills": 2, "restores-failed": 1,
+    "pulls": 4, "arrivals": 6,
 }
 SAMPLES = {
     'store_commands_total{node="0",job="1",command="create"}': 2, 'store_commands_total{node="0",job="1",command="get-wait"}': 5,
-    'store_refusals_total{node="0",job="1",number="4",name="Absent"}': 1, 'store_refusals_total{node="0",job="1",number="10",name="Pending"}': 3,
+    'store_refusals_total{node="0",job="1",number="4",name="Absent"}': 1,
+    'store_refusals_total{node="0",job="1",number="10",name="Pending"}': 3,
     'store_session_bytes_total{node="0",job="1",direction="in"}': 4096, 'store_session_bytes_total{node="0",job="1",direction="out"}': 8192,
     'store_device_calls_total{node="0",job="1",call="spill",result="done"}': 2,
     'store_device_calls_total{node="0",job="1",call="restore",result="failed"}': 1,
@@ -39,11 +41,14 @@ SAMPLES = {
 }
 FAMILIES = tuple(
     f"store_{name}"
-    for name in ("commands_", "refusals_", "session_bytes_", "device_calls_", "pulls_", "arrivals_", "hellos_", "malformed_", "lock_", "counts_faults")
+    for name in (
+        "commands", "refusals", "session_bytes", "device_calls", "pulls", "arrivals", "hellos", "malformed", "lock", "counts_faults",
+    )
 )
 OLDER = "this server has no line counts: its program is older than that"
 # what the log tells of strangers
-TOLD = re.compile(r" WARNING (node \d: (?:\d+ Hellos? w\w+ refused)?(?: and )?(?:\d+ sessions? sent what is no frame)?, in [0-9.]+ seconds)$", re.MULTILINE)
+HELLOS, SESSIONS = r"(?:\d+ Hellos? w\w+ refused)?", r"(?:\d+ sessions? sent what is no frame)?"
+TOLD = re.compile(rf" WARNING (node \d: {HELLOS}(?: and )?{SESSIONS}, in [0-9.]+ seconds)$", re.MULTILINE)
 
 
 def samples(place: Place) -> Dict[str, float]:
@@ -72,7 +77,8 @@ class Lines(unittest.TestCase):
         self.assertIsNone(read_job("n0 op refused 1 NotAdmitted", 0, 1))
 
     def test_what_says_nothing_is_a_fault(self) -> None:
-        for answer in ("", "n1 op counts hellos:1", "n0 op counts", NODE.replace("hellos:7 ", ""), NODE.replace(":7", ":x"), NODE.replace(":7", "")):
+        wrong = (NODE.replace("hellos:7 ", ""), NODE.replace(":7", ":x"), NODE.replace(":7", ""))
+        for answer in ("", "n1 op counts hellos:1", "n0 op counts", *wrong):
             self.assertRaises(CountsFault, read_node, answer, 0)
         for answer in ("", "n0 op counts 12 get:1", "n0 op counts 1 get", "n0 op refused 2 BadId", "not done: a fault"):
             self.assertRaises(CountsFault, read_job, answer, 0, 1)
@@ -202,7 +208,8 @@ class Strangers(unittest.TestCase):
             place.tell({"counts 0": refused(1_000_000, 3)})
             until(lambda: len(strangers(place)) == 2, "the second line")
             # the daemon's own until then are left out
-            self.assertRegex(strangers(place)[1], r"^node 0: 999\d{3} Hellos were refused and 2 sessions sent what is no frame, in [0-9.]+ seconds$")
+            said = r"^node 0: 999\d{3} Hellos were refused and 2 sessions sent what is no frame, in [0-9.]+ seconds$"
+            self.assertRegex(strangers(place)[1], said)
             time.sleep(1.5)
             self.assertEqual((len(strangers(place)), place.log().count("WARNING")), (2, 2))
 

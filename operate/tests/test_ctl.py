@@ -5,12 +5,11 @@ from __future__ import annotations
 import json
 import socket
 import subprocess
-import sys
 import threading
 import unittest
 from typing import Any, List, Tuple
 
-from driving import CTL, PATIENCE, Place, crash, ctl, until
+from driving import PATIENCE, Place, crash, ctl, ctl_words, until
 
 import store_client
 
@@ -156,9 +155,9 @@ class Ctl(unittest.TestCase):
     def test_watch_shows_what_changes_and_ends_with_the_daemon(self) -> None:
         with Place() as place:
             place.start_ready()
-            command = [sys.executable, CTL, "--control", str(place.path / "control"), "watch", "--every", "0.1", "--job", "1"]
+            words = ctl_words(place, "watch", "--every", "0.1", "--job", "1")
             with open(place.path / "watched", "w") as watched:
-                watching = subprocess.Popen(command, stdout=watched, stderr=subprocess.PIPE, text=True)
+                watching = subprocess.Popen(words, stdout=watched, stderr=subprocess.PIPE, text=True)
             shown = place.path / "watched"
             until(lambda: "64K     0" in shown.read_text(), "nothing used")
             with place.session() as session:

@@ -16,7 +16,7 @@ import time
 import unittest
 from typing import Dict, List, Tuple
 
-from driving import CTL, DAEMON, KEY, PATIENCE, ROOT, Counting, Place, fill, until
+from driving import DAEMON, KEY, PATIENCE, ROOT, Counting, Place, ctl, fill, until
 
 import store_client
 
@@ -147,9 +147,8 @@ class Counted(unittest.TestCase):
     def test_storectl_prints_them(self) -> None:
         with Place() as place:
             place.start_ready()
-            command = [sys.executable, CTL, "--control", str(place.path / "control"), "metrics"]
-            done = subprocess.run(command, capture_output=True, text=True, check=True, timeout=PATIENCE)
-            self.assertEqual(read(done.stdout)["store_up"], 1)
+            status, printed, complained = ctl(place, "metrics")
+            self.assertEqual((status, complained, read(printed)["store_up"]), (0, "", 1))
 
 
 class Page(unittest.TestCase):
@@ -189,10 +188,7 @@ class Served(unittest.TestCase):
     def test_over_a_port_by_the_command_line(self) -> None:
         with Place() as place:
             port = free_port()
-            with open(place.path / "out", "w") as out, open(place.path / "log", "w") as log:
-                command = [sys.executable, DAEMON, "--metrics", f"127.0.0.1:{port}", str(place.settings)]
-                place.daemons.append(subprocess.Popen(command, stdout=out, stderr=log, text=True))
-            until(place.said, "ready")
+            place.start_ready(more=("--metrics", f"127.0.0.1:{port}"))
             self.assertEqual(got(http.client.HTTPConnection("127.0.0.1", port, timeout=PATIENCE), "/health"), (200, "ok\n"))
 
     def test_another_address_is_refused_in_a_line(self) -> None:

@@ -27,6 +27,7 @@ class Serving(Checkout):
     def serve(self, *words: str, **more: str) -> "subprocess.Popen[str]":
         said = open(self.top / "out.said", "w")
         with said:
+            # this is what is tested, so no other starter stands for it
             server = subprocess.Popen(
                 ["make", "-s", "serve", *words], cwd=self.top, stdin=subprocess.DEVNULL, stdout=said, stderr=subprocess.STDOUT, text=True,
                 env=self.names(**more), start_new_session=True,

@@ -8,11 +8,10 @@ import re
 import select
 import signal
 import subprocess
-import sys
 import unittest
 from typing import Dict
 
-from driving import CTL, PATIENCE, Place, until
+from driving import PATIENCE, Place, ctl, ctl_words, until
 
 from store_operator.asking import Mark, UsageRow
 from store_operator.counts import Counts, JobCounts
@@ -59,23 +58,19 @@ class Texts(unittest.TestCase):
 
 
 class Shown(unittest.TestCase):
-    def top(self, place: Place, *words: str) -> "subprocess.CompletedProcess[str]":
-        command = [sys.executable, CTL, "--control", str(place.path / "control"), "top", "--once", *words]
-        return subprocess.run(command, capture_output=True, text=True, check=False, timeout=PATIENCE)
-
     def test_once_for_a_pipe(self) -> None:
         with Place(2, (1, 2)) as place:
             place.start_ready()
             with place.session(2, 1) as session:
                 session.put(bytes(32_768))
-                done = self.top(place)
-            self.assertEqual((done.returncode, done.stderr), (0, ""))
-            lines = done.stdout.splitlines()
+                status, printed, complained = ctl(place, "top", "--once")
+            self.assertEqual((status, complained), (0, ""))
+            lines = printed.splitlines()
             self.assertRegex(lines[0], r"^store: running, up \d+ s, 2 nodes, 1 session, 0 restarts$")
             self.assertEqual(len(lines), 4 + 4)
             self.assertRegex(lines[7], r"^   1    2  \[#{10}\.{10}\] +50% +32K +64K ")
-            self.assertNotIn("\033", done.stdout)
-            self.assertEqual(len(self.top(place, "--node", "1", "--job", "2").stdout.splitlines()), 4 + 1)
+            self.assertNotIn("\033", printed)
+            self.assertEqual(len(ctl(place, "top", "--once", "--node", "1", "--job", "2")[1].splitlines()), 4 + 1)
 
     def test_a_server_that_does_not_answer_has_a_header(self) -> None:
         with Place() as place:
@@ -85,19 +80,18 @@ class Shown(unittest.TestCase):
             os.kill(server, signal.SIGSTOP)
             try:
                 until(lambda: "WARNING" in place.log(), "it is noticed")
-                done = self.top(place)
+                status, printed, _ = ctl(place, "top", "--once")
             finally:
                 os.kill(server, signal.SIGCONT)
-            self.assertEqual(done.returncode, 0)
-            self.assertRegex(done.stdout, "^store: not answering since 2")
-            self.assertEqual(len(done.stdout.splitlines()), 4)
+            self.assertEqual(status, 0)
+            self.assertRegex(printed, "^store: not answering since 2")
+            self.assertEqual(len(printed.splitlines()), 4)
 
     def test_a_terminal_is_drawn_again(self) -> None:
         with Place() as place:
             place.start_ready()
             above, below = pty.openpty()
-            command = [sys.executable, CTL, "--control", str(place.path / "control"), "top", "--interval", "0.1"]
-            showing = subprocess.Popen(command, stdin=below, stdout=below, stderr=subprocess.PIPE)
+            showing = subprocess.Popen(ctl_words(place, "top", "--interval", "0.1"), stdin=below, stdout=below, stderr=subprocess.PIPE)
             os.close(below)
             try:
                 text = ""

@@ -8,13 +8,12 @@ import re
 import signal
 import socket
 import subprocess
-import sys
 import time
 import unittest
 from pathlib import Path
 from typing import Iterator, Tuple
 
-from driving import CTL, KEY, PATIENCE, Place, ctl, is_running, until
+from driving import KEY, PATIENCE, Place, ctl, ctl_words, is_running, until
 
 from store_operator.limits import SESSIONS, raise_limit
 
@@ -125,10 +124,9 @@ class Watched(unittest.TestCase):
         with Place() as place:
             place.write(1, (1,), watch="0.2", watch_patience=BUSY)
             place.start_ready()
-            command = [sys.executable, CTL, "--control", str(place.path / "control"), "watch", "--every", "0.1"]
             shown = place.path / "watched"
             with open(shown, "w") as watched:
-                watching = subprocess.Popen(command, stdout=watched, stderr=subprocess.STDOUT)
+                watching = subprocess.Popen(ctl_words(place, "watch", "--every", "0.1"), stdout=watched, stderr=subprocess.STDOUT)
             try:
                 until(lambda: shown.read_text().startswith("running, "), "a look")
                 with stopped(place):

@@ -55,19 +55,19 @@ class Place:
             lines += [f"[job {job}]", f"window = {QUOTAS[0]}", f"device = {QUOTAS[1]}", "key_file = key"]
         self.settings.write_text("\n".join(lines) + "\n")
 
-    def start(self, before: Sequence[str] = (), names: Optional[Dict[str, str]] = None) -> "subprocess.Popen[str]":
-        """Starts a daemon, by a program that runs it if one is given. It may end at once."""
+    def start(self, before: Sequence[str] = (), names: Optional[Dict[str, str]] = None, more: Sequence[str] = ()) -> "subprocess.Popen[str]":
+        """Starts a daemon, by a program that runs it if one is given, with more options and environment. It may end at once."""
         # both its streams go to files, so that no pipe fills up
         with open(self.path / "out", "w") as out, open(self.path / "log", "w") as log:
             daemon = subprocess.Popen(
-                [*before, sys.executable, DAEMON, str(self.settings)], stdin=subprocess.DEVNULL, stdout=out, stderr=log, text=True,
+                [*before, sys.executable, DAEMON, *more, str(self.settings)], stdin=subprocess.DEVNULL, stdout=out, stderr=log, text=True,
                 env={**os.environ, **(names or {})}, umask=0o022,
             )
         self.daemons.append(daemon)
         return daemon
 
-    def start_ready(self, before: Sequence[str] = (), names: Optional[Dict[str, str]] = None) -> "subprocess.Popen[str]":
-        daemon = self.start(before, names)
+    def start_ready(self, before: Sequence[str] = (), names: Optional[Dict[str, str]] = None, more: Sequence[str] = ()) -> "subprocess.Popen[str]":
+        daemon = self.start(before, names, more)
         until(lambda: self.said() or daemon.poll() is not None, "ready")
         assert daemon.poll() is None, self.log()
         return daemon

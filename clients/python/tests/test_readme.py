@@ -78,6 +78,7 @@ class Readme(unittest.TestCase):
         self.tmp = f"{folder.name}/"
         command, *lines = self.here(shown("An array between two jobs")).splitlines()
         words = shlex.split(command.replace("$ $(operate/program)", shlex.quote(PROGRAM)))
+        # as the page starts it, and not by store_testing
         self.server = subprocess.Popen(words, stdin=subprocess.PIPE, stdout=subprocess.PIPE, stderr=subprocess.DEVNULL, text=True)
         self.addCleanup(self.end)
         assert self.server.stdin and self.server.stdout
