@@ -165,7 +165,7 @@ class Control:
         if isinstance(order, AskCounts):
             return await self._counts()
         if isinstance(order, Ping):
-            seconds = await self._looks.ping(PATIENCE)
+            seconds = await self._looks.ping()
             return f"pong nodes={self._supervisor.settings.nodes} milliseconds={1000 * seconds:.1f}"
         if isinstance(order, Prometheus):
             return f"metrics {json.dumps(await self._metrics.text())}"

@@ -48,7 +48,7 @@ class Looks:
         self._all = Fresh(self._look_at_all, _FRESH)
         self._counts = Fresh(self._look_at_counts, _FRESH)
         self._disk = Fresh(lambda: aside(supervisor.spill.spilled), 0.0)
-        self._nodes = Fresh(lambda: self.ping(_LONGEST_LOOK), _FRESH)
+        self._nodes = Fresh(self.ping, _FRESH)
 
     async def usages(self) -> Look:
         """`NotDone` if the server doesn't serve."""
@@ -69,18 +69,18 @@ class Looks:
             raise store_client.TimedOut(f"no answer for {patience:.3g} seconds") from None
         return UsageRow(job.node, job.job, used.window, used.window_used, used.device, used.device_used, used.copies, used.works)
 
-    async def ping(self, patience: float) -> float:
-        """The seconds in which all nodes answered, asked now, also if they didn't a moment ago. `NotDone`."""
+    async def ping(self) -> float:
+        """The seconds in which all nodes answered, asked now, also if they didn't a moment ago. `NotDone` if one took longer than a look."""
         begun = time.monotonic()
         self.supervisor.serving()
         try:
-            await ask_all(self.supervisor.settings.sockets(), self.supervisor.own_hellos, patience)
+            await ask_all(self.supervisor.settings.sockets(), self.supervisor.own_hellos, _LONGEST_LOOK)
         except Silent as why:
             raise NotDone(str(why)) from why
         return time.monotonic() - begun
 
     async def health(self) -> float:
-        """The same within a bound, and at most a second old."""
+        """The same, at most a second old."""
         return await self._nodes.get()
 
     async def spilled(self) -> Tuple[Spilled, ...]:

@@ -21,6 +21,7 @@ gate printed, and what the gate said of each crate. If it doesn't say that it wa
 
 """
 _SAID = re.compile(r"rt: (\w+)(: its tests)? (?:is |are )?(proved|NOT PROVED|kept)\b")
+_COUNTED = re.compile(r"\d+ passed, \d+ failed\b")
 _ROW = re.compile(r"^(program|commit|sources|toolchain|proved|gate) +(.+)$", re.MULTILINE)
 
 
@@ -28,7 +29,8 @@ def told_of(program: bytes, commit: str, sources: str, is_proved: bool, gate: Op
     """The text of the file beside a program; `gate` has what the gate printed."""
     toolchain = output("rt", "version").decode().splitlines()[0] if shutil.which("rt") else NOT_KNOWN
     lines = _lines(gate) if gate else []
-    said = next((line for line in reversed(lines) if line.strip()), NOT_KNOWN)
+    # what times it may have said more since
+    said = next((line for line in reversed(lines) if _COUNTED.match(line)), NOT_KNOWN)
     rows = [
         ("program", f"sha256 {hashlib.sha256(program).hexdigest()}"), ("commit", commit), ("sources", sources),
         ("toolchain", toolchain), ("proved", YES if is_proved else NO), ("gate", said),

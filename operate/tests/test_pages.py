@@ -8,9 +8,9 @@ import subprocess
 import sys
 import unittest
 from pathlib import Path
-from typing import List
+from typing import List, Tuple
 
-from driving import DAEMON, HERE, PROGRAM, ROOT, Place, until
+from driving import DAEMON, HERE, PROGRAM, ROOT, Place, ctl, until
 
 from store_operator.asking import Daemon, Mark
 from store_operator.limits import needed_descriptors
@@ -20,6 +20,8 @@ from store_operator.settings import JOB_OPTIONS, MOST_NODES, STORE_OPTIONS, read
 OPERATE = HERE.parent
 PAGES = sorted((OPERATE / "man").glob("*.1"))
 OPERATING = ROOT / "docs/OPERATING.md"
+# of the page, what is indented
+BLOCK = re.compile(r"^(?:    .*\n|\n(?=    ))+", re.MULTILINE)
 
 
 class Unit(unittest.TestCase):
@@ -54,10 +56,41 @@ class SettingsToBeginWith(unittest.TestCase):
         self.read(text.replace("#[job 1]", "[job 1]").replace("#window", "window").replace("#device", "device").replace("#key", "key"))
 
     def test_those_of_the_page_for_operators(self) -> None:
-        blocks = re.findall(r"^(?:    .*\n|\n)+", OPERATING.read_text(), re.MULTILINE)
-        found = [block for block in blocks if "    [store]\n" in block]
+        found = [block for block in BLOCK.findall(OPERATING.read_text()) if "    [store]\n" in block]
         self.assertEqual(len(found), 1)
         self.read(re.sub("^    ", "", found[0], flags=re.MULTILINE))
+
+
+class Orders(unittest.TestCase):
+    """What the page for operators shows of storectl is what it prints."""
+
+    def shown(self, first: str) -> List[Tuple[str, str]]:
+        """Each command of storectl in the block that has this one, and what is shown after it."""
+        (block,) = [block for block in BLOCK.findall(OPERATING.read_text()) if f"# {first}" in block]
+        typed = re.split("^# ", re.sub("^    ", "", block, flags=re.MULTILINE), flags=re.MULTILINE)
+        commands = (one.partition("\n") for one in typed if one.startswith("storectl "))
+        return [(line[len("storectl ") :], printed) for line, _, printed in commands]
+
+    def compare(self, place: Place, shown: List[Tuple[str, str]]) -> None:
+        for line, printed in shown:
+            words = line.replace("/etc/store/job7.key", str(place.key_file)).split()
+            self.assertEqual(ctl(place, *words), (0, printed, ""), line)
+
+    def test_a_job_s_life(self) -> None:
+        with Place(memory="256M") as place:
+            place.start_ready()
+            self.compare(place, self.shown("storectl admit 7 "))
+
+    def test_a_session_s_end(self) -> None:
+        with Place(1, (7,)) as place:
+            place.start_ready()
+            with place.session(7), place.session(7), place.session(7):
+                self.compare(place, self.shown("storectl kick 0 7 3"))
+
+    def test_nobody_is_left(self) -> None:
+        with Place() as place:
+            place.start_ready()
+            self.compare(place, self.shown("storectl sessions"))
 
 
 class Manual(unittest.TestCase):

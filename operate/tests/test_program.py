@@ -238,7 +238,8 @@ class Noted(Of):
     def test_what_the_gate_printed_is_noted(self) -> None:
         self.checkout.build()
         gate = self.checkout.top / "out.gate"
-        gate.write_text(GATE)
+        # as bash tells of the time that it took
+        gate.write_text(f"{GATE}\nreal\t61m0.1s\nuser\t170m7.0s\nsys\t0m31.6s\n")
         self.checkout.source.parent.joinpath("main.log").touch()
         self.assertEqual(self.checkout.ran("note-program", "--gate", str(gate), "--proved", "yes"), str(self.checkout.note))
         told = self.checkout.note.read_text()

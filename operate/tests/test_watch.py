@@ -79,6 +79,13 @@ class Answers(unittest.TestCase):
                 for words in (("status",), ("jobs",), ("sessions",)):
                     self.assertEqual(ctl(place, "--timeout", "5", *words)[0], 0, words)
 
+    def test_a_ping_names_the_node_that_does_not_answer(self) -> None:
+        with Place() as place:
+            place.write(1, (1,), watch="0")
+            place.start_ready()
+            with stopped(place):
+                self.assertEqual(ctl(place, "ping"), (1, "", "storectl: not done: node 0: no answer for 4 seconds\n"))
+
     def test_a_daemon_that_is_stopped_is_not_waited_for(self) -> None:
         with Place() as place:
             daemon = place.start_ready()
