@@ -6,12 +6,12 @@ use std::error::Error;
 use std::thread;
 use std::time::Duration;
 
-use store_client::{Key, ObjectId, Pool};
+use store_client::{parse_key, ObjectId, Pool};
 
 const PATIENCE: Option<Duration> = Some(Duration::from_secs(30));
 
 fn main() -> Result<(), Box<dyn Error>> {
-    let (path, job, key) = (env::var("STORE_SOCKET")?, env::var("STORE_JOB")?.parse()?, key_of(&env::var("STORE_KEY")?)?);
+    let (path, job, key) = (env::var("STORE_SOCKET")?, env::var("STORE_JOB")?.parse()?, parse_key(&env::var("STORE_KEY")?)?);
     let pool = Pool::new(path, job, &key, PATIENCE, 2)?;
     let id = pool.session(None)?.new_id()?;
     let came = thread::scope(|scope| {
@@ -34,15 +34,4 @@ fn consume(pool: &Pool, id: ObjectId) -> Result<Vec<u8>, store_client::Error> {
     let store = pool.session(PATIENCE)?;
     let held = store.get(id, PATIENCE)?;
     Ok(held.to_vec())
-}
-
-fn key_of(digits: &str) -> Result<Key, Box<dyn Error>> {
-    let mut key = [0; 32];
-    if digits.len() != 64 || !digits.is_ascii() {
-        return Err("a key has 64 hexadecimal digits".into());
-    }
-    for (number, byte) in key.iter_mut().enumerate() {
-        *byte = u8::from_str_radix(&digits[2 * number..2 * number + 2], 16)?;
-    }
-    Ok(key)
 }

@@ -3,6 +3,9 @@
 use std::fmt;
 use std::str::FromStr;
 
+use crate::error::Error;
+use crate::frame::Key;
+
 /// The bytes of a task.
 pub const TASK_BYTES: usize = 20;
 /// The bytes of an object's id.
@@ -207,6 +210,11 @@ fn write_digits(f: &mut fmt::Formatter<'_>, bytes: &[u8]) -> fmt::Result {
     bytes.iter().try_for_each(|byte| write!(f, "{byte:02x}"))
 }
 
+/// Reads a key's 64 lower-case hexadecimal digits, as the operator gives them; otherwise it is [`Error::Invalid`].
+pub fn parse_key(text: &str) -> Result<Key, Error> {
+    digits(text).ok_or_else(|| Error::Invalid("a key has 64 lower-case hexadecimal digits".into()))
+}
+
 /// The bytes of so many lower-case hexadecimal digits.
 fn digits<const N: usize>(text: &str) -> Option<[u8; N]> {
     let text = text.as_bytes();
@@ -280,6 +288,16 @@ mod tests {
         assert_eq!(short.text(1), "4/t18446744073709551615.7");
         assert_eq!(short.to_string().parse(), Ok(short));
         assert_eq!(long.task().to_string().parse(), Ok(long.task()));
+    }
+
+    #[test]
+    fn keys_are_read() {
+        let mut key = [0; 32];
+        (key[0], key[31]) = (0x1f, 0xa0);
+        assert_eq!(parse_key(&format!("1f{}a0", "0".repeat(60))).ok(), Some(key));
+        for text in ["", &"0".repeat(63), &"0".repeat(65), &"A".repeat(64), &" 0".repeat(32), &"é".repeat(32)] {
+            assert!(matches!(parse_key(text), Err(Error::Invalid(_))), "{text}");
+        }
     }
 
     #[test]

@@ -35,7 +35,7 @@ mod stream;
 pub use error::Error;
 pub use frame::{CopyKind, GrantedItem, Key, Listing, OwnItem, Placed, State, Usage, LARGEST, MOST_BYTES};
 pub use held::Held;
-pub use id::{NoId, ObjectId, Task, ID_BYTES, TASK_BYTES};
+pub use id::{parse_key, NoId, ObjectId, Task, ID_BYTES, TASK_BYTES};
 pub use pool::{Lease, Pool};
 pub use refusal::Refusal;
 pub use session::Session;

@@ -7,7 +7,7 @@ use std::sync::Barrier;
 use std::thread;
 use std::time::{Duration, Instant};
 
-use store_client::{CopyKind, Error, Key, ObjectId, Pool, Refusal, Session, State, Task, LARGEST};
+use store_client::{parse_key, CopyKind, Error, Key, ObjectId, Pool, Refusal, Session, State, Task, LARGEST};
 
 // for one answer, on a machine that does much else
 const PATIENCE: Option<Duration> = Some(Duration::from_secs(100));
@@ -21,9 +21,7 @@ fn job(name: &str) -> u32 {
 }
 
 fn key(name: &str) -> Key {
-    let digits = variable(name);
-    let bytes: Option<Vec<u8>> = (0..64).step_by(2).map(|at| u8::from_str_radix(digits.get(at..at + 2)?, 16).ok()).collect();
-    bytes.and_then(|bytes| bytes.try_into().ok()).expect(name)
+    parse_key(&variable(name)).expect(name)
 }
 
 fn connect() -> Session {
