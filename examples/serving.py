@@ -30,7 +30,7 @@ def served() -> Iterator[str]:
     """The path of the socket, once both jobs are admitted."""
     program = program_or_end()
     with tempfile.TemporaryDirectory() as folder, tempfile.TemporaryFile("w+") as complaints:
-        # not by tests/store_testing: a release has the examples, and no tests
+        # not by what starts servers for tests: a release has the examples, and no tests
         words = [program, "serve", "--socket", f"{folder}/store", "--nodes", "1", "--memory", str(2**24), "--spill", f"{folder}/spill"]
         with subprocess.Popen(words, stdin=subprocess.PIPE, stdout=subprocess.PIPE, stderr=complaints, text=True) as server:
             assert server.stdin and server.stdout

@@ -159,7 +159,7 @@ class Hosts:
             # of a store that was killed, as store-daemon removes it
             left.unlink()
         memory = sum(job.window for job in self.jobs.values())
-        # which was found before; not by tests/store_testing, as a release has this and no tests
+        # which was found before; not by what starts servers for tests, as a release has this and no tests
         words = [os.environ["STORE_PROGRAM"], "serve", "--socket", str(self._folder / f"{host.name}.new"), "--nodes", str(self._nodes)]
         words += ["--memory", str(memory), "--spill", str(self._folder / f"spill{host.name}")]
         host.store = subprocess.Popen(words, stdin=subprocess.PIPE, stdout=subprocess.PIPE, text=True)
