@@ -42,6 +42,12 @@ class Unit(unittest.TestCase):
         self.assertGreater(limits["TasksMax"], threads_of(MOST_NODES, 1024 * MOST_NODES))
 
 
+def block_with(text: str) -> str:
+    """The one block of the page that has this text."""
+    (block,) = [block for block in BLOCK.findall(OPERATING.read_text()) if text in block]
+    return re.sub("^    ", "", block, flags=re.MULTILINE).lstrip("\n")
+
+
 class SettingsToBeginWith(unittest.TestCase):
     def read(self, text: str) -> None:
         with Place() as place:
@@ -56,9 +62,7 @@ class SettingsToBeginWith(unittest.TestCase):
         self.read(text.replace("#[job 1]", "[job 1]").replace("#window", "window").replace("#device", "device").replace("#key", "key"))
 
     def test_those_of_the_page_for_operators(self) -> None:
-        found = [block for block in BLOCK.findall(OPERATING.read_text()) if "    [store]\n" in block]
-        self.assertEqual(len(found), 1)
-        self.read(re.sub("^    ", "", found[0], flags=re.MULTILINE))
+        self.read(block_with("[store]\n"))
 
 
 class Orders(unittest.TestCase):
@@ -66,8 +70,7 @@ class Orders(unittest.TestCase):
 
     def shown(self, first: str) -> List[Tuple[str, str]]:
         """Each command of storectl in the block that has this one, and what is shown after it."""
-        (block,) = [block for block in BLOCK.findall(OPERATING.read_text()) if f"# {first}" in block]
-        typed = re.split("^# ", re.sub("^    ", "", block, flags=re.MULTILINE), flags=re.MULTILINE)
+        typed = re.split("^# ", block_with(f"# {first}"), flags=re.MULTILINE)
         commands = (one.partition("\n") for one in typed if one.startswith("storectl "))
         return [(line[len("storectl ") :], printed) for line, _, printed in commands]
 
@@ -86,6 +89,16 @@ class Orders(unittest.TestCase):
             place.start_ready()
             with place.session(7), place.session(7), place.session(7):
                 self.compare(place, self.shown("storectl kick 0 7 3"))
+
+    def test_what_the_metrics_tell_of_a_job(self) -> None:
+        due = block_with("control metrics | grep ").splitlines()[1:]
+        with Place(memory="256M") as place:
+            place.start_ready()
+            place.ask(f"quota 0 1 {64 << 20} {1 << 30}")
+            with place.session() as session:
+                session.put(b"Hello\n")
+            printed = ctl(place, "metrics")[1].splitlines()
+        self.assertEqual([line for line in printed if 'job="1"' in line][: len(due)], due)
 
     def test_nobody_is_left(self) -> None:
         with Place() as place:
