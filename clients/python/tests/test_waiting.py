@@ -274,6 +274,15 @@ class Many(Waiting):
         self.assertEqual(len(seen), 30)
         self.assertEqual((len(pool._requests.board.waits), pool._requests.board._leader), (0, None))
 
+    def test_a_long_wait_costs_little(self) -> None:
+        """Some 0.1 percent of a processor for each were measured. By itself each would take twice as much as is allowed."""
+        waits = self.waiting(self.connect_pool(), [self.object_id(index) for index in range(1, 101)], [], 7)
+        time.sleep(3)
+        began, used = time.monotonic(), time.process_time()
+        time.sleep(3)
+        part = (time.process_time() - used) / (time.monotonic() - began) / len(waits)
+        self.assertLess(part, 0.003)
+
     def test_who_leads_hands_that_on(self) -> None:
         """The one that began last is served first, then the others, also what is at another node or granted."""
         pool = self.connect_pool()
