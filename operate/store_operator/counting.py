@@ -12,7 +12,8 @@ from .relaying import Unanswered, relay_all
 
 
 class OwnHellos:
-    """Of one run of the server, by node: the Hellos by which the daemon asks whether it answers, all of which it refuses."""
+    """Of one run of the server, by node: the daemon's own Hellos that it refuses. They ask whether it answers, or for a job that has just
+    ended."""
 
     def __init__(self) -> None:
         self._sent: Counter[int] = Counter()

@@ -64,10 +64,20 @@ class Looks:
         """`store_client.StoreError` if the node refuses it, or doesn't answer for so many seconds."""
         path = str(self.supervisor.settings.sockets()[job.node])
         try:
-            used = await asyncio.wait_for(_ask(path, job, patience), patience)
+            used = await asyncio.wait_for(self._ask(path, job, patience), patience)
         except asyncio.TimeoutError:
             raise store_client.TimedOut(f"no answer for {patience:.3g} seconds") from None
         return UsageRow(job.node, job.job, used.window, used.window_used, used.device, used.device_used, used.copies, used.works)
+
+    async def _ask(self, path: str, job: Admit, patience: float) -> store_client.Usage:
+        try:
+            session = await aio.connect(path, job.job, bytes.fromhex(job.key), patience)
+        except store_client.NotAdmitted:
+            # the job has ended meanwhile, and this is no stranger's Hello
+            self.supervisor.own_hellos.sent(job.node)
+            raise
+        async with session:
+            return await session.usage()
 
     async def ping(self) -> float:
         """The seconds in which all nodes answered, asked now, also if they didn't a moment ago. `NotDone` if one took longer than a look."""
@@ -123,11 +133,6 @@ class Looks:
             except store_client.StoreError as error:
                 return rows, f"node {node}: job {job.job}: {error}"
         return rows, ""
-
-
-async def _ask(path: str, job: Admit, patience: float) -> store_client.Usage:
-    async with await aio.connect(path, job.job, bytes.fromhex(job.key), patience) as session:
-        return await session.usage()
 
 
 def rows_text(look: Look) -> str:

@@ -5,6 +5,7 @@ A program stands in for one that counts. The last tests are at the program itsel
 
 from __future__ import annotations
 
+import asyncio
 import json
 import os
 import re
@@ -14,12 +15,13 @@ import time
 import unittest
 from typing import Any, Dict, List, Tuple
 
-from driving import Counting, Place, crash, ctl, until
+from driving import PATIENCE, Counting, Place, crash, ctl, until
 from test_metrics import read
 
 import store_client
 from store_operator.counting import OwnHellos
 from store_operator.counts import Counts, CountsFault, JobCounts, NodeCounts, counts_text, read_counts, read_job, read_node
+from store_operator.relaying import relay
 
 NODE = "n0 op counts hellos:7 hellos-refused:1000 malformed:2 lock-waits:12 lock-sleeps:3"
 JOB = "n0 op counts 1 create:2 get-wait:5 refused.4:1 refused.10:3 bytes-in:4096 bytes-out:8192 spills:2 restores-failed:1 pulls:4 arrivals:6"
@@ -113,6 +115,15 @@ class Asked(unittest.TestCase):
             place.ask("ping")
             place.ask("ping")
             self.assertEqual(samples(place)['store_hellos_total{node="0",result="refused"}'], 1)
+
+    def test_a_look_at_a_job_that_has_just_ended_is_the_daemon_s_own(self) -> None:
+        with Counting() as place:
+            place.serve(counts_0=refused(3))
+            # not by the daemon, which takes it for one that lives
+            self.assertEqual(asyncio.run(relay(place.path / "store.new.c", "end 0 1", PATIENCE)), "n0 op ok")
+            self.assertEqual(place.ask("usage 0 1"), "n0 op refused 1 NotAdmitted")
+            with place.control() as daemon:
+                self.assertEqual([row.hellos_refused for row in daemon.counts().nodes], [2])
 
     def test_storectl_shows_them(self) -> None:
         with Counting(2) as place:
