@@ -137,7 +137,7 @@ class Daemon:
         word, _, text = answer.partition(" ")
         if word != "counts":
             raise AskFault(answer)
-        return read_counts(text)
+        return read_counts(json.loads(text))
 
     def sessions(self, node: int) -> int:
         return _whole(self._told(f"sessions {node}", f"n{node} op sessions"), 1)[0]

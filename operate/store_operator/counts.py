@@ -3,7 +3,7 @@
 from __future__ import annotations
 
 import json
-from typing import Dict, NamedTuple, Optional, Tuple
+from typing import Any, Dict, NamedTuple, Optional, Tuple
 
 from store_client.refusals import BY_NUMBER
 
@@ -85,6 +85,6 @@ def counts_text(counts: Counts) -> str:
     return json.dumps({"moment": round(counts.moment, 3), "nodes": nodes, "jobs": jobs})
 
 
-def read_counts(text: str) -> Counts:
-    told = json.loads(text)
+def read_counts(told: Dict[str, Any]) -> Counts:
+    """What `counts_text` says, parsed."""
     return Counts(told["moment"], tuple(NodeCounts(**row) for row in told["nodes"]), tuple(JobCounts(**row) for row in told["jobs"]))

@@ -14,8 +14,8 @@ from .tables import table
 _BAR = 20
 _RUNS = "running"
 _HEAD = ("NODE", "JOB", "WINDOW", "", "USED", "OF", "DEVICE", "OF", "COPIES", "WORKS", "+USED", "+DEVICE", "+COPIES")
-# the last column, if the server counts commands
-_COMMANDS = "COMMANDS/S"
+# one column more if the server counts commands; it stands after those of the window, as a terminal of 80 columns cuts off the last ones
+_COMMANDS, _BEFORE_COMMANDS = "COMMANDS/S", 6
 
 
 class Seen(NamedTuple):
@@ -55,8 +55,12 @@ def top_text(seen: Seen, last: Optional[Seen]) -> str:
     if seen.counts is None:
         return "\n".join([*_header(seen, last), table(_HEAD, rows)])
     rates = _rates(seen.counts, last.counts if last and _is_same(last, seen) else None)
-    counted = [(*cells, rates.get((row.node, row.job), "")) for row, cells in zip(seen.rows, rows)]
-    return "\n".join([*_header(seen, last), table((*_HEAD, _COMMANDS), counted)])
+    counted = [_with_commands(cells, rates.get((row.node, row.job), "")) for row, cells in zip(seen.rows, rows)]
+    return "\n".join([*_header(seen, last), table(_with_commands(_HEAD, _COMMANDS), counted)])
+
+
+def _with_commands(cells: Sequence[str], commands: str) -> Sequence[str]:
+    return (*cells[:_BEFORE_COMMANDS], commands, *cells[_BEFORE_COMMANDS:])
 
 
 def _rates(counts: Counts, before: Optional[Counts]) -> Dict[Tuple[int, int], str]:

@@ -147,7 +147,7 @@ class Asked(unittest.TestCase):
         with Counting() as place:
             place.serve(counts_0_1=JOB)
             lines = ctl(place, "top", "--once")[1].splitlines()
-            self.assertTrue(lines[3].endswith("  +COPIES  COMMANDS/S"), lines[3])
+            self.assertIn("  OF  COMMANDS/S  DEVICE  ", lines[3])
 
     def test_a_job_that_has_ended_is_left_out(self) -> None:
         with Counting() as place:
@@ -295,7 +295,7 @@ def told_in_all(place: Place) -> Tuple[int, int]:
 class Text(unittest.TestCase):
     def test_the_daemon_s_line_is_read_again(self) -> None:
         counts = Counts(12.5, (NodeCounts(0, 1, 2, 3, 4, 5),), (JobCounts(0, 1, OF_JOB),))
-        self.assertEqual(read_counts(counts_text(counts)), counts)
+        self.assertEqual(read_counts(json.loads(counts_text(counts))), counts)
 
 
 if __name__ == "__main__":

@@ -26,6 +26,8 @@ FIRST = UsageRow(0, 1, 65536, 16384, 1 << 20, 8192, 3, 0)
 LATER = UsageRow(0, 1, 65536, 49152, 1 << 20, 4096, 4, 1)
 HEAD = "NODE  JOB                  WINDOW       USED   OF  DEVICE  OF  COPIES  WORKS  +USED  +DEVICE  +COPIES"
 ROW = "   0    1  [###############.....]  75%   48K  64K      4K  1M       4      1   +32K      -4K       +1"
+# the widest that there can be, and how wide a terminal is at least
+WIDEST, TERMINAL = UsageRow(7, (1 << 32) - 1, (1 << 30) - 1, (1 << 30) - 1, 1 << 20, 8192, 3, 0), 80
 
 
 class Texts(unittest.TestCase):
@@ -51,10 +53,18 @@ class Texts(unittest.TestCase):
     def test_commands_in_a_second_if_they_are_counted(self) -> None:
         first = Seen(10.0, STATUS, (FIRST,), Counts(5.0, (), (JobCounts(0, 1, {"get": 10, "refused.10": 4, "bytes-in": 999}),)))
         later = Seen(12.5, STATUS, (LATER,), Counts(7.0, (), (JobCounts(0, 1, {"get": 40, "get-wait": 30, "refused.10": 90}),)))
-        self.assertEqual(top_text(later, first).splitlines()[3:], [f"{HEAD}  COMMANDS/S", f"{ROW}          30"])
+        counted = [HEAD.replace("OF  DEVICE", "OF  COMMANDS/S  DEVICE"), ROW.replace("64K", "64K          30")]
+        self.assertEqual(top_text(later, first).splitlines()[3:], counted)
         again = first._replace(status={**STATUS, "process": 8})
         for before in (None, again, later, first._replace(counts=None), first._replace(counts=Counts(5.0, (), ()))):
-            self.assertTrue(top_text(later, before).endswith("  " + " " * len("COMMANDS/S")), before)
+            self.assertIn(f" 64K  {' ' * len('COMMANDS/S')}      4K ", top_text(later, before), before)
+
+    def test_a_terminal_shows_the_commands_of_the_widest_row(self) -> None:
+        counts = Counts(5.0, (), (JobCounts(WIDEST.node, WIDEST.job, {}),))
+        more = counts._replace(moment=6.0, jobs=(JobCounts(WIDEST.node, WIDEST.job, {"get": 987_654_321}),))
+        lines = top_text(Seen(11.0, STATUS, (WIDEST,), more), Seen(10.0, STATUS, (WIDEST,), counts)).splitlines()
+        self.assertIn("  COMMANDS/S  ", lines[3][:TERMINAL])
+        self.assertIn(" 987654321  ", lines[4][:TERMINAL])
 
 
 class Shown(unittest.TestCase):
