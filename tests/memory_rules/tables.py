@@ -291,7 +291,6 @@ HUGE: Dict[str, Dict[str, str]] = {
             "the index of a chunk that isn't there",
     },
     "device_tests/src/devices.rt": {
-        "...KEY: DeviceKey = DeviceKey { job: JobNo(7), number: u64::MAX": "the greatest number of a work",
         "fn has { let len = u32::try_from(bytes.len()).unwrap_or(u32::MAX": "a length that no object has",
     },
     "session_tests/src/sessions.rt": {

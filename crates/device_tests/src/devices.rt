@@ -1,5 +1,6 @@
 //! The devices: what real files do, and which call of a faulty device fails.
-use assertions::{holds, same};
+use crate::scripts::{joined, play};
+use assertions::same;
 use bytes::Bytes;
 use memory_growth::{OutOfMemory, lists, text_of};
 use obj_id::{DeviceKey, JobNo};
@@ -10,31 +11,8 @@ use std::rt::{Env, Files};
 use std::test::Fail;
 use std::{env, fs};
 
-pub(crate) const KEY: DeviceKey = DeviceKey {
-    job: JobNo(7),
-    number: u64::MAX,
-};
-
-/// The name that a key's file has.
-pub(crate) const FILE: &str = "7.18446744073709551615";
-
-const OTHER: DeviceKey = DeviceKey {
-    job: JobNo(7),
-    number: 1,
-};
-
-/// A key of another job, with the same number.
-const NEIGHBOUR: DeviceKey = DeviceKey {
-    job: JobNo(8),
-    number: 1,
-};
-
-/// The longest object, of many chunks.
-const LONG: usize = 16_777_216;
-
-pub(crate) fn joined(alloc: Global, folder: &str, name: &str) -> Result<String, OutOfMemory> {
-    text_of!(in alloc; "{folder}/{name}")
-}
+/// Of a test that has no files.
+const NO_FOLDER: &str = "";
 
 /// A folder of this test's own that isn't there.
 pub(crate) fn own_folder<R: Files + Env + AllocGlobal>(
@@ -42,69 +20,94 @@ pub(crate) fn own_folder<R: Files + Env + AllocGlobal>(
     process: u32,
     name: &str,
 ) -> Result<String, Fail> {
-    let alloc = rt.alloc();
     let temporary = env::temp_dir(rt)?;
-    let below = text_of!(in alloc; "devices-{process}-{name}")?;
-    let folder = joined(alloc, temporary.as_str(), below.as_str())?;
+    let below = temporary.as_str();
+    let folder = text_of!(in rt.alloc(); "{below}/devices-{process}-{name}")?;
     let _ = fs::remove_dir_all(rt, folder.as_str());
     Ok(folder)
 }
 
-/// A device in the folder.
-pub(crate) fn over_files<R: Files + AllocGlobal + Copy>(
+/// Carries out the rows over a new device in the folder.
+pub(crate) fn play_in<R: Files + AllocGlobal + Copy + Abort>(
     rt: &R,
     folder: &str,
-) -> Result<FileDevice<R>, FolderFault> {
-    FileDevice::new(*rt, folder)
+    rows: &str,
+) -> Result<(), Fail> {
+    let mut device = FileDevice::new(*rt, folder)?;
+    play(rt, folder, &mut device, rows)
 }
 
-/// Whether the device has these bytes under the key.
-fn has<D: SpillDevice>(device: &mut D, key: DeviceKey, bytes: &[u8]) -> Result<bool, DeviceFault> {
-    let len = u32::try_from(bytes.len()).unwrap_or(u32::MAX);
-    Ok(device.read(key, len)?.as_slice() == bytes)
+/// The same in a folder of the test's own, in which nothing is left.
+pub(crate) fn play_over_files<R: Files + Env + AllocGlobal + Copy + Abort>(
+    rt: &R,
+    process: u32,
+    name: &str,
+    rows: &str,
+) -> Result<(), Fail> {
+    let folder = own_folder(rt, process, name)?;
+    play_in(rt, folder.as_str(), rows)?;
+    fs::remove_dir(rt, folder.as_str())?;
+    Ok(())
 }
 
-/// Why a read under the key fails; nothing if it doesn't.
-pub(crate) fn unread<D: SpillDevice>(
-    device: &mut D,
-    key: DeviceKey,
-    len: u32,
-) -> Option<DeviceFault> {
-    device.read(key, len).err()
+/// What is asked of any device that keeps its bytes. It is left with those of 7.1.
+const KEPT: &str = "\
+erase 7.18446744073709551615 = Ok(())
+write 7.18446744073709551615 abc = Ok(())
+write 7.1 i = Ok(())
+read 7.18446744073709551615 3 = Ok(b\"abc\")
+write 7.18446744073709551615 de = Ok(())
+read 7.18446744073709551615 2 = Ok(b\"de\")
+read 7.1 1 = Ok(b\"i\")
+failures = 0
+read 7.18446744073709551615 3 = Err(Failed)
+failures = 1
+erase 7.18446744073709551615 = Ok(())
+erase 7.18446744073709551615 = Ok(())
+read 7.18446744073709551615 2 = Err(Failed)
+failures = 2
+read 7.1 1 = Ok(b\"i\")";
+
+/// What is asked of another device in the same folder, which finds what the first one left.
+const LEFT: &str = "\
+read 7.1 1 = Ok(b\"i\")
+erase 7.1 = Ok(())";
+
+/// What is asked of any device if two jobs have works of one number.
+const APART: &str = "\
+write 7.1 i = Ok(())
+read 8.1 1 = Err(Failed)
+write 8.1 gh = Ok(())
+read 7.1 1 = Ok(b\"i\")
+read 8.1 2 = Ok(b\"gh\")
+erase 7.1 = Ok(())
+read 8.1 2 = Ok(b\"gh\")
+erase 8.1 = Ok(())
+read 8.1 2 = Err(Failed)";
+
+#[test]
+fn memory_keeps_what_was_last_written(rt: HostRuntime) -> Result<(), Fail> {
+    let mut device = MemoryDevice::new(rt.alloc());
+    play(&rt, NO_FOLDER, &mut device, KEPT)
 }
 
-/// Why, if it is the device that failed.
-pub(crate) const FAILED: Option<DeviceFault> = Some(DeviceFault::Failed);
-
-/// What is asked of any device that keeps its bytes.
-fn keeps_its_bytes<D: SpillDevice>(rt: &impl Abort, device: &mut D) {
-    let done = [
-        device.erase(KEY),
-        device.write(KEY, &[1, 2, 3]),
-        device.write(OTHER, &[9]),
-    ];
-    same!(rt; done, [Ok(()); 3]);
-    same!(rt; has(device, KEY, &[1, 2, 3]), Ok(true));
-    same!(rt; device.write(KEY, &[4, 5]), Ok(()));
-    same!(rt; [has(device, KEY, &[4, 5]), has(device, OTHER, &[9])], [Ok(true); 2]);
-    same!(rt; device.failures(), 0);
-    same!(rt; (unread(device, KEY, 3), device.failures()), (FAILED, 1));
-    same!(rt; [device.erase(KEY), device.erase(KEY)], [Ok(()); 2]);
-    same!(rt; (unread(device, KEY, 2), device.failures()), (FAILED, 2));
-    same!(rt; has(device, OTHER, &[9]), Ok(true));
+#[test]
+fn files_keep_what_was_last_written(rt: HostRuntime) -> Result<(), Fail> {
+    let folder = own_folder(&rt, process::id(rt.process()), "kept")?;
+    play_in(&rt, folder.as_str(), KEPT)?;
+    play_in(&rt, folder.as_str(), LEFT)?;
+    // nothing is left, under a temporary name either
+    fs::remove_dir(&rt, folder.as_str())?;
+    Ok(())
 }
 
-/// What is asked of it if two jobs have works of one number.
-fn keeps_jobs_apart<D: SpillDevice>(rt: &impl Abort, device: &mut D) {
-    same!(rt; device.write(OTHER, &[9]), Ok(()));
-    same!(rt; unread(device, NEIGHBOUR, 1), FAILED);
-    same!(rt; device.write(NEIGHBOUR, &[7, 8]), Ok(()));
-    same!(rt; [has(device, OTHER, &[9]), has(device, NEIGHBOUR, &[7, 8])], [Ok(true); 2]);
-    same!(rt; device.erase(OTHER), Ok(()));
-    same!(rt; has(device, NEIGHBOUR, &[7, 8]), Ok(true));
-    same!(rt; device.erase(NEIGHBOUR), Ok(()));
-    same!(rt; unread(device, NEIGHBOUR, 2), FAILED);
-}
+/// The longest object, of many chunks.
+const LONG: usize = 16_777_216;
+
+const KEY: DeviceKey = DeviceKey {
+    job: JobNo(7),
+    number: 1,
+};
 
 /// As many bytes, each another than the one before it.
 fn long_bytes(alloc: Global) -> Result<Vec<u8>, OutOfMemory> {
@@ -115,182 +118,190 @@ fn long_bytes(alloc: Global) -> Result<Vec<u8>, OutOfMemory> {
     Ok(bytes)
 }
 
-/// What is asked of it of an object that is longer than one chunk.
+/// Whether the device has these bytes under the key.
+fn has<D: SpillDevice>(device: &mut D, bytes: &[u8]) -> Result<bool, DeviceFault> {
+    let len = u32::try_from(bytes.len()).unwrap_or(u32::MAX);
+    Ok(device.read(KEY, len)?.as_slice() == bytes)
+}
+
+/// What is asked of a device of an object that is longer than one chunk.
 fn keeps_long_bytes<D: SpillDevice>(rt: &impl Abort, device: &mut D, bytes: &[u8]) {
-    same!(rt; device.write(OTHER, bytes), Ok(()));
-    same!(rt; has(device, OTHER, bytes), Ok(true));
-    same!(rt; device.erase(OTHER), Ok(()));
+    let response = (
+        device.write(KEY, bytes),
+        has(device, bytes),
+        device.erase(KEY),
+    );
+    same!(rt; response, (Ok(()), Ok(true), Ok(())));
+}
+
+/// What is asked of two jobs' works, and then of a long object.
+fn keeps_both<R: Files + AllocGlobal + Abort, D: SpillDevice>(
+    rt: &R,
+    device: &mut D,
+) -> Result<(), Fail> {
+    play(rt, NO_FOLDER, device, APART)?;
+    let bytes = long_bytes(rt.alloc())?;
+    keeps_long_bytes(rt, device, &bytes);
+    Ok(())
 }
 
 #[test]
 fn memory_keeps_jobs_apart_and_long_bytes_whole(rt: HostRuntime) -> Result<(), Fail> {
     let mut device = MemoryDevice::new(rt.alloc());
-    keeps_jobs_apart(&rt, &mut device);
-    keeps_long_bytes(&rt, &mut device, &long_bytes(rt.alloc())?);
-    Ok(())
+    keeps_both(&rt, &mut device)
+}
+
+/// The same over the files of a folder.
+fn keeps_both_in<R: Files + AllocGlobal + Copy + Abort>(rt: &R, folder: &str) -> Result<(), Fail> {
+    let mut device = FileDevice::new(*rt, folder)?;
+    keeps_both(rt, &mut device)
 }
 
 #[test]
 fn files_keep_jobs_apart_and_long_bytes_whole(rt: HostRuntime) -> Result<(), Fail> {
     let folder = own_folder(&rt, process::id(rt.process()), "apart")?;
-    let mut device = over_files(&rt, folder.as_str())?;
-    keeps_jobs_apart(&rt, &mut device);
-    keeps_long_bytes(&rt, &mut device, &long_bytes(rt.alloc())?);
+    keeps_both_in(&rt, folder.as_str())?;
     fs::remove_dir(&rt, folder.as_str())?;
     Ok(())
 }
 
-#[test]
-fn memory_keeps_what_was_last_written(rt: HostRuntime) {
-    let mut device = MemoryDevice::new(rt.alloc());
-    keeps_its_bytes(&rt, &mut device);
-}
-
-#[test]
-fn files_keep_what_was_last_written(rt: HostRuntime) -> Result<(), Fail> {
-    let folder = own_folder(&rt, process::id(rt.process()), "kept")?;
-    let mut device = over_files(&rt, folder.as_str())?;
-    keeps_its_bytes(&rt, &mut device);
-    // another device in the same folder finds what the first one left
-    let mut next = over_files(&rt, folder.as_str())?;
-    same!(rt; has(&mut next, OTHER, &[9]), Ok(true));
-    same!(rt; next.erase(OTHER), Ok(()));
-    // nothing is left, under a temporary name either
-    fs::remove_dir(&rt, folder.as_str())?;
-    Ok(())
-}
-
-// A test of files owns their folder's name, and calls a function over the device.
-
-/// Writes the key's file and erases it.
-fn name_a_file<R: Files + Abort, D: SpillDevice>(
-    rt: &R,
-    device: &mut D,
-    file: &str,
-) -> Result<(), Fail> {
-    same!(rt; device.write(KEY, &[1, 2, 3]), Ok(()));
-    same!(rt; fs::metadata(rt, file)?.len(), 3);
-    same!(rt; device.erase(KEY), Ok(()));
-    holds!(rt; !fs::exists(rt, file)?);
-    Ok(())
-}
+const NAMED: &str = "\
+write 7.18446744073709551615 abc = Ok(())
+text 7.18446744073709551615 = abc
+erase 7.18446744073709551615 = Ok(())
+mode 7.18446744073709551615 = NotFound";
 
 #[test]
 fn a_file_is_named_by_job_and_number(rt: HostRuntime) -> Result<(), Fail> {
-    let folder = own_folder(&rt, process::id(rt.process()), "named")?;
-    let file = joined(rt.alloc(), folder.as_str(), FILE)?;
-    let mut device = over_files(&rt, folder.as_str())?;
-    name_a_file(&rt, &mut device, file.as_str())?;
-    fs::remove_dir(&rt, folder.as_str())?;
-    Ok(())
+    play_over_files(&rt, process::id(rt.process()), "named", NAMED)
 }
 
-/// Reads a file that became shorter, became longer, and went.
-fn change_a_file<R: Files + Abort, D: SpillDevice>(
-    rt: &R,
-    device: &mut D,
-    file: &str,
-) -> Result<(), Fail> {
-    same!(rt; device.write(KEY, &[1, 2, 3]), Ok(()));
-    for text in ["12", "1234"] {
-        fs::write(rt, file, text)?;
-        same!(rt; unread(device, KEY, 3), FAILED);
-    }
-    fs::remove_file(rt, file)?;
-    same!(rt; unread(device, KEY, 3), FAILED);
-    same!(rt; device.failures(), 3);
-    Ok(())
-}
+/// A file becomes shorter, becomes longer, and goes.
+const LENGTHS: &str = "\
+write 7.1 abc = Ok(())
+put 7.1 12
+read 7.1 3 = Err(Failed)
+put 7.1 1234
+read 7.1 3 = Err(Failed)
+remove 7.1
+read 7.1 3 = Err(Failed)
+failures = 3";
 
 #[test]
 fn a_short_or_longer_file_fails(rt: HostRuntime) -> Result<(), Fail> {
-    let folder = own_folder(&rt, process::id(rt.process()), "lengths")?;
-    let file = joined(rt.alloc(), folder.as_str(), FILE)?;
-    let mut device = over_files(&rt, folder.as_str())?;
-    change_a_file(&rt, &mut device, file.as_str())?;
-    fs::remove_dir(&rt, folder.as_str())?;
-    Ok(())
+    play_over_files(&rt, process::id(rt.process()), "lengths", LENGTHS)
 }
 
-/// Writes if the temporary file can't be made, and if the folder itself is lost.
-fn fail_to_write<R: Files + Abort, D: SpillDevice>(
+/// A folder stands where the temporary file would go.
+const IN_THE_WAY: &str = "\
+write 7.1 abc = Ok(())
+make 7.1.part
+write 7.1 d = Err(Failed)
+read 7.1 3 = Ok(b\"abc\")
+unmake 7.1.part
+erase 7.1 = Ok(())";
+
+/// The folder itself is lost.
+const LOST: &str = "\
+write 7.1 d = Err(Failed)
+erase 7.1 = Err(Failed)
+failures = 3";
+
+fn fail_to_write<R: Files + AllocGlobal + Abort, D: SpillDevice>(
     rt: &R,
-    device: &mut D,
     folder: &str,
-    part: &str,
+    device: &mut D,
 ) -> Result<(), Fail> {
-    let failed = Err(DeviceFault::Failed);
-    same!(rt; device.write(OTHER, &[1, 2, 3]), Ok(()));
-    // a folder stands where the temporary file would go
-    fs::create_dir(rt, part)?;
-    same!(rt; device.write(OTHER, &[4]), failed);
-    same!(rt; has(device, OTHER, &[1, 2, 3]), Ok(true));
-    fs::remove_dir(rt, part)?;
-    same!(rt; device.erase(OTHER), Ok(()));
+    play(rt, folder, device, IN_THE_WAY)?;
     fs::remove_dir(rt, folder)?;
-    same!(rt; [device.write(OTHER, &[4]), device.erase(OTHER)], [failed; 2]);
-    same!(rt; device.failures(), 3);
-    Ok(())
+    play(rt, folder, device, LOST)
+}
+
+fn fail_to_write_in<R: Files + AllocGlobal + Copy + Abort>(
+    rt: &R,
+    folder: &str,
+) -> Result<(), Fail> {
+    let mut device = FileDevice::new(*rt, folder)?;
+    fail_to_write(rt, folder, &mut device)
 }
 
 #[test]
 fn a_write_that_fails_leaves_what_was_there(rt: HostRuntime) -> Result<(), Fail> {
     let folder = own_folder(&rt, process::id(rt.process()), "whole")?;
-    let part = joined(rt.alloc(), folder.as_str(), "7.1.part")?;
-    let mut device = over_files(&rt, folder.as_str())?;
-    fail_to_write(&rt, &mut device, folder.as_str(), part.as_str())
+    fail_to_write_in(&rt, folder.as_str())
 }
 
 /// What is printed of a folder that is refused; nothing if it isn't.
-fn refusal_of<R: Files + AllocGlobal + Copy>(rt: &R, folder: &str) -> Result<String, Fail> {
-    match over_files(rt, folder) {
-        Ok(_) => Ok(String::new(rt.alloc())),
-        Err(fault) => Ok(text_of!(in rt.alloc(); "{fault}")?),
+pub(crate) fn refusal_of(alloc: Global, fault: Option<FolderFault>) -> Result<String, OutOfMemory> {
+    match fault {
+        Some(fault) => text_of!(in alloc; "{fault}"),
+        None => Ok(String::new(alloc)),
     }
+}
+
+/// Checks that no folder can be made below a file.
+fn refused_below<R: Files + AllocGlobal + Copy + Abort>(rt: &R, file: &str) -> Result<(), Fail> {
+    let folder = joined(rt.alloc(), file, "below")?;
+    let due = text_of!(in rt.alloc(); "the folder `{folder}` can't be made: ")?;
+    let response = refusal_of(rt.alloc(), FileDevice::new(*rt, folder.as_str()).err())?;
+    assert!(rt; response.as_str().starts_with(due.as_str()), "{response}");
+    Ok(())
 }
 
 #[test]
 fn a_folder_that_cant_be_made_is_told(rt: HostRuntime) -> Result<(), Fail> {
     let file = own_folder(&rt, process::id(rt.process()), "none")?;
     fs::write(&rt, file.as_str(), "a file")?;
-    let below = joined(rt.alloc(), file.as_str(), "below")?;
-    let response = refusal_of(&rt, below.as_str())?;
-    assert!(rt; response.as_str().starts_with("the folder `"), "{response}");
-    holds!(rt; response.as_str().contains(below.as_str()));
+    refused_below(&rt, file.as_str())?;
     fs::remove_file(&rt, file.as_str())?;
     Ok(())
 }
 
-/// Makes calls of a device whose second one fails: it doesn't reach the device beneath.
-fn fail_the_second(rt: &impl Abort, device: &mut FaultyDevice<MemoryDevice>) {
-    same!(rt; [device.erase(OTHER), device.write(KEY, &[1])], [Ok(()), Err(DeviceFault::Failed)]);
-    same!(rt; (device.failures(), device.inner.failures()), (1, 0));
-    same!(rt; has(device, KEY, &[]), Ok(true));
-    same!(rt; device.erase(KEY), Ok(()));
-    same!(rt; unread(device, KEY, 0), FAILED);
-    same!(rt; (device.failures(), device.inner.failures()), (2, 1));
+const SECOND_FAILS: &str = "\
+erase 7.1 = Ok(())
+write 7.2 a = Err(Failed)";
+
+/// The write that failed didn't reach the device beneath.
+const OTHERS_DONT: &str = "\
+read 7.2 0 = Ok(b\"\")
+erase 7.2 = Ok(())
+read 7.2 0 = Err(Failed)";
+
+/// How many calls have failed, and how many of them of the device beneath.
+fn failures(device: &FaultyDevice<MemoryDevice>) -> (u64, u64) {
+    (device.failures(), device.inner.failures())
+}
+
+/// Asks a device whose second call fails. The device beneath has an empty object before.
+fn fail_the_second<R: Files + AllocGlobal + Abort>(
+    rt: &R,
+    device: &mut FaultyDevice<MemoryDevice>,
+) -> Result<(), Fail> {
+    play(rt, NO_FOLDER, &mut device.inner, "write 7.2 = Ok(())")?;
+    play(rt, NO_FOLDER, device, SECOND_FAILS)?;
+    same!(rt; failures(device), (1, 0));
+    play(rt, NO_FOLDER, device, OTHERS_DONT)?;
+    same!(rt; failures(device), (2, 1));
+    Ok(())
 }
 
 #[test]
-fn the_kth_call_fails_and_no_other(rt: HostRuntime) {
-    let mut memory = MemoryDevice::new(rt.alloc());
-    same!(rt; memory.write(KEY, &[]), Ok(()));
-    let mut device = FaultyDevice::new(memory, 2);
-    fail_the_second(&rt, &mut device);
+fn the_kth_call_fails_and_no_other(rt: HostRuntime) -> Result<(), Fail> {
+    let mut device = FaultyDevice::new(MemoryDevice::new(rt.alloc()), 2);
+    fail_the_second(&rt, &mut device)
 }
 
-/// What two erases are answered by a device whose call of this number fails.
-fn erased_twice(alloc: Global, failing: u64) -> [Result<(), DeviceFault>; 2] {
-    let mut device = FaultyDevice::new(MemoryDevice::new(alloc), failing);
-    [device.erase(KEY), device.erase(KEY)]
+/// Asks a device whose call of this number fails.
+fn fail_one<R: Files + AllocGlobal + Abort>(rt: &R, failing: u64, rows: &str) -> Result<(), Fail> {
+    let mut device = FaultyDevice::new(MemoryDevice::new(rt.alloc()), failing);
+    let played = play(rt, NO_FOLDER, &mut device, rows);
+    same!(rt; device.inner.failures(), 0);
+    played
 }
 
 #[test]
-fn reads_and_erases_are_counted_as_calls(rt: HostRuntime) {
-    let mut reads = FaultyDevice::new(MemoryDevice::new(rt.alloc()), 1);
-    same!(rt; unread(&mut reads, KEY, 1), FAILED);
-    same!(rt; reads.inner.failures(), 0);
-    let failed = Err(DeviceFault::Failed);
-    same!(rt; erased_twice(rt.alloc(), 1), [failed, Ok(())]);
-    same!(rt; erased_twice(rt.alloc(), 0), [Ok(()); 2]);
+fn reads_and_erases_are_counted_as_calls(rt: HostRuntime) -> Result<(), Fail> {
+    fail_one(&rt, 1, "read 7.2 1 = Err(Failed)")?;
+    fail_one(&rt, 1, "erase 7.2 = Err(Failed)\nerase 7.2 = Ok(())")?;
+    fail_one(&rt, 0, "erase 7.2 = Ok(())\nerase 7.2 = Ok(())")
 }

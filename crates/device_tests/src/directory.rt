@@ -1,15 +1,13 @@
 //! The directory of owners.
 use assertions::same;
-use memory_growth::OutOfMemory;
-use obj_id::{Digest, DirectoryMessage, JobNo, Location, ObjectId, Refusal, TaskNo};
-use owner_directory::{Directory, DirectoryReply};
+use memory_growth::{OutOfMemory, text_of};
+use obj_id::{Digest, DirectoryMessage, JobNo, Location, ObjectId, TaskNo};
+use owner_directory::Directory;
+use std::alloc::Global;
+use std::process::Abort;
 use std::test::Fail;
 
 const JOB: JobNo = JobNo(1);
-
-fn object(index: u32) -> Result<ObjectId, Refusal> {
-    ObjectId::new(TaskNo::numbered(1), JOB, index)
-}
 
 fn copy_at(node: u32, length: u32) -> Location {
     Location {
@@ -19,60 +17,70 @@ fn copy_at(node: u32, length: u32) -> Location {
     }
 }
 
-/// What node 3 is told of the object, for its fetch 77.
+/// What the directory answers, in the words of the types. Unlike `apply` it promises nothing.
+fn answer(
+    alloc: Global,
+    directory: &mut Directory,
+    message: DirectoryMessage,
+) -> Result<String, OutOfMemory> {
+    let reply = directory.apply(JOB, message)?;
+    text_of!(in alloc; "{reply:?}")
+}
+
+/// Two nodes have the object. What node 3 is told of it, for its fetch 77.
 fn located(
+    alloc: Global,
     directory: &mut Directory,
-    job: JobNo,
     id: ObjectId,
-) -> Result<DirectoryReply, OutOfMemory> {
-    let asked = DirectoryMessage::Locate {
-        id,
-        node: 3,
-        number: 77,
-    };
-    Ok(directory.apply(job, asked)?)
+    length: u32,
+) -> Result<String, OutOfMemory> {
+    answer(
+        alloc,
+        directory,
+        DirectoryMessage::AddLocation(id, copy_at(4, length)),
+    )?;
+    answer(
+        alloc,
+        directory,
+        DirectoryMessage::AddLocation(id, copy_at(3, length)),
+    )?;
+    answer(
+        alloc,
+        directory,
+        DirectoryMessage::Locate {
+            id,
+            node: 3,
+            number: 77,
+        },
+    )
 }
 
-/// Whether node 3, for its fetch 77, is told just these nodes and lengths.
-fn tells(
+/// Checks that both entries of an object are told by rising node.
+fn check(
+    rt: &impl Abort,
+    alloc: Global,
     directory: &mut Directory,
-    job: JobNo,
-    asked: ObjectId,
-    want: &[(u32, u32)],
-) -> Result<bool, Refusal> {
-    let DirectoryReply::Located {
-        to,
-        id,
-        number,
-        entries,
-    } = located(directory, job, asked)?
-    else {
-        return Ok(false);
-    };
-    let response = entries.as_slice();
-    let same = response
-        .iter()
-        .zip(want)
-        .all(|(entry, pair)| (entry.node, entry.length) == *pair);
-    Ok(same && response.len() == want.len() && to == 3 && id == asked && number == 77)
+    index: u32,
+) -> Result<(), Fail> {
+    let id = ObjectId::new(TaskNo::numbered(1), JOB, index)?;
+    let entries = [copy_at(3, index), copy_at(4, index)];
+    let due =
+        text_of!(in alloc; "Located {{ to: 3, id: {id:?}, number: 77, entries: ItemList {{ items: {entries:?} }} }}")?;
+    let located = located(alloc, directory, id, index)?;
+    same!(rt; located.as_str(), due.as_str());
+    Ok(())
 }
 
-/// Whether two entries of each of 12 objects are told by rising node.
-fn all_told(directory: &mut Directory) -> Result<bool, Refusal> {
+/// Checks those of 12 objects.
+fn check_all(rt: &impl Abort, alloc: Global, directory: &mut Directory) -> Result<(), Fail> {
     for index in 1..=12 {
-        let id = object(index)?;
-        for node in [4, 3] {
-            directory.apply(JOB, DirectoryMessage::AddLocation(id, copy_at(node, index)))?;
-        }
-        if !tells(directory, JOB, id, &[(3, index), (4, index)])? {
-            return Ok(false);
-        }
+        check(rt, alloc, directory, index)?;
     }
-    Ok(true)
+    Ok(())
 }
 
 #[test]
-fn entries_are_told_by_rising_node(rt: HostRuntime) {
+fn entries_are_told_by_rising_node(rt: HostRuntime) -> Result<(), Fail> {
     let mut directory = Directory::new(rt.alloc());
-    same!(rt; all_told(&mut directory), Ok(true));
+    check_all(&rt, rt.alloc(), &mut directory)
 }

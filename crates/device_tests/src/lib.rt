@@ -9,3 +9,5 @@ mod directory;
 mod folders;
 #[cfg(test)]
 mod links;
+#[cfg(test)]
+mod scripts;

@@ -12,9 +12,9 @@ const MANY: u64 = 5_000;
 /// Sends 0, 1, 2 and so on for as long as they are accepted. How many were, and what became of the next.
 fn fill<R: Wait>(rt: &R, sender: &mut LinkSender<u64>) -> (u64, Sent) {
     for number in 0..MANY {
-        let sent = sender.send_next(rt, number);
-        if sent != Sent::Accepted {
-            return (number, sent);
+        match sender.send_next(rt, number) {
+            Sent::Accepted => {}
+            refused => return (number, refused),
         }
     }
     (MANY, Sent::Accepted)
@@ -60,12 +60,25 @@ fn pass_some<R: Wait + Abort>(
     sender: &mut LinkSender<u64>,
     receiver: &mut LinkReceiver<u64>,
 ) {
-    let sent = [7, 8, 9].map(|number| sender.send_next(rt, number));
-    same!(rt; sent, [Sent::Accepted; 3]);
-    same!(rt; receiver.receive_next(rt), Some(7));
-    same!(rt; receiver.receive_next(rt), Some(8));
-    same!(rt; sender.send_next(rt, 10), Sent::Accepted);
-    same!(rt; receiver.receive_next(rt), Some(9));
+    let first = [
+        sender.send_next(rt, 7),
+        sender.send_next(rt, 8),
+        sender.send_next(rt, 9),
+    ];
+    let received = [receiver.receive_next(rt), receiver.receive_next(rt)];
+    let sent = (
+        first,
+        received,
+        sender.send_next(rt, 10),
+        receiver.receive_next(rt),
+    );
+    let due = (
+        [Sent::Accepted; 3],
+        [Some(7), Some(8)],
+        Sent::Accepted,
+        Some(9),
+    );
+    same!(rt; sent, due);
 }
 
 #[test]
@@ -80,12 +93,12 @@ fn fill_again<R: Wait + Abort>(
     sender: &mut LinkSender<u64>,
     receiver: &mut LinkReceiver<u64>,
 ) {
-    same!(rt; fill(rt, sender), (1024, Sent::Full));
+    let filled = fill(rt, sender);
+    let received = receiver.receive_next(rt);
+    let sent = [sender.send_next(rt, 1024), sender.send_next(rt, 1025)];
+    let response = (filled, received, sent, receiver.receive_next(rt));
+    same!(rt; response, ((1024, Sent::Full), Some(0), [Sent::Accepted, Sent::Full], Some(1)));
     same!(rt; MOST_IN_FLIGHT, 1024);
-    same!(rt; receiver.receive_next(rt), Some(0));
-    same!(rt; sender.send_next(rt, 1024), Sent::Accepted);
-    same!(rt; sender.send_next(rt, 1025), Sent::Full);
-    same!(rt; receiver.receive_next(rt), Some(1));
 }
 
 #[test]
@@ -100,13 +113,19 @@ fn close_and_drain<R: Wait + Abort>(
     sender: &mut LinkSender<u64>,
     receiver: &mut LinkReceiver<u64>,
 ) {
-    same!(rt; fill(rt, sender), (1024, Sent::Full));
+    let filled = fill(rt, sender);
     sender.close();
-    same!(rt; sender.send_next(rt, 1024), Sent::Ended);
-    same!(rt; drain(rt, receiver), Some(1024));
+    let late = sender.send_next(rt, 1024);
+    let drained = drain(rt, receiver);
     sender.close();
-    same!(rt; sender.send_next(rt, 1024), Sent::Ended);
-    same!(rt; receiver.receive_next(rt), None);
+    let response = (
+        filled,
+        late,
+        drained,
+        sender.send_next(rt, 1024),
+        receiver.receive_next(rt),
+    );
+    same!(rt; response, ((1024, Sent::Full), Sent::Ended, Some(1024), Sent::Ended, None));
 }
 
 #[test]
@@ -131,12 +150,22 @@ fn a_sending_end_that_is_dropped_is_closed(rt: HostRuntime) -> Result<(), Fail> 
     Ok(())
 }
 
+/// Sends a number before and one after the receiver is dropped.
+fn send_round_a_drop<R: Wait>(
+    rt: &R,
+    sender: &mut LinkSender<u64>,
+    receiver: LinkReceiver<u64>,
+) -> [Sent; 2] {
+    let before = sender.send_next(rt, 0);
+    drop(receiver);
+    [before, sender.send_next(rt, 1)]
+}
+
 #[test]
 fn without_a_receiver_nothing_is_accepted(rt: HostRuntime) -> Result<(), Fail> {
     let (mut sender, receiver) = open::<u64>(rt.alloc())?;
-    same!(rt; sender.send_next(&rt, 0), Sent::Accepted);
-    drop(receiver);
-    same!(rt; sender.send_next(&rt, 1), Sent::Ended);
+    let sent = send_round_a_drop(&rt, &mut sender, receiver);
+    same!(rt; sent, [Sent::Accepted, Sent::Ended]);
     Ok(())
 }
 
