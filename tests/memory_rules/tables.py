@@ -305,5 +305,6 @@ HUGE: Dict[str, Dict[str, str]] = {
 # Files that make a refusal of its number or its name, and of what they read it.
 NUMBERED: Dict[str, str] = {
     "journal_text/src/replies.rt": "the name in an answer's line of a saved journal",
+    "node_housekeeping/src/job_counts.rt": "all refusals, each to have its count shown",
     "words_tests/src/ids.rt": "a test of the numbers and the names",
 }
