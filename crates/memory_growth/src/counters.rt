@@ -10,7 +10,7 @@ pub struct CountEnded {
     ended: (),
 }
 
-/// Who can't count on answers as without memory: no other answer is meant for it.
+/// A step that can't be counted is answered as one without memory: no other answer is meant for it.
 impl From<CountEnded> for OutOfMemory {
     fn from(_ended: CountEnded) -> OutOfMemory {
         OutOfMemory::new()

@@ -1,4 +1,4 @@
-//! The kinds of commands: what is counted of them, and what those who serve nodes know of them.
+//! The kinds of commands: how they are counted, and what the crates that serve a node know of them.
 use crate::waiting::WakeScope;
 use obj_id::Command;
 use private_store::Awaited;
@@ -53,7 +53,7 @@ pub(crate) const KINDS: [CommandKind; COMMAND_KINDS] = [
     CommandKind::CreateWait,
 ];
 
-/// What those who serve nodes know of a kind of command.
+/// What the crates that serve a node know of a kind of command.
 #[derive(Clone, Copy)]
 struct Traits {
     // it may take copies out of the job's window
@@ -116,7 +116,7 @@ impl CommandKind {
         self.traits().reaches_others
     }
 
-    /// Whether it may change or remove a copy that isn't sealed. The last who keeps a primary may let go of it before it is.
+    /// Whether it may change or remove a copy that isn't sealed. The last task that keeps a primary may let go of it before that.
     pub(crate) fn meets_seals(self) -> bool {
         self.traits().meets_seals
     }

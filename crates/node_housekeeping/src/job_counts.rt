@@ -64,7 +64,7 @@ pub struct Count {
     pub number: u64,
 }
 
-/// What was counted of a job: in atomics, so that who counts waits for nobody. After its type's last number a count begins again.
+/// What was counted of a job: in atomics, so that a session that counts waits for nobody. After its type's last number a count begins again.
 #[derive(Drop)]
 pub struct JobCounts {
     commands: [AtomicU64; COMMAND_KINDS],
