@@ -3,3 +3,4 @@ mod Lanes
 mod Twins
 mod OneRound
 mod Messages
+mod Writing
