@@ -43,6 +43,14 @@ impl Hashed {
         Hashed { bytes, digest }
     }
 
+    /// Bytes whose digest was computed elsewhere. Hashes nothing.
+    pub fn known(bytes: Bytes, digest: Digest) -> Hashed
+        requires { digest ≡ digest_of bytes }
+        ensures { result ≡ bytes }
+    {
+        Hashed { bytes, digest }
+    }
+
     /// Their digest. Hashes nothing.
     pub fn digest(&self) -> Digest
         ensures { result ≡ digest_of self.now }
