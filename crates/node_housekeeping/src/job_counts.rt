@@ -1,6 +1,6 @@
 //! What is counted of a job at a node, for its operator.
-use crate::command_kind::{COMMAND_KINDS, CommandKind, KINDS};
 use bytes::Bytes;
+use command_kinds::{COMMAND_KINDS, CommandKind, KINDS, Outline};
 use memory_growth::{OutOfMemory, lists};
 use obj_id::{Command, Refusal, Reply};
 use private_store::Awaited;
@@ -85,8 +85,9 @@ impl JobCounts {
 
     /// A command was taken from a session.
     pub fn note_command(&self, command: &Command<Bytes>) {
-        self.add(CountName::Command(CommandKind::of(command)), 1);
-        if let Command::Write { bytes, .. } = command {
+        let outline = Outline::of(command);
+        self.add(CountName::Command(outline.kind), 1);
+        if let Some(bytes) = outline.payload {
             self.add(CountName::Event(JobEvent::BytesIn), bytes.len() as u64);
         }
     }

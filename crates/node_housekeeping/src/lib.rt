@@ -4,7 +4,6 @@
 #![tactic(auto)]
 
 mod client;
-mod command_kind;
 mod counts;
 mod device_calls;
 mod housekeeping;
@@ -25,7 +24,6 @@ mod work_done;
 mod worker_bell;
 
 pub use client::is_gone;
-pub use command_kind::CommandKind;
 pub use counts::{Counts, NodeCounts};
 pub use device_calls::{Finishing, call_device};
 pub use housekeeping::Housekeeping;

@@ -1,7 +1,7 @@
 //! Which copies are being hashed for a Seal.
 ghost use Rattle.std.specs.Prelude.{◌<◌};
 
-use crate::command_kind::CommandKind;
+use command_kinds::{CommandKind, Outline, Subject};
 use obj_id::{Command, JobNo, ObjectId};
 use std::array;
 use std::sync::{Condvar, Mutex, Wait};
@@ -22,15 +22,17 @@ struct Sealing {
 impl Sealing {
     /// Whether the command would change or remove the copy.
     fn is_met<B>(&self, job: JobNo, command: &Command<B>) -> bool {
-        self.job == job
-            && match command {
-                Command::Write { id, .. }
-                | Command::Unpin(id, _)
-                | Command::GiveUp(id, _)
-                | Command::Delete(id) => self.id == *id,
-                Command::EndTask(task) => self.id.task() == *task,
-                _ => false,
-            }
+        let outline = Outline::of(command);
+        self.job == job && outline.kind.meets_seals() && self.is_subject(outline.subject)
+    }
+
+    /// Whether the copy is what a command is about, or of the task that it is about.
+    fn is_subject(&self, subject: Subject) -> bool {
+        match subject {
+            Subject::OwnObject(id) => self.id == id,
+            Subject::Task(task) => self.id.task() == task,
+            Subject::AnyObject(_) | Subject::All => false,
+        }
     }
 }
 

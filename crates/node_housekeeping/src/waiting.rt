@@ -2,8 +2,8 @@
 ghost use Rattle.std.specs.Prelude.{◌<◌};
 
 use crate::client::is_gone;
-use crate::command_kind::CommandKind;
 use bytes::Bytes;
+use command_kinds::{CommandKind, Moved};
 use obj_id::{JobNo, Refusal, Reply};
 use private_store::{ChunkVerdict, Judged};
 use std::array;
@@ -236,7 +236,7 @@ pub fn wake_scope_of(input: Option<&Judged>, reply: &Reply<Bytes>) -> WakeScope 
     }
     match input {
         None => WakeScope::Nothing,
-        Some(Judged::Call(_, command)) => CommandKind::of(command).wakes(),
+        Some(Judged::Call(_, command)) => scope_of(CommandKind::of(command).moved()),
         Some(
             Judged::Chunk {
                 verdict: ChunkVerdict::Part,
@@ -256,5 +256,14 @@ pub fn wake_scope_of(input: Option<&Judged>, reply: &Reply<Bytes>) -> WakeScope 
         Some(Judged::End) => WakeScope::AllJobs,
         Some(Judged::Requota(_) | Judged::Received { .. } | Judged::Withdrawn { .. }) =>
             WakeScope::Copies,
+    }
+}
+
+/// The scope of what a command's step has moved.
+fn scope_of(moved: Moved) -> WakeScope {
+    match moved {
+        Moved::Nothing => WakeScope::Nothing,
+        Moved::Copies => WakeScope::Copies,
+        Moved::Fetches => WakeScope::Fetches,
     }
 }

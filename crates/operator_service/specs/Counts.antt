@@ -7,8 +7,8 @@ use Rattle.private_store.specs.declared.schedules.StepAnswer.TheVariants.{Respon
 use Rattle.schedule_text.specs.declared.prefixes.Prefix.TheVariants.{Operator}
 use Rattle.schedule_text.specs.Lines.{with_line_feed}
 use Rattle.schedule_text.specs.Printing.{line_text}
-use Rattle.node_housekeeping.specs.declared.command_kind.CommandKind.{CommandKind}
-use Rattle.node_housekeeping.specs.declared.command_kind.CommandKind.TheVariants as kind
+use Rattle.command_kinds.specs.declared.command_kind.CommandKind.{CommandKind}
+use Rattle.command_kinds.specs.declared.command_kind.CommandKind.TheVariants as kind
 use Rattle.node_housekeeping.specs.declared.counts.NodeCounts.{NodeCounts}
 use Rattle.node_housekeeping.specs.declared.job_counts.Count.{Count}
 use Rattle.node_housekeeping.specs.declared.job_counts.CountName.{CountName}

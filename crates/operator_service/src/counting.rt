@@ -3,9 +3,10 @@ ghost use Rattle.std.specs.Prelude.{◌≡◌, IfOk};
 ghost use Rattle.std.specs.String.{string_bytes};
 ghost use Rattle.operator_service.specs.Counts.{IsJobCountsLine, IsNodeCountsLine, count_text as count_text_lem, counts_text as counts_text_lem, event_word as event_word_lem, job_counts_line as job_counts_line_lem, kind_word as kind_word_lem, lock_text as lock_text_lem, name_text as name_text_lem, node_counts_line as node_counts_line_lem, own_text as own_text_lem, sessions_text as sessions_text_lem};
 
+use command_kinds::CommandKind;
 use memory_growth::{OutOfMemory, text_of, texts};
 use node_gate::JournaledNode;
-use node_housekeeping::{CommandKind, Count, CountName, JobEvent, NodeCounts};
+use node_housekeeping::{Count, CountName, JobEvent, NodeCounts};
 use obj_id::{JobNo, Refusal, Reply};
 use private_store::StepAnswer;
 use schedule_text::{Prefix, answer_line};

@@ -1,6 +1,5 @@
 //! A node with its journal behind a lock.
 ghost use Rattle.std.specs.Prelude.{◌≡◌, ◌⊎◌, ◌<◌, true, false, Some, None, MatchOption, MatchResult, IfSome, IfOk, IfErr};
-ghost use Rattle.obj_id.specs.declared.commands.Command.TheVariants as command;
 ghost use Rattle.obj_id.specs.declared.commands.Reply.TheVariants as reply;
 ghost use Rattle.obj_id.specs.declared.refusals.Refusal.TheVariants.{NoMemory, NotAdmitted, Stale, TooMany};
 ghost use Rattle.private_store.specs.laws.Answers.{is_small_reply};
@@ -14,11 +13,10 @@ use crate::preparing::{prepare_finish, spent_by};
 use crate::receipt_buffer::ReceiptBuffer;
 use crate::refusing::out_of_memory;
 use bytes::Bytes;
+use command_kinds::{CommandKind, Preparation};
 use memory_growth::OutOfMemory;
 use node_gate::{Access, JournaledNode, Keeper, Posted};
-use node_housekeeping::{
-    CommandKind, Housekeeping, JobEvent, NoPause, Pause, Versions, Waiting, is_gone,
-};
+use node_housekeeping::{Housekeeping, JobEvent, NoPause, Pause, Versions, Waiting, is_gone};
 use node_links::Outbox;
 use node_steps::{
     Stepped, audit_one, step_arrival, step_call, step_call_after, step_end, step_event,
@@ -200,9 +198,11 @@ impl<K: JournaledNode, P: Pause> SharedNode<K, P> {
         ensures called { IfOk result (λ s. IsNext K.called_by K.rises last.now (event.Call job session command) s.reply s.receipt) }
         ensures small { IfOk result (λ s. is_small_reply s.reply ≡ true) }
     {
-        if let Command::Seal(id) = &command {
-            let id = *id;
-            return self.step_seal(rt, last, job, session, id);
+        match Preparation::of(&command) {
+            Preparation::Digest(id) => {
+                return self.step_seal(rt, last, job, session, &id, command);
+            }
+            Preparation::NewExtent { .. } | Preparation::CopyExtent(_) | Preparation::Nothing => {}
         }
         let making = self.housekeeping.makers.of(job).lock(rt);
         let prepared = self.prepare_place(rt, job, &command);
@@ -218,17 +218,18 @@ impl<K: JournaledNode, P: Pause> SharedNode<K, P> {
         last: &Option<K::Receipt>,
         job: JobNo,
         session: u32,
-        id: ObjectId,
+        id: &ObjectId,
+        command: Command<Bytes>,
     ) -> Result<Stepped<K::Receipt, K::Mail>, OutOfMemory>
-        ensures called { IfOk result (λ s. IsNext K.called_by K.rises last.now (event.Call job session (command.Seal id)) s.reply s.receipt) }
+        ensures called { IfOk result (λ s. IsNext K.called_by K.rises last.now (event.Call job session command) s.reply s.receipt) }
         ensures small { IfOk result (λ s. is_small_reply s.reply ≡ true) }
     {
         let seals = &self.housekeeping.seals;
-        seals.begin(rt, job, &id);
-        self.prepare_seal(rt, job, &id);
+        seals.begin(rt, job, id);
+        self.prepare_seal(rt, job, id);
         let nothing = K::nothing_prepared();
-        let stepped = self.step_with(rt, nothing, last, job, session, Command::Seal(id));
-        seals.end(rt, job, &id);
+        let stepped = self.step_with(rt, nothing, last, job, session, command);
+        seals.end(rt, job, id);
         stepped
     }
 

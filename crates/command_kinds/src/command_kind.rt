@@ -1,10 +1,13 @@
-//! The kinds of commands: how they are counted, and what the crates that serve a node know of them.
-use crate::waiting::WakeScope;
+//! The kinds of commands, and what is known of a command by its kind.
+ghost use Rattle.std.specs.Prelude.{◌≡◌};
+ghost use Rattle.command_kinds.specs.Kinds.{awaited_kind_of, kind_of, traits_of};
+
+use crate::Outline;
 use obj_id::Command;
 use private_store::Awaited;
 
 /// How many kinds there are.
-pub(crate) const COMMAND_KINDS: usize = 19;
+pub const COMMAND_KINDS: usize = 19;
 
 /// What a session asks, whatever of: a command, or one that waits.
 #[derive(Clone, Copy, Debug, PartialEq, Eq)]
@@ -31,7 +34,7 @@ pub enum CommandKind {
 }
 
 /// All of them, in their order.
-pub(crate) const KINDS: [CommandKind; COMMAND_KINDS] = [
+pub const KINDS: [CommandKind; COMMAND_KINDS] = [
     CommandKind::Create,
     CommandKind::Write,
     CommandKind::Seal,
@@ -53,7 +56,18 @@ pub(crate) const KINDS: [CommandKind; COMMAND_KINDS] = [
     CommandKind::CreateWait,
 ];
 
-/// What the crates that serve a node know of a kind of command.
+/// What a step that wasn't refused may have moved for the job's calls that wait.
+#[derive(Clone, Copy, Debug, PartialEq, Eq)]
+pub enum Moved {
+    /// Nothing that a call waits for.
+    Nothing,
+    /// Room, or a copy that is here.
+    Copies,
+    /// Room, a copy, or what another node has of what is fetched.
+    Fetches,
+}
+
+/// What is known of a kind of command.
 #[derive(Clone, Copy)]
 struct Traits {
     // it may take copies out of the job's window
@@ -62,8 +76,8 @@ struct Traits {
     meets_seals: bool,
     // it may make a list in the journal for a job that isn't live
     reaches_others: bool,
-    // what it may have moved, if it wasn't refused
-    wakes: WakeScope,
+    // what it may have moved
+    moved: Moved,
 }
 
 /// Of a kind that does nothing of the sort.
@@ -71,35 +85,21 @@ const QUIET: Traits = Traits {
     removes: false,
     meets_seals: false,
     reaches_others: false,
-    wakes: WakeScope::Nothing,
+    moved: Moved::Nothing,
 };
 
 impl CommandKind {
     /// The kind of a command.
-    pub fn of<P>(command: &Command<P>) -> CommandKind {
-        match command {
-            Command::Create { .. } => CommandKind::Create,
-            Command::Write { .. } => CommandKind::Write,
-            Command::Seal(_) => CommandKind::Seal,
-            Command::Get(_) => CommandKind::Get,
-            Command::Read { .. } => CommandKind::Read,
-            Command::Release(_) => CommandKind::Release,
-            Command::Unpin(..) => CommandKind::Unpin,
-            Command::Borrow(..) => CommandKind::Borrow,
-            Command::GiveUp(..) => CommandKind::GiveUp,
-            Command::Delete(_) => CommandKind::Delete,
-            Command::EndTask(_) => CommandKind::EndTask,
-            Command::Grant(..) => CommandKind::Grant,
-            Command::Withdraw(..) => CommandKind::Withdraw,
-            Command::Peek { .. } => CommandKind::Peek,
-            Command::List => CommandKind::List,
-            Command::Usage => CommandKind::Usage,
-            Command::Leave => CommandKind::Leave,
-        }
+    pub fn of<P>(command: &Command<P>) -> CommandKind
+        ensures { result ≡ kind_of command.now }
+    {
+        Outline::of(command).kind
     }
 
     /// The kind of a command that waits.
-    pub(crate) fn of_awaited(awaited: &Awaited) -> CommandKind {
+    pub fn of_awaited(awaited: &Awaited) -> CommandKind
+        ensures { result ≡ awaited_kind_of awaited.now }
+    {
         match awaited {
             Awaited::Get(_) => CommandKind::GetWait,
             Awaited::Create { .. } => CommandKind::CreateWait,
@@ -107,27 +107,37 @@ impl CommandKind {
     }
 
     /// Whether a step of it may take copies out of the job's window.
-    pub fn may_remove(self) -> bool {
+    pub fn may_remove(self) -> bool
+        ensures { result ≡ (traits_of self).removes }
+    {
         self.traits().removes
     }
 
     /// Whether it may make a list in the journal for a job that isn't live.
-    pub fn reaches_others(self) -> bool {
+    pub fn reaches_others(self) -> bool
+        ensures { result ≡ (traits_of self).reaches_others }
+    {
         self.traits().reaches_others
     }
 
     /// Whether it may change or remove a copy that isn't sealed. The last task that keeps a primary may let go of it before that.
-    pub(crate) fn meets_seals(self) -> bool {
+    pub fn meets_seals(self) -> bool
+        ensures { result ≡ (traits_of self).meets_seals }
+    {
         self.traits().meets_seals
     }
 
     /// What a step of it may have moved that wasn't refused.
-    pub(crate) fn wakes(self) -> WakeScope {
-        self.traits().wakes
+    pub fn moved(self) -> Moved
+        ensures { result ≡ (traits_of self).moved }
+    {
+        self.traits().moved
     }
 
     /// The table: a kind that is new has to be put somewhere.
-    fn traits(self) -> Traits {
+    fn traits(self) -> Traits
+        ensures { result ≡ traits_of self }
+    {
         match self {
             CommandKind::Create
             | CommandKind::CreateWait
@@ -141,24 +151,24 @@ impl CommandKind {
                 ..QUIET
             },
             CommandKind::Seal => Traits {
-                wakes: WakeScope::Copies,
+                moved: Moved::Copies,
                 ..QUIET
             },
             CommandKind::Release | CommandKind::Withdraw | CommandKind::Leave => Traits {
                 removes: true,
-                wakes: WakeScope::Copies,
+                moved: Moved::Copies,
                 ..QUIET
             },
             CommandKind::Unpin | CommandKind::GiveUp => Traits {
                 removes: true,
                 meets_seals: true,
-                wakes: WakeScope::Copies,
+                moved: Moved::Copies,
                 ..QUIET
             },
             CommandKind::Delete | CommandKind::EndTask => Traits {
                 removes: true,
                 meets_seals: true,
-                wakes: WakeScope::Fetches,
+                moved: Moved::Fetches,
                 ..QUIET
             },
             CommandKind::Grant => Traits {

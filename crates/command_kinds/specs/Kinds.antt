@@ -1,0 +1,96 @@
+-- What is known of a command by its kind.
+use Rattle.std.specs.Prelude.{true, false, Option, Some, None}
+use Rattle.obj_id.specs.declared.commands.Command.{Command}
+use Rattle.obj_id.specs.declared.commands.Command.TheVariants as command
+use Rattle.private_store.specs.declared.frames.Awaited.{Awaited}
+use Rattle.private_store.specs.declared.frames.Awaited.TheVariants as awaited
+use Rattle.command_kinds.specs.declared.command_kind.CommandKind.{CommandKind}
+use Rattle.command_kinds.specs.declared.command_kind.CommandKind.TheVariants as kinds
+use Rattle.command_kinds.specs.declared.command_kind.Moved.TheVariants as moved
+use Rattle.command_kinds.specs.declared.command_kind.Traits.{Traits}
+use Rattle.command_kinds.specs.declared.outline.Subject.{Subject}
+use Rattle.command_kinds.specs.declared.outline.Subject.TheVariants as subject
+use Rattle.command_kinds.specs.declared.preparation.Preparation.{Preparation}
+use Rattle.command_kinds.specs.declared.preparation.Preparation.TheVariants as preparation
+
+-- the kind of a command, whatever it has for the bytes that are written
+abbrev pub kind_of : {P : Type 0} → Command P → CommandKind
+kind_of (command.Create id kind n) = kinds.Create
+kind_of (command.Write id offset bytes) = kinds.Write
+kind_of (command.Seal id) = kinds.Seal
+kind_of (command.Get id) = kinds.Get
+kind_of (command.Read id offset n) = kinds.Read
+kind_of (command.Release id) = kinds.Release
+kind_of (command.Unpin id task) = kinds.Unpin
+kind_of (command.Borrow id task) = kinds.Borrow
+kind_of (command.GiveUp id task) = kinds.GiveUp
+kind_of (command.Delete id) = kinds.Delete
+kind_of (command.EndTask task) = kinds.EndTask
+kind_of (command.Grant id target) = kinds.Grant
+kind_of (command.Withdraw id target) = kinds.Withdraw
+kind_of (command.Peek id offset n) = kinds.Peek
+kind_of command.List = kinds.List
+kind_of command.Usage = kinds.Usage
+kind_of command.Leave = kinds.Leave
+
+abbrev pub awaited_kind_of : Awaited → CommandKind
+awaited_kind_of (awaited.Get id) = kinds.GetWait
+awaited_kind_of (awaited.Create id kind n) = kinds.CreateWait
+
+-- what a command is about
+abbrev pub subject_of : {P : Type 0} → Command P → Subject
+subject_of (command.Create id kind n) = subject.OwnObject id
+subject_of (command.Write id offset bytes) = subject.OwnObject id
+subject_of (command.Seal id) = subject.OwnObject id
+subject_of (command.Get id) = subject.OwnObject id
+subject_of (command.Read id offset n) = subject.OwnObject id
+subject_of (command.Release id) = subject.OwnObject id
+subject_of (command.Unpin id task) = subject.OwnObject id
+subject_of (command.Borrow id task) = subject.OwnObject id
+subject_of (command.GiveUp id task) = subject.OwnObject id
+subject_of (command.Delete id) = subject.OwnObject id
+subject_of (command.EndTask task) = subject.Task task
+subject_of (command.Grant id target) = subject.AnyObject id
+subject_of (command.Withdraw id target) = subject.AnyObject id
+subject_of (command.Peek id offset n) = subject.AnyObject id
+subject_of command.List = subject.All
+subject_of command.Usage = subject.All
+subject_of command.Leave = subject.All
+
+-- what a command has written
+abbrev pub payload_of : {P : Type 0} → Command P → Option P
+payload_of (command.Write id offset bytes) = Some bytes
+payload_of _ = None
+
+-- what is best made before a command's step
+abbrev pub preparation_of : {P : Type 0} → Command P → Preparation
+preparation_of (command.Create id kind n) = preparation.NewExtent id n
+preparation_of (command.Seal id) = preparation.Digest id
+preparation_of (command.Get id) = preparation.CopyExtent id
+preparation_of _ = preparation.Nothing
+
+-- of a kind that does nothing of the sort
+abbrev quiet : Traits
+quiet = record { removes = false; meets_seals = false; reaches_others = false; moved = moved.Nothing }
+
+-- the table: a kind that is new has to be put somewhere
+abbrev pub traits_of : CommandKind → Traits
+traits_of kinds.Create = record quiet { removes = true }
+traits_of kinds.CreateWait = record quiet { removes = true }
+traits_of kinds.Get = record quiet { removes = true }
+traits_of kinds.GetWait = record quiet { removes = true }
+traits_of kinds.Write = record quiet { meets_seals = true }
+traits_of kinds.Seal = record quiet { moved = moved.Copies }
+traits_of kinds.Read = quiet
+traits_of kinds.Release = record quiet { removes = true; moved = moved.Copies }
+traits_of kinds.Unpin = record quiet { removes = true; meets_seals = true; moved = moved.Copies }
+traits_of kinds.Borrow = quiet
+traits_of kinds.GiveUp = record quiet { removes = true; meets_seals = true; moved = moved.Copies }
+traits_of kinds.Delete = record quiet { removes = true; meets_seals = true; moved = moved.Fetches }
+traits_of kinds.EndTask = record quiet { removes = true; meets_seals = true; moved = moved.Fetches }
+traits_of kinds.Grant = record quiet { reaches_others = true }
+traits_of kinds.Withdraw = record quiet { removes = true; moved = moved.Copies }
+traits_of kinds.Peek = quiet
+traits_of kinds.List = quiet
+traits_of kinds.Usage = quiet
+traits_of kinds.Leave = record quiet { removes = true; moved = moved.Copies }
