@@ -3,6 +3,7 @@
 ghost use Rattle.std.specs.Prelude.{◌≡◌};
 
 use bytes::Bytes;
+use command_kinds::Preparation;
 use job_row::JobRow;
 use obj_id::limits::MOST_BYTES;
 use obj_id::{ChunkIndex, Command, CopyState, FetchNo, NodeNo, ObjectId};
@@ -13,30 +14,40 @@ const LONG: u32 = 65_536;
 
 /// Whether there are rows at which something would best be prepared for the command.
 pub fn may_want(command: &Command<Bytes>) -> bool {
-    match command {
-        Command::Seal(_) | Command::Get(_) => true,
-        Command::Create { length: len, .. } => *len >= LONG,
-        _ => false,
+    match Preparation::of(command) {
+        Preparation::Digest(_) | Preparation::CopyExtent(_) => true,
+        Preparation::NewExtent { length: len, .. } => len >= LONG,
+        Preparation::Nothing => false,
     }
 }
 
 /// Whether something would best be prepared for the command.
 pub fn wants(row: &JobRow, command: &Command<Bytes>) -> bool {
-    matches!(command, Command::Seal(_)) || extent_wanted(row, command).is_some()
+    match Preparation::of(command) {
+        Preparation::Digest(_) => true,
+        Preparation::NewExtent { .. } | Preparation::CopyExtent(_) => {
+            extent_wanted(row, command).is_some()
+        }
+        Preparation::Nothing => false,
+    }
 }
 
 /// How long the object is for which the command may place an extent, if that is long.
 pub fn extent_wanted(row: &JobRow, command: &Command<Bytes>) -> Option<u32> {
-    let len = match command {
-        Command::Create {
-            id,
-            length: len,
-            ..
-        } if !row.copies().has(id) => *len,
-        Command::Get(id) => length_to_come(row, id)?,
-        _ => return None,
+    let len = match Preparation::of(command) {
+        Preparation::NewExtent { id, length: len } => length_to_make(row, &id, len)?,
+        Preparation::CopyExtent(id) => length_to_come(row, &id)?,
+        Preparation::Digest(_) | Preparation::Nothing => return None,
     };
     if len < LONG || !row.window().may_have(len) {
+        return None;
+    }
+    Some(len)
+}
+
+/// How long a copy becomes that is made, if there is none of the object.
+fn length_to_make(row: &JobRow, id: &ObjectId, len: u32) -> Option<u32> {
+    if row.copies().has(id) {
         return None;
     }
     Some(len)
