@@ -14,7 +14,7 @@ from pathlib import Path
 from typing import Any, Callable, Dict, Iterator, List, NamedTuple, Sequence, Tuple
 
 ROOT = Path(__file__).resolve().parent.parent
-sys.path[:0] = [str(ROOT / place) for place in ("tests", "clients/python", "clients/python/tests")]
+sys.path[:0] = [str(ROOT / place) for place in ("tests", "clients/python/src", "clients/python/tests")]
 
 from spelling import read_bytes, spelled  # noqa: E402
 from store_client import ObjectId, ProtocolError, Task  # noqa: E402

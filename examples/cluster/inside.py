@@ -19,7 +19,7 @@ from pathlib import Path
 from typing import Callable, List
 
 ROOT = Path(__file__).resolve().parents[2]
-CLIENT = ROOT / "clients/python"
+CLIENT = ROOT / "clients/python/src"
 sys.path.append(str(ROOT / "examples"))
 
 from serving import program_or_end  # noqa: E402

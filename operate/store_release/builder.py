@@ -13,7 +13,7 @@ sys.path.append(str(ROOT / "clients/python/backend"))
 
 from store_build.archives import pack  # noqa: E402
 from store_build.client import client_wheel  # noqa: E402
-from store_build.project import Project, ProjectFault  # noqa: E402
+from store_build.project import SOURCES, Project, ProjectFault  # noqa: E402
 from store_build.wheels import wheel as pack_wheel  # noqa: E402
 
-__all__ = ["Project", "ProjectFault", "client_wheel", "pack", "pack_wheel"]
+__all__ = ["SOURCES", "Project", "ProjectFault", "client_wheel", "pack", "pack_wheel"]

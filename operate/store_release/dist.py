@@ -32,7 +32,7 @@ from .sources import CRATES, committed_tree, git, is_repository
 from .wheels import wheels
 
 VERSION_SOURCE = "crates/schedule_runs/src/command_line.rt"
-CLIENT_VERSION_SOURCE = "clients/python/store_client/__init__.py"
+CLIENT_VERSION_SOURCE = "clients/python/src/store_client/__init__.py"
 # files by their names
 Made = Dict[str, bytes]
 

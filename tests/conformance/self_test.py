@@ -145,7 +145,7 @@ def files() -> List[str]:
 def types(folder: str) -> List[str]:
     """What mypy says of the kit; nothing if all is well."""
     clients = _HERE.parent.parent / "clients/python"
-    paths = os.pathsep.join(map(str, (_HERE, _HERE.parent, clients, clients / "tests")))
+    paths = os.pathsep.join(map(str, (_HERE, _HERE.parent, clients / "src", clients / "tests")))
     sources = [*sorted(_HERE.glob("*.py")), _HERE / "run", _HERE / "drivers/python", _HERE / "drivers/puppet"]
     found = []
     for group in (sources[:-2], sources[-2:-1], sources[-1:]):

@@ -14,7 +14,7 @@ from pathlib import Path
 from typing import Any, Callable, Iterator, List, NamedTuple, Sequence
 
 TOP = Path(__file__).resolve().parent.parent.parent
-sys.path[:0] = [str(TOP / place) for place in ("tests", "operate", "clients/python")]
+sys.path[:0] = [str(TOP / place) for place in ("tests", "operate", "clients/python/src")]
 
 import store_client  # noqa: E402
 from store_operator.inspection import count_sessions, look_at  # noqa: E402

@@ -14,4 +14,4 @@ ROOT = Path(__file__).resolve().parents[2]
 PATIENCE = 100
 
 # nothing of a checkout is installed while it is tested
-sys.path[:0] = [str(ROOT / place) for place in ("operate", "clients/python") if str(ROOT / place) not in sys.path]
+sys.path[:0] = [str(ROOT / place) for place in ("operate", "clients/python/src") if str(ROOT / place) not in sys.path]

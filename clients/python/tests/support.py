@@ -18,7 +18,7 @@ from typing import Any, Iterator, Optional
 from unittest import mock
 
 ROOT = Path(__file__).resolve().parents[3]
-sys.path[:0] = [str(ROOT / "clients/python"), str(ROOT / "tests")]
+sys.path[:0] = [str(ROOT / "clients/python/src"), str(ROOT / "tests")]
 
 import store_client  # noqa: E402
 import store_testing.server  # noqa: E402

@@ -28,7 +28,7 @@ sys.path.append(str(ROOT / "operate"))
 
 from store_operator.sizes import parse_size  # noqa: E402
 
-CLIENT = ROOT / "clients/python"
+CLIENT = ROOT / "clients/python/src"
 # seconds after its process's end in which a server has to be gone
 SOON = 5.0
 # what a script begins with
@@ -297,7 +297,7 @@ class Programs(Local):
     def setUp(self) -> None:
         super().setUp()
         self.top = self.folder / "top"
-        self.copy = self.top / "clients/python"
+        self.copy = self.top / "clients/python/src"
         shutil.copytree(CLIENT / "store_client", self.copy / "store_client", ignore=shutil.ignore_patterns("__pycache__"))
         self.binaries = self.folder / "bin"
         self.binaries.mkdir()

@@ -41,8 +41,10 @@ def _of_package() -> Optional[str]:
 def _of_checkout() -> Optional[str]:
     """What the repository's own command finds, if this package lies in the repository. It says which one that is, once."""
     folder = Path(__file__).resolve().parent
-    command = folder.parents[2] / "operate/program"
-    if folder.parts[-3:] != ("clients", "python", "store_client") or not command.exists():
+    if folder.parts[-4:] != ("clients", "python", "src", "store_client"):
+        return None
+    command = folder.parents[3] / "operate/program"
+    if not command.exists():
         return None
     done = subprocess.run([sys.executable, str(command)], stdin=subprocess.DEVNULL, capture_output=True, text=True, check=False)
     if done.returncode:
