@@ -16,7 +16,7 @@ from typing import Any, Callable, Dict, Iterator, List, NamedTuple, Sequence, Tu
 ROOT = Path(__file__).resolve().parent.parent
 sys.path[:0] = [str(ROOT / place) for place in ("tests", "clients/python/src", "clients/python/tests")]
 
-from spelling import read_bytes, spelled  # noqa: E402
+from store_testing.spelling import read_bytes, spelled  # noqa: E402
 from store_client import ObjectId, ProtocolError, Task  # noqa: E402
 from store_client.requests import Request, Requests  # noqa: E402
 from store_testing.frames import enter, exchange  # noqa: E402

@@ -5,15 +5,9 @@ It is imported once something is packed: what only looks for a program, or reads
 
 from __future__ import annotations
 
-import sys
-
-from .faults import ROOT
-
-sys.path.append(str(ROOT / "clients/python/backend"))
-
-from store_build.archives import pack  # noqa: E402
-from store_build.client import client_wheel  # noqa: E402
-from store_build.project import SOURCES, Project, ProjectFault  # noqa: E402
-from store_build.wheels import wheel as pack_wheel  # noqa: E402
+from store_build.archives import pack
+from store_build.client import client_wheel
+from store_build.project import SOURCES, Project, ProjectFault
+from store_build.wheels import wheel as pack_wheel
 
 __all__ = ["SOURCES", "Project", "ProjectFault", "client_wheel", "pack", "pack_wheel"]

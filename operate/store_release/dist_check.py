@@ -1,4 +1,3 @@
-#!/usr/bin/env python3
 """Makes a release and its Debian package twice and compares; unpacks both in empty folders, looks at checksums, manual pages and the
 wheels, and serves from there with an empty environment; runs the program below a root that has nothing but the libraries that
 it names, if this user may do so; and makes the release that is kept in dist/ again, if there is one. The last line counts.
@@ -29,19 +28,15 @@ import zipfile
 from pathlib import Path
 from typing import Callable, List, Optional, Sequence
 
-HERE = Path(__file__).resolve().parent
-sys.dont_write_bytecode = True
-sys.path.insert(0, str(HERE))
-
-from store_release.debian import NAME, unpacked as files_of  # noqa: E402
-from store_release.faults import ROOT, DistFault, output  # noqa: E402
-from store_release.kept import newest  # noqa: E402
-from store_release.program import BUILT, NOTE, built_program, program_or_end  # noqa: E402
-from store_release.proved import ENDING, PROVED, read_proved  # noqa: E402
-from store_release.sources import committed_tree  # noqa: E402
+from .debian import NAME, unpacked as files_of
+from .faults import ROOT, DistFault, output
+from .kept import newest
+from .program import BUILT, NOTE, built_program, program_or_end
+from .proved import ENDING, PROVED, read_proved
+from .sources import committed_tree
 
 EXAMPLES = ROOT / "examples"
-PAGES = sorted((HERE / "man").glob("*.1"))
+PAGES = sorted((ROOT / "operate/man").glob("*.1"))
 CLIENT_PAGE = ROOT / "clients/python/README.md"
 # what differs if only what is known of the program does
 TOLD = {PROVED, "SHA256SUMS"}
@@ -345,7 +340,7 @@ def cases(system: Optional[Path]) -> "tuple[List[Callable[[Path], None]], List[s
 
 
 def main(given: Optional[List[str]] = None) -> int:
-    options = argparse.ArgumentParser(description=__doc__, formatter_class=argparse.RawDescriptionHelpFormatter)
+    options = argparse.ArgumentParser(prog="dist-check", description=__doc__, formatter_class=argparse.RawDescriptionHelpFormatter)
     options.add_argument("--root", type=Path, metavar="FOLDER", help="a Debian system in which the package is installed")
     tried, left_out = cases(options.parse_args(given).root)
     program_or_end()

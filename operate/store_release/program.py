@@ -1,11 +1,14 @@
-"""The program that scripts, examples, tests and targets of make take in this checkout.
+"""The program that scripts, examples, tests and targets of make take in this checkout: operate/program prints its path, and says on standard
+error which one it is.
 
 It is the one that STORE_PROGRAM names. Otherwise it is the built one, if the file beside it says that it is of the crates/ that are
-here. Otherwise it is that of the newest release in dist/, unpacked into out/release/.
+here. Otherwise it is that of the newest release in dist/, unpacked into out/release/, whose sources may be others. SOURCES=exact in the
+environment refuses those.
 """
 
 from __future__ import annotations
 
+import argparse
 import enum
 import errno
 import os
@@ -172,3 +175,10 @@ def _unpack(kept: Kept, folder: Path) -> None:
             raise
     finally:
         shutil.rmtree(part, ignore_errors=True)
+
+
+def main() -> int:
+    options = argparse.ArgumentParser(prog="program", description=__doc__, formatter_class=argparse.RawDescriptionHelpFormatter)
+    options.parse_args()
+    print(program_or_end())
+    return 0

@@ -22,11 +22,8 @@ from support import PATIENCE, PROGRAM, ROOT, in_child
 
 import store_client
 from store_client import ConnectionLost, NotStarted, ObjectId, Pool, embedded
+from store_operator.sizes import parse_size
 from store_testing.waiting import until
-
-sys.path.append(str(ROOT / "operate"))
-
-from store_operator.sizes import parse_size  # noqa: E402
 
 CLIENT = ROOT / "clients/python/src"
 # seconds after its process's end in which a server has to be gone

@@ -16,17 +16,15 @@ import zipfile
 from pathlib import Path
 from typing import List, Mapping, Optional, Union
 
+import store_build
+from store_build.client import client_files, client_wheel, source_archive
+from store_build.project import ProjectFault, read_project, read_tables
 from support import PATIENCE, ROOT
 
 import store_client
+from store_release.wheel import wheel
 
 FOLDER = ROOT / "clients/python"
-sys.path += [str(FOLDER / "backend"), str(ROOT / "operate")]
-
-import store_build  # noqa: E402
-from store_build.client import client_files, client_wheel, source_archive  # noqa: E402
-from store_build.project import ProjectFault, read_project, read_tables  # noqa: E402
-from store_release.wheel import wheel  # noqa: E402
 
 
 def has(*modules: str) -> bool:

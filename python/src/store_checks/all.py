@@ -1,4 +1,3 @@
-#!/usr/bin/env python3
 """All tests that need no proof, side by side, with a line for each part; the last line counts them.
 
 Parts of the sources: the tests of each test crate and the worked schedules, by builds without a proof. They want the Rattle kit; without
@@ -24,10 +23,8 @@ from concurrent.futures import ThreadPoolExecutor
 from pathlib import Path
 from typing import Dict, List, NamedTuple, Optional, Sequence, Tuple
 
-ROOT = Path(__file__).resolve().parent.parent
-sys.dont_write_bytecode = True
-
-from store_testing.program import program_or_end  # noqa: E402
+from store_testing import ROOT
+from store_testing.program import program_or_end
 
 CRATES = ROOT / "crates"
 # what stands at the end of what a part prints

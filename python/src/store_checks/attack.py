@@ -1,4 +1,3 @@
-#!/usr/bin/env python3
 """Attacks a program that serves, while two jobs work whose answers may not show it.
 
 Of a node with 64 jobs, two run scripts that are fixed: one draws commands from a seed, refusals among them, and the other
@@ -25,12 +24,10 @@ import threading
 import time
 from typing import Callable, Dict, List, NamedTuple, Sequence, Tuple
 
-sys.dont_write_bytecode = True
-
-from store_testing.frames import ask, enter, exchange, frame, hello, ident, key, numbers, receive  # noqa: E402
-from store_testing.processes import memory_of  # noqa: E402
-from store_testing.program import program_or_end  # noqa: E402
-from store_testing.server import Server  # noqa: E402
+from store_testing.frames import ask, enter, exchange, frame, hello, ident, key, numbers, receive
+from store_testing.processes import memory_of
+from store_testing.program import program_or_end
+from store_testing.server import Server
 
 FRAMES = 1_000_000
 JOBS = 64

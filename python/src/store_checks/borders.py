@@ -1,4 +1,3 @@
-#!/usr/bin/env python3
 """What the proofs of one crate cite of another's.
 
 A crate's `proofs/` are its own affair: they may be written anew at any time, as long as its contracts stay. What others cite is in three
@@ -22,10 +21,8 @@ import sys
 from functools import lru_cache
 from typing import Dict, Iterator, List, NamedTuple, Optional, Set, Tuple
 
-sys.dont_write_bytecode = True
-
-from store_testing import ROOT  # noqa: E402
-from store_testing.looks import Looks, text_of  # noqa: E402
+from store_testing import ROOT
+from store_testing.looks import Looks, text_of
 
 CRATES, CASES = ROOT / "crates", ROOT / "tests/border_cases"
 FACTS, LAWS, IDS = "store_facts", "store_laws", "obj_id"

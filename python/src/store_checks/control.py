@@ -1,4 +1,3 @@
-#!/usr/bin/env python3
 """Gives a program that serves its orders on the control socket, and compares each answer.
 
 Starts `store serve --control`, and sends each order while sessions work; lists sessions, ends some of them, and counts what they ask and are
@@ -26,13 +25,11 @@ import time
 from pathlib import Path
 from typing import Dict, Iterator, List, Optional, Sequence
 
-sys.dont_write_bytecode = True
-
-from store_testing import PATIENCE  # noqa: E402
-from store_testing.frames import ask, frame, hello, ident, key, numbers, receive, session  # noqa: E402
-from store_testing.program import program_or_end  # noqa: E402
-from store_testing.server import Server, report_of  # noqa: E402
-from store_testing.waiting import until  # noqa: E402
+from store_testing import PATIENCE
+from store_testing.frames import ask, frame, hello, ident, key, numbers, receive, session
+from store_testing.program import program_or_end
+from store_testing.server import Server, report_of
+from store_testing.waiting import until
 
 ORDERS = (
     "admit NODE JOB WINDOW DEVICE KEY, quota NODE JOB WINDOW DEVICE, end NODE JOB, jobs NODE, usage NODE JOB, sessions NODE, "

@@ -1,4 +1,3 @@
-#!/usr/bin/env python3
 """The test crates with allocations failing: in run N of a crate allocation N of each of its tests fails. The gate makes none fail.
 
 A test may pass. It may also end since memory ran out, and say so: by its error, or by a reply, a fault or a frame that it found in place
@@ -20,7 +19,8 @@ import sys
 from pathlib import Path
 from typing import Dict, Iterator, List, NamedTuple, Set
 
-ROOT = Path(__file__).resolve().parent.parent
+from store_testing import ROOT
+
 CRATES = """words_tests copy_tests job_tests node_tests device_tests cluster_tests text_tests frame_tests session_tests call_tests
     program_tests""".split()
 NUMBERS = ["1", "2", "3", "5", "8", "13"]

@@ -1,4 +1,3 @@
-#!/usr/bin/env python3
 """Comes in by the front door, as a stranger does: in fresh clones of the last commit, with an empty home, and without the Rattle kit or
 anything that was built. Does what the front page shows, and serves, shows the guarantee, installs the client, runs an example, makes the
 Debian package, and is refused in one line what can't be had.
@@ -21,7 +20,8 @@ import venv
 from pathlib import Path
 from typing import Dict, List
 
-ROOT = Path(__file__).resolve().parent.parent
+from store_testing import ROOT
+
 PATIENCE = 200
 READY = "store-daemon: ready"
 # the longest path of a socket is 107 bytes
@@ -158,12 +158,16 @@ class FrontDoor(unittest.TestCase):
         self.assertFalse((self.top / "out").exists() and any((self.top / "out").iterdir()), f"{words} left something")
 
 
-if __name__ == "__main__":
+def main() -> int:
     # a shell has it ignored in the background, and the server is interrupted here
     signal.signal(signal.SIGINT, signal.default_int_handler)
-    result = unittest.main(exit=False).result
+    result = unittest.main(__name__, exit=False).result
     failed = len(result.failures) + len(result.errors)
     for case, reason in result.skipped:
         print(f"left out: {case.id().rpartition('.')[2]}: {reason}")
     print(f"{result.testsRun - failed - len(result.skipped)} passed, {failed} failed")
-    sys.exit(not result.wasSuccessful())
+    return 0 if result.wasSuccessful() else 1
+
+
+if __name__ == "__main__":
+    sys.exit(main())

@@ -1,4 +1,3 @@
-#!/usr/bin/env python3
 """Runs a command, such as `make gate`, and prints what each crate took of it: minutes of a processor for its proof, its must-fail edits
 and its tests, and when its proof was done. It looks at the checker's processes below the command every two seconds, so what takes less
 isn't seen, and the last two seconds of what it sees aren't either. Only Linux has what it reads; elsewhere the command is run alone.
@@ -139,8 +138,12 @@ def without_last(text: bytes) -> Tuple[bytes, bytes]:
     return text[:cut], text[cut:]
 
 
-if __name__ == "__main__":
+def main() -> int:
     if len(sys.argv) < 2 or sys.argv[1] in ("-h", "--help"):
         print(f"{__doc__}\nusage: {sys.argv[0]} COMMAND ..")
-        sys.exit(0 if len(sys.argv) > 1 else 2)
-    sys.exit(run(sys.argv[1:]))
+        return 0 if len(sys.argv) > 1 else 2
+    return run(sys.argv[1:])
+
+
+if __name__ == "__main__":
+    sys.exit(main())

@@ -1,4 +1,3 @@
-#!/usr/bin/env python3
 """The client in Go: it is formatted, vetted and tested, at a running server and at scripts that stand in for one.
 
 Starts `store serve` in a temporary folder, with two nodes and two jobs. By go it runs gofmt and vet, the tests of the documented frames,
@@ -14,11 +13,9 @@ import sys
 from pathlib import Path
 from typing import Dict, Sequence, Tuple
 
-sys.dont_write_bytecode = True
-
-from store_testing import ROOT  # noqa: E402
-from store_testing.counting import tell  # noqa: E402
-from store_testing.foreign import PATIENCE, run_client_test  # noqa: E402
+from store_testing import ROOT
+from store_testing.counting import tell
+from store_testing.foreign import PATIENCE, run_client_test
 
 FOLDER = ROOT / "clients/go"
 # the client's driver for the kit of dialogues, a module of its own
@@ -113,5 +110,9 @@ def all_parts(server: Dict[str, str], folder: str) -> Tuple[int, int]:
     return sum(passed for passed, _ in counts), sum(failed for _, failed in counts)
 
 
+def main() -> int:
+    return run_client_test("Go", "go", __doc__ or "", all_parts, sys.argv[1:])
+
+
 if __name__ == "__main__":
-    sys.exit(run_client_test("Go", "go", __doc__ or "", all_parts, sys.argv[1:]))
+    sys.exit(main())

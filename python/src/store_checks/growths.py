@@ -1,4 +1,3 @@
-#!/usr/bin/env python3
 """Growths of memory refused in turn, in runs of the program on schedules.
 
 Growth N of a run is the N-th piece of memory that the program asks for. It is refused, for N = 1, 2, 3 and so on, until a run asks for no N-th
@@ -30,13 +29,11 @@ from concurrent.futures import ThreadPoolExecutor
 from pathlib import Path
 from typing import Dict, Iterator, List, NamedTuple, Optional, Sequence, Set, Tuple
 
-sys.dont_write_bytecode = True
-
-from store_testing import PATIENCE, ROOT  # noqa: E402
-from store_testing.program import program_or_end  # noqa: E402
+from store_testing import PATIENCE, ROOT
+from store_testing.program import program_or_end
 
 FOLDERS = (ROOT / "examples", ROOT / "crates/schedules/data/worked")
-SOURCE = Path(__file__).resolve().with_name("growths.c")
+SOURCE = ROOT / "tests/growths.c"
 # the schedules that are run at a time
 AT_ONCE = 2
 NO_MEMORY = "refused 19 NoMemory"

@@ -1,4 +1,3 @@
-#!/usr/bin/env python3
 """Saves the journals of runs by the program that operate/program finds, and has the same program check them.
 
 Of each schedule of examples/: the answers are those of a run that saves no journal, and the journal replays, all of its lines. A
@@ -14,10 +13,8 @@ import tempfile
 from pathlib import Path
 from typing import Optional, Sequence, Tuple, Union
 
-sys.dont_write_bytecode = True
-
-from store_testing import PATIENCE, ROOT  # noqa: E402
-from store_testing.program import program_or_end  # noqa: E402
+from store_testing import PATIENCE, ROOT
+from store_testing.program import program_or_end
 
 PROGRAM = program_or_end()
 SCHEDULES = sorted((ROOT / "examples").glob("*.schedule"))

@@ -1,4 +1,3 @@
-#!/usr/bin/env python3
 """Looks for what a linter finds in all Python of the repository: names that are imported or set and never used, names that aren't there, and
 the like.
 
@@ -14,12 +13,13 @@ import shutil
 import subprocess
 import sys
 import tempfile
-from importlib.machinery import SourceFileLoader
-from importlib.util import module_from_spec, spec_from_loader
 from pathlib import Path
 from typing import Dict, List, Sequence
 
-ROOT = Path(__file__).resolve().parent.parent
+from store_testing import ROOT
+
+from .strict import python_files
+
 SETTINGS = ROOT / "pyproject.toml"
 # a line about a file
 FAULT = re.compile(r"^(.+?):(\d+):\d+: (\w+) ")
@@ -36,17 +36,6 @@ FILES = {
     "wrong_variable.py": "def run() -> None:\n    unused = 1\n",
     "wrong_comparison.py": "def is_none(value: object) -> bool:\n    return value == None\n",
 }
-
-
-def python_files() -> List[str]:
-    """As `tests/strict` finds them."""
-    loader = SourceFileLoader("strict", str(ROOT / "tests" / "strict"))
-    spec = spec_from_loader(loader.name, loader)
-    assert spec is not None
-    strict = module_from_spec(spec)
-    loader.exec_module(strict)
-    found: List[str] = strict.python_files()
-    return found
 
 
 def rules() -> List[str]:

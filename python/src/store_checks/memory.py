@@ -1,4 +1,3 @@
-#!/usr/bin/env python3
 """Who asks for memory, and who answers that it ran out.
 
 An answer 19 NoMemory is outside what is guaranteed to a job, and no contract can ask the allocator whether it refused. So the form of the
@@ -27,17 +26,14 @@ import re
 import sys
 from typing import Dict, FrozenSet, List, Optional, Set, Tuple
 
-sys.dont_write_bytecode = True
-HERE = pathlib.Path(__file__).resolve().parent
-ROOT = HERE.parent
-sys.path.insert(0, str(HERE))
+from store_testing import ROOT
 
-from memory_rules import rules  # noqa: E402
-from memory_rules.rules import ALWAYS, OUTSIDE, File, Finding, findings  # noqa: E402
-from memory_rules.tables import BUILDERS, GROWTH, HUGE, KIT, MACROS, NUMBERED, OURS, PLACES  # noqa: E402
-from memory_rules.text import Source  # noqa: E402
+from .memory_rules import rules
+from .memory_rules.rules import ALWAYS, OUTSIDE, File, Finding, findings
+from .memory_rules.tables import BUILDERS, GROWTH, HUGE, KIT, MACROS, NUMBERED, OURS, PLACES
+from .memory_rules.text import Source
 
-CRATES, CASES = ROOT / "crates", HERE / "memory_cases"
+CRATES, CASES = ROOT / "crates", ROOT / "tests/memory_cases"
 UNLISTED = "a crate that crates.txt doesn't name"
 # of which crate a case is, and the name by which that is read
 WHERE = {

@@ -1,4 +1,3 @@
-#!/usr/bin/env python3
 """What a script can see of the pages: that they name what is there, and give the numbers that the repository has.
 
 It looks at each .md file of the repository:
@@ -24,14 +23,12 @@ import sys
 from functools import lru_cache
 from typing import Callable, Iterator, List, Sequence, Set, Tuple
 
-sys.dont_write_bytecode = True
-
-from store_testing import ROOT  # noqa: E402
-from store_testing.looks import Looks, text_of  # noqa: E402
+from store_testing import ROOT
+from store_testing.looks import Looks, text_of
 
 # nothing in these is of the repository
 ASIDE = {".git", "out", "dist", "__pycache__", ".mypy_cache"}
-TOP = ("bench", "clients", "crates", "docs", "examples", "operate", "tests", ".ci")
+TOP = ("bench", "clients", "crates", "docs", "examples", "operate", "python", "tests", ".ci")
 SUFFIXES = "antt|edit|expected|journal|md|program|py|rt|schedule|svg|toml|vectors"
 # words of a pattern, in place of which a page means any
 ANY = re.compile(r"NAME|PATH|FILE|\.\.+$")

@@ -1,4 +1,3 @@
-#!/usr/bin/env python3
 """Tests of bench/picture, and of the replay by the plain model that it draws from; of bench/parts, bench/crates_picture and
 bench/top_picture; of tests/proof_picture; and of bench/guarantee, with the plain model in place of the program. No program is needed. The last line counts
 them."""
@@ -20,15 +19,12 @@ from pathlib import Path
 from types import ModuleType
 from typing import Any, Dict, Optional, Set, Tuple
 
-ROOT = Path(__file__).resolve().parent.parent
-sys.dont_write_bytecode = True
-sys.path[:0] = [str(ROOT / "tests"), str(ROOT / "bench")]
-
-from model.drawing import Drawing  # noqa: E402
-from model.replay import Replay, read_journal, replayed  # noqa: E402
-from model.store import PrivateStore  # noqa: E402
-from model.words import Kind  # noqa: E402
-from model.worked import read_worked  # noqa: E402
+from model.drawing import Drawing
+from model.replay import Replay, read_journal, replayed
+from model.store import PrivateStore
+from model.words import Kind
+from model.worked import read_worked
+from store_testing import ROOT
 
 PICTURES = ROOT / "docs/pictures"
 WORKED = ROOT / "crates/schedules/data/replays"
@@ -275,18 +271,20 @@ class Proof(unittest.TestCase):
         """What the script complains of over these sources with one text changed."""
         with tempfile.TemporaryDirectory() as folder:
             root = Path(folder)
-            for part in ("bench", "crates", "crates.txt", "README.md"):
+            for part in ("bench", "crates", "python", "crates.txt", "README.md"):
                 if (ROOT / part).is_dir():
                     shutil.copytree(ROOT / part, root / part, ignore=OTHERS)
                 else:
                     shutil.copy(ROOT / part, root)
             (root / "tests").mkdir()
-            shutil.copy(ROOT / "tests/proof_picture", root / "tests")
+            for command in ("proof_picture", "launcher.py"):
+                shutil.copy(ROOT / "tests" / command, root / "tests")
+            shutil.copytree(ROOT / "tests/store_testing", root / "tests/store_testing")
             changed = (root / name).read_text()
             self.assertIn(old, changed)
             (root / name).write_text(changed.replace(old, new))
-            command = [str(root / "tests/proof_picture"), "-o", str(root / "svg")]
-            done = subprocess.run(command, capture_output=True, text=True, check=False)
+            words = [str(root / "tests/proof_picture"), "-o", str(root / "svg")]
+            done = subprocess.run(words, capture_output=True, text=True, check=False)
             self.assertEqual((done.returncode, (root / "svg").exists()), (1, False))
             return done.stderr
 
@@ -294,7 +292,6 @@ class Proof(unittest.TestCase):
 # answers each command of a session Ok; if LEAKS it refuses job 1 a List while another job has a session
 SERVER = """
 import os, socket, sys, threading
-sys.path.insert(0, os.getcwd())
 from store_testing.frames import frame, read_frame
 
 def serve(stream):
@@ -331,7 +328,7 @@ class Guarantee(unittest.TestCase):
             path.write_text(f"#!/bin/sh\ncd {ROOT}/tests\n{program}\n")
             path.chmod(0o700)
             command = [str(ROOT / "bench/guarantee"), *words]
-            names = {**os.environ, "STORE_PROGRAM": str(path)}
+            names = {**os.environ, "STORE_PROGRAM": str(path), "PYTHONPATH": str(ROOT / "tests")}
             done = subprocess.run(command, capture_output=True, text=True, check=False, env=names)
             return done.returncode, done.stdout.rpartition("\n")[0].rpartition("\n")[2], done.stderr
 
@@ -380,8 +377,12 @@ class Guarantee(unittest.TestCase):
         self.assertRegex(self.show("exit 0")[2], "^guarantee: .* answered 0 of 4[0-9] lines\n$")
 
 
-if __name__ == "__main__":
-    result = unittest.main(exit=False).result
+def main() -> int:
+    result = unittest.main(__name__, exit=False).result
     failed = len(result.failures) + len(result.errors)
     print(f"{result.testsRun - failed} passed, {failed} failed")
-    sys.exit(not result.wasSuccessful())
+    return 0 if result.wasSuccessful() else 1
+
+
+if __name__ == "__main__":
+    sys.exit(main())

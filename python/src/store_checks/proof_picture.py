@@ -1,4 +1,3 @@
-#!/usr/bin/env python3
 """Draws the picture of the proof: which clause of which function carries which part of README's sentence, and which function stands on
 which, down to the definitions.
 
@@ -15,11 +14,8 @@ from functools import lru_cache
 from pathlib import Path
 from typing import Dict, List, NamedTuple, Set, Tuple
 
-ROOT = Path(__file__).resolve().parent.parent
-sys.dont_write_bytecode = True
-sys.path.insert(0, str(ROOT / "bench"))
-
-from drawing import COLOURS, INK, PALE_INK, Drawing, text_width, wrapped  # noqa: E402
+from drawing import COLOURS, INK, PALE_INK, Drawing, text_width, wrapped
+from store_testing import ROOT
 
 # a page shows it at its own size: no type is smaller than SMALL
 WIDTH, MARGIN, CODE_RIGHT, WORDS_LEFT = 900, 8, 640, 658

@@ -1,4 +1,3 @@
-#!/usr/bin/env python3
 """The client in Rust: it is built and tested, at a running server and at scripts that stand in for one.
 
 Starts `store serve` in a temporary folder, with two nodes and two jobs. By cargo it runs the tests of the library, the documented frames,
@@ -13,11 +12,9 @@ import sys
 from pathlib import Path
 from typing import Dict, Sequence, Tuple
 
-sys.dont_write_bytecode = True
-
-from store_testing import ROOT  # noqa: E402
-from store_testing.counting import tell  # noqa: E402
-from store_testing.foreign import PATIENCE, run_client_test  # noqa: E402
+from store_testing import ROOT
+from store_testing.counting import tell
+from store_testing.foreign import PATIENCE, run_client_test
 
 FOLDER = ROOT / "clients/rust"
 RESULT = re.compile(r"^test result: \w+\. (\d+) passed; (\d+) failed; (\d+) ignored", re.MULTILINE)
@@ -86,5 +83,9 @@ def all_parts(server: Dict[str, str], folder: str) -> Tuple[int, int]:
     return sum(passed for passed, _ in counts), sum(failed for _, failed in counts)
 
 
+def main() -> int:
+    return run_client_test("Rust", "cargo", __doc__ or "", all_parts, sys.argv[1:])
+
+
 if __name__ == "__main__":
-    sys.exit(run_client_test("Rust", "cargo", __doc__ or "", all_parts, sys.argv[1:]))
+    sys.exit(main())

@@ -1,4 +1,3 @@
-#!/usr/bin/env python3
 """Runs sessions of two jobs at a program that serves, and compares each answer's bytes.
 
 Starts `store serve`, admits two jobs by the operator's lines, and lets a client of each job work at the same time over the
@@ -29,13 +28,11 @@ import time
 from pathlib import Path
 from typing import Iterator, List, Sequence, Set, Tuple, Union
 
-sys.dont_write_bytecode = True
-
-from store_testing import PATIENCE  # noqa: E402
-from store_testing.frames import ask, enter, exchange, frame, hello, ident, key, numbers, receive, session  # noqa: E402
-from store_testing.processes import memory_of  # noqa: E402
-from store_testing.program import program_or_end  # noqa: E402
-from store_testing.server import FAILED_CALL, READY, Server, report_of  # noqa: E402
+from store_testing import PATIENCE
+from store_testing.frames import ask, enter, exchange, frame, hello, ident, key, numbers, receive, session
+from store_testing.processes import memory_of
+from store_testing.program import program_or_end
+from store_testing.server import FAILED_CALL, READY, Server, report_of
 
 ROUNDS = 200
 OBJECTS = 30

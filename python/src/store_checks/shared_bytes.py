@@ -1,4 +1,3 @@
-#!/usr/bin/env python3
 """Looks at each byte of objects whose bytes a program shares once they are sealed, and hashes before it locks a node.
 
 Answers lie in the server while their object is deleted, spilled, or its job ends and others write into its place: they have to hold
@@ -29,14 +28,12 @@ import time
 from pathlib import Path
 from typing import Callable, Dict, Iterator, List, Optional, Sequence, Set, Tuple
 
-sys.dont_write_bytecode = True
-
-from store_testing import PATIENCE  # noqa: E402
-from store_testing.frames import exchange, frame, ident, numbers, read_frame, session  # noqa: E402
-from store_testing.processes import memory_of  # noqa: E402
-from store_testing.program import program_or_end  # noqa: E402
-from store_testing.server import Server  # noqa: E402
-from store_testing.waiting import until  # noqa: E402
+from store_testing import PATIENCE
+from store_testing.frames import exchange, frame, ident, numbers, read_frame, session
+from store_testing.processes import memory_of
+from store_testing.program import program_or_end
+from store_testing.server import Server
+from store_testing.waiting import until
 
 MEBI = 1 << 20
 PIECE = 65_536

@@ -1,4 +1,3 @@
-#!/usr/bin/env python3
 """Lets a program of three nodes serve sessions for an hour, and looks at each answer and at its memory.
 
 The sessions put, get, delete, grant, hand on, withdraw and end tasks as they are drawn by lot, while the operator changes
@@ -37,20 +36,17 @@ from collections import Counter
 from pathlib import Path
 from typing import List, NamedTuple, Optional, Sequence
 
-sys.dont_write_bytecode = True
-ROOT = Path(__file__).resolve().parent.parent
-sys.path[:0] = [str(ROOT / "clients/python/src"), str(ROOT / "clients/python/tests")]
+from model.drawing import Tally
+from store_client import DeviceFailed
+from store_testing.daemon import Supervised
+from store_testing.disk import Disk
+from store_testing.processes import memory_of
+from store_testing.program import program_or_end
+from store_testing.server import FAILED_CALL, Report, Server
 
-from model.drawing import Tally  # noqa: E402
-from soaking.alone import Private  # noqa: E402
-from soaking.shared import FIRST_JOB, MEMORY, NODES, Lane, Program, Soak  # noqa: E402
-from soaking.together import WINDOWS, Crew, Member  # noqa: E402
-from store_client import DeviceFailed  # noqa: E402
-from store_testing.daemon import Supervised  # noqa: E402
-from store_testing.disk import Disk  # noqa: E402
-from store_testing.processes import memory_of  # noqa: E402
-from store_testing.program import program_or_end  # noqa: E402
-from store_testing.server import FAILED_CALL, Report, Server  # noqa: E402
+from .soaking.alone import Private
+from .soaking.shared import FIRST_JOB, MEMORY, NODES, Lane, Program, Soak
+from .soaking.together import WINDOWS, Crew, Member
 
 # seconds that an answer may take
 PATIENCE = 120

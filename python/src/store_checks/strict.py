@@ -1,4 +1,3 @@
-#!/usr/bin/env python3
 """Looks at the types of all Python of the repository, by mypy --strict with the settings of pyproject.toml.
 
 Each file that git knows or would add is looked at, whatever its ending. What mypy is told to ignore has to be named by its code, and to have a
@@ -18,7 +17,8 @@ import tempfile
 from pathlib import Path
 from typing import Dict, Iterator, List, Sequence, Set
 
-ROOT = Path(__file__).resolve().parent.parent
+from store_testing import ROOT
+
 SETTINGS = ROOT / "pyproject.toml"
 # how a script begins that is Python, whatever its name
 SCRIPT = re.compile(rb"#!\S*(?:/env )?python3?\b|#!/usr/bin/env python3?\b")
@@ -48,12 +48,14 @@ def output(*words: str) -> str:
 
 
 def python_files() -> List[str]:
-    """The paths below the top folder of all files of Python that git knows or would add."""
+    """The paths below the top folder of all files of Python that git knows or would add. What a link leads to has a path of its own."""
     names = output("git", "ls-files", "--cached", "--others", "--exclude-standard", "-z").split("\0")
-    return sorted({name for name in names if name and (ROOT / name).is_file() and is_python(ROOT / name)})
+    return sorted({name for name in names if name and is_python(ROOT / name)})
 
 
 def is_python(path: Path) -> bool:
+    if path.is_symlink() or not path.is_file():
+        return False
     if path.suffix:
         return path.suffix == ".py"
     with open(path, "rb") as file:

@@ -11,19 +11,16 @@ import tempfile
 from pathlib import Path
 from typing import Dict, Sequence
 
-HERE = Path(__file__).resolve().parent
-ROOT = HERE.parent.parent
-sys.path.insert(0, str(HERE.parent))
-
-from store_release.archive import pack  # noqa: E402
-from store_release.contents import Content  # noqa: E402
-from store_release.proved import PROVED, told_of  # noqa: E402
+from store_release.archive import pack
+from store_release.contents import Content
+from store_release.faults import ROOT
+from store_release.proved import PROVED, told_of
 
 # seconds that a script may take, on a machine that does much else
 PATIENCE = 60.0
 # of this repository, what scripts need, and what a release and a server need besides
-SCRIPTS = ("operate", "clients/python/backend")
-ALL = ("operate", "clients", "docs", "examples", "README.md", "LICENSE", "Makefile")
+SCRIPTS = ("operate", "python", "clients/python/backend")
+ALL = ("operate", "python", "clients", "docs", "examples", "README.md", "LICENSE", "Makefile")
 GIT = ("git", "-c", "user.name=tests", "-c", "user.email=tests@localhost", "-c", "commit.gpgsign=false")
 # what says which program is taken
 CHOICES = ("STORE_PROGRAM", "SOURCES")

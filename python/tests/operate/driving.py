@@ -10,23 +10,20 @@ import sys
 from pathlib import Path
 from typing import Dict, List, Tuple
 
-HERE = Path(__file__).resolve().parent
-sys.path[:0] = [str(HERE.parent), str(HERE.parent.parent / "tests")]
-
-from store_testing import ROOT as ROOT  # noqa: E402
-from store_testing.daemon import DAEMON as DAEMON  # noqa: E402
-from store_testing.daemon import KEY as KEY  # noqa: E402
-from store_testing.daemon import Place as Place  # noqa: E402
-from store_testing.daemon import fill as fill  # noqa: E402
-from store_testing.daemon import is_running as is_running  # noqa: E402
-from store_testing.daemon import listens as listens  # noqa: E402
-from store_testing.program import program_or_end  # noqa: E402
-from store_testing.waiting import until as until  # noqa: E402
+from store_testing import ROOT as ROOT
+from store_testing.daemon import DAEMON as DAEMON
+from store_testing.daemon import KEY as KEY
+from store_testing.daemon import Place as Place
+from store_testing.daemon import fill as fill
+from store_testing.daemon import is_running as is_running
+from store_testing.daemon import listens as listens
+from store_testing.program import program_or_end
+from store_testing.waiting import until as until
 
 PROGRAM = program_or_end()
-CTL = str(HERE.parent / "storectl")
-CLIENT = str(HERE.parent / "store-client")
-STANDS_IN = str(HERE / "standing_in.py")
+CTL = str(ROOT / "operate/storectl")
+CLIENT = str(ROOT / "operate/store-client")
+STANDS_IN = str(Path(__file__).with_name("standing_in.py"))
 # seconds that an answer or an end may take, on a machine that does much else
 PATIENCE = 60.0
 

@@ -2,13 +2,9 @@
 
 from __future__ import annotations
 
-import sys
 import unittest
-from pathlib import Path
 
-sys.path.insert(0, str(Path(__file__).resolve().parents[1]))
-
-from store_release.contents import committed  # noqa: E402
+from store_release.contents import committed
 
 # what tests share
 TESTING = "store_testing"

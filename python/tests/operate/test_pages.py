@@ -10,14 +10,14 @@ import unittest
 from pathlib import Path
 from typing import List, Tuple
 
-from driving import DAEMON, HERE, PROGRAM, ROOT, Place, ctl, until
+from driving import DAEMON, PROGRAM, ROOT, Place, ctl, until
 
 from store_operator.asking import Daemon, Mark
 from store_operator.limits import needed_descriptors
 from store_operator.orders import SUMMARY
 from store_operator.settings import JOB_OPTIONS, MOST_NODES, STORE_OPTIONS, read_settings
 
-OPERATE = HERE.parent
+OPERATE = ROOT / "operate"
 PAGES = sorted((OPERATE / "man").glob("*.1"))
 OPERATING = ROOT / "docs/OPERATING.md"
 # of the page, what is indented

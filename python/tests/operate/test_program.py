@@ -178,9 +178,13 @@ class Found(Of):
 
     def test_an_old_python_is_told(self) -> None:
         for script in ("program", "serve", "dist", "note-program", "release-due"):
-            code = f"import runpy, sys; sys.version_info = (3, 8, 20); sys.argv = ['{script}']; runpy.run_path('operate/{script}')"
-            command = [sys.executable, "-c", code]
-            done = subprocess.run(command, cwd=self.checkout.top, capture_output=True, text=True, timeout=PATIENCE, check=False)
+            run = f"runpy.run_path('operate/{script}', run_name='__main__')"
+            command = [sys.executable, "-c", f"import runpy, sys; sys.version_info = (3, 8, 20); sys.argv = ['{script}']; {run}"]
+            done = subprocess.run(
+                command, cwd=self.checkout.top, capture_output=True, text=True, timeout=PATIENCE, check=False,
+                # a script's own folder, which Python looks through by itself
+                env={**os.environ, "PYTHONPATH": "operate"},
+            )
             self.assertEqual((done.returncode, done.stderr), (2, f"{script}: Python 3.9 or later is needed\n"))
 
 

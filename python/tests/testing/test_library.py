@@ -1,8 +1,7 @@
-#!/usr/bin/env python3
 """Tests of store_testing: what it takes for a right end of a server, and what it refuses; how it reads frames, and a process's memory;
 how it waits, and how it counts.
 
-A script stands in for the program, so that none is needed. The last line counts the tests.
+A script stands in for the program, so that none is needed.
 """
 
 from __future__ import annotations
@@ -18,15 +17,13 @@ import unittest
 from pathlib import Path
 from typing import Iterator, Tuple
 
-sys.dont_write_bytecode = True
-
-from store_testing import ROOT  # noqa: E402
-from store_testing.counting import SHOWN, tell  # noqa: E402
-from store_testing.frames import ask, exchange, frame, hello, key, numbers, read_frame, receive  # noqa: E402
-from store_testing.looks import Looks  # noqa: E402
-from store_testing.processes import memory_of  # noqa: E402
-from store_testing.server import Report, Server, report_of  # noqa: E402
-from store_testing.waiting import until  # noqa: E402
+from store_testing import ROOT
+from store_testing.counting import SHOWN, tell
+from store_testing.frames import ask, exchange, frame, hello, key, numbers, read_frame, receive
+from store_testing.looks import Looks
+from store_testing.processes import memory_of
+from store_testing.server import Report, Server, report_of
+from store_testing.waiting import until
 
 # says what it is told to at its begin and its end, and answers each other line with what it was started with
 PROGRAM = """
@@ -202,10 +199,3 @@ class Frames(unittest.TestCase):
             ask(here, frame(0x11), frame(0x80))
         there.shutdown(socket.SHUT_WR)
         self.assertEqual(receive(here, 3), b"no")
-
-
-if __name__ == "__main__":
-    result = unittest.main(exit=False).result
-    failed = len(result.failures) + len(result.errors)
-    print(f"{result.testsRun - failed} passed, {failed} failed")
-    sys.exit(not result.wasSuccessful())

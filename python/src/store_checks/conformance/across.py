@@ -4,19 +4,15 @@ from __future__ import annotations
 
 import random
 import socket
-import sys
 from functools import partial
-from pathlib import Path
 from typing import Callable, List, Tuple
 
-sys.path.insert(0, str(Path(__file__).resolve().parent.parent))
+from store_testing import PATIENCE
+from store_testing.frames import exchange, frame, hello
 
-from store_testing import PATIENCE  # noqa: E402
-from store_testing.frames import exchange, frame, hello  # noqa: E402
-
-from at_server import served  # noqa: E402
-from dialogue import Fault, Job, key_of  # noqa: E402
-from with_client import Client, run_driver  # noqa: E402
+from .at_server import served
+from .dialogue import Fault, Job, key_of
+from .with_client import Client, run_driver
 
 # what is asked of objects in parts; a client that can't be asked all of it knows no parts
 ASKED = frozenset({"putwhole", "takewhole", "deletewhole"})

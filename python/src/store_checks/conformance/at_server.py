@@ -5,18 +5,14 @@ from __future__ import annotations
 import contextlib
 import socket
 import subprocess
-import sys
 import tempfile
-from pathlib import Path
 from typing import Dict, Iterator, List
 
-sys.path.insert(0, str(Path(__file__).resolve().parent.parent))
+from store_testing import PATIENCE
+from store_testing.frames import receive
+from store_testing.server import Server
 
-from store_testing import PATIENCE  # noqa: E402
-from store_testing.frames import receive  # noqa: E402
-from store_testing.server import Server  # noqa: E402
-
-from dialogue import Act, Dialogue, Fault, Job, Step, key_of  # noqa: E402
+from .dialogue import Act, Dialogue, Fault, Job, Step, key_of
 
 _MEMORY = 1 << 22
 

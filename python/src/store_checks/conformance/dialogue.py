@@ -7,7 +7,9 @@ import re
 from pathlib import Path
 from typing import Dict, List, NamedTuple, Optional, Tuple
 
-FOLDER = Path(__file__).resolve().parent / "dialogues"
+from store_testing import ROOT
+
+FOLDER = ROOT / "tests/conformance/dialogues"
 # what stands for a byte so many times
 _REPEATED = re.compile(r"\b([0-9a-f]{2})\*(\d+)\b")
 _BYTES = re.compile(r"(?:(\d+)|(\?))?([<>])(?: (.*))?")

@@ -1,20 +1,14 @@
-#!/usr/bin/env python3
-"""A driver of the client in Python (see ../README.md)."""
+"""A driver of the client in Python (see tests/conformance/README.md)."""
 
 from __future__ import annotations
 
 import sys
-from pathlib import Path
 from typing import Any, Callable, Dict, List, Optional
 
-ROOT = Path(__file__).resolve().parents[3]
-sys.dont_write_bytecode = True
-sys.path[:0] = [str(ROOT / "clients/python/src"), str(ROOT / "clients/python/tests")]
-
-import store_client  # noqa: E402
-from spelling import call, read_bytes, spelled  # noqa: E402
-from store_client import Connection, ObjectId  # noqa: E402
-from store_client.requests import Pieces  # noqa: E402
+import store_client
+from store_client import Connection, ObjectId
+from store_client.requests import Pieces
+from store_testing.spelling import call, read_bytes, spelled
 
 # so long a server may be silent, in seconds: the kit ends what is silent
 PATIENCE = 100
@@ -66,8 +60,8 @@ def told(do: Callable[[], object], job: int) -> str:
         return "invalid"
 
 
-def main(words: List[str]) -> None:
-    path, job, key = words
+def main() -> None:
+    path, job, key = sys.argv[1:]
     opened: List[Connection] = []
     said = told(lambda: opened.append(store_client.connect(path, int(job), bytes.fromhex(key), PATIENCE, keeper=False)), int(job))
     print(said, flush=True)
@@ -78,4 +72,4 @@ def main(words: List[str]) -> None:
 
 
 if __name__ == "__main__":
-    main(sys.argv[1:])
+    main()

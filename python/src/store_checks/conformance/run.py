@@ -1,4 +1,3 @@
-#!/usr/bin/env python3
 """The conformance kit: dialogues between clients and servers, byte by byte (see tests/conformance/README.md).
 
 Plays each dialogue at the program that operate/program finds, and with each of the clients whose tools are here: in Python, Go, Rust
@@ -20,19 +19,15 @@ from functools import partial
 from pathlib import Path
 from typing import Callable, Dict, List, Optional
 
-sys.dont_write_bytecode = True
-HERE = Path(__file__).resolve().parent
-C_CLIENT = HERE.parent.parent / "clients/c"
-sys.path[:0] = [str(HERE), str(HERE.parent)]
+from store_testing import ROOT
+from store_testing.program import program_or_end
 
-from store_testing.program import program_or_end  # noqa: E402
+from . import across, at_server, self_test, with_client
+from .dialogue import Dialogue, Fault, all_dialogues
+from .with_client import Client
 
-import across  # noqa: E402
-import at_server  # noqa: E402
-import self_test  # noqa: E402
-import with_client  # noqa: E402
-from dialogue import Dialogue, Fault, all_dialogues  # noqa: E402
-from with_client import Client  # noqa: E402
+HERE = ROOT / "tests/conformance"
+C_CLIENT = ROOT / "clients/c"
 
 # seconds for a build, on a machine that does much else
 _BUILDS = 600
@@ -134,11 +129,6 @@ def try_itself(words: List[str], dialogues: List[Dialogue], count: Count) -> Non
     count.add("wrong dialogues", self_test.servers(dialogues, words), tried)
     count.add("files that can't be read", self_test.files(), self_test.counted())
     count.add("the page", self_test.page(dialogues), 1)
-    if shutil.which("mypy") is None:
-        print("left out: the kit's types, which want mypy", flush=True)
-        return
-    with tempfile.TemporaryDirectory() as folder:
-        count.add("the kit's types", self_test.types(folder), 1)
 
 
 def everything(dialogues: List[Dialogue], count: Count) -> None:

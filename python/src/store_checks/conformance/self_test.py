@@ -3,22 +3,20 @@
 from __future__ import annotations
 
 import json
-import os
 import re
 import subprocess
 import sys
 import tempfile
 import textwrap
-from pathlib import Path
 from typing import Any, Callable, Dict, Iterator, List, Tuple
 
-import across
-import at_server
-import with_client
-from dialogue import Act, Dialogue, Fault, exchanges, parse
-from with_client import Client
+from store_testing import ROOT
 
-_HERE = Path(__file__).resolve().parent
+from . import across, at_server, with_client
+from .dialogue import Act, Dialogue, Fault, exchanges, parse
+from .with_client import Client
+
+_HERE = ROOT / "tests/conformance"
 _PUPPET = str(_HERE / "drivers/puppet")
 _PAGE = _HERE / "README.md"
 # seconds for a command that the page shows
@@ -142,20 +140,6 @@ def files() -> List[str]:
     return faults
 
 
-def types(folder: str) -> List[str]:
-    """What mypy says of the kit; nothing if all is well."""
-    clients = _HERE.parent.parent / "clients/python"
-    paths = os.pathsep.join(map(str, (_HERE, _HERE.parent, clients / "src", clients / "tests")))
-    sources = [*sorted(_HERE.glob("*.py")), _HERE / "run", _HERE / "drivers/python", _HERE / "drivers/puppet"]
-    found = []
-    for group in (sources[:-2], sources[-2:-1], sources[-1:]):
-        words = ["mypy", "--strict", "--scripts-are-modules", "--follow-imports=silent", "--cache-dir", folder, *map(str, group)]
-        done = subprocess.run(words, env={**os.environ, "MYPYPATH": paths}, capture_output=True, text=True, check=False)
-        if done.returncode:
-            found.append(done.stdout + done.stderr)
-    return found
-
-
 def page(dialogues: List[Dialogue]) -> List[str]:
     """What of README.md isn't so: the dialogue that it shows, the operations in its table, and the commands with what they print."""
     text = _PAGE.read_text(encoding="utf-8")
@@ -170,7 +154,7 @@ def page(dialogues: List[Dialogue]) -> List[str]:
         faults.append(f"of {sorted(listed ^ asked)} either it alone has a row, or the dialogues alone ask")
     for command, due in re.findall(r"^\$ (.*)\n((?:[^$\n].*\n)+)", "".join(shown), re.MULTILINE):
         done = subprocess.run(
-            ["bash", "-c", command], cwd=_HERE.parent.parent, stdin=subprocess.DEVNULL, capture_output=True, text=True, check=False,
+            ["bash", "-c", command], cwd=ROOT, stdin=subprocess.DEVNULL, capture_output=True, text=True, check=False,
             timeout=_SHOWN,
         )
         if done.stdout != due or done.returncode:

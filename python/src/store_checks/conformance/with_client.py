@@ -8,19 +8,15 @@ from __future__ import annotations
 
 import socket
 import subprocess
-import sys
 import tempfile
 import threading
-from pathlib import Path
 from typing import List, NamedTuple, Optional
 
-sys.path.insert(0, str(Path(__file__).resolve().parent.parent))
+from store_testing import PATIENCE
+from store_testing.frames import read_frame
 
-from store_testing import PATIENCE  # noqa: E402
-from store_testing.frames import read_frame  # noqa: E402
-
-from at_server import shown  # noqa: E402
-from dialogue import Dialogue, Exchange, Fault, exchanges, key_of  # noqa: E402
+from .at_server import shown
+from .dialogue import Dialogue, Exchange, Fault, exchanges, key_of
 
 # how often it is looked whether a driver that hasn't connected has ended, in seconds
 _LOOK = 0.05

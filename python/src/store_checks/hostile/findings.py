@@ -6,7 +6,7 @@ import statistics
 import time
 from typing import Callable, List, NamedTuple, Sequence
 
-from host import Attack, Figures, Host, attacked
+from .host import Attack, Figures, Host, attacked
 
 # of what another job feels to what it feels while the same goes on at another server: in 99 of 100 calls, and in the longest
 MOST_P99, MOST_LONGEST = 3.0, 5.0

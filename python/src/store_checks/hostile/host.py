@@ -6,20 +6,16 @@ import contextlib
 import multiprocessing
 import shutil
 import socket
-import sys
 import tempfile
 import threading
 import time
 from pathlib import Path
 from typing import Any, Callable, Iterator, List, NamedTuple, Sequence
 
-TOP = Path(__file__).resolve().parent.parent.parent
-sys.path[:0] = [str(TOP / place) for place in ("tests", "operate", "clients/python/src")]
-
-import store_client  # noqa: E402
-from store_operator.inspection import count_sessions, look_at  # noqa: E402
-from store_testing.frames import key  # noqa: E402
-from store_testing.server import Server  # noqa: E402
+import store_client
+from store_operator.inspection import count_sessions, look_at
+from store_testing.frames import key
+from store_testing.server import Server
 
 # the attackers have nothing of this process but what they are given
 PROCESSES = multiprocessing.get_context("fork")

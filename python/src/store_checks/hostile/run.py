@@ -1,4 +1,3 @@
-#!/usr/bin/env python3
 """Trials of what a job can do to others within its rights, at a program that serves: how much another job feels it, as a ratio to what
 it feels while the same goes on at another server in the same run, and whether memory, sessions, descriptors and files are back
 afterwards. Each trial prints what it measured, and fails if a figure is beyond its bound; the last line counts the trials.
@@ -13,18 +12,13 @@ import argparse
 import signal
 import sys
 import time
-from pathlib import Path
 from typing import List, Optional
 
-sys.dont_write_bytecode = True
-HERE = Path(__file__).resolve().parent
-sys.path.insert(0, str(HERE))
+import store_client
+from store_testing.program import program_or_end
 
-from findings import Check  # noqa: E402
-from trials import ALL, Scale, Trial  # noqa: E402
-
-import store_client  # noqa: E402
-from store_testing.program import program_or_end  # noqa: E402
+from .findings import Check
+from .trials import ALL, Scale, Trial
 
 
 def tried(name: str, trial: Trial, scale: Scale) -> bool:

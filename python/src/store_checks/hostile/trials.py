@@ -9,13 +9,13 @@ import threading
 import time
 from typing import Callable, Dict, Iterator, List, NamedTuple, Sequence
 
-from findings import ALLOCATORS_SHARE, JOURNAL, Check, compared, given_back
-from host import PATIENCE, Host, attacked, close_all, raw_streams
-
 import store_client
 from store_client import ObjectId, Task
 from store_testing.daemon import Supervised
 from store_testing.frames import ask, frame, hello, key, numbers, receive
+
+from .findings import ALLOCATORS_SHARE, JOURNAL, Check, compared, given_back
+from .host import PATIENCE, Host, attacked, close_all, raw_streams
 
 # the numbers of jobs; the third one's window is as large as one of its objects
 ATTACKER, VICTIM, CROWDED = 1, 2, 3

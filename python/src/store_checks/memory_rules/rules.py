@@ -4,8 +4,8 @@ from __future__ import annotations
 import re
 from typing import AbstractSet, Callable, Iterator, List, NamedTuple
 
-from memory_rules.tables import GROWTH, LIBRARIES, MADE, MADE_MACROS, METHODS
-from memory_rules.text import Source, shortened
+from .tables import GROWTH, LIBRARIES, MADE, MADE_MACROS, METHODS
+from .text import Source, shortened
 
 ERRORS = {"AllocError", "AllocFailed"}
 # those of memory_growth, which nobody else can make: memory ran out, or a count came to its end

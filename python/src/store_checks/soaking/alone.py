@@ -12,7 +12,7 @@ from model.ids import ObjectId as ModelId
 from model.messages import DIRECTORY, Place
 from model.schedule import answer
 from model.world import World
-from spelling import call, spelled
+from store_testing.spelling import call, spelled
 from store_client import ObjectId, Task
 
 from .shared import MEMORY, NODES, Lane, said_of, same
