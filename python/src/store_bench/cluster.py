@@ -1,4 +1,3 @@
-#!/usr/bin/env python3
 """Measures passing arrays between Dask's tasks by way of the stores, against plain Dask, on two hosts of this machine.
 
 Each host is a network namespace, with a store and four workers of one thread. In a round a task on A makes an array, and then tasks
@@ -19,9 +18,10 @@ import time
 from pathlib import Path
 from typing import Any, Callable, Dict, List, NamedTuple, Tuple
 
-sys.dont_write_bytecode = True
-ROOT = Path(__file__).resolve().parent.parent
-sys.path[:0] = [str(ROOT / "examples/cluster"), str(ROOT / "clients/python/src")]
+from store_testing import ROOT
+
+# the hosts are an example: files for a reader, and no package
+sys.path.append(str(ROOT / "examples/cluster"))
 
 import inside  # noqa: E402
 
@@ -191,6 +191,10 @@ def options() -> argparse.Namespace:
     return parser.parse_args()
 
 
-if __name__ == "__main__":
+def main() -> int:
     options()
-    sys.exit(inside.main(run, LIMIT))
+    return inside.main(run, LIMIT)
+
+
+if __name__ == "__main__":
+    sys.exit(main())

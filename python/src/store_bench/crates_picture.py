@@ -1,4 +1,3 @@
-#!/usr/bin/env python3
 """Draws the crates by layer, as crates.txt has them, with their minutes of docs/GATE.md, and the gate's longest chain in red.
 
 A line leads from a crate to one that names it, unless that follows from other lines. Tests have none. The chain is the one of the crates
@@ -13,11 +12,10 @@ import sys
 from pathlib import Path
 from typing import Dict, Iterable, List, NamedTuple, Set, Tuple
 
-sys.dont_write_bytecode = True
+from store_testing import ROOT
 
-from drawing import COLOURS, PALE_INK, Drawing, wrapped  # noqa: E402
+from .drawing import COLOURS, PALE_INK, Drawing, wrapped
 
-ROOT = Path(__file__).resolve().parent.parent
 RED, LINK = "#cc2222", "#b4bcc4"
 # in pixels
 WIDTH, LEFT, RIGHT, TOP = 900, 132, 8, 56

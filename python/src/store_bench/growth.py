@@ -1,4 +1,3 @@
-#!/usr/bin/env python3
 """Measures how the program's work grows with its load.
 
 Makes schedules, runs the program on them from file to file and prints lines a second, each the best of
@@ -20,12 +19,9 @@ import time
 from pathlib import Path
 from typing import Callable, Dict, Iterator, List, Mapping, NamedTuple, Optional, Sequence, Tuple
 
-sys.dont_write_bytecode = True
+from store_testing.program import program_or_end
 
-sys.path.insert(0, str(Path(__file__).resolve().parent.parent / "tests"))
-
-from drawing import Bar, Drawing, draw_bars  # noqa: E402
-from store_testing.program import program_or_end  # noqa: E402
+from .drawing import Bar, Drawing, draw_bars
 
 NODES = 8
 MEMORY = 1 << 30

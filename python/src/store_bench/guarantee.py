@@ -1,4 +1,3 @@
-#!/usr/bin/env python3
 """Shows the guarantee to each job on one schedule, or at a program that serves.
 
 The program runs it twice: as it is, and without the lines that are about another job. The job's replies have to be the same
@@ -20,12 +19,10 @@ import sys
 from pathlib import Path
 from typing import List, NamedTuple, Sequence
 
-ROOT = Path(__file__).resolve().parent.parent
-sys.dont_write_bytecode = True
-sys.path.insert(0, str(ROOT / "tests"))
+from store_testing import ROOT
+from store_testing.program import program_or_end
 
-from served_guarantee import JOB, OTHER, SessionFault, alone, beside, read_session, spell  # noqa: E402
-from store_testing.program import program_or_end  # noqa: E402
+from .served_guarantee import JOB, OTHER, SessionFault, alone, beside, read_session, spell
 
 SCHEDULE, SESSION = ROOT / "docs/pictures/neighbour.schedule", ROOT / "docs/pictures/neighbour.session"
 # which word of a line is the job's number

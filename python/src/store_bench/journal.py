@@ -1,4 +1,3 @@
-#!/usr/bin/env python3
 """Measures what a journal costs a node: its steps against those of the node alone, a fold, and the memory of a full list.
 
 A small program (bench/journal.program) is written as a crate into a temporary folder, beside a copy of the repository's crates,
@@ -24,7 +23,8 @@ import time
 from pathlib import Path
 from typing import Dict, Iterator, List, Tuple
 
-ROOT = Path(__file__).resolve().parent.parent
+from store_testing import ROOT
+
 SOURCE = ROOT / "bench/journal.program"
 CRATE = "journal_steps"
 # what its program uses is what this crate uses, and the crate

@@ -1,4 +1,3 @@
-#!/usr/bin/env python3
 """Compares the program that operate/program finds with a plain model of it, on schedules that are drawn by lot.
 
 The model (tests/model) is written from the rules alone: one private store for each job at each node, told of grants
@@ -30,17 +29,14 @@ from collections import Counter
 from pathlib import Path
 from typing import Collection, List, NamedTuple, Optional, Tuple
 
-ROOT = Path(__file__).resolve().parent.parent
-sys.path.insert(0, str(ROOT / "tests"))
-sys.dont_write_bytecode = True
-
-from model.drawing import WEIGHTS, Tally, draw  # noqa: E402
-from model.forging import forge  # noqa: E402
-from model.replay import replayed  # noqa: E402
-from model.schedule import DEFAULT_MEMORY, Transcript, run, run_in  # noqa: E402
-from model.worked import read_worked  # noqa: E402
-from model.world import World  # noqa: E402
-from store_testing.program import program_or_end  # noqa: E402
+from model.drawing import WEIGHTS, Tally, draw
+from model.forging import forge
+from model.replay import replayed
+from model.schedule import DEFAULT_MEMORY, Transcript, run, run_in
+from model.worked import read_worked
+from model.world import World
+from store_testing import ROOT
+from store_testing.program import program_or_end
 
 WORKED = ROOT / "crates/schedules/data"
 SCHEDULES = 2000

@@ -1,4 +1,3 @@
-#!/usr/bin/env python3
 """Draws the parts of a store that serves: jobs and their sessions, sockets, nodes with a window for each job, a grant, devices, the
 directory."""
 
@@ -9,9 +8,7 @@ import sys
 from pathlib import Path
 from typing import NamedTuple
 
-sys.dont_write_bytecode = True
-
-from drawing import COLOURS, INK, PALE_INK, Drawing  # noqa: E402
+from .drawing import COLOURS, INK, PALE_INK, Drawing
 
 WIDTH, HEIGHT = 900, 572
 JOB_COLOURS = COLOURS[:2]

@@ -1,4 +1,3 @@
-#!/usr/bin/env python3
 """Draws one job's window at a node as a saved journal tells it.
 
 The plain model (tests/model) takes the job's lines one after another; the picture shows which extents lay in the window after
@@ -14,15 +13,12 @@ import sys
 from pathlib import Path
 from typing import Callable, Dict, List, NamedTuple, Optional, Set, Tuple
 
-ROOT = Path(__file__).resolve().parent.parent
-sys.dont_write_bytecode = True
-sys.path.insert(0, str(ROOT / "tests"))
+from model.ids import ObjectId
+from model.replay import Entry, NotAnEntry, Replay, read_journal
+from model.store import PrivateStore
+from model.words import UNIT, Copy, Kind, State
 
-from drawing import COLOURS, GRID, INK, PALE_INK, Drawing, bytes_text, round_bytes, round_steps, text_width  # noqa: E402
-from model.ids import ObjectId  # noqa: E402
-from model.replay import Entry, NotAnEntry, Replay, read_journal  # noqa: E402
-from model.store import PrivateStore  # noqa: E402
-from model.words import UNIT, Copy, Kind, State  # noqa: E402
+from .drawing import COLOURS, GRID, INK, PALE_INK, Drawing, bytes_text, round_bytes, round_steps, text_width
 
 KIND_COLOURS = {Kind.PRIMARY: COLOURS[0], Kind.SECONDARY: COLOURS[1]}
 # of an extent whose object can't be read yet

@@ -1,4 +1,3 @@
-#!/usr/bin/env python3
 """How far a change reaches, and what a command does to the table of copies: counts over the sources, no measure of time.
 
 - Look-ups of a copy, and searches for a place: how often a function of a row, with all that it calls, asks the map of copies, or the window
@@ -24,7 +23,8 @@ from functools import lru_cache
 from pathlib import Path
 from typing import NamedTuple
 
-ROOT = Path(__file__).resolve().parent.parent
+from store_testing import ROOT
+
 CRATES = ROOT / "crates"
 ROW = ("job_row", "node_table")
 TESTS = re.compile(r"_tests/|^crates/(schedules|assertions)/")

@@ -1,4 +1,3 @@
-#!/usr/bin/env python3
 """Measures puts and gets of objects at a program that serves, against what moves the same bytes and does no more.
 
 A put is Create, Write in pieces of 64 KiB, Seal and Delete, so that the window never fills; all of it is counted. A get
@@ -48,23 +47,19 @@ import tempfile
 from pathlib import Path
 from typing import ContextManager, Dict, Iterator, List, Optional, Sequence, Tuple
 
-sys.dont_write_bytecode = True
-for folder_name in ("tests", "clients/python/src"):
-    sys.path.insert(0, str(Path(__file__).resolve().parent.parent / folder_name))
+from store_client import StoreError
+from store_testing.daemon import listens
+from store_testing.frames import frame, key, numbers
+from store_testing.program import program_or_end
+from store_testing.waiting import until
 
-from drawing import Bar, Drawing, bytes_text, draw_bars  # noqa: E402
-from serving_clients import (  # noqa: E402
+from .drawing import Bar, Drawing, bytes_text, draw_bars
+from .serving_clients import (
     BYTES, CREATE, DELETE, GET, GOT, HELLO, OK, PIECE, PLACED, READ, RELEASE, SEAL, WRITE, Preparing, Row, asking, content, floor_script,
     hashing, processes, redis_script, speed_of, store_script,
 )
-from serving_rows import LIMIT, PATIENCE, ROUNDS, Admitted, Side, compiled, number_text, run_rows, serving, told_by  # noqa: E402
-from value_rows import ARRAY_BYTES, VALUES_WINDOW, measure_values, print_values  # noqa: E402
-
-from store_client import StoreError  # noqa: E402
-from store_testing.daemon import listens  # noqa: E402
-from store_testing.frames import frame, key, numbers  # noqa: E402
-from store_testing.program import program_or_end  # noqa: E402
-from store_testing.waiting import until  # noqa: E402
+from .serving_rows import LIMIT, PATIENCE, ROUNDS, Admitted, Side, compiled, number_text, run_rows, serving, told_by
+from .value_rows import ARRAY_BYTES, VALUES_WINDOW, measure_values, print_values
 
 SIZES = (1 << 10, 1 << 16, 1 << 20)
 # connections, and over how many nodes

@@ -6,21 +6,16 @@ import contextlib
 import itertools
 import socket
 import subprocess
-import sys
 import tempfile
 import threading
 import time
-from pathlib import Path
 from typing import Any, Callable, Dict, Iterator, List, NamedTuple, Sequence, Tuple
 
-ROOT = Path(__file__).resolve().parent.parent
-sys.path[:0] = [str(ROOT / place) for place in ("tests", "clients/python/src", "clients/python/tests")]
-
-from store_testing.spelling import read_bytes, spelled  # noqa: E402
-from store_client import ObjectId, ProtocolError, Task  # noqa: E402
-from store_client.requests import Request, Requests  # noqa: E402
-from store_testing.frames import enter, exchange  # noqa: E402
-from store_testing.server import Server  # noqa: E402
+from store_client import ObjectId, ProtocolError, Task
+from store_client.requests import Request, Requests
+from store_testing.frames import enter, exchange
+from store_testing.server import Server
+from store_testing.spelling import read_bytes, spelled
 
 JOB, OTHER = 1, 2
 # of the job, in bytes, and of the other one, whose sessions fill more than they have

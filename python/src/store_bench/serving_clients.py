@@ -13,8 +13,9 @@ import time
 from multiprocessing.connection import Connection
 from typing import Callable, ContextManager, Iterable, Iterator, List, NamedTuple, Optional, Sequence, Tuple, Union
 
-from serving_rows import PATIENCE
 from store_testing.frames import frame, head, hello, ident, numbers
+
+from .serving_rows import PATIENCE
 
 PIECE = 1 << 16
 HELLO, CREATE, WRITE, SEAL, GET, READ, RELEASE, DELETE = 1, 2, 3, 4, 5, 6, 7, 0x0B

@@ -24,10 +24,11 @@ import time
 from pathlib import Path
 from typing import Callable, Dict, Iterator, List, NamedTuple, Optional, Sequence, Tuple
 
-from drawing import bytes_text
 from store_testing import ROOT
 from store_testing.frames import key
 from store_testing.server import Server
+
+from .drawing import bytes_text
 
 SOURCES = (ROOT / "bench/load.c", ROOT / "clients/c/store_client.c")
 ROUNDS = 5

@@ -1,4 +1,3 @@
-#!/usr/bin/env python3
 """Draws what `storectl top` shows of two looks at a server, which a file has: the same lines, with each bar as one."""
 
 from __future__ import annotations
@@ -10,14 +9,11 @@ import sys
 from pathlib import Path
 from typing import Any, Dict, Iterator, List, NamedTuple
 
-ROOT = Path(__file__).resolve().parent.parent
-sys.dont_write_bytecode = True
-sys.path[:0] = [str(ROOT / "operate"), str(ROOT / "clients/python/src")]
+from store_operator.asking import UsageRow
+from store_operator.counts import read_counts
+from store_operator.top import Seen, top_text
 
-from drawing import COLOURS, INK, PALE_INK, Drawing  # noqa: E402
-from store_operator.asking import UsageRow  # noqa: E402
-from store_operator.counts import read_counts  # noqa: E402
-from store_operator.top import Seen, top_text  # noqa: E402
+from .drawing import COLOURS, INK, PALE_INK, Drawing
 
 WIDTH, MARGIN, TOP, LINE, TYPE = 960, 16, 52, 22, 12
 GROUND, EMPTY = "#eef1f4", "#dddddd"

@@ -420,8 +420,8 @@ GATE_EDITS, OTHER_EDITS = "crates/*/must-fail/*.edit", "tests/edits/*/*.edit"
 # page, sentence, what its numbers have to be
 NUMBERS: Sequence[Tuple[str, str, Callable[[], List[int]]]] = [
     ("docs/CONTRIBUTING.md", r"([\d,]+) more must-fail edits", lambda: [count(OTHER_EDITS)]),
-    ("docs/CONTRIBUTING.md", r"([\d,]+) schedules drawn by lot", lambda: [constant("bench/model", "SCHEDULES")]),
-    ("docs/CONTRIBUTING.md", r"([\d,]+) forged ones", lambda: [constant("bench/model", "FORGED")]),
+    ("docs/CONTRIBUTING.md", r"([\d,]+) schedules drawn by lot", lambda: [constant("python/src/store_bench/model.py", "SCHEDULES")]),
+    ("docs/CONTRIBUTING.md", r"([\d,]+) forged ones", lambda: [constant("python/src/store_bench/model.py", "FORGED")]),
     ("README.md", r"[Oo]bjects of ([\d,]+)\s+MiB, windows of ([\d,]+) MiB and ([\d,]+) copies of a job at a node, ([\d,]+) live jobs and "
      r"([\d,]+) GiB a node,\s+([\d,]+) nodes", lambda: [limit("LONGEST_OBJECT", 1 << 20), limit("WIDEST_WINDOW", 1 << 20), limit("MOST_COPIES"), limit("MOST_LIVE_JOBS"),
               limit("LARGEST_MEMORY", 1 << 30), limit("MOST_NODES")]),

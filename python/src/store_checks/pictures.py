@@ -13,10 +13,7 @@ import sys
 import tempfile
 import unittest
 from collections import Counter
-from importlib.machinery import SourceFileLoader
-from importlib.util import module_from_spec, spec_from_loader
 from pathlib import Path
-from types import ModuleType
 from typing import Any, Dict, Optional, Set, Tuple
 
 from model.drawing import Drawing
@@ -24,6 +21,8 @@ from model.replay import Replay, read_journal, replayed
 from model.store import PrivateStore
 from model.words import Kind
 from model.worked import read_worked
+from store_bench import crates_picture, picture
+from store_bench.drawing import COLOURS
 from store_testing import ROOT
 
 PICTURES = ROOT / "docs/pictures"
@@ -48,21 +47,6 @@ NO_ENTRIES = (
     "n0 j1 6 s1 create 1/t1.3 16 = placed 32 16", "n0 j1 6 answer 1 perhaps = ok", "n0 j1 6 located t1.1 1 0:3 = ok", "n0 j1 6 s1 create t1.3 016 = placed 32 16",
     "n0 j1 6 withdrawn 2/t1.1 0 1 = ok", "n0 j1 6 quota 64 0", "n0  j1 6 quota 64 0 = ok",
 )
-
-
-def load(name: str) -> ModuleType:
-    """A script of bench/ as a module."""
-    loader = SourceFileLoader(name, str(ROOT / "bench" / name))
-    spec = spec_from_loader(name, loader)
-    assert spec
-    module = module_from_spec(spec)
-    # a named tuple looks for its module there
-    sys.modules[name] = module
-    loader.exec_module(module)
-    return module
-
-
-picture, crates_picture = load("picture"), load("crates_picture")
 
 
 def draw(journal: str, *words: str) -> Tuple[int, str, str]:
@@ -117,7 +101,8 @@ class Pictures(unittest.TestCase):
             ("t1.2", Kind.SECONDARY, False, 32, 32, 4, 5), ("t1.2", Kind.SECONDARY, True, 32, 32, 5, 6),
             ("t1.3", Kind.PRIMARY, False, 32, 16, 6, 8),
         ]
-        self.assertEqual(sorted(map(tuple, history.spans), key=lambda span: int(span[5])), spans)
+        found = sorted(history.spans, key=lambda span: span.first)
+        self.assertEqual(found, spans)
         self.assertEqual(history.marks, [("eviction", 6, 48)])
         self.assertEqual(history.levels, [(64, 0, 0)] * 7)
 
@@ -125,7 +110,7 @@ class Pictures(unittest.TestCase):
         drawn = picture.picture(self.journal(), None, None).svg()
         # of a legend one each; a cross is four lines
         filled = re.findall(r'<polygon .* fill="(.*)" stroke=', drawn)
-        self.assertEqual(Counter(filled), {picture.COLOURS[3]: 4, picture.COLOURS[2]: 4, "white": 3})
+        self.assertEqual(Counter(filled), {COLOURS[3]: 4, COLOURS[2]: 4, "white": 3})
         self.assertEqual(drawn.count('stroke-width="5"'), 2 * (1 + 5))
 
     def test_what_entries_say(self) -> None:
@@ -213,7 +198,7 @@ class Crates(unittest.TestCase):
         self.assertIn(f"the chain has {said[2]} of a processor", page)
 
     def test_what_follows_from_others_is_left_out(self) -> None:
-        named = {"low": set(), "middle": {"low"}, "high": {"low", "middle"}}
+        named: Dict[str, Set[str]] = {"low": set(), "middle": {"low"}, "high": {"low", "middle"}}
         self.assertEqual(crates_picture.reduced(named), {"low": set(), "middle": {"low"}, "high": {"middle"}})
 
     def test_layers(self) -> None:

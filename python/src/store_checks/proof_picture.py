@@ -14,7 +14,7 @@ from functools import lru_cache
 from pathlib import Path
 from typing import Dict, List, NamedTuple, Set, Tuple
 
-from drawing import COLOURS, INK, PALE_INK, Drawing, text_width, wrapped
+from store_bench.drawing import COLOURS, INK, PALE_INK, Drawing, text_width, wrapped
 from store_testing import ROOT
 
 # a page shows it at its own size: no type is smaller than SMALL
