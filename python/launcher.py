@@ -10,7 +10,7 @@ from pathlib import Path
 
 TOP = Path(__file__).resolve().parents[1]
 # in place of the folder of the command: of the packages, the client, and what builds it
-PACKAGES = [str(TOP / place) for place in ("python/src", "operate", "tests", "clients/python/src", "clients/python/backend")]
+PACKAGES = [str(TOP / place) for place in ("python/src", "clients/python/src", "clients/python/backend")]
 
 
 def launch(module: str, *words: str) -> None:

@@ -1,6 +1,6 @@
 """Compares the program that operate/program finds with a plain model of it, on schedules that are drawn by lot.
 
-The model (tests/model) is written from the rules alone: one private store for each job at each node, told of grants
+The model (store_model) is written from the rules alone: one private store for each job at each node, told of grants
 and messages, with no table that jobs share. Each schedule comes from a seed of its own: 1 to 3 nodes, several jobs and
 sessions, all commands, windows so small that copies are evicted and spilled, devices that fail, damage or answer
 late, messages that are lost, repeated, damaged and out of order, grants to depth 3, and ends of tasks and jobs; some
@@ -29,12 +29,12 @@ from collections import Counter
 from pathlib import Path
 from typing import Collection, List, NamedTuple, Optional, Tuple
 
-from model.drawing import WEIGHTS, Tally, draw
-from model.forging import forge
-from model.replay import replayed
-from model.schedule import DEFAULT_MEMORY, Transcript, run, run_in
-from model.worked import read_worked
-from model.world import World
+from store_model.drawing import WEIGHTS, Tally, draw
+from store_model.forging import forge
+from store_model.replay import replayed
+from store_model.schedule import DEFAULT_MEMORY, Transcript, run, run_in
+from store_model.worked import read_worked
+from store_model.world import World
 from store_testing import ROOT
 from store_testing.program import program_or_end
 

@@ -1,9 +1,9 @@
 """Draws one job's window at a node as a saved journal tells it.
 
-The plain model (tests/model) takes the job's lines one after another; the picture shows which extents lay in the window after
+The plain model (store_model) takes the job's lines one after another; the picture shows which extents lay in the window after
 each, what was evicted, spilled and restored, below it the bytes that the job had on the device, and at the axis what each entry says. A
-line that is no entry, or whose answer isn't the one that the model gives, is reported, with status 1. `python3 -m model journal < SCHEDULE`,
-from the folder tests, prints the journal of a schedule.
+line that is no entry, or whose answer isn't the one that the model gives, is reported, with status 1. `tests/model journal < SCHEDULE` prints
+the journal of a schedule.
 """
 
 from __future__ import annotations
@@ -13,10 +13,10 @@ import sys
 from pathlib import Path
 from typing import Callable, Dict, List, NamedTuple, Optional, Set, Tuple
 
-from model.ids import ObjectId
-from model.replay import Entry, NotAnEntry, Replay, read_journal
-from model.store import PrivateStore
-from model.words import UNIT, Copy, Kind, State
+from store_model.ids import ObjectId
+from store_model.replay import Entry, NotAnEntry, Replay, read_journal
+from store_model.store import PrivateStore
+from store_model.words import UNIT, Copy, Kind, State
 
 from .drawing import COLOURS, GRID, INK, PALE_INK, Drawing, bytes_text, round_bytes, round_steps, text_width
 

@@ -16,11 +16,11 @@ from collections import Counter
 from pathlib import Path
 from typing import Any, Dict, Optional, Set, Tuple
 
-from model.drawing import Drawing
-from model.replay import Replay, read_journal, replayed
-from model.store import PrivateStore
-from model.words import Kind
-from model.worked import read_worked
+from store_model.drawing import Drawing
+from store_model.replay import Replay, read_journal, replayed
+from store_model.store import PrivateStore
+from store_model.words import Kind
+from store_model.worked import read_worked
 from store_bench import crates_picture, picture
 from store_bench.drawing import COLOURS
 from store_testing import ROOT
@@ -140,8 +140,8 @@ class Pictures(unittest.TestCase):
     def journal(self, schedule: Optional[str] = None) -> str:
         """The journal of a schedule, of the example's otherwise."""
         schedule = schedule or (PICTURES / "spilling.schedule").read_text()
-        words = [sys.executable, "-B", "-m", "model", "journal"]
-        return subprocess.run(words, input=schedule, capture_output=True, check=True, text=True, cwd=ROOT / "tests").stdout
+        words = [sys.executable, str(ROOT / "tests/model"), "journal"]
+        return subprocess.run(words, input=schedule, capture_output=True, check=True, text=True).stdout
 
     def test_the_example_is_drawn_again_alike(self) -> None:
         self.assertEqual(draw(self.journal()), (0, "", (PICTURES / "spilling.svg").read_text()))
@@ -264,7 +264,6 @@ class Proof(unittest.TestCase):
             (root / "tests").mkdir()
             for command in ("proof_picture", "launcher.py"):
                 shutil.copy(ROOT / "tests" / command, root / "tests")
-            shutil.copytree(ROOT / "tests/store_testing", root / "tests/store_testing")
             changed = (root / name).read_text()
             self.assertIn(old, changed)
             (root / name).write_text(changed.replace(old, new))
@@ -310,15 +309,15 @@ class Guarantee(unittest.TestCase):
         """The status, the last line and the complaint of bench/guarantee, with a program that a shell's script is."""
         with tempfile.TemporaryDirectory() as folder:
             path = Path(folder) / "program"
-            path.write_text(f"#!/bin/sh\ncd {ROOT}/tests\n{program}\n")
+            path.write_text(f"#!/bin/sh\n{program}\n")
             path.chmod(0o700)
             command = [str(ROOT / "bench/guarantee"), *words]
-            names = {**os.environ, "STORE_PROGRAM": str(path), "PYTHONPATH": str(ROOT / "tests")}
+            names = {**os.environ, "STORE_PROGRAM": str(path), "PYTHONPATH": str(ROOT / "python/src")}
             done = subprocess.run(command, capture_output=True, text=True, check=False, env=names)
             return done.returncode, done.stdout.rpartition("\n")[0].rpartition("\n")[2], done.stderr
 
     def test_a_job_is_told_the_same_without_its_neighbour(self) -> None:
-        model = 'python3 -B -m model "$@"'
+        model = 'python3 -B -m store_model "$@"'
         self.assertEqual(self.show(model), (0, "21 replies to job 1, the same without the 17 steps of job 2", ""))
         spilling = str(PICTURES / "spilling.schedule")
         self.assertEqual(self.show(model, spilling), (0, "30 replies to job 1, the same without the 4 steps of job 2", ""))
@@ -326,7 +325,7 @@ class Guarantee(unittest.TestCase):
 
     def test_a_program_that_tells_of_a_neighbour_is_found_out(self) -> None:
         full = "sed 's/j1 s1 got 32/j1 s1 refused 9 Full/'"
-        program = f"cat > $0.in; python3 -B -m model run < $0.in | if grep -q '^admit 0 2' $0.in; then {full}; else cat; fi"
+        program = f"cat > $0.in; python3 -B -m store_model run < $0.in | if grep -q '^admit 0 2' $0.in; then {full}; else cat; fi"
         self.assertEqual(self.show(program), (1, "21 replies to job 1, OTHER ONES without the 17 steps of job 2", ""))
 
     def served(self, leaks: bool, *words: str) -> Tuple[int, str, str]:

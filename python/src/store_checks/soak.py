@@ -2,7 +2,7 @@
 
 The sessions put, get, delete, grant, hand on, withdraw and end tasks as they are drawn by lot, while the operator changes
 quotas, ends jobs and admits new ones. Of four sessions one has a job for itself, at one node and in a window of some hundred
-bytes: each reply there has to be that of the plain model (tests/model) of its job. The other three share a job and are at a node
+bytes: each reply there has to be that of the plain model (store_model) of its job. The other three share a job and are at a node
 each, where they spill most of what they have and fetch what the other two put: there the bytes that are read or peeked
 at have to be those that were written, lengths and usage have to be right, and only such refusals may come as the rules
 allow. No command may be without an answer for longer than two minutes.
@@ -36,7 +36,7 @@ from collections import Counter
 from pathlib import Path
 from typing import List, NamedTuple, Optional, Sequence
 
-from model.drawing import Tally
+from store_model.drawing import Tally
 from store_client import DeviceFailed
 from store_testing.daemon import Supervised
 from store_testing.disk import Disk

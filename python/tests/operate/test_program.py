@@ -17,7 +17,6 @@ GATE = "== one\nlogic=proved functions=7\nrt: one proved\n\n1 passed, 0 failed\n
 # says what it takes, twice, and lets a process that it starts say so too
 TWICE = """\
 import subprocess, sys
-sys.path.insert(0, "operate")
 from store_release.program import program_path
 print(program_path(), program_path(), flush=True)
 subprocess.run([sys.executable, "operate/program"], check=True)
@@ -140,7 +139,8 @@ class Found(Of):
     def test_the_line_is_said_once(self) -> None:
         self.keep()
         done = subprocess.run(
-            [sys.executable, "-c", TWICE], cwd=self.checkout.top, capture_output=True, text=True, check=True, env=self.checkout.names(),
+            [sys.executable, "-c", TWICE], cwd=self.checkout.top, capture_output=True, text=True, check=True,
+            env=self.checkout.names(PYTHONPATH="python/src"),
             timeout=PATIENCE,
         )
         self.assertEqual(done.stdout.split(), 3 * [str(self.checkout.unpacked())])

@@ -6,12 +6,12 @@ from collections import Counter
 from typing import Dict, List, Sequence, Tuple
 
 import store_client
-from model.choosing import Chooser
-from model.drawing import TRIES, WEIGHTS, WILD
-from model.ids import ObjectId as ModelId
-from model.messages import DIRECTORY, Place
-from model.schedule import answer
-from model.world import World
+from store_model.choosing import Chooser
+from store_model.drawing import TRIES, WEIGHTS, WILD
+from store_model.ids import ObjectId as ModelId
+from store_model.messages import DIRECTORY, Place
+from store_model.schedule import answer
+from store_model.world import World
 from store_testing.spelling import call, spelled
 from store_client import ObjectId, Task
 

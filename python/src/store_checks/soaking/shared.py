@@ -10,7 +10,7 @@ from collections import Counter
 from typing import Dict, List, Optional, Sequence, Set, Tuple, Union
 
 import store_client
-from model.drawing import Tally
+from store_model.drawing import Tally
 from store_client import ObjectId
 from store_testing.daemon import Supervised
 from store_testing.frames import key

@@ -8,7 +8,7 @@ import threading
 import time
 from typing import Callable, Dict, List, Optional, Sequence, Set, Tuple, TypeVar
 
-from model.words import MOST_COPIES, MOST_WORKS
+from store_model.words import MOST_COPIES, MOST_WORKS
 from store_client import ConnectionLost, DeviceFailed, Granted, Kind, NotAdmitted, ObjectId, Pending, Refused, State, Task
 from store_client.frames import MOST_BYTES
 from store_client.refusals import BY_NUMBER as REFUSALS

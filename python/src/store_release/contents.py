@@ -14,7 +14,7 @@ from .wheel import wheel
 # where what the commit has goes; the first that fits
 PLACES = (
     ("operate/store-daemon", "bin/store-daemon"), ("operate/storectl", "bin/storectl"), ("operate/store-client", "bin/store-client"),
-    ("operate/store_operator/", "lib/store/store_operator/"), ("clients/python/src/store_client/", "lib/store/store_client/"),
+    ("python/src/store_operator/", "lib/store/store_operator/"), ("clients/python/src/store_client/", "lib/store/store_client/"),
     ("operate/store.service", "lib/systemd/system/store.service"), ("operate/store.ini", "etc/store.ini"),
     ("operate/man/", "share/man/man1/"), ("LICENSE", "LICENSE"), ("README.md", "share/doc/store/README.md"),
     ("docs/", "share/doc/store/docs/"), ("examples/", "share/doc/store/examples/"),

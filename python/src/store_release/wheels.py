@@ -14,7 +14,7 @@ NAME = "store-server"
 _CLIENT_WHEEL = "share/store/python/*.whl"
 _PACKAGE = "store_server"
 # what the package says itself, in the commit
-_MODULE = "operate/store_release/server_package.py"
+_MODULE = "python/src/store_release/server_package.py"
 _CLASSIFIERS = [
     "Development Status :: 4 - Beta", "Intended Audience :: Developers", "License :: OSI Approved :: MIT License",
     "Operating System :: POSIX :: Linux", "Programming Language :: Python :: 3 :: Only", "Topic :: System :: Distributed Computing",

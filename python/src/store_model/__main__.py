@@ -1,4 +1,4 @@
-"""Reads a schedule, answers it as `store run` does, and prints the answers or the journal: python3 -m model run|journal."""
+"""Reads a schedule, answers it as `store run` does, and prints the answers or the journal: tests/model run|journal."""
 
 import argparse
 import sys
