@@ -1,5 +1,6 @@
 """Looks for what a linter finds in all Python of the repository: names that are imported or set and never used, names that aren't there, and
-the like.
+the like. And at two rules of our own: a command has the form by which all are found, and names a module that is there; and nothing but
+python/launcher.py, and what is used without it, says where packages are.
 
 By ruff, with the settings of pyproject.toml; without it by flake8, with the same rules. It is tried that wrong files are found out. Without
 both nothing is looked at, which is said. The last line counts the files and what was tried.
@@ -27,6 +28,37 @@ FAULT = re.compile(r"^(.+?):(\d+):\d+: (\w+) ")
 HANDED_ON = re.compile(r"import (\w+) as \1\b")
 # of a file's faults, what is shown
 SHOWN = 10
+COMMAND_TEXT = """\
+#!/usr/bin/env python3
+\"\"\"What it does.\"\"\"
+
+from launcher import launch
+
+if __name__ == "__main__":
+    launch("{}")
+"""
+# a command: its module, and words before those of the command line
+COMMAND = re.compile(
+    r'#!/usr/bin/env python3\n"""[^"\n]+"""\n\nfrom launcher import launch\n\n'
+    r'if __name__ == "__main__":\n    launch\("([\w.]+)"(?:, "[\w/]+")*\)\n'
+)
+IMPORTED = "from launcher import"
+# commands that import nothing of ours, and those that a release has
+OTHERS = {
+    "clients/python/api_pages", "crates/schedules/long_schedule", "tests/conformance/drivers/puppet",
+    "operate/store-client", "operate/store-daemon", "operate/storectl",
+}
+# what says where packages are. In two pieces, since nothing is said here
+SAID = "sys" + ".path"
+SAYING = {
+    "python/launcher.py", "operate/store-client", "operate/store-daemon", "operate/storectl",
+    # tests are found beside each other
+    "python/src/store_checks/unit_tests.py",
+    # it runs without any path, and finds the package around it
+    "clients/python/src/store_client/keeper.py",
+    # examples are a reader's, and lie in releases too
+    "examples/serving.py", "examples/cluster/inside.py", "python/src/store_bench/cluster.py",
+}
 # files by name: those whose names begin with wrong have to be found out
 FILES = {
     "right.py": "import sys\n\nprint(sys.argv)\n",
@@ -35,6 +67,10 @@ FILES = {
     "wrong_name.py": "print(nothing)\n",
     "wrong_variable.py": "def run() -> None:\n    unused = 1\n",
     "wrong_comparison.py": "def is_none(value: object) -> bool:\n    return value == None\n",
+    "wrong_path.py": f"import sys\n\n{SAID}.append('.')\n",
+    "wrong_command": "#!/usr/bin/env python3\nprint()\n",
+    "wrong_module": COMMAND_TEXT.format("store_checks.nothing"),
+    "right_command": COMMAND_TEXT.format("store_checks.lint"),
 }
 
 
@@ -55,8 +91,35 @@ def command() -> "List[str] | None":
     return None
 
 
+def of_another_form(name: str) -> List[str]:
+    """What of our own rules a file breaks."""
+    text = (ROOT / name).read_text(encoding="utf-8")
+    found = []
+    if SAID in text and name not in SAYING:
+        found.append(f"{name}: it says where packages are, as python/launcher.py alone should")
+    if text.startswith("#!") and (IMPORTED in text or not Path(name).suffix) and name not in OTHERS:
+        command = COMMAND.fullmatch(text)
+        if not command:
+            found.append(f"{name}: a command of another form than the others")
+        elif not is_module(command[1]):
+            found.append(f"{name}: no module {command[1]} has a main")
+    return found
+
+
+def is_module(name: str) -> bool:
+    path = ROOT / "python/src" / f"{name.replace('.', '/')}.py"
+    return path.is_file() and "\ndef main(" in path.read_text(encoding="utf-8")
+
+
 def faults_of(words: Sequence[str], names: Sequence[str]) -> Dict[str, List[str]]:
-    """Of each file what the linter finds there."""
+    """Of each file what of our own rules it breaks, and what the linter finds there."""
+    found = {name: of_another_form(name) for name in names}
+    for name, lines in linted(words, names).items():
+        found.setdefault(name, []).extend(lines)
+    return {name: lines for name, lines in found.items() if lines}
+
+
+def linted(words: Sequence[str], names: Sequence[str]) -> Dict[str, List[str]]:
     done = subprocess.run([*words, *names], cwd=ROOT, capture_output=True, text=True, check=False)
     if done.returncode not in (0, 1):
         raise SystemExit(f"lint: {words[0]} ended with {done.returncode}: {(done.stdout + done.stderr)[-2000:]}")
