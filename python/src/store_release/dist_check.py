@@ -250,7 +250,7 @@ def serves_from(binaries: Path, place: Path, within: Sequence[str] = ()) -> None
     began = time.monotonic()
     printed([*within, str(binaries / "store-daemon"), "--new", str(place)])
     words = [*within, str(binaries / "store-daemon"), str(place / "store.ini")]
-    # not by tests/store_testing: what a release has starts it, maybe below another root
+    # not by store_testing: what a release has starts it, maybe below another root
     daemon = subprocess.Popen(words, env=NAMES, cwd="/", stdout=subprocess.PIPE, stderr=subprocess.DEVNULL)
     try:
         assert daemon.stdout and daemon.stdout.readline() == b"store-daemon: ready\n", "it isn't ready"
