@@ -1,7 +1,7 @@
 """Runs a module of this checkout's packages, none of which is installed while it is worked on.
 
-Each folder of commands has a link to this file: Python looks for it beside the command. A command names its module and ends with what the
-module's main gives.
+Each folder of commands has a link to this file, since Python looks beside a script for what it imports. A command names its module, and ends
+with the status that the module's main gives.
 """
 
 import importlib
@@ -9,7 +9,7 @@ import sys
 from pathlib import Path
 
 TOP = Path(__file__).resolve().parents[1]
-# in place of the folder of the command: of the packages, the client, and what builds it
+# looked through in place of the command's own folder: the packages, the client, and what builds it
 PACKAGES = [str(TOP / place) for place in ("python/src", "clients/python/src", "clients/python/backend")]
 
 
