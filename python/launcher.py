@@ -9,13 +9,14 @@ import sys
 from pathlib import Path
 
 TOP = Path(__file__).resolve().parents[1]
-# looked through in place of the command's own folder: the packages, the client, and what builds it
+# looked through before all else: the packages, the client, and what builds it
 PACKAGES = [str(TOP / place) for place in ("python/src", "clients/python/src", "clients/python/backend")]
 
 
 def launch(module: str, *words: str) -> None:
     """Calls main of the module, with these words before those of the command line."""
     sys.dont_write_bytecode = True
-    sys.path[:1] = PACKAGES
+    # the command's folder comes last: a process that multiprocessing spawns imports the command again
+    sys.path[:] = [*PACKAGES, *sys.path[1:], sys.path[0]]
     sys.argv[1:1] = words
     sys.exit(importlib.import_module(module).main())
