@@ -147,7 +147,7 @@ picture:
 	bench/parts -o docs/pictures/parts.svg
 	bench/crates_picture -o docs/pictures/crates.svg
 	bench/top_picture docs/pictures/top.json -o docs/pictures/top.svg
-	cd tests && python3 -B -m model journal < ../docs/pictures/spilling.schedule > ../docs/pictures/spilling.log
+	tests/model journal < docs/pictures/spilling.schedule > docs/pictures/spilling.log
 	bench/picture docs/pictures/spilling.log -o docs/pictures/spilling.svg
 	rm docs/pictures/spilling.log
 

@@ -11,7 +11,7 @@ from pathlib import Path
 from typing import Iterator
 
 ROOT = Path(__file__).resolve().parents[1]
-sys.path[:0] = [str(ROOT / "clients/python"), str(ROOT / "operate")]
+sys.path[:0] = [str(ROOT / "clients/python/src"), str(ROOT / "python/src")]
 
 try:
     from store_release.program import program_or_end as program_or_end

@@ -19,7 +19,6 @@ from pathlib import Path
 from typing import Callable, List
 
 ROOT = Path(__file__).resolve().parents[2]
-CLIENT = ROOT / "clients/python"
 sys.path.append(str(ROOT / "examples"))
 
 from serving import program_or_end  # noqa: E402
@@ -37,7 +36,6 @@ def main(run: Callable[[Path], int], seconds: float) -> int:
     If Debian's packages aren't there it says so, and nothing is run.
     """
     if _FOLDER in os.environ:
-        sys.path.insert(0, str(CLIENT))
         return run(Path(os.environ[_FOLDER]))
     name = Path(sys.argv[0]).name
     if not _has_packages():

@@ -17,14 +17,12 @@ from pathlib import Path
 from typing import Any, Iterator, Optional
 from unittest import mock
 
-ROOT = Path(__file__).resolve().parents[3]
-sys.path[:0] = [str(ROOT / "clients/python"), str(ROOT / "tests")]
-
-import store_client  # noqa: E402
-import store_testing.server  # noqa: E402
-from store_client import ObjectId, Task, steps  # noqa: E402
-from store_testing.frames import read_frame  # noqa: E402
-from store_testing.program import program_or_end  # noqa: E402
+import store_client
+import store_testing.server
+from store_client import ObjectId, Task, steps
+from store_testing import ROOT as ROOT
+from store_testing.frames import read_frame
+from store_testing.program import program_or_end
 
 FRAMES = ROOT / "docs/rules/frames.md"
 VECTORS = ROOT / "docs/rules/frames.vectors"

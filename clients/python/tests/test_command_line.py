@@ -35,7 +35,7 @@ class CommandLine(unittest.TestCase):
     def command_line(self) -> tuple[list[str], dict[str, str]]:
         """The words of a command line but for the command, and the environment."""
         words = [sys.executable, "-m", "store_client", "--socket", self.server.path, "--job", "1", "--key", key(1).hex()]
-        return words, {**os.environ, "PYTHONPATH": str(ROOT / "clients/python")}
+        return words, {**os.environ, "PYTHONPATH": str(ROOT / "clients/python/src")}
 
     def test_usage_is_watched(self) -> None:
         words, place = self.command_line()
@@ -49,7 +49,7 @@ class CommandLine(unittest.TestCase):
 
     def at_a_terminal(self, server: Server, *words: str, data: bytes = b"") -> tuple[bytes, str]:
         """What job 9's command gives, and what a terminal is told meanwhile."""
-        place = {**os.environ, "PYTHONPATH": str(ROOT / "clients/python")}
+        place = {**os.environ, "PYTHONPATH": str(ROOT / "clients/python/src")}
         place.update(STORE_SOCKET=server.path, STORE_JOB="9", STORE_KEY=key(9).hex())
         our_end, their_end = pty.openpty()
         with open(our_end, "rb", buffering=0) as ours, open(their_end, "wb", buffering=0) as theirs:
@@ -104,7 +104,7 @@ class CommandLine(unittest.TestCase):
         with tempfile.TemporaryDirectory() as folder:
             Path(folder, "numpy.py").write_text("raise ImportError\n", encoding="ascii")
             Path(folder, "file").write_bytes(b"\x93NUMPY")
-            place = {"PYTHONPATH": f"{folder}:{ROOT / 'clients/python'}"}
+            place = {"PYTHONPATH": f"{folder}:{ROOT / 'clients/python/src'}"}
             done = self.run_as(1, "put", f"{folder}/file", "--array", place=place)
             self.assertEqual((done.returncode, done.stderr.count(b"\n")), (1, 1))
             self.assertIn(b"store-client: put_array and get_array need numpy", done.stderr)
@@ -152,7 +152,7 @@ class CommandLine(unittest.TestCase):
         """A command of this job, whose key and socket stand in the environment."""
         words = [sys.executable, "-m", "store_client", *more]
         known = {"STORE_SOCKET": self.server.path, "STORE_JOB": str(job), "STORE_KEY": key(job).hex()}
-        around = {**os.environ, "PYTHONPATH": str(ROOT / "clients/python"), **known, **(place or {})}
+        around = {**os.environ, "PYTHONPATH": str(ROOT / "clients/python/src"), **known, **(place or {})}
         return subprocess.run(words, capture_output=True, env=around, check=False, timeout=PATIENCE)
 
     def test_grants(self) -> None:
@@ -249,6 +249,6 @@ class CommandLine(unittest.TestCase):
 
     def test_what_is_missing_is_named(self) -> None:
         done = subprocess.run([sys.executable, "-m", "store_client", "usage"], capture_output=True, check=False, timeout=PATIENCE,
-                              env={"PYTHONPATH": str(ROOT / "clients/python")})
+                              env={"PYTHONPATH": str(ROOT / "clients/python/src")})
         self.assertEqual(done.returncode, 2)
         self.assertIn(b"--socket is needed, or STORE_SOCKET in the environment", done.stderr)

@@ -6,7 +6,7 @@ import unittest
 from typing import Any, Dict, List, Sequence, Tuple, Union
 
 from support import Script, documented, documented_answers, key
-from spelling import CALLS, call, spelled
+from store_testing.spelling import CALLS, call, spelled
 
 import store_client
 from store_client import JobTask, ObjectId, Task, frames, stream

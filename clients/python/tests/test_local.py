@@ -22,13 +22,10 @@ from support import PATIENCE, PROGRAM, ROOT, in_child
 
 import store_client
 from store_client import ConnectionLost, NotStarted, ObjectId, Pool, embedded
+from store_operator.sizes import parse_size
 from store_testing.waiting import until
 
-sys.path.append(str(ROOT / "operate"))
-
-from store_operator.sizes import parse_size  # noqa: E402
-
-CLIENT = ROOT / "clients/python"
+CLIENT = ROOT / "clients/python/src"
 # seconds after its process's end in which a server has to be gone
 SOON = 5.0
 # what a script begins with
@@ -297,7 +294,7 @@ class Programs(Local):
     def setUp(self) -> None:
         super().setUp()
         self.top = self.folder / "top"
-        self.copy = self.top / "clients/python"
+        self.copy = self.top / "clients/python/src"
         shutil.copytree(CLIENT / "store_client", self.copy / "store_client", ignore=shutil.ignore_patterns("__pycache__"))
         self.binaries = self.folder / "bin"
         self.binaries.mkdir()
@@ -335,6 +332,11 @@ class Programs(Local):
         for path in ("/nowhere", "/etc/passwd", str(self.folder)):
             said = f"store_client.refusals.NotStarted: STORE_PROGRAM names {path}, which is no program"
             self.assertEqual(self.found(STORE_PROGRAM=path), (1, "", said))
+
+    def test_the_checkouts_command_finds_what_lies_beside_it(self) -> None:
+        self.write(self.top / "operate/beside.py", "PATH = '/of/checkout'\n")
+        self.write(self.top / "operate/program", "from beside import PATH\nprint(PATH)\n")
+        self.assertEqual(self.found(PYTHONSAFEPATH="1"), (0, "/of/checkout", ""))
 
     def test_the_checkout_says_why_there_is_none(self) -> None:
         self.write(self.top / "operate/program", "import sys\nsys.exit('program: there is no release')\n")

@@ -16,17 +16,15 @@ import zipfile
 from pathlib import Path
 from typing import List, Mapping, Optional, Union
 
+import store_build
+from store_build.client import client_files, client_wheel, source_archive
+from store_build.project import ProjectFault, read_project, read_tables
 from support import PATIENCE, ROOT
 
 import store_client
+from store_release.wheel import wheel
 
 FOLDER = ROOT / "clients/python"
-sys.path += [str(FOLDER / "backend"), str(ROOT / "operate")]
-
-import store_build  # noqa: E402
-from store_build.client import client_files, client_wheel, source_archive  # noqa: E402
-from store_build.project import ProjectFault, read_project, read_tables  # noqa: E402
-from store_release.wheel import wheel  # noqa: E402
 
 
 def has(*modules: str) -> bool:
@@ -59,7 +57,7 @@ class Package(unittest.TestCase):
     @unittest.skipUnless(shutil.which("mypy"), "mypy isn't there")
     def test_the_types_are_right(self) -> None:
         with tempfile.TemporaryDirectory() as cache:
-            told = run("mypy", "--strict", "store_client", cwd=FOLDER, env={**os.environ, "MYPY_CACHE_DIR": cache})
+            told = run("mypy", "--strict", "src/store_client", cwd=FOLDER, env={**os.environ, "MYPY_CACHE_DIR": cache})
         self.assertIn("Success", told)
 
     @unittest.skipUnless(shutil.which("mypy"), "mypy isn't there")
@@ -78,7 +76,7 @@ class Package(unittest.TestCase):
         with tempfile.TemporaryDirectory() as folder:
             script = Path(folder, "script.py")
             script.write_text("\n".join([*lines, ""]), encoding="ascii")
-            place = {**os.environ, "MYPY_CACHE_DIR": f"{folder}/cache", "MYPYPATH": str(FOLDER)}
+            place = {**os.environ, "MYPY_CACHE_DIR": f"{folder}/cache", "MYPYPATH": str(FOLDER / "src")}
             words = ["mypy", "--strict", "--ignore-missing-imports", str(script)]
             done = subprocess.run(words, capture_output=True, text=True, check=False, timeout=3 * PATIENCE, env=place, cwd=folder)
         told = [int(number) for number in re.findall(r"^script\.py:(\d+): error", done.stdout, re.MULTILINE)]
@@ -110,7 +108,8 @@ class Package(unittest.TestCase):
             self.assertEqual(made(files), made(backwards))
 
     def test_the_wheel_of_a_release_is_the_same(self) -> None:
-        package = {path.relative_to(FOLDER).as_posix(): path.read_bytes() for path in (FOLDER / "store_client").rglob("*.py")}
+        sources = FOLDER / "src"
+        package = {path.relative_to(sources).as_posix(): path.read_bytes() for path in sources.rglob("*.py")}
         package["store_client/py.typed"] = b""
         texts = ((FOLDER / name).read_bytes() for name in ("pyproject.toml", "README.md", "LICENSE"))
         self.assertEqual(wheel(next(texts), package, *texts), client_wheel(client_files(FOLDER)))
@@ -173,7 +172,7 @@ class Installed(unittest.TestCase):
     def test_editable(self) -> None:
         for python in each_python(self):
             with self.subTest(python=python):
-                self.assertEqual(self.look_at(self.installed(python, "-e", str(self.sources))), self.sources / "store_client")
+                self.assertEqual(self.look_at(self.installed(python, "-e", str(self.sources))), self.sources / "src/store_client")
 
 
 def each_python(case: unittest.TestCase) -> List[str]:

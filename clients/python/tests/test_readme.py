@@ -48,7 +48,7 @@ class OfItsOwn(unittest.TestCase):
         with tempfile.TemporaryDirectory() as folder:
             script = Path(folder, "script.py")
             script.write_text(text, encoding="utf-8")
-            place = {**os.environ, "STORE_PROGRAM": PROGRAM, "PYTHONPATH": str(ROOT / "clients/python")}
+            place = {**os.environ, "STORE_PROGRAM": PROGRAM, "PYTHONPATH": str(ROOT / "clients/python/src")}
             words = [sys.executable, "-B", str(script)]
             done = subprocess.run(words, capture_output=True, text=True, check=False, timeout=PATIENCE, env=place)
         self.assertEqual((done.returncode, done.stderr), (0, ""))

@@ -14,7 +14,7 @@ import unittest
 from typing import Callable, List, Tuple, Type, Union
 
 from support import PATIENCE, PROGRAM, Server, device_at_rest, documented, documented_refusals, key
-from spelling import call, spelled
+from store_testing.spelling import call, spelled
 
 import store_client
 from store_client import Kind, ObjectId, State, Task, steps

@@ -402,6 +402,6 @@ class WithoutNumpy(unittest.TestCase):
         words = "import sys; sys.modules['numpy'] = None; import store_client.aio, store_client.encoding as e\n"
         words += "assert e.decode_value(memoryview(b''.join(e.encode_value([1]).views)), 'it') == [1]\n"
         words += "try: e.encode_array([1])\nexcept ImportError as error: print(error)"
-        place = {**os.environ, "PYTHONPATH": str(ROOT / "clients/python")}
+        place = {**os.environ, "PYTHONPATH": str(ROOT / "clients/python/src")}
         done = subprocess.run([sys.executable, "-c", words], env=place, capture_output=True, text=True, check=True, timeout=PATIENCE)
         self.assertIn("need numpy", done.stdout)

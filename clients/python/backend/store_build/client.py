@@ -6,12 +6,12 @@ from pathlib import Path
 from typing import Dict, Tuple
 
 from .archives import Files, pack
-from .project import Project, read_project
+from .project import SOURCES, Project, read_project
 from .wheels import ANY, information, metadata, wheel
 
 # what stands beside the package and the backend
 _BESIDE = ("API.md", "CHANGELOG.md", "LICENSE", "README.md", "pyproject.toml")
-_FOLDERS = ("backend", "store_client")
+_FOLDERS = ("backend", SOURCES)
 # which files of these folders matter
 _KINDS = (".py", "/py.typed")
 # seconds from 1970 to 1980: nothing is dated to when it was built
@@ -34,7 +34,7 @@ def client_wheel(files: Dict[str, bytes]) -> Tuple[str, bytes]:
 def editable_wheel(files: Dict[str, bytes], folder: Path) -> Tuple[str, bytes]:
     """A wheel by which Python finds the package in this folder, as it is there."""
     project = read_project(files)
-    return wheel(project, ANY, {f"{project.package}.pth": (f"{folder}\n".encode(), False)})
+    return wheel(project, ANY, {f"{project.package}.pth": (f"{folder / SOURCES}\n".encode(), False)})
 
 
 def source_archive(files: Dict[str, bytes]) -> Tuple[str, bytes]:
@@ -51,7 +51,9 @@ def metadata_files(files: Dict[str, bytes]) -> Tuple[str, Dict[str, bytes]]:
 
 
 def _package(project: Project, files: Dict[str, bytes]) -> Files:
-    return {name: (data, False) for name, data in files.items() if name.startswith(f"{project.package}/") and _is_source(name)}
+    """The package's files, by their paths where it is installed."""
+    within = {name[len(f"{SOURCES}/") :]: data for name, data in files.items() if name.startswith(f"{SOURCES}/")}
+    return {name: (data, False) for name, data in within.items() if name.startswith(f"{project.package}/") and _is_source(name)}
 
 
 def _is_source(name: str) -> bool:

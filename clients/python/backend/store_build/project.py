@@ -13,6 +13,8 @@ _TABLE = re.compile(r"^\[(project[\w.-]*)\]\n(.*?)(?=^\[|\Z)", re.MULTILINE | re
 # a field is a text or a list of texts, which may take several lines. Python reads both alike
 _FIELD = re.compile(r'^([\w-]+) = (".*"|\[.*\]|\[\n(?:[ \t].*\n)*\])[ \t]*(?:#.*)?$', re.MULTILINE)
 _COMMENT = re.compile(r"#.*")
+# in the project's folder, the folder of the package
+SOURCES = "src"
 _VERSION = re.compile(r'^__version__ = "([0-9.]+)"$', re.MULTILINE)
 
 
@@ -71,7 +73,7 @@ def _fields(body: str) -> Dict[str, _Value]:
 
 
 def _version(files: Mapping[str, bytes], name: str) -> str:
-    place = f"{name.replace('-', '_')}/__init__.py"
+    place = f"{SOURCES}/{name.replace('-', '_')}/__init__.py"
     found = _VERSION.search(files[place].decode("utf-8"))
     if not found:
         raise ProjectFault(f"{place} says no version")

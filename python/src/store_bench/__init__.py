@@ -1,0 +1,1 @@
+"""What bench/ has commands for, a module for each."""

@@ -1,0 +1,338 @@
+"""Measures puts and gets of objects at a program that serves, against what moves the same bytes and does no more.
+
+A put is Create, Write in pieces of 64 KiB, Seal and Delete, so that the window never fills; all of it is counted. A get
+is Get, Read in pieces of 64 KiB, and Release. Each command waits for the reply to the one before. The clients are
+processes with a connection and a job each.
+
+The floor answers the same frames with frames of the same sizes, and keeps nothing: a process of this script for each
+connection, so it is Python's floor and not the machine's. If redis-server is on the path, a put is compared with a SET
+of the same key, which frees the value before, and a get with a GET, one round trip each, at as many servers as nodes.
+SHA-256, which a Seal has to take, is timed with hashlib by as many processes as connections. What floor and SHA-256
+together allow is one after the other; a put's last column is the ratio to that.
+
+Then an array of numpy is put and got by the Python client and by other ways between processes, if numpy is there: see value_rows.py.
+
+The rows, and what they are compared with, take turns, and each keeps its best run. The kind and length of each answer
+are looked at, and the bytes of each client's first get: a wrong one ends all with status 1. With the default options
+that is some five minutes.
+
+--redis measures the store beside redis-server alone: puts and gets of 64 KiB and 1 MiB by four connections at one node, in rounds (5 by
+default) in which both take turns, by the same Python clients. A figure is the median of the rounds, a ratio the median of the rounds'
+own ratios, with the least and the greatest. If cc is there, the native load measures the store in the same rounds, too.
+
+At last come ratios by a native load, load.c, each of figures of the same rounds, in at most some three minutes; --native
+measures these alone. It is compiled with cc into a temporary folder, and its floor answers the same trips. The rows, with the goal
+of each beside it:
+
+- put of 64 KiB and 1 MiB: four connections to one, at one node;
+- get of 64 KiB and 1 MiB: four connections at one node to four at four nodes; of 1 MiB by one connection to the floor;
+- 16 commands sent at once to the same one by one; the server's write calls for them at once, if strace is there;
+- get of another job's 1 KiB (median, 99th percentile, longest) beside four sessions that seal, restore, create and
+  delete, or spill 16 MiB, to the same beside four that read.
+
+How each is measured stands in serving_rows.py and load.c. It takes the program that operate/program finds.
+"""
+
+import argparse
+import contextlib
+import importlib.util
+import os
+import shutil
+import signal
+import socket
+import statistics
+import subprocess
+import sys
+import tempfile
+from pathlib import Path
+from typing import ContextManager, Dict, Iterator, List, Optional, Sequence, Tuple
+
+from store_client import StoreError
+from store_testing.daemon import listens
+from store_testing.frames import frame, key, numbers
+from store_testing.program import program_or_end
+from store_testing.waiting import until
+
+from .drawing import Bar, Drawing, bytes_text, draw_bars
+from .serving_clients import (
+    BYTES, CREATE, DELETE, GET, GOT, HELLO, OK, PIECE, PLACED, READ, RELEASE, SEAL, WRITE, Preparing, Row, asking, content, floor_script,
+    hashing, processes, redis_script, speed_of, store_script,
+)
+from .serving_rows import LIMIT, PATIENCE, ROUNDS, Admitted, Side, compiled, number_text, run_rows, serving, told_by
+from .value_rows import ARRAY_BYTES, VALUES_WINDOW, measure_values, print_values
+
+SIZES = (1 << 10, 1 << 16, 1 << 20)
+# connections, and over how many nodes
+LAYOUTS = ((1, 1), (4, 1), (4, 4))
+NODES = max(nodes for _, nodes in LAYOUTS)
+CLIENTS = max(connections for connections, _ in LAYOUTS)
+# of a job at a node: one object
+WINDOW = max(SIZES)
+VALUES_JOB = CLIENTS + 1
+RUNS = 5
+# of a row in a run
+SECONDS = 1.0
+# runs, rounds and seconds
+QUICK = (1, 2, 0.2)
+# in a Read's frame, where the number of its bytes stands
+READ_COUNT = slice(37, 41)
+STORE, FLOOR, REDIS, HASH = "the store", "the floor", "Redis", "SHA-256"
+# the store again, by the native load
+NATIVE = "the store, natively"
+# sizes that are measured beside Redis alone
+BESIDE_REDIS = (1 << 16, 1 << 20)
+# of a row and a side operations a second
+Best = Dict[Tuple[Row, str], float]
+
+
+# ---- what is measured
+
+
+def answers_of_the_floor() -> Tuple[Dict[int, bytes], Dict[bytes, bytes]]:
+    """Frames of the lengths that the store's have, by the command's kind; of a Read by its count."""
+    answers: Dict[int, bytes] = dict.fromkeys((HELLO, WRITE, SEAL, RELEASE, DELETE), frame(OK))
+    answers[CREATE], answers[GET] = frame(PLACED, bytes(8)), frame(GOT, bytes(4))
+    reads = {numbers(count): frame(BYTES, bytes(count)) for count in {min(size, PIECE) for size in SIZES}}
+    return answers, reads
+
+
+def serve_floor(listener: socket.socket) -> None:
+    """Takes a connection after another, and a frame after another: a client sends none before the answer."""
+    answers, reads = answers_of_the_floor()
+    buffer = bytearray(2 * PIECE)
+    view = memoryview(buffer)
+    while True:
+        stream, _ = listener.accept()
+        with stream:
+            while got := stream.recv_into(view):
+                while got < 4 or got < 4 + int.from_bytes(view[:4], "big"):
+                    got += stream.recv_into(view[got:])
+                kind = buffer[4]
+                stream.sendall(reads[bytes(view[READ_COUNT])] if kind == READ else answers[kind])
+
+
+@contextlib.contextmanager
+def floor(folder: str) -> Iterator[None]:
+    """A process for each connection."""
+    with contextlib.ExitStack() as stack:
+        listeners = [stack.enter_context(socket.socket(socket.AF_UNIX)) for _ in range(CLIENTS)]
+        for client, listener in enumerate(listeners):
+            listener.bind(f"{folder}/floor.{client}")
+            listener.listen()
+        stack.enter_context(processes(serve_floor, [(listener,) for listener in listeners]))
+        yield
+
+
+def store(program: Path, folder: str) -> ContextManager[None]:
+    """A cluster at whose nodes each client's job is admitted, and at the first one a job for values."""
+    admitted = [Admitted(node, job, WINDOW) for node in range(NODES) for job in range(1, CLIENTS + 1)]
+    return serving([str(program.resolve())], folder, NODES, [*admitted, Admitted(0, VALUES_JOB, VALUES_WINDOW)])
+
+
+@contextlib.contextmanager
+def redis(program: str, folder: str) -> Iterator[None]:
+    """A server for each node, which writes no files."""
+    servers: List[subprocess.Popen[bytes]] = []
+    try:
+        for node in range(NODES):
+            words = ["--port", "0", "--unixsocket", f"{folder}/redis.{node}", "--save", "", "--appendonly", "no", "--dir", folder]
+            servers.append(subprocess.Popen([program, *words], stdin=subprocess.DEVNULL, stdout=subprocess.DEVNULL))
+        until(lambda: all(listens(Path(folder, f"redis.{node}")) for node in range(NODES)), "Redis listens", PATIENCE)
+        yield
+    finally:
+        for server in servers:
+            server.terminate()
+            server.wait()
+
+
+# ---- the table
+
+
+SCRIPTS = {STORE: store_script, FLOOR: floor_script, REDIS: redis_script}
+
+
+def works_of(side: str, row: Row, folder: str) -> List[Preparing]:
+    """What each client of the row does."""
+    if side == HASH:
+        return [hashing(content(row.size)) for _ in range(row.connections)]
+    script = SCRIPTS[side]
+    return [asking(script(folder, row, client)) for client in range(row.connections)]
+
+
+def measure(rows: Sequence[Row], sides: Sequence[str], folder: str, asked: argparse.Namespace) -> Best:
+    """Of each row and each side its operations a second. They take turns, so that whatever else the machine does meets
+    all of them."""
+    turns = [(row, side) for row in rows for side in sides if side != HASH or row.operation == "put"]
+    best: Best = dict.fromkeys(turns, 0.0)
+    for row, side in turns * asked.runs:
+        try:
+            speed = speed_of(works_of(side, row, folder), asked.seconds)
+        except (OSError, ValueError, EOFError) as fault:
+            raise ValueError(f"{name_of(row)}: {side}: {str(fault) or 'a client is gone'}") from fault
+        best[row, side] = max(speed, best[row, side])
+    return best
+
+
+def name_of(row: Row) -> str:
+    return f"{row.operation} {bytes_text(row.size)}, {counted(row.connections, 'connection')}, {counted(row.nodes, 'node')}"
+
+
+def counted(count: int, word: str) -> str:
+    return f"{count} {word}" if count == 1 else f"{count} {word}s"
+
+
+def ratios_of(row: Row, best: Best) -> Tuple[float, Optional[float], Optional[float]]:
+    """The store's to the floor, to Redis, and to floor and SHA-256, one after the other."""
+    speed, base = best[row, STORE], best[row, FLOOR]
+    to_redis = speed / best[row, REDIS] if (row, REDIS) in best else None
+    to_both = speed * (1 / base + 1 / best[row, HASH]) if (row, HASH) in best else None
+    return speed / base, to_redis, to_both
+
+
+def print_table(rows: Sequence[Row], best: Best) -> None:
+    print("| Operation | Size | Connections | Nodes | Operations a second | MB/s | To the floor | To Redis | To floor and SHA-256 |")
+    print("|---|---|---|---|---|---|---|---|---|")
+    for row in rows:
+        speed = best[row, STORE]
+        ratios = ["-" if ratio is None else f"{ratio:.2f}" for ratio in ratios_of(row, best)]
+        cells = [row.operation, bytes_text(row.size), row.connections, row.nodes, f"{speed:,.0f}", f"{speed * row.size / 1e6:,.1f}"]
+        print("| " + " | ".join(map(str, [*cells, *ratios])) + " |")
+
+
+def draw_table(rows: Sequence[Row], best: Best) -> Drawing:
+    """A bar for each row: its ratio to the floor."""
+    bars = []
+    for row in rows:
+        percent = 100 * ratios_of(row, best)[0]
+        bars.append(Bar(name_of(row), percent, f"{percent:.0f} %, {best[row, STORE]:,.0f} a second"))
+    return draw_bars("puts and gets: operations a second, and the ratio to the floor", "percent of the floor", bars)
+
+
+def run_python(asked: argparse.Namespace) -> None:
+    rows = [Row(word, size, *layout) for word in ("put", "get") for size in SIZES for layout in LAYOUTS]
+    redis_program = shutil.which("redis-server")
+    sides = [STORE, FLOOR, *([REDIS] if redis_program else []), HASH]
+    with tempfile.TemporaryDirectory() as folder, contextlib.ExitStack() as servers:
+        servers.enter_context(floor(folder))
+        if redis_program:
+            servers.enter_context(redis(redis_program, folder))
+        servers.enter_context(store(asked.program, folder))
+        best = measure(rows, sides, folder, asked)
+        print_table(rows, best)
+        if importlib.util.find_spec("numpy"):
+            redis_path = f"{folder}/redis.0" if redis_program else None
+            values = measure_values(f"{folder}/store.0", VALUES_JOB, key(VALUES_JOB), redis_path, asked.runs, asked.array)
+            print_values(values, asked.array)
+        else:
+            print("serve: LEFT OUT, since there is no numpy: values", file=sys.stderr)
+    if asked.svg:
+        draw_table(rows, best).save(asked.svg)
+
+
+# ---- beside Redis alone
+
+# of a row and a side operations a second in each round
+Turns = Dict[Tuple[Row, str], List[float]]
+
+
+def measure_rounds(rows: List[Row], load: Optional[str], folder: str, asked: argparse.Namespace) -> Turns:
+    """Store and Redis begin in turn."""
+    sides = [STORE, REDIS, *([NATIVE] if load else [])]
+    speeds: Turns = {(row, side): [] for row in rows for side in sides}
+    for done in range(asked.rounds or ROUNDS):
+        for row in rows:
+            for side in sides if done % 2 else sides[::-1]:
+                speeds[row, side].append(speed_beside(side, row, load, folder, asked.seconds))
+    return speeds
+
+
+def speed_beside(side: str, row: Row, load: Optional[str], folder: str, seconds: float) -> float:
+    if side == NATIVE and load:
+        told = told_by(load, Side(row.operation, row.size, row.connections), seconds, folder)
+        return told.times / told.seconds
+    return speed_of(works_of(side, row, folder), seconds)
+
+
+def print_beside_redis(rows: List[Row], speeds: Turns) -> None:
+    print("| Four connections, one node | Store, MB/s | Redis, MB/s | Ratio | Store by the native load, MB/s |")
+    print("|---|---|---|---|---|")
+    for row in rows:
+        ratios = [one / other for one, other in zip(speeds[row, STORE], speeds[row, REDIS])]
+        ratio = f"{statistics.median(ratios):.2f} ({min(ratios):.2f} to {max(ratios):.2f})"
+        found = [speeds.get((row, side)) for side in (STORE, REDIS, NATIVE)]
+        ours, theirs, natively = [number_text(statistics.median(one) * row.size / 1e6) if one else "-" for one in found]
+        print(f"| {row.operation} {bytes_text(row.size)} | {ours} | {theirs} | {ratio} | {natively} |")
+
+
+def load_text() -> str:
+    return f"load {os.getloadavg()[0]:.1f} on {os.cpu_count()} processors"
+
+
+def run_beside_redis(asked: argparse.Namespace) -> None:
+    redis_program, compiler = shutil.which("redis-server") or "redis-server", shutil.which("cc")
+    rows = [Row(word, size, CLIENTS, 1) for word in ("put", "get") for size in BESIDE_REDIS]
+    version = subprocess.run([redis_program, "--version"], capture_output=True, text=True, check=True).stdout.split()[2]
+    before = load_text()
+    with tempfile.TemporaryDirectory() as folder, contextlib.ExitStack() as servers:
+        load = compiled(compiler, folder) if compiler else None
+        servers.enter_context(redis(redis_program, folder))
+        servers.enter_context(store(asked.program, folder))
+        speeds = measure_rounds(rows, load, folder, asked)
+    rounds = len(speeds[rows[0], STORE])
+    print(f"Beside Redis {version.partition('=')[2]}, medians of {rounds} rounds; before {before}, after {load_text()}.\n")
+    print_beside_redis(rows, speeds)
+
+
+def run_native(asked: argparse.Namespace) -> None:
+    compiler = shutil.which("cc")
+    left_out = run_rows(compiler, asked) if compiler else ["the native load, since there is no cc"]
+    for text in left_out:
+        print(f"serve: LEFT OUT: {text}", file=sys.stderr)
+
+
+def run(asked: argparse.Namespace) -> None:
+    if asked.redis:
+        run_beside_redis(asked)
+        return
+    if not asked.native:
+        run_python(asked)
+        print()
+    run_native(asked)
+
+
+def main() -> None:
+    options = argparse.ArgumentParser(description=__doc__, formatter_class=argparse.RawDescriptionHelpFormatter)
+    options.add_argument("--program", type=Path, help="another one than operate/program finds")
+    options.add_argument("--runs", type=int, default=RUNS, help=f"runs of each row (default {RUNS})")
+    options.add_argument("--seconds", type=float, default=SECONDS, help=f"of a row in each run (default {SECONDS:g})")
+    options.add_argument("--array", type=int, default=ARRAY_BYTES, metavar="BYTES", help=f"of the array (default {ARRAY_BYTES})")
+    options.add_argument("--native", action="store_true", help="only the rows of the native load")
+    options.add_argument("--redis", action="store_true", help="only puts and gets beside Redis")
+    rounds = f"of the native rows (default {ROUNDS}, or as many as {LIMIT} s allow)"
+    options.add_argument("--rounds", type=int, help=rounds)
+    options.add_argument("--quick", action="store_true", help="as --runs {} --rounds {} --seconds {}".format(*QUICK))
+    options.add_argument("--svg", type=Path, metavar="FILE", help="draw the table as bars into this file")
+    asked = options.parse_args()
+    if asked.redis and (asked.native or asked.svg):
+        options.error("--redis measures by itself, without --native and --svg")
+    if asked.redis and not shutil.which("redis-server"):
+        options.error("--redis wants redis-server on the path: apt-get install redis-server")
+    if asked.quick:
+        asked.runs, asked.rounds, asked.seconds = QUICK
+    if asked.runs < 1 or (asked.rounds or 1) < 1 or asked.seconds <= 0 or not 8 <= asked.array <= ARRAY_BYTES:
+        options.error("there is nothing to measure")
+    if asked.native and asked.svg:
+        options.error("--svg draws the table that --native leaves out")
+    asked.program = asked.program or Path(program_or_end())
+    # so that a script which is ended from outside ends what it started, too
+    signal.signal(signal.SIGTERM, lambda *_: sys.exit("serve: ended"))
+    try:
+        run(asked)
+    except (AssertionError, OSError, ValueError, StoreError, subprocess.SubprocessError) as fault:
+        sys.exit(f"serve: {fault}")
+    except KeyboardInterrupt:
+        sys.exit("serve: interrupted")
+
+
+if __name__ == "__main__":
+    main()

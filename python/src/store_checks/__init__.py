@@ -1,0 +1,1 @@
+"""What tests/ has commands for, a module for each."""

@@ -1,0 +1,1 @@
+"""Trials of what a job can do to others within its rights: tests/hostile/run."""
