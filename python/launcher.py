@@ -1,7 +1,6 @@
 """Runs a module of this checkout's packages, none of which is installed while it is worked on.
 
-Each folder of commands has a link to this file, since Python looks beside a script for what it imports. A command names its module, and ends
-with the status that the module's main gives.
+A command finds this file by its own place. It names its module, and ends with the status that the module's main gives.
 """
 
 import importlib
@@ -16,7 +15,7 @@ PACKAGES = [str(TOP / place) for place in ("python/src", "clients/python/src", "
 def launch(module: str, *words: str) -> None:
     """Calls main of the module, with these words before those of the command line."""
     sys.dont_write_bytecode = True
-    # the command's folder comes last: a process that multiprocessing spawns imports the command again
-    sys.path[:] = [*PACKAGES, *sys.path[1:], sys.path[0]]
+    # this folder stays, after them: a process that multiprocessing spawns imports the command again
+    sys.path[:0] = PACKAGES
     sys.argv[1:1] = words
     sys.exit(importlib.import_module(module).main())

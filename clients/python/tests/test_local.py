@@ -333,11 +333,6 @@ class Programs(Local):
             said = f"store_client.refusals.NotStarted: STORE_PROGRAM names {path}, which is no program"
             self.assertEqual(self.found(STORE_PROGRAM=path), (1, "", said))
 
-    def test_the_checkouts_command_finds_what_lies_beside_it(self) -> None:
-        self.write(self.top / "operate/beside.py", "PATH = '/of/checkout'\n")
-        self.write(self.top / "operate/program", "from beside import PATH\nprint(PATH)\n")
-        self.assertEqual(self.found(PYTHONSAFEPATH="1"), (0, "/of/checkout", ""))
-
     def test_the_checkout_says_why_there_is_none(self) -> None:
         self.write(self.top / "operate/program", "import sys\nsys.exit('program: there is no release')\n")
         status, _, said = self.found()

@@ -262,8 +262,7 @@ class Proof(unittest.TestCase):
                 else:
                     shutil.copy(ROOT / part, root)
             (root / "tests").mkdir()
-            for command in ("proof_picture", "launcher.py"):
-                shutil.copy(ROOT / "tests" / command, root / "tests")
+            shutil.copy(ROOT / "tests/proof_picture", root / "tests")
             changed = (root / name).read_text()
             self.assertIn(old, changed)
             (root / name).write_text(changed.replace(old, new))

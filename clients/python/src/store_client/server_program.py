@@ -46,10 +46,7 @@ def _of_checkout() -> Optional[str]:
     command = folder.parents[3] / "operate/program"
     if not command.exists():
         return None
-    # a command of the checkout imports what lies beside it
-    names = {name: value for name, value in os.environ.items() if name != "PYTHONSAFEPATH"}
-    words = [sys.executable, str(command)]
-    done = subprocess.run(words, stdin=subprocess.DEVNULL, capture_output=True, text=True, check=False, env=names)
+    done = subprocess.run([sys.executable, str(command)], stdin=subprocess.DEVNULL, capture_output=True, text=True, check=False)
     if done.returncode:
         raise NotStarted(f"{done.stderr.strip()}; otherwise {_WAYS}")
     sys.stderr.write(done.stderr)
