@@ -6,6 +6,7 @@ use Rattle.private_store.specs.declared.frames.Awaited.{Awaited}
 use Rattle.private_store.specs.declared.frames.Awaited.TheVariants as awaited
 use Rattle.command_kinds.specs.declared.command_kind.CommandKind.{CommandKind}
 use Rattle.command_kinds.specs.declared.command_kind.CommandKind.TheVariants as kinds
+use Rattle.command_kinds.specs.declared.command_kind.MostSent.TheVariants as sent
 use Rattle.command_kinds.specs.declared.command_kind.Moved.TheVariants as moved
 use Rattle.command_kinds.specs.declared.command_kind.Traits.{Traits}
 use Rattle.command_kinds.specs.declared.outline.Subject.{Subject}
@@ -59,35 +60,63 @@ subject_of command.Leave = subject.All
 
 -- what a command has written
 abbrev pub payload_of : {P : Type 0} → Command P → Option P
+payload_of (command.Create id kind n) = None
 payload_of (command.Write id offset bytes) = Some bytes
-payload_of _ = None
+payload_of (command.Seal id) = None
+payload_of (command.Get id) = None
+payload_of (command.Read id offset n) = None
+payload_of (command.Release id) = None
+payload_of (command.Unpin id task) = None
+payload_of (command.Borrow id task) = None
+payload_of (command.GiveUp id task) = None
+payload_of (command.Delete id) = None
+payload_of (command.EndTask task) = None
+payload_of (command.Grant id target) = None
+payload_of (command.Withdraw id target) = None
+payload_of (command.Peek id offset n) = None
+payload_of command.List = None
+payload_of command.Usage = None
+payload_of command.Leave = None
 
 -- what is best made before a command's step
 abbrev pub preparation_of : {P : Type 0} → Command P → Preparation
 preparation_of (command.Create id kind n) = preparation.NewExtent id n
+preparation_of (command.Write id offset bytes) = preparation.Nothing
 preparation_of (command.Seal id) = preparation.Digest id
 preparation_of (command.Get id) = preparation.CopyExtent id
-preparation_of _ = preparation.Nothing
+preparation_of (command.Read id offset n) = preparation.Nothing
+preparation_of (command.Release id) = preparation.Nothing
+preparation_of (command.Unpin id task) = preparation.Nothing
+preparation_of (command.Borrow id task) = preparation.Nothing
+preparation_of (command.GiveUp id task) = preparation.Nothing
+preparation_of (command.Delete id) = preparation.Nothing
+preparation_of (command.EndTask task) = preparation.Nothing
+preparation_of (command.Grant id target) = preparation.Nothing
+preparation_of (command.Withdraw id target) = preparation.Nothing
+preparation_of (command.Peek id offset n) = preparation.Nothing
+preparation_of command.List = preparation.Nothing
+preparation_of command.Usage = preparation.Nothing
+preparation_of command.Leave = preparation.Nothing
 
 -- of a kind that does nothing of the sort
 abbrev quiet : Traits
-quiet = record { removes = false; meets_seals = false; reaches_others = false; moved = moved.Nothing }
+quiet = record { removes = false; meets_seals = false; reaches_others = false; moved = moved.Nothing; sends = sent.Nothing }
 
 -- the table: a kind that is new has to be put somewhere
 abbrev pub traits_of : CommandKind → Traits
-traits_of kinds.Create = record quiet { removes = true }
-traits_of kinds.CreateWait = record quiet { removes = true }
-traits_of kinds.Get = record quiet { removes = true }
-traits_of kinds.GetWait = record quiet { removes = true }
+traits_of kinds.Create = record quiet { removes = true; sends = sent.EachCopy }
+traits_of kinds.CreateWait = record quiet { removes = true; sends = sent.EachCopy }
+traits_of kinds.Get = record quiet { removes = true; sends = sent.EachCopyAndOne }
+traits_of kinds.GetWait = record quiet { removes = true; sends = sent.EachCopyAndOne }
 traits_of kinds.Write = record quiet { meets_seals = true }
-traits_of kinds.Seal = record quiet { moved = moved.Copies }
+traits_of kinds.Seal = record quiet { moved = moved.Copies; sends = sent.One }
 traits_of kinds.Read = quiet
 traits_of kinds.Release = record quiet { removes = true; moved = moved.Copies }
-traits_of kinds.Unpin = record quiet { removes = true; meets_seals = true; moved = moved.Copies }
+traits_of kinds.Unpin = record quiet { removes = true; meets_seals = true; moved = moved.Copies; sends = sent.One }
 traits_of kinds.Borrow = quiet
-traits_of kinds.GiveUp = record quiet { removes = true; meets_seals = true; moved = moved.Copies }
-traits_of kinds.Delete = record quiet { removes = true; meets_seals = true; moved = moved.Fetches }
-traits_of kinds.EndTask = record quiet { removes = true; meets_seals = true; moved = moved.Fetches }
+traits_of kinds.GiveUp = record quiet { removes = true; meets_seals = true; moved = moved.Copies; sends = sent.One }
+traits_of kinds.Delete = record quiet { removes = true; meets_seals = true; moved = moved.Fetches; sends = sent.One }
+traits_of kinds.EndTask = record quiet { removes = true; meets_seals = true; moved = moved.Fetches; sends = sent.EachCopyTwice }
 traits_of kinds.Grant = record quiet { reaches_others = true }
 traits_of kinds.Withdraw = record quiet { removes = true; moved = moved.Copies }
 traits_of kinds.Peek = quiet

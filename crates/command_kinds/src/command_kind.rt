@@ -67,6 +67,21 @@ pub enum Moved {
     Fetches,
 }
 
+/// How many messages a step may send at most. A job that isn't live has no copies, and sends nothing for them.
+#[derive(Clone, Copy, Debug, PartialEq, Eq)]
+pub enum MostSent {
+    /// None.
+    Nothing,
+    /// One.
+    One,
+    /// One for each copy of the job.
+    EachCopy,
+    /// One for each copy of a live job, and one more.
+    EachCopyAndOne,
+    /// Two for each copy of the job.
+    EachCopyTwice,
+}
+
 /// What is known of a kind of command.
 #[derive(Clone, Copy)]
 struct Traits {
@@ -78,6 +93,8 @@ struct Traits {
     reaches_others: bool,
     // what it may have moved
     moved: Moved,
+    // how many messages it sends at most
+    sends: MostSent,
 }
 
 /// Of a kind that does nothing of the sort.
@@ -86,6 +103,7 @@ const QUIET: Traits = Traits {
     meets_seals: false,
     reaches_others: false,
     moved: Moved::Nothing,
+    sends: MostSent::Nothing,
 };
 
 impl CommandKind {
@@ -134,16 +152,28 @@ impl CommandKind {
         self.traits().moved
     }
 
+    /// How many messages a step of it sends at most. One that waits sends what the command would.
+    pub fn most_sent(self) -> MostSent
+        ensures { result ≡ (traits_of self).sends }
+    {
+        self.traits().sends
+    }
+
     /// The table: a kind that is new has to be put somewhere.
     fn traits(self) -> Traits
         ensures { result ≡ traits_of self }
     {
         match self {
-            CommandKind::Create
-            | CommandKind::CreateWait
-            | CommandKind::Get
-            | CommandKind::GetWait => Traits {
+            // the directory is told of each copy that goes
+            CommandKind::Create | CommandKind::CreateWait => Traits {
                 removes: true,
+                sends: MostSent::EachCopy,
+                ..QUIET
+            },
+            // and somebody is asked for the object
+            CommandKind::Get | CommandKind::GetWait => Traits {
+                removes: true,
+                sends: MostSent::EachCopyAndOne,
                 ..QUIET
             },
             CommandKind::Write => Traits {
@@ -152,6 +182,7 @@ impl CommandKind {
             },
             CommandKind::Seal => Traits {
                 moved: Moved::Copies,
+                sends: MostSent::One,
                 ..QUIET
             },
             CommandKind::Release | CommandKind::Withdraw | CommandKind::Leave => Traits {
@@ -163,12 +194,22 @@ impl CommandKind {
                 removes: true,
                 meets_seals: true,
                 moved: Moved::Copies,
+                sends: MostSent::One,
                 ..QUIET
             },
-            CommandKind::Delete | CommandKind::EndTask => Traits {
+            CommandKind::Delete => Traits {
                 removes: true,
                 meets_seals: true,
                 moved: Moved::Fetches,
+                sends: MostSent::One,
+                ..QUIET
+            },
+            // each copy may be doomed, and a borrow of each given up
+            CommandKind::EndTask => Traits {
+                removes: true,
+                meets_seals: true,
+                moved: Moved::Fetches,
+                sends: MostSent::EachCopyTwice,
                 ..QUIET
             },
             CommandKind::Grant => Traits {

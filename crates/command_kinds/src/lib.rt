@@ -5,6 +5,6 @@ mod command_kind;
 mod outline;
 mod preparation;
 
-pub use command_kind::{COMMAND_KINDS, CommandKind, KINDS, Moved};
+pub use command_kind::{COMMAND_KINDS, CommandKind, KINDS, MostSent, Moved};
 pub use outline::{Outline, Subject};
 pub use preparation::Preparation;

@@ -25,11 +25,12 @@ use Rattle.spill_work.specs.Line.{shown, is_of, is_at, works_of, used_by}
 use Rattle.node_table.specs.Asked.{HasAsked}
 use Rattle.job_row.specs.Row.{Row}
 use Rattle.node_table.specs.Shown.{RowGiven}
+use Rattle.node_core.specs.GrantMoves.{moves_grants}
 use Rattle.node_core.specs.Hosted.{Hosted, IsViewBy, Shows, ShowsAll, row_at, beside_at}
 use Rattle.node_core.specs.Calls.{needs_no_memory}
 use Rattle.node_core.specs.OneJob.{event_input_of, view_by, one_view_after, IsGiven as IsRowGiven, IsOperatorAnswer as IsOneAnswer, IsAnswerByViews, IsLineAfter, NodeStepOne}
 use Rattle.node_core.specs.Outcomes.{with_no_notes}
-use Rattle.node_core.specs.Judged.{is_finish, moves_grants, judged_as, IsCallJudged}
+use Rattle.node_core.specs.Judged.{is_finish, judged_as, IsCallJudged}
 use Rattle.node_core.specs.Steps.{before_of, job_of_event, IsGiven, answer_of_check, judged_notes, stale_unless, queued, taken_if, line_left, asked_now, line_after, IsEventAnswer, NodeStepFrom, NodeStep}
 use Rattle.store_facts.proofs.Tests.{both, both_left, both_right}
 use Rattle.node_core.proofs.Never.{told_never}

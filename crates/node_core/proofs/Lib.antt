@@ -2,6 +2,7 @@ mod Others
 mod Lines
 mod Granted
 mod GrantCommands
+mod GrantMoves
 mod Views
 mod Calling
 mod Listed
@@ -23,4 +24,5 @@ mod Giving
 mod Withdrawing
 mod Arriving
 mod Small
+mod Sending
 pub mod ForCallers

@@ -30,9 +30,10 @@ use Rattle.grants.specs.Private.{as_given}
 use Rattle.grants.specs.Table.{AreGrants, given_by}
 use Rattle.grants.proofs.ForCallers.{is_among, few_by, few_end, few_granted}
 use Rattle.job_row.specs.Row.{Row}
-use Rattle.node_core.specs.Foreseen.{grantees_in, grantees_of_ended, AreTakers}
+use Rattle.node_core.specs.Foreseen.{grantees_in, grantees_of, AreTakers}
+use Rattle.node_core.specs.GrantMoves.{moves_grants}
 use Rattle.node_core.specs.Hosted.{Hosted, IsViewBy, ShowsAll, row_at, beside_at, bytes_here}
-use Rattle.node_core.specs.Judged.{moves_grants, GivesFew, SeesFew, IsSmall}
+use Rattle.node_core.specs.Judged.{GivesFew, SeesFew, IsSmall}
 use Rattle.node_core.specs.declared.outcome.Note.{Note}
 use Rattle.node_core.specs.Outcomes.{inputs_noted, end_noted, received_noted}
 use Rattle.node_core.specs.Steps.{JobJudged, NodeGiven, NodeStep}
@@ -105,15 +106,17 @@ few_stand node table jobs few v shows =
 abbrev grantee_of : StandingGrant → JobNo
 grantee_of grant = record { 0 = grant.grantee }
 
-pub few_ended : (grants : List StandingGrant) (e : Event) → length (grantees_of_ended grants e) ≤ length grants
-few_ended grants e = by (ends e)
+-- so at most as many are told of grants as stand, or one
+pub few_told : (grants : List StandingGrant) (e : Event) → length grants ≤ 4096 → length (grantees_of grants e) ≤ 4096
+few_told grants (event.Call job session (command.Grant id target)) few = omega arith
+few_told grants e few = by (ends e)
   where
-    by : (o : Option (StandingGrant → Bool)) → length (grantees_in (option_map_or (λ test. grants_ended test grants) o [])) ≤ length grants
+    by : (o : Option (StandingGrant → Bool)) → length (option_map_or (λ test. grantees_in (grants_ended test grants)) o []) ≤ 4096
     by None = omega arith
     by (Some test) =
-        let few = few_end test grants in
+        let less = few_end test grants in
         let same = length-map (grants_ended test grants) grantee_of in
-        omega (arith, few, same)
+        omega (arith, few, less, same)
 
 -- ---- replies
 

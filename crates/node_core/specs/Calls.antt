@@ -4,6 +4,9 @@ use Rattle.std.specs.Option.{option_map_or}
 use Rattle.obj_id.specs.declared.ids.ObjectId.{ObjectId}
 use Rattle.obj_id.specs.declared.commands.Command.{Command}
 use Rattle.obj_id.specs.declared.commands.Command.TheVariants as command
+use Rattle.command_kinds.specs.Kinds.{subject_of}
+use Rattle.command_kinds.specs.declared.outline.Subject.{Subject}
+use Rattle.command_kinds.specs.declared.outline.Subject.TheVariants as subject
 use Rattle.private_store.specs.declared.inputs.Input.TheVariants as input
 use Rattle.private_store.specs.declared.schedules.Event.{Event}
 use Rattle.private_store.specs.declared.schedules.Event.TheVariants as event
@@ -16,19 +19,16 @@ use Rattle.job_row.specs.Usages.{total, doomed_one}
 use Rattle.node_core.specs.Hosted.{Hosted, row_at}
 use Rattle.node_table.specs.Beside.{beside_of}
 
+-- whether it is no object that must be the job's own and isn't
+abbrev pub is_own_subject : ℕ → Subject → Bool
+is_own_subject job (subject.OwnObject id) = id.job.0 == job
+is_own_subject job (subject.AnyObject id) = true
+is_own_subject job (subject.Task task) = true
+is_own_subject job subject.All = true
+
 -- whether the object that the command names, if it must name an own one, is the job's
 abbrev pub is_own : ℕ → Command (List ℕ) → Bool
-is_own job (command.Create id kind n) = id.job.0 == job
-is_own job (command.Write id offset bytes) = id.job.0 == job
-is_own job (command.Seal id) = id.job.0 == job
-is_own job (command.Get id) = id.job.0 == job
-is_own job (command.Read id offset n) = id.job.0 == job
-is_own job (command.Release id) = id.job.0 == job
-is_own job (command.Unpin id task) = id.job.0 == job
-is_own job (command.Borrow id task) = id.job.0 == job
-is_own job (command.GiveUp id task) = id.job.0 == job
-is_own job (command.Delete id) = id.job.0 == job
-is_own job _ = true
+is_own job c = is_own_subject job (subject_of c)
 
 -- the commands that a row carries out, with the line of works
 abbrev pub is_of_row : Command (List ℕ) → Bool
@@ -51,13 +51,6 @@ abbrev pub is_plain : Command (List ℕ) → Bool
 is_plain (command.Create id kind n) = false
 is_plain (command.Get id) = false
 is_plain c = is_of_row c
-
--- and those that send nothing and erase nothing, whatever the row
-abbrev pub is_answered_here : Command (List ℕ) → Bool
-is_answered_here (command.Write id offset bytes) = true
-is_answered_here (command.Read id offset n) = true
-is_answered_here command.Usage = true
-is_answered_here _ = false
 
 -- the job's row and works take the command's step, whatever grants stand and contents it shows
 abbrev pub CallStep : ℕ → ℕ → Row → WorkLine → ℕ → Command (List ℕ) → RowGiven → Row → WorkLine → Type 0

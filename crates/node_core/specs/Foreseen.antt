@@ -9,6 +9,8 @@ use Rattle.obj_id.specs.declared.messages.Arrival.TheVariants as arrival
 use Rattle.obj_id.specs.declared.messages.PeerMessage.TheVariants as peer
 use Rattle.obj_id.specs.declared.commands.Reply.{Reply}
 use Rattle.obj_id.specs.declared.commands.Reply.TheVariants as reply
+use Rattle.command_kinds.specs.declared.command_kind.MostSent.{MostSent}
+use Rattle.command_kinds.specs.declared.command_kind.MostSent.TheVariants as sent
 use Rattle.private_store.specs.declared.schedules.Event.{Event}
 use Rattle.private_store.specs.declared.schedules.Event.TheVariants as event
 use Rattle.private_store.specs.rules.Grants.{StandingGrant, grants_ended}
@@ -29,6 +31,14 @@ most_by_command own (command.Delete id) = 1
 most_by_command own (command.EndTask task) = option_map_or (λ row. 2 * length row.copies) own 0
 most_by_command own _ = 0
 
+-- so many messages, by the copies of a job with this row, or none
+abbrev pub most_sent : Option Row → MostSent → ℕ
+most_sent own sent.Nothing = 0
+most_sent own sent.One = 1
+most_sent own sent.EachCopy = option_map_or (λ row. length row.copies) own 0
+most_sent own sent.EachCopyAndOne = option_map_or (λ row. length row.copies + 1) own 0
+most_sent own sent.EachCopyTwice = option_map_or (λ row. 2 * length row.copies) own 0
+
 -- the most messages that the event sends
 abbrev pub most_messages : Hosted → Event → ℕ
 most_messages node (event.JobEnd job) = 1
@@ -46,13 +56,6 @@ most_by_arrival own (arrival.FromPeer from (peer.NotHere id number)) = option_ma
 -- of grants, those to whom they were given
 abbrev pub grantees_in : List StandingGrant → List JobNo
 grantees_in grants = map (λ grant. record { 0 = grant.grantee }) grants
-
--- the grants that end if the event is accepted, and their grantees, in the order in which they are announced
-abbrev pub ended_by : List StandingGrant → Event → List StandingGrant
-ended_by grants e = option_map_or (λ test. grants_ended test grants) (ends e) []
-
-abbrev pub grantees_of_ended : List StandingGrant → Event → List JobNo
-grantees_of_ended grants e = grantees_in (ended_by grants e)
 
 -- the jobs that the event tells of grants if it is accepted, one for each note, in their order
 abbrev pub grantees_of : List StandingGrant → Event → List JobNo

@@ -1,6 +1,5 @@
 -- What an event was to its own job, without contents, and which replies have a frame.
 use Rattle.std.specs.Prelude.{◌≡◌, ◌≤◌, List, length, ℕ, Bool, true, false, Option, Some, None, is_some, option_map}
-use Rattle.obj_id.specs.declared.commands.Command.TheVariants as command
 use Rattle.obj_id.specs.declared.commands.Reply.{Reply}
 use Rattle.obj_id.specs.declared.commands.Reply.TheVariants as reply
 use Rattle.obj_id.specs.declared.ids.JobNo.{JobNo}
@@ -26,14 +25,6 @@ if_ok _ x = None
 abbrev pub is_finish : Event → Bool
 is_finish (event.Finish job number a) = true
 is_finish _ = false
-
--- whether it may give a grant or end some, which those are notified of as well to whom objects are granted
-abbrev pub moves_grants : Event → Bool
-moves_grants (event.JobEnd job) = true
-moves_grants (event.Call job session (command.EndTask task)) = true
-moves_grants (event.Call job session (command.Grant id target)) = true
-moves_grants (event.Call job session (command.Withdraw id target)) = true
-moves_grants _ = false
 
 -- what an event with this answer was, if it is no Finish
 abbrev pub judged_as : Event → Reply (List ℕ) → Option Judged

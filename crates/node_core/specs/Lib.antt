@@ -1,6 +1,7 @@
 pub mod Hosted
 pub mod Granted
 pub mod Granting
+pub mod GrantMoves
 pub mod Steps
 pub mod Quotas
 pub mod OneJob

@@ -5,11 +5,12 @@ ghost use Rattle.spill_work.specs.Line.{same_work_job, IsSameFor};
 ghost use Rattle.node_table.specs.Asked.{HasAsked};
 ghost use Rattle.node_table.specs.Outcomes.{row_given_of};
 ghost use Rattle.node_table.specs.Shown.{only};
-ghost use Rattle.node_core.specs.Calls.{is_of_row, is_plain, is_answered_here, is_own as is_own_lem, takes_no_memory, CallStep};
+ghost use Rattle.node_core.specs.Calls.{is_of_row, is_plain, is_own as is_own_lem, is_own_subject as is_own_subject_lem, takes_no_memory, CallStep};
 ghost use Rattle.node_core.specs.Foreseen.{most_by_command};
 ghost use Rattle.node_core.specs.MemoryLast.{IsMemoryLastOnRow, IsRoomDue, IsUnrefused};
 
 use bytes::Bytes;
+use command_kinds::{Outline, Subject};
 use job_row::JobRow;
 use memory_growth::OutOfMemory;
 use node_table::RowOutcome;
@@ -53,7 +54,19 @@ pub(crate) fn carry_out(
             length: len,
         } => node_table::create(row, alloc, room, node, works, id, *kind, *len),
         Command::Get(id) => node_table::get(row, alloc, room, node, works, session, id),
-        _ => carry_out_without_work(alloc, room, node, row, works, session, command),
+        Command::Write { .. }
+        | Command::Seal(_)
+        | Command::Read { .. }
+        | Command::Release(_)
+        | Command::Unpin(..)
+        | Command::Borrow(..)
+        | Command::GiveUp(..)
+        | Command::Delete(_)
+        | Command::Usage
+        | Command::Leave => {
+            carry_out_without_work(alloc, room, node, row, works, session, command)
+        }
+        _ => unreachable!(),
     }
 }
 
@@ -75,41 +88,26 @@ fn carry_out_without_work(
     ensures err { OnErr result (row.new ≡ row.old) }
 {
     match command {
+        Command::Write { id, offset, bytes } => {
+            let reply = node_table::write(row, id, *offset, bytes);
+            Ok(RowOutcome::only(alloc, reply))
+        }
         Command::Seal(id) => Ok(node_table::seal(row, alloc, room, node, id)?),
+        Command::Read {
+            id,
+            offset,
+            count: len,
+        } => {
+            let reply = node_table::read(row, alloc, session, id, *offset, *len)?;
+            Ok(RowOutcome::only(alloc, reply))
+        }
         Command::Release(id) => Ok(node_table::release(row, alloc, session, id)),
         Command::Unpin(id, task) => Ok(node_table::unpin(row, alloc, room, node, id, *task)?),
         Command::Borrow(id, task) => node_table::borrow(row, alloc, id, *task),
         Command::GiveUp(id, task) => Ok(node_table::give_up(row, alloc, room, node, id, *task)?),
         Command::Delete(id) => Ok(node_table::delete(row, alloc, room, node, id)?),
+        Command::Usage => Ok(RowOutcome::only(alloc, node_table::tell_usage(row, works))),
         Command::Leave => Ok(node_table::leave(row, alloc, session)?),
-        _ => {
-            let reply = answer(alloc, row, works, session, command)?;
-            Ok(RowOutcome::only(alloc, reply))
-        }
-    }
-}
-
-/// The answer to a command that sends nothing and erases nothing. Read alone takes memory.
-fn answer(
-    alloc: Global,
-    row: &mut JobRow,
-    works: &Works,
-    session: u32,
-    command: &Command<Bytes>,
-) -> Result<Reply<Bytes>, OutOfMemory>
-    requires { is_answered_here command.now ≡ true }
-    ensures ok { IfOk result (λ response. (node job : ℕ) → is_own_lem job command.now ≡ true → CallStep node job row.old works.now session command.now (only response) row.new works.now) }
-    ensures memory_last { OnErr result (IsMemoryLastOnRow row.old session command.now) }
-    ensures err { OnErr result (row.new ≡ row.old) }
-{
-    match command {
-        Command::Write { id, offset, bytes } => Ok(node_table::write(row, id, *offset, bytes)),
-        Command::Read {
-            id,
-            offset,
-            count: len,
-        } => node_table::read(row, alloc, session, id, *offset, *len),
-        Command::Usage => Ok(node_table::tell_usage(row, works)),
         _ => unreachable!(),
     }
 }
@@ -118,19 +116,15 @@ fn answer(
 fn is_own(job: JobNo, command: &Command<Bytes>) -> bool
     ensures { result ≡ is_own_lem job.0 command.now }
 {
-    match command {
-        Command::Create { id, .. }
-        | Command::Write { id, .. }
-        | Command::Seal(id)
-        | Command::Get(id)
-        | Command::Read { id, .. }
-        | Command::Release(id)
-        | Command::Unpin(id, _)
-        | Command::Borrow(id, _)
-        | Command::GiveUp(id, _)
-        | Command::Delete(id) => id.job().0 == job.0,
-        // of grants it is their table that tells
-        Command::Grant(..) | Command::Withdraw(..) | Command::Peek { .. } => true,
-        Command::EndTask(_) | Command::List | Command::Usage | Command::Leave => true,
+    is_own_subject(job, Outline::of(command).subject)
+}
+
+/// The same of what a command is about: of another job's object its grants tell.
+fn is_own_subject(job: JobNo, subject: Subject) -> bool
+    ensures { result ≡ is_own_subject_lem job.0 subject }
+{
+    match subject {
+        Subject::OwnObject(id) => id.job().0 == job.0,
+        Subject::AnyObject(_) | Subject::Task(_) | Subject::All => true,
     }
 }

@@ -2,14 +2,16 @@
 ghost use Rattle.std.specs.Prelude.{◌≡◌, ◌∷◌, [], Some, IfOk};
 ghost use Rattle.node_core.specs.Hosted.{row_at};
 ghost use Rattle.node_core.specs.Judged.{TellsFew};
-ghost use Rattle.node_core.specs.Foreseen.{grantees_of_ended as grantees_of_ended_lem, most_by_arrival as most_by_arrival_lem, most_by_command as most_by_command_lem, most_messages as most_messages_lem, grantees_of as grantees_of_lem, grantees_in};
+ghost use Rattle.node_core.specs.Foreseen.{most_by_arrival as most_by_arrival_lem, most_messages as most_messages_lem, most_sent as most_sent_lem, grantees_of as grantees_of_lem, grantees_in};
+ghost use Rattle.node_core.specs.GrantMoves.{event_of};
 
 use crate::Node;
-use bytes::Bytes;
+use crate::grant_move::GrantMove;
+use command_kinds::{CommandKind, MostSent};
 use grants::StandingGrant;
 use job_row::JobRow;
 use memory_growth::{OutOfMemory, lists};
-use obj_id::{Arrival, Command, ItemList, JobNo, PeerMessage};
+use obj_id::{Arrival, ItemList, JobNo, PeerMessage};
 use private_store::Event;
 use std::alloc::Global;
 
@@ -49,67 +51,64 @@ impl Node {
         ensures few { IfOk result (TellsFew self.now) }
     {
         self.few_stand();
-        match event {
-            Event::Call {
-                command: Command::Grant(_, target),
-                ..
-            } => Ok(one_grantee(self.alloc, *target)?),
-            _ => Ok(self.grantees_of_ended(event)?),
+        match GrantMove::of(event) {
+            Some(grant_move) => self.told(grant_move),
+            None => Ok(ItemList::new(self.alloc)),
         }
     }
 
-    /// The grantees of the grants that end if the event is accepted, in the order in which they are announced.
-    fn grantees_of_ended(&self, event: &Event) -> Result<ItemList<JobNo>, OutOfMemory>
-        ensures { IfOk result (λ grantees. grantees ≡ grantees_of_ended_lem self.now.grants event.now) }
+    /// The same of what moves grants: to whom one is given, or the grantees of those that end, in the order in which they
+    /// are announced.
+    fn told(&self, grant_move: GrantMove) -> Result<ItemList<JobNo>, OutOfMemory>
+        ensures { IfOk result (λ grantees. grantees ≡ grantees_of_lem self.now.grants (event_of grant_move)) }
     {
-        let ends = match event {
-            Event::JobEnd(job) => self.grants.ends_with_job(*job)?,
-            Event::Call {
+        let ends = match grant_move {
+            GrantMove::Grant { target, .. } => return Ok(one_grantee(self.alloc, target)?),
+            GrantMove::JobEnd(job) => self.grants.ends_with_job(job)?,
+            GrantMove::EndTask { job, task, .. } => self.grants.ends_with_task(job, task)?,
+            GrantMove::Withdraw {
                 job,
-                command: Command::EndTask(task),
+                id,
+                target,
                 ..
-            } => { self.grants.ends_with_task(*job, *task)? }
-            Event::Call {
-                job,
-                command: Command::Withdraw(id, target),
-                ..
-            } => { self.grants.ends_with_grant(*job, *id, *target)? }
-            _ => return Ok(ItemList::new(self.alloc)),
+            } => self.grants.ends_with_grant(job, id, target)?,
         };
         grantees_of(self.alloc, ends.grants())
     }
 
     /// The most messages that the event sends.
+    #[tactic(auto, using(crate::proofs::Sending::most_is))]
     fn most_messages(&self, event: &Event) -> usize
         ensures { result ≡ most_messages_lem self.now event.now }
     {
         match event {
             Event::JobEnd(_) => 1,
-            Event::Call { job, command, .. } => self.most_by_command(*job, command),
-            _ => 0,
+            Event::Call { job, command, .. } => {
+                self.most_sent(*job, CommandKind::of(command).most_sent())
+            }
+            Event::Admit { .. } | Event::Requota(..) | Event::Take | Event::Finish { .. } => 0,
         }
     }
 
-    /// The most messages that a command of the job sends: Create and Get may evict each of its copies, and Get asks for
-    /// the object as well. EndTask may doom each, and give up a borrow of each.
-    fn most_by_command(&self, job: JobNo, command: &Command<Bytes>) -> usize
-        ensures { result ≡ most_by_command_lem (row_at self.now job) command.now }
+    /// So many messages, by the copies of the job. Looks the job up only if they count.
+    fn most_sent(&self, job: JobNo, most: MostSent) -> usize
+        ensures { result ≡ most_sent_lem (row_at self.now job) most }
     {
-        match command {
-            Command::Create { .. } => match self.rows.get(&job) {
+        match most {
+            MostSent::Nothing => 0,
+            MostSent::One => 1,
+            MostSent::EachCopy => match self.rows.get(&job) {
                 Some(row) => row.copy_count(),
                 None => 0,
             },
-            Command::Get(_) => match self.rows.get(&job) {
+            MostSent::EachCopyAndOne => match self.rows.get(&job) {
                 Some(row) => row.copy_count() + 1,
                 None => 0,
             },
-            Command::EndTask(_) => match self.rows.get(&job) {
+            MostSent::EachCopyTwice => match self.rows.get(&job) {
                 Some(row) => 2 * row.copy_count(),
                 None => 0,
             },
-            Command::Seal(_) | Command::Unpin(..) | Command::GiveUp(..) | Command::Delete(_) => 1,
-            _ => 0,
         }
     }
 }

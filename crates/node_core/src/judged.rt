@@ -1,7 +1,7 @@
 //! What an event was to its own job, without contents.
 ghost use Rattle.std.specs.Prelude.{◌≡◌};
 ghost use Rattle.private_store.specs.rules.Contents.{without_payload as without_payload_lem};
-ghost use Rattle.node_core.specs.Judged.{if_ok as if_ok_lem, judged_as as judged_as_lem, moves_grants as moves_grants_lem};
+ghost use Rattle.node_core.specs.Judged.{if_ok as if_ok_lem, judged_as as judged_as_lem};
 
 use bytes::Bytes;
 use obj_id::{Command, Reply};
@@ -21,20 +21,6 @@ pub(crate) fn judged_as(event: &Event, reply: &Reply<Bytes>) -> Option<Judged>
             ..
         } => Some(Judged::Call(*session, without_payload(command))),
         Event::Take | Event::Finish { .. } => None,
-    }
-}
-
-/// Whether the event may give a grant or end some.
-pub(crate) fn moves_grants(event: &Event) -> bool
-    ensures { result ≡ moves_grants_lem event.now }
-{
-    match event {
-        Event::JobEnd(_) => true,
-        Event::Call { command, .. } => match command {
-            Command::EndTask(_) | Command::Grant(..) | Command::Withdraw(..) => true,
-            _ => false,
-        },
-        _ => false,
     }
 }
 

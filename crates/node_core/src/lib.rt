@@ -17,6 +17,7 @@ ghost use Rattle.node_table.specs.Outcomes.{row_given_of};
 ghost use Rattle.node_table.specs.Shown.{only};
 ghost use Rattle.private_store.specs.declared.schedules.NodeEvent.TheVariants as node_event;
 ghost use Rattle.node_core.specs.Calls.{is_of_row, takes_no_memory, needs_no_memory};
+ghost use Rattle.node_core.specs.GrantMoves.{event_of, moves_grants};
 ghost use Rattle.node_core.specs.Hosted.{Shows, row_at};
 ghost use Rattle.node_core.specs.Borrowed.{borrowed_check, IsBorrowed};
 ghost use Rattle.node_core.specs.Steps.{NodeStep};
@@ -24,12 +25,13 @@ ghost use Rattle.node_core.specs.MemoryLast.{IsCallUnrefused, IsEventUnrefused, 
 ghost use Rattle.node_core.specs.OneJob.{NodeStepOne};
 ghost use Rattle.node_core.specs.Outcomes.{node_given_of};
 ghost use Rattle.node_core.specs.Foreseen.{most_by_command, most_messages, AreTakers};
-ghost use Rattle.node_core.specs.Judged.{is_finish, moves_grants, judged_as, GivesFew, IsJudged, SeesFew, IsSmall};
+ghost use Rattle.node_core.specs.Judged.{is_finish, judged_as, GivesFew, IsJudged, SeesFew, IsSmall};
 
 mod arrivals;
 mod calls;
 mod device_works;
 mod foreseen;
+mod grant_move;
 mod granting;
 mod job_ends;
 mod judged;
@@ -42,6 +44,7 @@ mod task_ends;
 
 use bytes::Bytes;
 pub use foreseen::Foreseen;
+use grant_move::GrantMove;
 use grants::Grants;
 use indexmap::IndexMap;
 use job_admission::Admission;
@@ -151,8 +154,8 @@ impl Node {
             let (outcome, judged) = self.finish(*job, *number, answer);
             return Ok(NodeOutcome::of_row(self.alloc, outcome, judged));
         }
-        if judged::moves_grants(event) {
-            return self.move_grants(event, room);
+        if let Some(grant_move) = GrantMove::of(event) {
+            return self.move_grants(grant_move, room);
         }
         let outcome = self.step_one(event, room)?;
         let judged = judged::judged_as(event, &outcome.reply);
@@ -176,36 +179,32 @@ impl Node {
     /// A step of what may end grants or give one.
     fn move_grants(
         &mut self,
-        event: &Event,
+        grant_move: GrantMove,
         room: Result<(), OutOfMemory>,
     ) -> Result<NodeOutcome, OutOfMemory>
-        requires moves { moves_grants event.now ≡ true }
-        ensures ok { IfOk result (λ o. NodeStep self.old (node_event.Own event.now) (node_given_of o) self.new) }
-        ensures bounded { IfOk result (λ o. length o.messages ≤ most_messages self.old event.now) }
+        ensures ok { IfOk result (λ o. NodeStep self.old (node_event.Own (event_of grant_move)) (node_given_of o) self.new) }
+        ensures bounded { IfOk result (λ o. length o.messages ≤ most_messages self.old (event_of grant_move)) }
         ensures unsent { IfOk result (λ o. is_ok room ≡ false → o.messages ≡ []) }
-        ensures judged { IfOk result (λ o. o.judged ≡ judged_as event.now o.reply) }
-        ensures grantees { IfOk result (λ o. AreTakers self.old.grants event.now o.reply (map (λ note. note.job) o.notes)) }
-        ensures memory_last { OnErr result (IsEventUnrefused self.old event.now) }
+        ensures judged { IfOk result (λ o. o.judged ≡ judged_as (event_of grant_move) o.reply) }
+        ensures grantees { IfOk result (λ o. AreTakers self.old.grants (event_of grant_move) o.reply (map (λ note. note.job) o.notes)) }
+        ensures memory_last { OnErr result (IsEventUnrefused self.old (event_of grant_move)) }
         ensures err { OnErr result (self.new ≡ self.old) }
     {
-        match event {
-            Event::JobEnd(job) => self.end_job(*job, room),
-            Event::Call {
+        match grant_move {
+            GrantMove::JobEnd(job) => self.end_job(job, room),
+            GrantMove::EndTask { job, session, task } => self.end_task(job, session, task, room),
+            GrantMove::Grant {
                 job,
                 session,
-                command: Command::Grant(id, target),
-            } => { self.grant(*job, *session, id, *target) }
-            Event::Call {
+                id,
+                target,
+            } => self.grant(job, session, &id, target),
+            GrantMove::Withdraw {
                 job,
                 session,
-                command: Command::Withdraw(id, target),
-            } => { self.withdraw(*job, *session, id, *target) }
-            Event::Call {
-                job,
-                session,
-                command: Command::EndTask(task),
-            } => { self.end_task(*job, *session, *task, room) }
-            _ => unreachable!(),
+                id,
+                target,
+            } => self.withdraw(job, session, &id, target),
         }
     }
 
@@ -322,18 +321,28 @@ impl Node {
         ensures without_memory { takes_no_memory (row_at self.old job) command.now ≡ true → IsOk result }
         ensures err { OnErr result (self.new ≡ self.old) }
     {
-        if let Command::List = command {
-            return self.list(job, session);
+        match command {
+            Command::List => self.list(job, session),
+            Command::Peek {
+                id,
+                offset,
+                count: len,
+            } => self.peek(job, session, id, *offset, *len),
+            Command::Create { .. }
+            | Command::Write { .. }
+            | Command::Seal(_)
+            | Command::Get(_)
+            | Command::Read { .. }
+            | Command::Release(_)
+            | Command::Unpin(..)
+            | Command::Borrow(..)
+            | Command::GiveUp(..)
+            | Command::Delete(_)
+            | Command::Usage
+            | Command::Leave => self.call_row(job, session, command, room),
+            // each is a GrantMove
+            Command::EndTask(_) | Command::Grant(..) | Command::Withdraw(..) => unreachable!(),
         }
-        if let Command::Peek {
-            id,
-            offset,
-            count: len,
-        } = command
-        {
-            return self.peek(job, session, id, *offset, *len);
-        }
-        self.call_row(job, session, command, room)
     }
 
     /// The same of a command that a row carries out.

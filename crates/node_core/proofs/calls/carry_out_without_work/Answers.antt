@@ -1,7 +1,8 @@
 use Rattle.std.proofs.Common.{◌==◌, sym, ap, subst, ◌∙◌}
+use Rattle.obj_id.specs.declared.commands.Command.TheVariants as command
 use Rattle.private_store.specs.declared.inputs.Input.TheVariants as input
 use Rattle.node_table.specs.Outcomes.{row_given_of}
-use Rattle.node_table.specs.Shown.{RowStep}
+use Rattle.node_table.specs.Shown.{IsShown, only, RowStep}
 use Rattle.node_core.specs.Calls.{is_own}
 use Rattle.node_core.proofs.Calling.{if_ok}
 use Rattle.node_core.proofs.calls.carry_out_without_work.Goals as goal
@@ -49,8 +50,24 @@ returns-in-Borrow-clause-ok c =
     subst (λ d. RowStep c.args.node c.args.row.now (beside_of c.args.works.now grants bytes job) contents (input.Call c.args.session d) (row_given_of o) c.borrow.new.row (beside_of c.args.works.now grants bytes job)) (sym c.in-Borrow.is)
     (response c.args.node c.args.session (beside_of c.args.works.now grants bytes job) contents mine h))
 
-pub returns-in_ok-reply-in_default-clause-ok : goal.returns-in_ok-reply-in_default-clause-ok
-returns-in_ok-reply-in_default-clause-ok c job owned grants bytes contents own h =
-    subst (λ response. RowStep c.args.node c.args.row.now (beside_of c.args.works.now grants bytes job) contents (input.Call c.args.session c.args.command.now) response c.answer.new.row (beside_of c.args.works.now grants bytes job))
-    (sym c.only.ensures)
-    (c.in_ok-reply-in_default.ensures.ok c.args.node job owned grants bytes contents own h)
+pub returns-in-Write-clause-ok : goal.returns-in-Write-clause-ok
+returns-in-Write-clause-ok c job owned grants bytes contents own h =
+    let mine = ap (λ n. c.in-Write.id.job.0 == n) own ∙ ap (is_own job) (sym c.in-Write.is) ∙ owned in
+    let same = c.in-Write.is ∙ ap (λ bs. command.Write c.in-Write.id c.in-Write.offset bs) (sym c.deref.ensures) in
+    subst (λ response. RowStep c.args.node c.args.row.now (beside_of c.args.works.now grants bytes job) contents (input.Call c.args.session c.args.command.now) response c.write-reply.new.row (beside_of c.args.works.now grants bytes job)) (sym c.only.ensures)
+    (subst (λ d. RowStep c.args.node c.args.row.now (beside_of c.args.works.now grants bytes job) contents (input.Call c.args.session d) (only c.write-reply.result) c.write-reply.new.row (beside_of c.args.works.now grants bytes job)) (sym same)
+    (c.write-reply.ensures c.args.node c.args.session (beside_of c.args.works.now grants bytes job) contents mine h))
+
+pub returns-in_ok-reply-in-Read-clause-ok : goal.returns-in_ok-reply-in-Read-clause-ok
+returns-in_ok-reply-in-Read-clause-ok c job owned grants bytes contents own h =
+    let mine = ap (λ n. c.in-Read.id.job.0 == n) own ∙ ap (is_own job) (sym c.in-Read.is) ∙ owned in
+    subst (λ response. RowStep c.args.node c.args.row.now (beside_of c.args.works.now grants bytes job) contents (input.Call c.args.session c.args.command.now) response c.args.row.now (beside_of c.args.works.now grants bytes job)) (sym c.only-in-Read.ensures)
+    (subst (λ d. RowStep c.args.node c.args.row.now (beside_of c.args.works.now grants bytes job) contents (input.Call c.args.session d) (only c.in_ok-reply-in-Read.reply) c.args.row.now (beside_of c.args.works.now grants bytes job)) (sym c.in-Read.is)
+    (c.in_ok-reply-in-Read.ensures.ok c.args.node (beside_of c.args.works.now grants bytes job) contents mine h))
+
+pub returns-in-Usage-clause-ok : goal.returns-in-Usage-clause-ok
+returns-in-Usage-clause-ok c job owned grants bytes contents own h =
+    subst (λ response. RowStep c.args.node c.args.row.now (beside_of c.args.works.now grants bytes job) contents (input.Call c.args.session c.args.command.now) response c.args.row.now (beside_of c.args.works.now grants bytes job)) (sym c.only-in-Usage.ensures)
+    (subst (λ d. RowStep c.args.node c.args.row.now (beside_of c.args.works.now grants bytes job) contents (input.Call c.args.session d) (only c.tell_usage.result) c.args.row.now (beside_of c.args.works.now grants bytes job)) (sym c.in-Usage.is)
+    (subst (λ n. RowStep c.args.node c.args.row.now (beside_of c.args.works.now grants bytes n) contents (input.Call c.args.session command.Usage) (only c.tell_usage.result) c.args.row.now (beside_of c.args.works.now grants bytes n)) own
+    (c.tell_usage.ensures c.args.node c.args.session grants bytes contents (subst (λ n. IsShown c.args.row.now (beside_of c.args.works.now grants bytes n) contents) (sym own) h))))

@@ -1,0 +1,89 @@
+//! What gives a grant, or may end some.
+ghost use Rattle.std.specs.Prelude.{◌≡◌};
+ghost use Rattle.node_core.specs.GrantMoves.{grant_move_by, grant_move_of};
+
+use bytes::Bytes;
+use obj_id::{Command, JobNo, ObjectId, TaskNo};
+use private_store::Event;
+
+/// What gives a grant, or may end some: those to whom objects are granted are told of it, beside its own job.
+#[derive(Clone, Copy)]
+pub(crate) enum GrantMove {
+    /// The operator ends a job: all that it granted ends.
+    JobEnd(JobNo),
+    /// A session ends a task of its job: what the job granted of the task's objects ends.
+    EndTask {
+        job: JobNo,
+        session: u32,
+        task: TaskNo,
+    },
+    /// A session grants an object to the target.
+    Grant {
+        job: JobNo,
+        session: u32,
+        id: ObjectId,
+        target: JobNo,
+    },
+    /// A session takes an object back from the target, to which its job granted it.
+    Withdraw {
+        job: JobNo,
+        session: u32,
+        id: ObjectId,
+        target: JobNo,
+    },
+}
+
+impl GrantMove {
+    /// What the event moves of grants, if it is accepted. Nothing if it can't give or end any. Takes no memory.
+    pub(crate) fn of(event: &Event) -> Option<GrantMove>
+        ensures { result ≡ grant_move_of event.now }
+    {
+        match event {
+            Event::JobEnd(job) => Some(GrantMove::JobEnd(*job)),
+            Event::Call {
+                job,
+                session,
+                command,
+            } => GrantMove::by_call(*job, *session, command),
+            Event::Admit { .. } | Event::Requota(..) | Event::Take | Event::Finish { .. } => None,
+        }
+    }
+    /// The same of a session's command.
+    fn by_call(job: JobNo, session: u32, command: &Command<Bytes>) -> Option<GrantMove>
+        ensures { result ≡ grant_move_by job session command.now }
+    {
+        match command {
+            Command::EndTask(task) => Some(GrantMove::EndTask {
+                job,
+                session,
+                task: *task,
+            }),
+            Command::Grant(id, target) => Some(GrantMove::Grant {
+                job,
+                session,
+                id: *id,
+                target: *target,
+            }),
+            Command::Withdraw(id, target) => Some(GrantMove::Withdraw {
+                job,
+                session,
+                id: *id,
+                target: *target,
+            }),
+            Command::Create { .. }
+            | Command::Write { .. }
+            | Command::Seal(_)
+            | Command::Get(_)
+            | Command::Read { .. }
+            | Command::Release(_)
+            | Command::Unpin(..)
+            | Command::Borrow(..)
+            | Command::GiveUp(..)
+            | Command::Delete(_)
+            | Command::Peek { .. }
+            | Command::List
+            | Command::Usage
+            | Command::Leave => None,
+        }
+    }
+}
