@@ -1,4 +1,5 @@
 //! Calls at nodes behind locks, with the receipts that they give.
+use crate::actors::{actor, actors};
 use crate::named::Named;
 use assertions::{holds, same};
 use bytes::Bytes;
@@ -79,9 +80,9 @@ fn called<K: JournaledNode, R: Wait>(
     id: ObjectId,
     turn: u64,
 ) -> Result<(Reply<Bytes>, Option<K::Receipt>), OutOfMemory> {
-    let first = node.call(rt, JOB, 1, command(alloc, id, turn)?);
+    let first = node.call(rt, &mut actor(), JOB, 1, command(alloc, id, turn)?);
     if matches!(&first.0, Reply::Refused(Refusal::NoMemory)) {
-        return Ok(node.call(rt, JOB, 1, command(alloc, id, turn)?));
+        return Ok(node.call(rt, &mut actor(), JOB, 1, command(alloc, id, turn)?));
     }
     Ok(first)
 }
@@ -130,13 +131,13 @@ where
     K::Receipt: Named,
 {
     if let Some(node) = cluster.node(0) {
-        let (reply, receipt) = node.call_after(rt, earlier, JOB, 1, Command::Usage);
+        let (reply, receipt) = node.call_after(rt, &mut actor(), earlier, JOB, 1, Command::Usage);
         holds!(rt; is_used(&answered(rt, reply), 32));
         same!(rt; receipt.map(|receipt| receipt.named()), Some((0, JOB, 8)));
     }
     // another node's journal says No of it
     if let Some(node) = cluster.node(1) {
-        let (reply, receipt) = node.call_after(rt, earlier, JOB, 1, Command::Usage);
+        let (reply, receipt) = node.call_after(rt, &mut actor(), earlier, JOB, 1, Command::Usage);
         holds!(rt; matches!(reply, Reply::Refused(Refusal::Stale)));
         holds!(rt; receipt.is_none());
     }
@@ -149,24 +150,24 @@ pub(crate) fn admit<K: JournaledNode, R: Wait>(rt: &R, node: &SharedNode<K>) {
 
 /// The same, with this quota.
 pub(crate) fn admit_with<K: JournaledNode, R: Wait>(rt: &R, node: &SharedNode<K>, quota: Quota) {
-    let (reply, _) = node.admit(rt, JOB, quota, JobKey([0; 32]));
+    let (reply, _) = node.admit(rt, &mut actor(), JOB, quota, JobKey([0; 32]));
     if matches!(&reply, Reply::Refused(Refusal::NoMemory)) {
-        node.admit(rt, JOB, quota, JobKey([0; 32]));
+        node.admit(rt, &mut actor(), JOB, quota, JobKey([0; 32]));
     }
 }
 
 /// Ends the job, and once more if memory ran out.
 fn end<K: JournaledNode, R: Wait>(rt: &R, node: &SharedNode<K>) -> Reply<Bytes> {
-    let (reply, _) = node.end_job(rt, JOB);
+    let (reply, _) = node.end_job(rt, &mut actor(), JOB);
     if matches!(&reply, Reply::Refused(Refusal::NoMemory)) {
-        return node.end_job(rt, JOB).0;
+        return node.end_job(rt, &mut actor(), JOB).0;
     }
     reply
 }
 
 /// Narrows the job's window to what lies in it, and ends the job: neither is refused.
 fn narrow_and_end<K: JournaledNode, R: Wait + Abort>(rt: &R, node: &SharedNode<K>) {
-    holds!(rt; matches!(answered(rt, node.requota(rt, JOB, NARROW).0), Reply::Ok));
+    holds!(rt; matches!(answered(rt, node.requota(rt, &mut actor(), JOB, NARROW).0), Reply::Ok));
     holds!(rt; matches!(end(rt, node), Reply::Ok));
 }
 
@@ -221,9 +222,11 @@ fn called_again<K: JournaledNode, R: Wait>(
     id: ObjectId,
     is_get: bool,
 ) -> Reply<Bytes> {
-    let (reply, _) = node.call(rt, JOB, 1, get_or_release(id, is_get));
+    let (reply, _) = node.call(rt, &mut actor(), JOB, 1, get_or_release(id, is_get));
     if matches!(&reply, Reply::Refused(Refusal::NoMemory)) {
-        return node.call(rt, JOB, 1, get_or_release(id, is_get)).0;
+        return node
+            .call(rt, &mut actor(), JOB, 1, get_or_release(id, is_get))
+            .0;
     }
     reply
 }
@@ -244,7 +247,7 @@ fn hold_and_leave<K: JournaledNode, R: Wait + Clock + Abort>(
 ) {
     let reply = called_again(rt, node, id, true);
     holds!(rt; matches!(&reply, Reply::Got(20)));
-    Session::new(rt, node).leave(JOB, 1);
+    Session::new(rt, actors(), node).leave(JOB, 1);
     let reply = called_again(rt, node, id, false);
     holds!(rt; matches!(&reply, Reply::Refused(Refusal::NotHeld)));
 }

@@ -3,9 +3,13 @@
 #![tactic(auto)]
 
 #[cfg(test)]
+mod actors;
+#[cfg(test)]
 mod calls;
 #[cfg(test)]
 mod frames;
+#[cfg(test)]
+mod gathering;
 #[cfg(test)]
 mod named;
 #[cfg(test)]

@@ -2,6 +2,7 @@
 ghost use Rattle.std.specs.Prelude.{◌≡◌};
 
 use crate::calls::{call_six, call_with_receipts, leave_often};
+use crate::gathering::{DENIED, GATHERED, gather_many};
 use crate::named::Named;
 use crate::works::{ask_for_deleted, work_at_a_failing_device};
 use assertions::{holds, same};
@@ -27,6 +28,7 @@ enum Trial {
     DirectCalls,
     LaterCall,
     Leaves,
+    ManyReceipts,
     FailingDevice,
     Deletion,
 }
@@ -36,7 +38,7 @@ impl Trial {
     fn nodes(&self) -> u32 {
         match self {
             Trial::DirectCalls | Trial::Leaves | Trial::FailingDevice => 1,
-            Trial::LaterCall | Trial::Deletion => 2,
+            Trial::LaterCall | Trial::ManyReceipts | Trial::Deletion => 2,
         }
     }
 
@@ -54,6 +56,7 @@ impl Trial {
             Trial::DirectCalls => call_six(rt, alloc, cluster)?,
             Trial::LaterCall => call_with_receipts(rt, alloc, cluster)?,
             Trial::Leaves => leave_often(rt, alloc, cluster)?,
+            Trial::ManyReceipts => gather_many(rt, alloc, cluster)?,
             Trial::FailingDevice => work_at_a_failing_device(rt, alloc, cluster),
             Trial::Deletion => {
                 let last = ask_for_deleted(rt, cluster);
@@ -76,6 +79,8 @@ impl Trial {
             Trial::Leaves => {
                 same!(rt; (entries, report.disagreeing, report.lost <= 1), (20, 0, true))
             }
+            // and those of two admissions
+            Trial::ManyReceipts => same!(rt; receipts, (GATHERED + 2, DENIED)),
             Trial::FailingDevice => same!(rt; (entries, receipts), (16, (7, 0))),
             Trial::Deletion => {}
         }
@@ -146,6 +151,11 @@ fn a_session_is_left_though_memory_runs_out(rt: HostRuntime) -> Result<(), Fail>
         try_once(&rt, rt.alloc(), &Trial::Leaves)?;
     }
     Ok(())
+}
+
+#[test]
+fn every_receipt_that_is_gathered_is_looked_for(rt: HostRuntime) -> Result<(), Fail> {
+    Ok(try_once(&rt, rt.alloc(), &Trial::ManyReceipts)?)
 }
 
 #[test]

@@ -1,4 +1,5 @@
 //! What a worker does with a device that fails, and what the directory is sent.
+use crate::actors::actor;
 use crate::calls::{JOB, admit_with, answered, object};
 use assertions::{holds, same};
 use bytes::Bytes;
@@ -46,7 +47,7 @@ fn response<K: JournaledNode, R: Wait + Abort>(
     node: &SharedNode<K>,
     asked: &Asked,
 ) -> Reply<Bytes> {
-    answered(rt, node.call(rt, JOB, 1, command(asked)).0)
+    answered(rt, node.call(rt, &mut actor(), JOB, 1, command(asked)).0)
 }
 
 /// The first object is in the way of the second: a write of it that failed is answered once, and then it is written.
@@ -59,10 +60,10 @@ fn spill_the_first<K: JournaledNode, R: Wait + Abort, D: SpillDevice>(
     holds!(rt; matches!(response(rt, node, &Asked::Create(first, 32)), Reply::Placed(0, 32)));
     holds!(rt; matches!(response(rt, node, &Asked::Seal(first)), Reply::Ok));
     holds!(rt; matches!(response(rt, node, &Asked::Create(second, 16)), Reply::Refused(Refusal::Pending)));
-    same!(rt; node.work_once(rt, device), WorkDone::Done);
+    same!(rt; node.work_once(rt, &mut actor(), device, &mut None), WorkDone::Done);
     holds!(rt; matches!(response(rt, node, &Asked::Create(second, 16)), Reply::Refused(Refusal::DeviceFailed)));
     holds!(rt; matches!(response(rt, node, &Asked::Create(second, 16)), Reply::Refused(Refusal::Pending)));
-    same!(rt; node.work_once(rt, device), WorkDone::Done);
+    same!(rt; node.work_once(rt, &mut actor(), device, &mut None), WorkDone::Done);
     holds!(rt; matches!(response(rt, node, &Asked::Create(second, 16)), Reply::Placed(0, 16)));
 }
 
@@ -75,9 +76,9 @@ fn restore_the_first<K: JournaledNode, R: Wait + Abort, D: SpillDevice>(
     let (first, second) = (object(rt, 1), object(rt, 2));
     holds!(rt; matches!(response(rt, node, &Asked::Delete(second)), Reply::Ok));
     holds!(rt; matches!(response(rt, node, &Asked::Get(first)), Reply::Refused(Refusal::Pending)));
-    same!(rt; node.work_once(rt, device), WorkDone::Done);
+    same!(rt; node.work_once(rt, &mut actor(), device, &mut None), WorkDone::Done);
     holds!(rt; matches!(response(rt, node, &Asked::Get(first)), Reply::Got(32)));
-    same!(rt; node.work_once(rt, device), WorkDone::Nothing);
+    same!(rt; node.work_once(rt, &mut actor(), device, &mut None), WorkDone::Nothing);
 }
 
 /// Nine commands, an admission, and three works, each taken and finished, at a device that fails once.

@@ -4,7 +4,7 @@ ghost use Rattle.std.specs.Prelude.{◌≡◌, ◌↔◌, ◌≤◌, ◌<◌, ve
 use crate::Working;
 use crate::receiving::receive;
 use memory_growth::{boxes, lists};
-use node_gate::{JournaledNode, Posted, SeatedNode, nothing_beside};
+use node_gate::{ActorSource, JournaledNode, Posted, SeatedNode, nothing_beside};
 use node_housekeeping::{NoPause, Pause, Report, Waiting};
 use node_links::{Inbox, Outbox};
 use shared_nodes::SharedNode;
@@ -21,6 +21,7 @@ const RECEIVERS: usize = 4;
 pub struct Cluster<K: JournaledNode, P = NoPause> {
     nodes: Vec<Arc<SharedNode<K, P>>>,
     waiting: Arc<Waiting>,
+    actors: ActorSource,
     // by node, while nobody receives from them
     inboxes: Vec<Inbox<K::Posted>>,
     receiving: Vec<JoinHandle<()>>,
@@ -67,12 +68,13 @@ impl<K: JournaledNode, P: Pause> Cluster<K, P> {
             let outbox = Outbox::open(alloc, number as usize, &directory, &mut inboxes)?;
             let woken = boxes::another(&waiting)?;
             let paused = pause.clone()?;
-            let shared = SharedNode::new(alloc, node, outbox, woken, paused);
+            let shared = SharedNode::new(alloc, K::actors(), node, outbox, woken, paused);
             lists::push(&mut all, boxes::counted(alloc, shared)?)?;
         }
         Ok(Cluster {
             nodes: all,
             waiting,
+            actors: K::actors(),
             inboxes,
             receiving: Vec::new(alloc),
             alloc,
@@ -154,6 +156,11 @@ impl<K: JournaledNode, P: Pause> Cluster<K, P> {
         for thread in mem::replace(&mut self.receiving, Vec::new(self.alloc)) {
             thread.join(rt);
         }
+    }
+
+    /// The leave to make actors that step the nodes.
+    pub fn actors(&self) -> ActorSource {
+        self.actors
     }
 
     /// How many nodes there are.

@@ -1,6 +1,6 @@
 //! The threads of workers.
 use memory_growth::boxes;
-use node_gate::{JournaledNode, Posted};
+use node_gate::{ActorSource, JournaledNode, Posted};
 use node_housekeeping::{NoPause, Pause, WorkDone, WorkerBell};
 use shared_nodes::{ReceiptBuffer, SharedNode};
 use spill_device::SpillDevice;
@@ -34,7 +34,7 @@ pub fn work<
     R: Threads + Wait + Clock + Copy + Send + 'static,
     P: Pause + Send + Sync + 'static,
     D: SpillDevice + Drop + Send + 'static,
->(rt: R, node: Arc<SharedNode<K, P>>, device: D) -> io::Result<Working<K, P>>
+>(rt: R, actors: ActorSource, node: Arc<SharedNode<K, P>>, device: D) -> io::Result<Working<K, P>>
 where
     K::Receipt: Send + 'static,
     K::Mail: Send + 'static,
@@ -46,7 +46,7 @@ where
     K::Gone: Send + 'static,
 {
     let theirs = boxes::another(&node)?;
-    let job = move || work_all(&rt, &*theirs, device);
+    let job = move || work_all(&rt, actors, &*theirs, device);
     let thread = thread::spawn(&rt, job)?;
     Ok(Working { node, thread })
 }
@@ -54,19 +54,22 @@ where
 /// Carries out the works of the node until the worker is to end, and erases the keys that are left.
 fn work_all<K: JournaledNode, P: Pause, R: Wait + Clock, D: SpillDevice + Drop>(
     rt: &R,
+    actors: ActorSource,
     node: &SharedNode<K, P>,
     device: D,
 ) {
     let mut device = device;
+    let mut actor = actors.actor();
+    let mut kept = None;
     let mut receipts = ReceiptBuffer::new(node.housekeeping().alloc);
     for _ in rt.forever() {
         if !node.housekeeping().bell.await_round(rt) {
             break;
         }
-        let done = node.round(rt, &mut device, &mut receipts);
+        let done = node.round(rt, &mut actor, &mut device, &mut kept, &mut receipts);
         go_on(rt, &node.housekeeping().bell, done);
     }
-    node.housekeeping().erase_keys(rt, &mut device);
+    node.erase_keys(rt, &mut device);
     node.audit_all(rt, &receipts);
 }
 

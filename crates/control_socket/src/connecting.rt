@@ -3,7 +3,7 @@ ghost use Rattle.std.specs.Prelude.{None};
 
 use crate::control::{Asking, Control, Course, PATIENCE};
 use memory_growth::{OutOfMemory, boxes, texts};
-use node_gate::{JournaledNode, Posted};
+use node_gate::{ActorSource, JournaledNode, Posted};
 use operator_service::{LastLine, attend, serve_text};
 use program_lines::Fault;
 use server_host::{Patient, ServeFault, SocketFile, bind_alone};
@@ -56,6 +56,7 @@ pub fn connect_control<
 >(
     rt: R,
     alloc: Global,
+    actors: ActorSource,
     nodes: Vec<Arc<SharedNode<K>>>,
     count: u32,
     path: &str,
@@ -70,7 +71,7 @@ where
     K::Prepared: Send + 'static,
     K::Gone: Send + 'static,
 {
-    let control = boxes::counted(alloc, Control::new(alloc, nodes, count))?;
+    let control = boxes::counted(alloc, Control::new(alloc, actors, nodes, count))?;
     let theirs = boxes::another(&control)?;
     let path = texts::from_str(alloc, path)?;
     let listener = match bind_alone(&rt, path.as_str()) {
@@ -226,6 +227,7 @@ fn answer_all<K: JournaledNode, R: Wait + Clock>(
         // a fault ends this connection alone
         let _ = attend(
             rt,
+            &mut control.actors.actor(),
             alloc,
             &control.nodes,
             control.count,
@@ -301,6 +303,7 @@ fn serve_input<K: JournaledNode, R: Wait + Clock>(
         let mut writer = Patient::new(io::writer(&host), host);
         match serve_text(
             rt,
+            &mut control.actors.actor(),
             alloc,
             &control.nodes,
             control.count,

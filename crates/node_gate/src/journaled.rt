@@ -1,4 +1,5 @@
 //! A node with its journal, as those see it that step it.
+use crate::actor::Actor;
 use crate::posted::Posted;
 use bytes::Bytes;
 use hashed_bytes::Hashed;
@@ -28,13 +29,15 @@ pub struct LiveJob {
 
 /// A node with its journal, which is stepped by one thread at a time. Nothing that it makes can be made by those that step it.
 pub trait JournaledNode: Drop + Sized {
-    ghost use Rattle.std.specs.Prelude.{◌≡◌, ◌⊎◌, ◌↔◌, ◌<◌, ℕ, Bool, List, IfOk, IfErr, IfSome, OnErr, IsErrOf, true, false};
+    ghost use Rattle.std.specs.Prelude.{◌≡◌, ◌⊎◌, ◌↔◌, ◌<◌, ◌++◌, ◌∷◌, [], ℕ, Bool, List, IfOk, IfErr, IfSome, OnErr, IsErrOf, true, false};
     ghost use Rattle.std.specs.Iterator.{IsFinite};
     ghost use Rattle.obj_id.specs.declared.ids.JobNo.{JobNo};
     ghost use Rattle.obj_id.specs.declared.commands.Reply.{Reply};
     ghost use Rattle.obj_id.specs.declared.refusals.Refusal.TheVariants.{NoMemory, NotAdmitted, Stale, TooMany};
     ghost use Rattle.obj_id.specs.declared.works.DeviceKey.{DeviceKey};
+    ghost use Rattle.obj_id.specs.declared.commands.Reply.TheVariants as reply;
     ghost use Rattle.private_store.specs.declared.schedules.Event.{Event};
+    ghost use Rattle.private_store.specs.declared.schedules.Event.TheVariants.{JobEnd};
     ghost use Rattle.private_store.specs.rules.Private.{Post};
     ghost use Rattle.node_gate.specs.declared.journaled.LiveJob.{LiveJob};
     ghost use Rattle.node_gate.specs.Calls.{IsSmallCall, Pass};
@@ -123,15 +126,18 @@ pub trait JournaledNode: Drop + Sized {
     fn number(&self) -> u32
         ensures { result ≡ node_number self.now };
 
-    /// One step of an event of a session, the operator or a worker, after that of an earlier receipt, if one is shown. The error is out of
-    /// memory.
+    /// One step of an actor, of an event of a session, the operator or a worker, after that of an earlier receipt, if one is shown. The error is
+    /// out of memory.
     // (an `Option` of a reference would want a lifetime also if it is `None`)
     fn step<R: Wait>(
         &mut self,
         rt: &R,
+        actor: &mut Actor,
         event: &Event,
         earlier: &Option<Self::Receipt>,
     ) -> Result<Made<Self::Receipt, Self::Mail, Self::Erase>, OutOfMemory>
+        ensures acts { IfOk result (λ m. actor.new ≡ actor.old ++ event.now ∷ []) }
+        ensures still { OnErr result (actor.new ≡ actor.old) }
         ensures once { IfOk result (λ m. steps event.now m.reply (posts m.mail) m.receipt self.old self.new) }
         ensures stepped { IfOk result (λ m. receipt_of event.now m.reply m.receipt) }
         ensures called { IfOk result (λ m. called_by event.now m.reply m.receipt) }
@@ -145,9 +151,12 @@ pub trait JournaledNode: Drop + Sized {
     fn step_after<R: Wait>(
         &mut self,
         rt: &R,
+        actor: &mut Actor,
         receipt: &Self::Receipt,
         event: &Event,
     ) -> Result<Made<Self::Receipt, Self::Mail, Self::Erase>, Refusal>
+        ensures acts { IfOk result (λ m. actor.new ≡ actor.old ++ event.now ∷ []) }
+        ensures still { OnErr result (actor.new ≡ actor.old) }
         ensures once { IfOk result (λ m. steps event.now m.reply (posts m.mail) m.receipt self.old self.new) }
         ensures called { IfOk result (λ m. called_by event.now m.reply m.receipt) }
         ensures small { IfOk result (λ m. IsSmallCall event.now m.reply) }
@@ -174,8 +183,9 @@ pub trait JournaledNode: Drop + Sized {
         ensures refusal { IfErr result (λ r. (r ≡ NoMemory) ⊎ (r ≡ Stale)) }
         ensures number { node_number self.new ≡ node_number self.old };
 
-    /// Folds the job's journal. If there is no memory for it, nothing changes.
-    fn fold(&mut self, job: JobNo)
+    /// Folds the journal of a job whose end was accepted, as the receipt tells. If there is no memory for it, nothing changes.
+    fn fold(&mut self, job: JobNo, ended: &Self::Receipt)
+        requires { receipt_of (JobEnd job) reply.Ok ended.now }
         ensures folds { folds job self.old self.new }
         ensures number { node_number self.new ≡ node_number self.old };
 

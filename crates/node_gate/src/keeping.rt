@@ -1,7 +1,7 @@
 //! Nodes that stand on the parts of a name, and that nothing beside them can be stepped under it.
 ghost use Rattle.std.specs.Prelude.{◌≡◌, length};
 
-use crate::{JournaledNode, Posted};
+use crate::{ActorSource, JournaledNode, Posted};
 use std::alloc::Global;
 use std::marker::PhantomData;
 use std::sync::{Arc, Mutex, Wait};
@@ -48,6 +48,11 @@ pub trait SeatedNode: JournaledNode {
 
     // a node may have so many bytes of memory
     ghost may_have: { ℕ → Type 0 };
+
+    /// The leave to make actors that step the nodes of the name.
+    fn actors() -> ActorSource {
+        ActorSource::new()
+    }
 
     /// Takes one part out of a share for which the ledger counts nothing else.
     fn split_seat(share: &mut Self::Share) -> Self::Seat

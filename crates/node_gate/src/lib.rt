@@ -2,10 +2,12 @@
 //! says by ghost members what a step of it is.
 #![tactic(auto)]
 
+mod actor;
 mod journaled;
 mod keeping;
 mod posted;
 
+pub use actor::{Actor, ActorSource};
 pub use journaled::{JournaledNode, LiveJob, Made};
 pub use keeping::{Access, Keeper, SeatedNode, nothing_beside};
 pub use posted::Posted;

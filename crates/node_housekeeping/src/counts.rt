@@ -1,6 +1,7 @@
 //! What is counted at a node for its operator. Nothing that a session is answered depends on it.
 use crate::device_calls::Finishing;
 use crate::job_counts::{CountName, JobCounts, JobEvent};
+use crate::sent_counts::SentCounts;
 use memory_growth::{OutOfMemory, boxes, lists};
 use obj_id::{DeviceAnswer, JobNo};
 use private_store::Event;
@@ -21,6 +22,8 @@ pub struct NodeCounts {
     pub lock_waits: u64,
     /// How often it then slept until it wasn't.
     pub lock_sleeps: u64,
+    /// Jobs that ended, after whose end the journal was folded.
+    pub end_folds: u64,
 }
 
 /// The counts of a live job.
@@ -39,6 +42,7 @@ pub struct Counts {
     malformed: AtomicU64,
     lock_waits: AtomicU64,
     lock_sleeps: AtomicU64,
+    end_folds: AtomicU64,
     jobs: Mutex<Vec<OfJob>>,
 }
 
@@ -52,6 +56,7 @@ impl Counts {
             malformed: AtomicU64::new(0),
             lock_waits: AtomicU64::new(0),
             lock_sleeps: AtomicU64::new(0),
+            end_folds: AtomicU64::new(0),
             jobs: Mutex::new(Vec::new(alloc)),
         }
     }
@@ -89,6 +94,7 @@ impl Counts {
             malformed: self.malformed.load(Ordering::Relaxed),
             lock_waits: self.lock_waits.load(Ordering::Relaxed),
             lock_sleeps: self.lock_sleeps.load(Ordering::Relaxed),
+            end_folds: self.end_folds.load(Ordering::Relaxed),
         }
     }
 
@@ -103,8 +109,9 @@ impl Counts {
         lists::push(&mut jobs, OfJob { job, counts })
     }
 
-    /// A job has ended: what was counted of it goes with its last session.
+    /// A job has ended, and its journal was folded: what was counted of it goes with its last session.
     pub fn end<R: Wait>(&self, rt: &R, job: JobNo) {
+        self.end_folds.fetch_add(1, Ordering::Relaxed);
         let mut jobs = self.jobs.lock(rt);
         if let Some(place) = jobs.iter().position(|of| of.job == job) {
             let _ = jobs.swap_remove(place);
@@ -131,6 +138,17 @@ impl Counts {
             (false, true) => JobEvent::RestoreFailed,
         };
         self.note(rt, *job, event);
+    }
+
+    /// A step of the node sent this. Takes no lock if none of it is counted.
+    pub fn note_sent<R: Wait>(&self, rt: &R, sent: &SentCounts) {
+        let Some(job) = sent.job() else {
+            return;
+        };
+        let jobs = self.jobs.lock(rt);
+        if let Some(of) = jobs.iter().find(|of| of.job == job) {
+            of.counts.note_sent(sent);
+        }
     }
 
     /// This happened to a live job.

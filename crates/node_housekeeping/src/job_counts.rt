@@ -1,4 +1,5 @@
 //! What is counted of a job at a node, for its operator.
+use crate::sent_counts::SentCounts;
 use bytes::Bytes;
 use command_kinds::{COMMAND_KINDS, CommandKind, KINDS, Outline};
 use memory_growth::{OutOfMemory, lists};
@@ -12,7 +13,7 @@ use std::sync::atomic::{AtomicU64, Ordering};
 const MOST_REFUSALS: u8 = 24;
 
 /// How many kinds of events there are.
-const EVENT_KINDS: usize = 8;
+pub(crate) const EVENT_KINDS: usize = 15;
 
 /// What a job's count is of.
 #[derive(Clone, Copy, Debug, PartialEq, Eq)]
@@ -44,6 +45,20 @@ pub enum JobEvent {
     Pull,
     /// Messages that arrived, from other nodes and from the directory.
     Arrival,
+    /// Askings of the directory where copies of an object are.
+    Locate,
+    /// Copies that were fetched whole.
+    Fetched,
+    /// Fetches that ended since the node that was asked has no such copy.
+    SourceGone,
+    /// Chunks that were sent to nodes that asked for them.
+    ChunkSent,
+    /// Answers to nodes that asked for chunks: there is no such copy here.
+    NotHere,
+    /// Secondaries that were removed to make room.
+    Evicted,
+    /// Sealed copies that the job let go of.
+    Removed,
 }
 
 const EVENTS: [JobEvent; EVENT_KINDS] = [
@@ -55,6 +70,13 @@ const EVENTS: [JobEvent; EVENT_KINDS] = [
     JobEvent::RestoreFailed,
     JobEvent::Pull,
     JobEvent::Arrival,
+    JobEvent::Locate,
+    JobEvent::Fetched,
+    JobEvent::SourceGone,
+    JobEvent::ChunkSent,
+    JobEvent::NotHere,
+    JobEvent::Evicted,
+    JobEvent::Removed,
 ];
 
 /// A count of a job that isn't 0.
@@ -105,6 +127,16 @@ impl JobCounts {
                 self.add(CountName::Event(JobEvent::BytesOut), bytes.len() as u64);
             }
             _ => {}
+        }
+    }
+
+    /// A step sent this.
+    pub(crate) fn note_sent(&self, sent: &SentCounts) {
+        for event in &EVENTS {
+            let more = sent.number(*event);
+            if more > 0 {
+                self.add(CountName::Event(*event), more);
+            }
         }
     }
 

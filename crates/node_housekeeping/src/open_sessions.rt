@@ -1,5 +1,6 @@
 //! The sessions of a node that are open, and those that are to be left later.
 use memory_growth::lists;
+use node_gate::{Actor, ActorSource};
 use obj_id::JobNo;
 use std::alloc::Global;
 use std::sync::atomic::{AtomicBool, Ordering};
@@ -9,7 +10,7 @@ use std::sync::{Condvar, Mutex, Wait};
 pub const MOST_SESSIONS: usize = 1_024;
 
 /// A session that is to be left.
-#[derive(Clone, Copy)]
+#[derive(Clone, Copy, Debug, PartialEq, Eq)]
 pub struct LeaveMark {
     pub job: JobNo,
     pub session: u32,
@@ -20,7 +21,7 @@ pub struct LeaveMark {
 struct Sessions {
     /// Those that haven't ended.
     open: usize,
-    /// Those that found no memory to be left, in order. There is room for all that are open.
+    /// Those that found no memory to be left, in the order in which they are tried. There is room for all that are open.
     marked: Vec<LeaveMark>,
 }
 
@@ -46,11 +47,13 @@ pub struct OpenSessions {
     // whether some are marked, so that each command doesn't lock them to see that none is
     are_marked: AtomicBool,
     ended: Condvar,
+    // of the actors that leave those that are marked
+    actors: ActorSource,
 }
 
 impl OpenSessions {
     /// None is open.
-    pub fn new(alloc: Global) -> OpenSessions {
+    pub fn new(alloc: Global, actors: ActorSource) -> OpenSessions {
         OpenSessions {
             sessions: Mutex::new(Sessions {
                 open: 0,
@@ -58,6 +61,7 @@ impl OpenSessions {
             }),
             are_marked: AtomicBool::new(false),
             ended: Condvar::new(),
+            actors,
         }
     }
 
@@ -87,10 +91,10 @@ impl OpenSessions {
         drop(sessions);
     }
 
-    /// Marks a session: it is to be left later. One that wasn't opened may find no room, and is then never left.
-    pub fn mark<R: Wait>(&self, rt: &R, job: JobNo, session: u32) {
+    /// Marks a session: it is to be left later, after those that are marked. One that wasn't opened may find no room, and is then never left.
+    pub fn mark<R: Wait>(&self, rt: &R, mark: LeaveMark) {
         let mut sessions = self.sessions.lock(rt);
-        let _ = lists::push(&mut sessions.marked, LeaveMark { job, session });
+        let _ = lists::push(&mut sessions.marked, mark);
         self.tell_marked(&sessions.marked);
     }
 
@@ -99,18 +103,15 @@ impl OpenSessions {
         self.are_marked.load(Ordering::SeqCst)
     }
 
-    /// The session that was marked first.
-    pub fn first_marked<R: Wait>(&self, rt: &R) -> Option<LeaveMark> {
-        self.sessions.lock(rt).marked.first().copied()
-    }
-
-    /// The session that was marked first is left, and no longer marked.
-    pub fn unmark<R: Wait>(&self, rt: &R) {
+    /// Takes out the session that was marked first, with an actor for its Leave: it is left now, or marked again.
+    pub fn take_marked<R: Wait>(&self, rt: &R) -> Option<(LeaveMark, Actor)> {
         let mut sessions = self.sessions.lock(rt);
-        if !sessions.marked.is_empty() {
-            sessions.marked.remove(0);
+        if sessions.marked.is_empty() {
+            return None;
         }
+        let mark = sessions.marked.remove(0);
         self.tell_marked(&sessions.marked);
+        Some((mark, self.actors.actor()))
     }
 
     /// Tells whether some are marked, while the sessions are locked.

@@ -1,50 +1,59 @@
 //! The device keys of a node that wait to be erased.
 use memory_growth::lists;
-use obj_id::DeviceKey;
 use std::alloc::Global;
 use std::mem;
 use std::sync::{Mutex, Wait};
 
-/// Keys that wait to be erased.
+/// What steps gave out to be erased, and how many keys that is.
 #[derive(Drop)]
-pub struct WaitingKeys {
-    alloc: Global,
-    keys: Mutex<Vec<DeviceKey>>,
+struct Given<E> {
+    steps: Vec<E>,
+    keys: u64,
 }
 
-impl WaitingKeys {
+/// Keys that wait to be erased, each as the step gave it out with its others. Nobody who adds them can have made them up.
+#[derive(Drop)]
+pub struct WaitingKeys<E> {
+    alloc: Global,
+    given: Mutex<Given<E>>,
+}
+
+impl<E: Drop> WaitingKeys<E> {
     /// No key waits.
-    pub fn new(alloc: Global) -> WaitingKeys {
+    pub fn new(alloc: Global) -> WaitingKeys<E> {
         WaitingKeys {
             alloc,
-            keys: Mutex::new(Vec::new(alloc)),
+            given: Mutex::new(Given {
+                steps: Vec::new(alloc),
+                keys: 0,
+            }),
         }
     }
 
-    /// Lets keys wait: whether any wait now, and how many found no memory.
-    pub fn add<R: Wait>(&self, rt: &R, keys: &[DeviceKey]) -> (bool, u64) {
-        if keys.is_empty() {
+    /// Lets the keys of a step wait, of which there are so many: whether any wait now, and how many found no memory.
+    pub fn add<R: Wait>(&self, rt: &R, step: E, keys: u64) -> (bool, u64) {
+        if keys == 0 {
             return (false, 0);
         }
-        add_all(&mut *self.keys.lock(rt), keys)
+        let mut given = self.given.lock(rt);
+        match lists::push(&mut given.steps, step) {
+            Ok(()) => {
+                given.keys = given.keys.saturating_add(keys);
+                (true, 0)
+            }
+            Err(_) => (given.keys > 0, keys),
+        }
     }
 
-    /// The keys that wait, which wait no longer.
-    pub fn take<R: Wait>(&self, rt: &R) -> Vec<DeviceKey> {
-        mem::replace(&mut *self.keys.lock(rt), Vec::new(self.alloc))
+    /// What waits, which waits no longer.
+    pub fn take<R: Wait>(&self, rt: &R) -> Vec<E> {
+        let mut given = self.given.lock(rt);
+        given.keys = 0;
+        mem::replace(&mut given.steps, Vec::new(self.alloc))
     }
 
     /// How many keys wait.
     pub fn count<R: Wait>(&self, rt: &R) -> u64 {
-        self.keys.lock(rt).len() as u64
+        self.given.lock(rt).keys
     }
-}
-
-/// Adds keys to these: whether any are there now, and how many found no memory.
-fn add_all(keys: &mut Vec<DeviceKey>, more: &[DeviceKey]) -> (bool, u64) {
-    let unerased = match lists::extend_from_slice(keys, more) {
-        Ok(()) => 0,
-        Err(_) => more.len() as u64,
-    };
-    (!keys.is_empty(), unerased)
 }

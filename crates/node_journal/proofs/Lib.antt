@@ -12,6 +12,7 @@ mod Lives
 mod Bases
 pub mod Crossing
 mod Rooms
+mod Rooted
 mod Bisected
 mod Posting
 mod Receipts

@@ -19,12 +19,13 @@ use Rattle.node_journal.specs.declared.entries.Agreement.TheVariants as agree
 use Rattle.node_journal.specs.declared.entries.Entry.{Entry}
 use Rattle.node_journal.specs.declared.entries.Line.{Line}
 use Rattle.node_journal.specs.declared.entries.Line.TheVariants as line
-use Rattle.node_journal.specs.Journals.{AreEntriesNumbered, GivesDue, IsSwept, IsJournalOf, Journal, StillAgrees, Tells, agreement, fresh, folded, folded_if, follows, has_entries, has_grants, is_some_entry, is_this, last_of, lines_of, many_lines, most_lines, rise_above, same_entry, seems_fresh, with_notes_absorbed, with_notes_absorbed_if, step_of, swept_if, taken_of}
+use Rattle.node_journal.specs.Journals.{AreDue, AreEntriesNumbered, GivesDue, IsRooted, IsSwept, IsJournalOf, Journal, StillAgrees, Tells, agreement, fresh, folded, folded_if, follows, has_entries, has_grants, is_some_entry, is_this, last_of, lines_of, many_lines, most_lines, rise_above, same_entry, seems_fresh, with_notes_absorbed, with_notes_absorbed_if, step_of, swept_if, taken_of}
 use Rattle.node_journal.specs.Logs.{JobLog, journal_of}
 use Rattle.node_journal.proofs.Bases.{ReplayState-set}
 use Rattle.node_journal.proofs.Logging.{journal_in}
 use Rattle.node_journal.proofs.Numbering.{fold_numbered}
 use Rattle.node_journal.proofs.Rooms.{fold_few}
+use Rattle.node_journal.proofs.Rooted.{folded_rooted, rooted_after}
 use Rattle.node_journal.proofs.Telling.{told_alike}
 use Rattle.node_journal.proofs.WorksDue.{folded_works}
 
@@ -50,6 +51,10 @@ parts_works : (entries many : Bool) (j : Journal) → GivesDue j → GivesDue (b
 parts_works true many j h = folded_works many j h
 parts_works false many j h = tt
 
+parts_rooted : (job : ℕ) (entries many : Bool) (j : Journal) → AreDue j.base.store (lines_of j.list) → IsRooted job j.base.store → IsRooted job (by_parts entries many j).base.store
+parts_rooted job true many j due r = folded_rooted job many j due r
+parts_rooted job false many j due r = rooted_after job j due r
+
 swept_told : (view : View) (dead : Bool) (j : Journal) → IsJournalOf view j → IsJournalOf view (swept_if dead j)
 swept_told view true j h = parts_told view (has_entries j) (nat_le many_lines (length j.list)) j h
 swept_told view false j h = h
@@ -62,11 +67,16 @@ swept_works : (dead : Bool) (j : Journal) → GivesDue j → GivesDue (swept_if 
 swept_works true j h = parts_works (has_entries j) (nat_le many_lines (length j.list)) j h
 swept_works false j h = h
 
+swept_rooted : (job : ℕ) (dead : Bool) (j : Journal) → AreDue j.base.store (lines_of j.list) → IsRooted job j.base.store → IsRooted job (swept_if dead j).base.store
+swept_rooted job true j due r = parts_rooted job (has_entries j) (nat_le many_lines (length j.list)) j due r
+swept_rooted job false j due r = r
+
 pub all_swept : (node : Hosted) (before after : ℕ → Journal) (dead : ℕ → Bool) → ((job : ℕ) → after job ≡ swept_if (dead job) (before job)) → ∥ Tells node before ∥₁ → ∥ Tells node after ∥₁
 all_swept node before after dead is h = told_alike node node (λ job. swept_if (dead job) (before job)) after refl is (∥∥₁_map h (λ t. record {
   views = t.views;
   shown = t.shown;
   response = λ job. swept_told (t.views job) (dead job) (before job) (t.response job);
+  rooted = λ job. swept_rooted job (dead job) (before job) (t.response job).due (t.rooted job);
   taken = λ job. swept_taken (dead job) (before job) ∙ t.taken job;
   first = t.first;
   works = λ job. swept_works (dead job) (before job) (t.works job);
@@ -84,11 +94,16 @@ settled_works : (some : Bool) (j : Journal) → GivesDue j → GivesDue (with_no
 settled_works true j h = tt
 settled_works false j h = h
 
+settled_rooted : (job : ℕ) (some : Bool) (j : Journal) → AreDue j.base.store (lines_of j.list) → IsRooted job j.base.store → IsRooted job (with_notes_absorbed_if some j).base.store
+settled_rooted job true j due r = rooted_after job j due r
+settled_rooted job false j due r = r
+
 pub all_settled : (node : Hosted) (before after : ℕ → Journal) (some : ℕ → Bool) → ((job : ℕ) → after job ≡ with_notes_absorbed_if (some job) (before job)) → ∥ Tells node before ∥₁ → ∥ Tells node after ∥₁
 all_settled node before after some is h = told_alike node node (λ job. with_notes_absorbed_if (some job) (before job)) after refl is (∥∥₁_map h (λ t. record {
   views = t.views;
   shown = t.shown;
   response = λ job. settled_told (t.views job) (some job) (before job) (t.response job);
+  rooted = λ job. settled_rooted job (some job) (before job) (t.response job).due (t.rooted job);
   taken = λ job. settled_taken (some job) (before job) ∙ t.taken job;
   first = t.first;
   works = λ job. settled_works (some job) (before job) (t.works job);

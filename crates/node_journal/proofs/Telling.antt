@@ -36,10 +36,11 @@ use Rattle.node_journal.specs.declared.entries.EventName.{EventName}
 use Rattle.node_journal.specs.declared.entries.Line.{Line}
 use Rattle.node_journal.specs.declared.entries.Line.TheVariants as line
 use Rattle.node_journal.specs.Replies.{unlisted, kept_reply}
-use Rattle.node_journal.specs.Journals.{Journal, fresh, entry_for, event_name, notes_for, lines_made, journal_line_of, lines_of, store_of, AreDue, GivesDue, IsJournalOf, IsWorkDue, Tells, gives_work, taken_of, taken_come_first, folded_if, with_lines, is_call}
+use Rattle.node_journal.specs.Journals.{Journal, fresh, entry_for, event_name, notes_for, lines_made, journal_line_of, lines_of, store_of, AreDue, GivesDue, IsJournalOf, IsRooted, IsWorkDue, Tells, gives_work, taken_of, taken_come_first, folded_if, with_lines, is_call}
 use Rattle.node_core.proofs.ForCallers.{own_of, IsFinishAnswer, finish_answer, own_due_is, is_note, AreJobNotes, here_notes}
 use Rattle.node_journal.proofs.OwnInputs.{of_job, here_is, if_own, own_inputs}
 use Rattle.node_journal.proofs.Lists.{lines_of-snoc, replayed-snoc, due-snoc}
+use Rattle.node_journal.proofs.Rooted.{folded_rooted, rooted_alike}
 use Rattle.node_journal.proofs.TakenWorks.{KeepsTaken, step_keeps, arrival_keeps, stale_keeps, next_taken, folded_taken, numbered}
 use Rattle.node_journal.proofs.WorksDue.{arrival_due, event_due, folded_works, next_works, step_gives_none}
 
@@ -111,10 +112,11 @@ notes_told node number job v (x ∷ xs) q view j h = by (x.job == job) (notes_to
 
 -- the same journals tell of the same
 pub told_alike : (old new : Hosted) (before after : ℕ → Journal) → new ≡ old → ((job : ℕ) → after job ≡ before job) → ∥ Tells old before ∥₁ → ∥ Tells new after ∥₁
-told_alike old new _ after same is h = subst (λ node. ∥ Tells node after ∥₁) (sym same) (∥∥₁_map h (λ t. record {
+told_alike old new before after same is h = subst (λ node. ∥ Tells node after ∥₁) (sym same) (∥∥₁_map h (λ t. record {
   views = t.views;
   shown = t.shown;
   response = λ job. subst (IsJournalOf (t.views job)) (sym (is job)) (t.response job);
+  rooted = λ job. rooted_alike job (before job) (after job) (ap (λ (j : Journal). j.base) (is job)) (t.rooted job);
   taken = λ job. ap taken_of (is job) ∙ t.taken job;
   first = t.first;
   works = λ job. subst GivesDue (sym (is job)) (t.works job);
@@ -125,6 +127,7 @@ told_folded node journals full h = record {
   views = h.views;
   shown = h.shown;
   response = λ job. by job (full job);
+  rooted = λ job. folded_rooted job (full job) (journals job) (h.response job).due (h.rooted job);
   taken = λ job. folded_taken (full job) (journals job) ∙ h.taken job;
   first = h.first;
   works = λ job. folded_works (full job) (journals job) (h.works job);
@@ -280,6 +283,7 @@ module _ (old new : Hosted) (e : Event) (given : NodeGiven) (number : ℕ) (step
     response = λ job.
         subst (IsJournalOf (view_from old.number (h.views job) (inputs_to (before_of old h.views) (Own e) given.reply job))) (sym (is job))
         (one_told h.views h.shown job (before job) (h.response job));
+    rooted = λ job. rooted_alike job (before job) (after job) (ap (λ (j : Journal). j.base) (is job)) (h.rooted job);
     taken = λ job. next_taken old.works.works new.works.works number own job named was given (before job) (after job) keeps (is job) (h.taken job);
     first = keeps.first h.first;
     works = λ job. next_works number own job named was given (before job) (after job) (due job) (is job) (h.works job);
@@ -422,6 +426,9 @@ module _ (old new : Hosted) (to : JobNo) (a : Arrival) (given : NodeGiven) (numb
       next_due live op job =
           next_works number to.0 job brought was given (before job) (after job) (λ _. arrival_due (store_of (before job)) (taken_of (before job)) number a was given.reply (stale_unless live) op) (is job) (h.works job)
 
+      next_rooted : (job : ℕ) → IsRooted job (after job).base.store
+      next_rooted job = rooted_alike job (before job) (after job) (ap (λ (j : Journal). j.base) (is job)) (h.rooted job)
+
       by : (live : Bool) → given.reply ≡ answer_of_check (stale_unless live) → Tells new after
       by true ok = record {
         views = λ job. view_from old.number (h.views job) (inputs_to (before_of old h.views) (Arrive to a) given.reply job);
@@ -429,6 +436,7 @@ module _ (old new : Hosted) (to : JobNo) (a : Arrival) (given : NodeGiven) (numb
         response = λ job.
             subst (IsJournalOf (view_from old.number (h.views job) (inputs_to (before_of old h.views) (Arrive to a) given.reply job))) (sym (is job))
             (taken_told h.views h.shown ok job (before job) (h.response job));
+        rooted = next_rooted;
         taken = λ job. next_taken old.works.works new.works.works number to.0 job brought was given (before job) (after job) (keeps ok) (is job) (h.taken job);
         first = (keeps ok).first h.first;
         works = next_due true ok;
@@ -437,6 +445,7 @@ module _ (old new : Hosted) (to : JobNo) (a : Arrival) (given : NodeGiven) (numb
         views = h.views;
         shown = h.shown;
         response = λ job. subst (IsJournalOf (h.views job)) (sym (is job)) (stale_told h.views h.shown late job (before job) (h.response job));
+        rooted = next_rooted;
         taken = λ job. next_taken old.works.works old.works.works number to.0 job brought was given (before job) (after job) (same late) (is job) (h.taken job);
         first = h.first;
         works = next_due false late;
@@ -453,6 +462,7 @@ told_at_first node journals empty shows none = ∣ record {
   views = λ job. view_of (no_store job);
   shown = shows;
   response = λ job. subst (IsJournalOf (view_of (no_store job))) (sym (none job)) (record { kept = no_store_kept job; replays = refl; due = refl });
+  rooted = λ job. rooted_alike job (fresh job) (journals job) (ap (λ (j : Journal). j.base) (none job)) (record { past = []; leads = refl; due = refl });
   taken = λ job. ap taken_of (none job) ∙ sym (ap (λ (works : WorkLine). works_taken_by works (numbered job)) empty);
   first = ap (λ (works : WorkLine). taken_come_first works.works) empty;
   works = λ job. subst GivesDue (sym (none job)) tt;
@@ -465,6 +475,7 @@ told_entered old new journals same views h = ∥∥₁_map h (λ t. record {
   views = t.views;
   shown = λ job. (views job (t.views job)).1 (t.shown job);
   response = t.response;
+  rooted = t.rooted;
   taken = λ job. t.taken job ∙ sym (ap (λ works. works_taken_by works (numbered job)) same);
   first = ap (λ (works : WorkLine). taken_come_first works.works) same ∙ t.first;
   works = t.works;

@@ -197,11 +197,19 @@ pub record IsJournalOf (view : View) (journal : Journal) : Type 0 where
   pub replays : store_of journal ≡ replay_state_of view
   pub due : AreDue journal.base.store (lines_of journal.list)
 
+-- inputs lead to the store from the job's beginning, and each has the reply that the replay gives there
+pub record IsRooted (job : ℕ) (store : ReplayState) : Type 0 where
+  pub past : List Replayed
+  pub leads : store ≡ replayed (unbegun_replay job) past
+  pub due : AreDue (unbegun_replay job) past
+
 -- the node shows views of which the journals tell, those of every job number
 pub record Tells (node : Hosted) (journals : ℕ → Journal) : Type 0 where
   pub views : ℕ → View
   pub shown : ShowsAll node views
   pub response : (job : ℕ) → IsJournalOf (views job) (journals job)
+  -- each begins with a store that its job's inputs lead to
+  pub rooted : (job : ℕ) → IsRooted job (journals job).base.store
   -- of each job's works, in the order asked, those that were taken are as many as its journal tells, and the first
   pub taken : (job : ℕ) → taken_of (journals job) ≡ works_taken_by node.works (record { 0 = job })
   pub first : taken_come_first node.works.works ≡ true

@@ -11,7 +11,7 @@ use hashed_bytes::Hashed;
 use job_region::Zeros;
 use memory_growth::OutOfMemory;
 use node_core::{Erase, JobRow, Prepared};
-use node_gate::{Access, JournaledNode, Keeper, LiveJob, Made, Posted, SeatedNode};
+use node_gate::{Access, Actor, JournaledNode, Keeper, LiveJob, Made, Posted, SeatedNode};
 use obj_id::{
     ChunkIndex, Command, DeviceKey, Endpoint, FetchNo, JobKey, JobNo, Message, NodeNo, ObjectId,
     Refusal, Usage,
@@ -105,19 +105,25 @@ impl<L: Ledger + HistoryName, S: ClusterShape> JournaledNode for Recorded<L, S> 
     fn step<R: Wait>(
         &mut self,
         rt: &R,
+        actor: &mut Actor,
         event: &Event,
         earlier: &Option<RecordedReceipt<L, S>>,
     ) -> Result<Made<RecordedReceipt<L, S>, RecordedMail<L, S>, Erase>, OutOfMemory> {
-        self.record_step(rt, event, earlier)
+        let made = self.record_step(rt, event, earlier)?;
+        actor.note(event);
+        Ok(made)
     }
 
     fn step_after<R: Wait>(
         &mut self,
         rt: &R,
+        actor: &mut Actor,
         receipt: &RecordedReceipt<L, S>,
         event: &Event,
     ) -> Result<Made<RecordedReceipt<L, S>, RecordedMail<L, S>, Erase>, Refusal> {
-        self.record_step_after(rt, receipt, event)
+        let made = self.record_step_after(rt, receipt, event)?;
+        actor.note(event);
+        Ok(made)
     }
 
     fn arrive<R: Wait>(
@@ -128,7 +134,7 @@ impl<L: Ledger + HistoryName, S: ClusterShape> JournaledNode for Recorded<L, S> 
         self.record_arrival(rt, posted)
     }
 
-    fn fold(&mut self, job: JobNo) {
+    fn fold(&mut self, job: JobNo, _ended: &RecordedReceipt<L, S>) {
         let Recorded { kept, place: _ } = self;
         let _ = kept.checkpoint(job);
     }

@@ -1,5 +1,5 @@
 //! The steps of a node that is locked, with what follows at once.
-ghost use Rattle.std.specs.Prelude.{◌≡◌, ◌⊎◌, ◌<◌, true, false, Some, IfOk, IfErr, OnErr, IfSome, IfNone, IsErrOf, ◌↔◌};
+ghost use Rattle.std.specs.Prelude.{◌≡◌, ◌⊎◌, ◌<◌, ◌++◌, ◌∷◌, [], true, false, Some, IfOk, IfErr, OnErr, IfSome, IfNone, IsErrOf, ◌↔◌};
 ghost use Rattle.obj_id.specs.declared.commands.Command.TheVariants as command;
 ghost use Rattle.obj_id.specs.declared.refusals.Refusal.TheVariants.{NoMemory, Stale};
 ghost use Rattle.private_store.specs.declared.schedules.Event.TheVariants as event;
@@ -10,7 +10,7 @@ ghost use Rattle.node_steps.specs.Stepping.{FoldsAfter, HasArrived, IsOneLeave};
 use crate::auditing::audit_one;
 use bytes::Bytes;
 use memory_growth::OutOfMemory;
-use node_gate::{JournaledNode, Made};
+use node_gate::{Actor, JournaledNode, Made};
 use node_housekeeping::{Housekeeping, LeaveMark, Pause, wake_scope_of};
 use obj_id::{Command, JobNo, Refusal, Reply};
 use private_store::Event;
@@ -28,12 +28,15 @@ pub struct Stepped<T, M> {
 pub fn step_call<K: JournaledNode, R: Wait, P: Pause>(
     rt: &R,
     kept: &mut K,
-    housekeeping: &Housekeeping<P>,
+    housekeeping: &Housekeeping<P, K::Erase>,
+    actor: &mut Actor,
     earlier: &Option<K::Receipt>,
     job: JobNo,
     session: u32,
     command: Command<Bytes>,
 ) -> Result<Stepped<K::Receipt, K::Mail>, OutOfMemory>
+    ensures acts { IfOk result (λ s. actor.new ≡ actor.old ++ event.Call job session command ∷ []) }
+    ensures still { OnErr result (actor.new ≡ actor.old) }
     ensures called { IfOk result (λ s. IsNext K.called_by K.rises earlier.now (event.Call job session command) s.reply s.receipt) }
     ensures small { IfOk result (λ s. is_small_reply s.reply ≡ true) }
     ensures once { IfOk result (λ s. K.steps (event.Call job session command) s.reply (K.posts s.mail) s.receipt kept.old kept.new) }
@@ -46,19 +49,22 @@ pub fn step_call<K: JournaledNode, R: Wait, P: Pause>(
         session,
         command,
     };
-    step_event(rt, kept, housekeeping, earlier, &event)
+    step_event(rt, kept, housekeeping, actor, earlier, &event)
 }
 
 /// The same, if the journal doesn't say No of the receipt: otherwise the error is `Stale`.
 pub fn step_call_after<K: JournaledNode, R: Wait, P: Pause>(
     rt: &R,
     kept: &mut K,
-    housekeeping: &Housekeeping<P>,
+    housekeeping: &Housekeeping<P, K::Erase>,
+    actor: &mut Actor,
     receipt: &K::Receipt,
     job: JobNo,
     session: u32,
     command: Command<Bytes>,
 ) -> Result<Stepped<K::Receipt, K::Mail>, Refusal>
+    ensures acts { IfOk result (λ s. actor.new ≡ actor.old ++ event.Call job session command ∷ []) }
+    ensures still { OnErr result (actor.new ≡ actor.old) }
     ensures called { IfOk result (λ s. IsNext K.called_by K.rises (Some receipt.now) (event.Call job session command) s.reply s.receipt) }
     ensures later { IfOk result (λ s. (K.made_at s.receipt ≡ K.made_at receipt.now) × (K.entry_number receipt.now < K.entry_number s.receipt)) }
     ensures small { IfOk result (λ s. is_small_reply s.reply ≡ true) }
@@ -74,7 +80,7 @@ pub fn step_call_after<K: JournaledNode, R: Wait, P: Pause>(
         command,
     };
     housekeeping.pause.before_step(kept.number(), &event);
-    let made = kept.step_after(rt, receipt, &event)?;
+    let made = kept.step_after(rt, actor, receipt, &event)?;
     Ok(finish_step(rt, kept, housekeeping, made))
 }
 
@@ -82,10 +88,13 @@ pub fn step_call_after<K: JournaledNode, R: Wait, P: Pause>(
 pub fn step_event<K: JournaledNode, R: Wait, P: Pause>(
     rt: &R,
     kept: &mut K,
-    housekeeping: &Housekeeping<P>,
+    housekeeping: &Housekeeping<P, K::Erase>,
+    actor: &mut Actor,
     earlier: &Option<K::Receipt>,
     event: &Event,
 ) -> Result<Stepped<K::Receipt, K::Mail>, OutOfMemory>
+    ensures acts { IfOk result (λ s. actor.new ≡ actor.old ++ event.now ∷ []) }
+    ensures still { OnErr result (actor.new ≡ actor.old) }
     ensures stepped { IfOk result (λ s. K.receipt_of event.now s.reply s.receipt) }
     ensures called { IfOk result (λ s. IsNext K.called_by K.rises earlier.now event.now s.reply s.receipt) }
     ensures small { IfOk result (λ s. IsSmallCall event.now s.reply) }
@@ -95,7 +104,7 @@ pub fn step_event<K: JournaledNode, R: Wait, P: Pause>(
     ensures number { K.node_number kept.new ≡ K.node_number kept.old }
 {
     housekeeping.pause.before_step(kept.number(), event);
-    let made = kept.step(rt, event, earlier)?;
+    let made = kept.step(rt, actor, event, earlier)?;
     Ok(finish_step(rt, kept, housekeeping, made))
 }
 
@@ -103,16 +112,19 @@ pub fn step_event<K: JournaledNode, R: Wait, P: Pause>(
 pub fn step_order<K: JournaledNode, R: Wait, P: Pause>(
     rt: &R,
     kept: &mut K,
-    housekeeping: &Housekeeping<P>,
+    housekeeping: &Housekeeping<P, K::Erase>,
+    actor: &mut Actor,
     event: &Event,
 ) -> Result<Stepped<K::Receipt, K::Mail>, OutOfMemory>
+    ensures acts { IfOk result (λ s. actor.new ≡ actor.old ++ event.now ∷ []) }
+    ensures still { OnErr result (actor.new ≡ actor.old) }
     ensures stepped { IfOk result (λ s. K.receipt_of event.now s.reply s.receipt) }
     ensures once { IfOk result (λ s. K.steps event.now s.reply (K.posts s.mail) s.receipt kept.old kept.new) }
     ensures node { IfOk result (λ s. K.made_at s.receipt ≡ K.node_number kept.old) }
     ensures same { OnErr result (K.untouched kept.old kept.new) }
     ensures number { K.node_number kept.new ≡ K.node_number kept.old }
 {
-    let stepped = step_event(rt, kept, housekeeping, &None, event)?;
+    let stepped = step_event(rt, kept, housekeeping, actor, &None, event)?;
     audit_one(rt, kept, &housekeeping.tallies, &stepped.receipt);
     Ok(stepped)
 }
@@ -121,28 +133,32 @@ pub fn step_order<K: JournaledNode, R: Wait, P: Pause>(
 pub fn step_end<K: JournaledNode, R: Wait, P: Pause>(
     rt: &R,
     kept: &mut K,
-    housekeeping: &Housekeeping<P>,
+    housekeeping: &Housekeeping<P, K::Erase>,
+    actor: &mut Actor,
     job: JobNo,
 ) -> Result<Stepped<K::Receipt, K::Mail>, OutOfMemory>
+    ensures acts { IfOk result (λ s. actor.new ≡ actor.old ++ event.JobEnd job ∷ []) }
+    ensures still { OnErr result (actor.new ≡ actor.old) }
     ensures stepped { IfOk result (λ s. K.receipt_of (event.JobEnd job) s.reply s.receipt) }
     ensures once { IfOk result (λ s. FoldsAfter K.folds job (K.steps (event.JobEnd job) s.reply (K.posts s.mail) s.receipt) kept.old kept.new) }
     ensures same { OnErr result (K.untouched kept.old kept.new) }
     ensures number { K.node_number kept.new ≡ K.node_number kept.old }
 {
     // its entry is looked for before the fold, after which the journal says no more of it
-    let stepped = step_order(rt, kept, housekeeping, &Event::JobEnd(job))?;
-    fold_ended(kept, job, &stepped.reply);
+    let stepped = step_order(rt, kept, housekeeping, actor, &Event::JobEnd(job))?;
+    fold_ended(kept, job, &stepped);
     Ok(stepped)
 }
 
-/// Folds the journal of a job whose end was answered so, unless it was refused. If there is no memory for the fold nothing changes,
+/// Folds the journal of a job, after the step of its end, unless that was refused. If there is no memory for the fold nothing changes,
 /// and a later one makes up for it.
-fn fold_ended<K: JournaledNode>(kept: &mut K, job: JobNo, reply: &Reply<Bytes>)
+fn fold_ended<K: JournaledNode>(kept: &mut K, job: JobNo, ended: &Stepped<K::Receipt, K::Mail>)
+    requires { K.receipt_of (event.JobEnd job) ended.now.reply ended.now.receipt }
     ensures folds { (kept.new ≡ kept.old) ⊎ K.folds job kept.old kept.new }
     ensures number { K.node_number kept.new ≡ K.node_number kept.old }
 {
-    if !matches!(reply, Reply::Refused(_)) {
-        kept.fold(job);
+    if let Reply::Ok = &ended.reply {
+        kept.fold(job, &ended.receipt);
     }
 }
 
@@ -150,8 +166,12 @@ fn fold_ended<K: JournaledNode>(kept: &mut K, job: JobNo, reply: &Reply<Bytes>)
 pub fn step_take<K: JournaledNode, R: Wait, P: Pause>(
     rt: &R,
     kept: &mut K,
-    housekeeping: &Housekeeping<P>,
+    housekeeping: &Housekeeping<P, K::Erase>,
+    actor: &mut Actor,
 ) -> Option<Result<Stepped<K::Receipt, K::Mail>, OutOfMemory>>
+    ensures acts { IfSome result (λ r. IfOk r (λ s. actor.new ≡ actor.old ++ event.Take ∷ [])) }
+    ensures still { IfSome result (λ r. OnErr r (actor.new ≡ actor.old)) }
+    ensures rests { IfNone result (actor.new ≡ actor.old) }
     ensures stepped { IfSome result (λ r. IfOk r (λ s. K.receipt_of event.Take s.reply s.receipt)) }
     ensures once { IfSome result (λ r. IfOk r (λ s. K.steps event.Take s.reply (K.posts s.mail) s.receipt kept.old kept.new)) }
     ensures same { IfSome result (λ r. OnErr r (K.untouched kept.old kept.new)) }
@@ -159,19 +179,23 @@ pub fn step_take<K: JournaledNode, R: Wait, P: Pause>(
     ensures number { K.node_number kept.new ≡ K.node_number kept.old }
 {
     if kept.has_work() {
-        Some(step_event(rt, kept, housekeeping, &None, &Event::Take))
+        Some(step_event(rt, kept, housekeeping, actor, &None, &Event::Take))
     } else {
         None
     }
 }
 
-/// Leaves a session that was marked, and looks for the entry of that: what it sends. None if there is no memory for it.
+/// Leaves a session that was marked, and looks for the entry of that: what it sends. None if there is no memory for it. The step is that
+/// session's own.
 pub fn step_mark<K: JournaledNode, R: Wait, P: Pause>(
     rt: &R,
     kept: &mut K,
-    housekeeping: &Housekeeping<P>,
+    housekeeping: &Housekeeping<P, K::Erase>,
+    actor: &mut Actor,
     mark: LeaveMark,
 ) -> Option<K::Mail>
+    ensures acts { IfSome result (λ mail. actor.new ≡ actor.old ++ event.Call mark.job mark.session command.Leave ∷ []) }
+    ensures still { IfNone result (actor.new ≡ actor.old) }
     ensures once { IfSome result (λ mail. IsOneLeave K.steps mark.job mark.session (K.posts mail) kept.old kept.new) }
     ensures same { IfNone result (K.untouched kept.old kept.new) }
     ensures number { K.node_number kept.new ≡ K.node_number kept.old }
@@ -180,6 +204,7 @@ pub fn step_mark<K: JournaledNode, R: Wait, P: Pause>(
         rt,
         kept,
         housekeeping,
+        actor,
         &None,
         mark.job,
         mark.session,
@@ -199,7 +224,7 @@ pub fn step_mark<K: JournaledNode, R: Wait, P: Pause>(
 pub fn step_arrival<K: JournaledNode, R: Wait, P: Pause>(
     rt: &R,
     kept: &mut K,
-    housekeeping: &Housekeeping<P>,
+    housekeeping: &Housekeeping<P, K::Erase>,
     posted: K::Posted,
 ) -> Result<Stepped<K::Receipt, K::Mail>, Refusal>
     ensures once { IfOk result (λ s. K.arrives posted s.reply (K.posts s.mail) s.receipt kept.old kept.new) }
@@ -219,7 +244,7 @@ pub fn step_arrival<K: JournaledNode, R: Wait, P: Pause>(
 pub fn step_located<K: JournaledNode, R: Wait, P: Pause>(
     rt: &R,
     kept: &mut K,
-    housekeeping: &Housekeeping<P>,
+    housekeeping: &Housekeeping<P, K::Erase>,
     located: K::Posted,
 ) -> bool
     ensures once { result ≡ true → HasArrived K.arrives located kept.old kept.new }
@@ -239,7 +264,7 @@ pub fn step_located<K: JournaledNode, R: Wait, P: Pause>(
 fn finish_step<K: JournaledNode, R: Wait, P: Pause>(
     rt: &R,
     kept: &K,
-    housekeeping: &Housekeeping<P>,
+    housekeeping: &Housekeeping<P, K::Erase>,
     made: Made<K::Receipt, K::Mail, K::Erase>,
 ) -> Stepped<K::Receipt, K::Mail>
     ensures reply { result.reply ≡ made.reply }
@@ -253,9 +278,11 @@ fn finish_step<K: JournaledNode, R: Wait, P: Pause>(
         receipt,
     } = made;
     let wake_scope = wake_scope_of(K::input(&receipt), &reply);
+    let keys = K::keys(&erase).len() as u64;
     housekeeping.after_step(
         rt,
-        K::keys(&erase),
+        erase,
+        keys,
         kept.has_work(),
         K::job(&receipt),
         wake_scope,

@@ -1,3 +1,5 @@
 mod Attends
 mod Handled
 mod Serves
+mod Stepped
+mod Stepping

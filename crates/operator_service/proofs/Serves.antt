@@ -1,5 +1,6 @@
 -- Serving with one line more, and how it ends.
-use Rattle.std.proofs.Common.{◌≡◌, ℕ, suc, ◌+◌, List, [], ◌∷◌, length, Option, Result, Ok, Err, refl, sym, ap, subst, ◌∙◌, arith}
+use Rattle.std.proofs.Common.{◌≡◌, ℕ, suc, ◌+◌, List, [], ◌∷◌, length, Option, Result, Ok, Err, refl, sym, ap, subst, ◌∙◌, inl, arith}
+use Rattle.std.proofs.lemmas.List.{append-nil}
 use Rattle.std.specs.Prelude.{IfSome}
 use Rattle.std.specs.Io.BufRead.{take_through}
 use Rattle.std.specs.Io.KnownBytes.{Keeps, Consumes, IsAtEnd}
@@ -11,61 +12,65 @@ use Rattle.operator_service.specs.declared.serving.LastLine.{LastLine}
 use Rattle.operator_service.specs.declared.serving.LastLine.TheVariants.{Close, OfInput}
 use Rattle.schedule_text.specs.Lines.{with_line_feed}
 use Rattle.program_lines.specs.Endings.{IsReadingFault}
-use Rattle.operator_service.specs.Servings.{CarriesOut, StopsOrder, Serving, ServingEnds, IsWritten, ServedText, close_line, orders_of, answers_of}
+use Rattle.operator_service.specs.Servings.{CarriesOut, IsSpelled, StepsEnded, StepsStopped, StopsOrder, Serving, ServingEnds, IsWritten, ServedText, close_line, orders_of, answers_of, steps_for, steps_of}
+use Rattle.operator_service.proofs.Stepping.{steps_then}
 use Rattle.program_lines.proofs.ForCallers.{next_line}
 use Rattle.store_facts.proofs.KnownBytes.{Appends-none, Appends-then, Appends-kept, Consumes-none, Consumes-then, Consumes-all}
 
-pub begun : {T : Type 0} (receipt_of : Event → Reply (List ℕ) → T → Type 0) (nodes : ℕ) (a b : Option (List ℕ)) → Serving receipt_of nodes 1 a a b b
-begun receipt_of nodes a b = record { lines = []; counted = refl; obeyed = tt; consumed = Consumes-none a; written = Appends-none b }
+pub begun : {T : Type 0} (receipt_of : Event → Reply (List ℕ) → T → Type 0) (nodes : ℕ) (x : List Event) (a b : Option (List ℕ)) → Serving receipt_of nodes 1 x x a a b b
+begun receipt_of nodes x a b = record { lines = []; counted = refl; obeyed = tt; steps = sym (append-nil x); consumed = Consumes-none a; written = Appends-none b }
 
-module _ {T : Type 0} (receipt_of : Event → Reply (List ℕ) → T → Type 0) (nodes number : ℕ) (a r b w : Option (List ℕ)) (so_far : Serving receipt_of nodes number a r b w) where
+module _ {T : Type 0} (receipt_of : Event → Reply (List ℕ) → T → Type 0) (nodes number : ℕ) (x y : List Event) (a r b w : Option (List ℕ)) (so_far : Serving receipt_of nodes number x y a r b w) where
   module _ (r1 : Option (List ℕ)) (bytes : List ℕ) (read : Consumes r r1 bytes) where
-    pub line_more : (w1 : Option (List ℕ)) → CarriesOut receipt_of nodes bytes w w1 → Serving receipt_of nodes (number + 1) a r1 b w1
-    line_more w1 obeys =
+    pub line_more : (z : List Event) (w1 : Option (List ℕ)) → CarriesOut receipt_of nodes bytes y z w w1 → Serving receipt_of nodes (number + 1) x z a r1 b w1
+    line_more z w1 obeys =
         let counted = so_far.counted in
         record {
           lines = obeys.obeyed ∷ so_far.lines;
           counted = ap suc counted ∙ (omega arith);
           obeyed = (obeys.spelled, obeys.carried, so_far.obeyed);
+          steps = steps_then x y z (steps_of so_far.lines) (steps_for obeys.obeyed.change obeys.obeyed.receipt) so_far.steps obeys.steps;
           consumed = Consumes-then a r r1 (orders_of so_far.lines) (with_line_feed obeys.obeyed.text) so_far.consumed (subst (Consumes r r1) obeys.is_text read);
           written = Appends-then b w w1 (answers_of so_far.lines) _ so_far.written obeys.written;
         }
 
     module _ (count : ℕ) where
-      ended : (w1 : Option (List ℕ)) (result : Result LastLine Fault) → IsWritten b w1 (answers_of so_far.lines) result
-          → ServingEnds nodes count (suc (length so_far.lines)) a (orders_of so_far.lines) bytes result → ServedText receipt_of nodes count a r1 b w1 result
-      ended w1 result written ends =
+      ended : (z : List Event) (w1 : Option (List ℕ)) (result : Result LastLine Fault) → StepsEnded (IsSpelled nodes bytes) y z result → IsWritten b w1 (answers_of so_far.lines) result
+          → ServingEnds nodes count (suc (length so_far.lines)) a (orders_of so_far.lines) bytes result → ServedText receipt_of nodes count x z a r1 b w1 result
+      ended z w1 result steps written ends =
           record {
             lines = so_far.lines;
             rest = bytes;
             obeyed = so_far.obeyed;
+            steps = subst (λ y1. StepsEnded (IsSpelled nodes bytes) y1 z result) so_far.steps steps;
             consumed = Consumes-then a r r1 (orders_of so_far.lines) bytes so_far.consumed read;
             written = written;
             ends = ends;
           }
 
-      pub reading_failed : (fault : Fault) → IsReadingFault fault → ServedText receipt_of nodes count a r1 b w (Err fault)
+      pub reading_failed : (fault : Fault) → IsReadingFault fault → ServedText receipt_of nodes count x y a r1 b w (Err fault)
       reading_failed (NotAStep n) is = absurd is
       reading_failed Output is = absurd is
       reading_failed Socket is = absurd is
       reading_failed Folded is = absurd is
-      reading_failed Input is = ended w (Err Input) so_far.written tt
-      reading_failed NoMemory is = ended w (Err NoMemory) so_far.written tt
+      reading_failed Input is = ended y w (Err Input) refl so_far.written tt
+      reading_failed NoMemory is = ended y w (Err NoMemory) (inl refl) so_far.written tt
 
-      pub input_ended : IsAtEnd r → ServedText receipt_of nodes count a r1 b w (Ok OfInput)
-      input_ended end = ended w (Ok OfInput) so_far.written (Consumes-all a r (orders_of so_far.lines) so_far.consumed end)
+      pub input_ended : IsAtEnd r → ServedText receipt_of nodes count x y a r1 b w (Ok OfInput)
+      input_ended end = ended y w (Ok OfInput) refl so_far.written (Consumes-all a r (orders_of so_far.lines) so_far.consumed end)
 
-      pub closed : (w1 : Option (List ℕ)) → bytes ≡ close_line → Keeps w w1 → ServedText receipt_of nodes count a r1 b w1 (Ok Close)
-      closed w1 is kept = ended w1 (Ok Close) (Appends-kept b w w1 (answers_of so_far.lines) so_far.written kept) is
+      pub closed : (z : List Event) (w1 : Option (List ℕ)) → bytes ≡ close_line → z ≡ y → Keeps w w1 → ServedText receipt_of nodes count x z a r1 b w1 (Ok Close)
+      closed z w1 is same kept = ended z w1 (Ok Close) same (Appends-kept b w w1 (answers_of so_far.lines) so_far.written kept) is
 
-      pub line_stopped : IfSome r (λ left. bytes ≡ take_through 10 left) → (w1 : Option (List ℕ)) (fault : Fault) → StopsOrder nodes count number bytes w w1 fault → ServedText receipt_of nodes count a r1 b w1 (Err fault)
-      line_stopped whole w1 (NotAStep n) stops =
-          ended w1 (Err (NotAStep n)) (Appends-kept b w w1 (answers_of so_far.lines) so_far.written stops.2) (stops.0 ∙ sym so_far.counted, stops.1, next_line a r (orders_of so_far.lines) bytes so_far.consumed whole)
-      line_stopped whole w1 Input stops = absurd stops
-      line_stopped whole w1 Socket stops = absurd stops
-      line_stopped whole w1 Folded stops = absurd stops
-      line_stopped whole w1 Output stops = ended w1 (Err Output) tt tt
-      line_stopped whole w1 NoMemory stops = ended w1 (Err NoMemory) (Appends-kept b w w1 (answers_of so_far.lines) so_far.written stops) tt
+      pub line_stopped : IfSome r (λ left. bytes ≡ take_through 10 left) → (z : List Event) (w1 : Option (List ℕ)) (fault : Fault) → StopsOrder nodes count number bytes w w1 fault
+          → StepsStopped (IsSpelled nodes bytes) y z fault → ServedText receipt_of nodes count x z a r1 b w1 (Err fault)
+      line_stopped whole z w1 (NotAStep n) stops steps =
+          ended z w1 (Err (NotAStep n)) steps (Appends-kept b w w1 (answers_of so_far.lines) so_far.written stops.2) (stops.0 ∙ sym so_far.counted, stops.1, next_line a r (orders_of so_far.lines) bytes so_far.consumed whole)
+      line_stopped whole z w1 Input stops steps = absurd stops
+      line_stopped whole z w1 Socket stops steps = absurd stops
+      line_stopped whole z w1 Folded stops steps = absurd stops
+      line_stopped whole z w1 Output stops steps = ended z w1 (Err Output) steps tt tt
+      line_stopped whole z w1 NoMemory stops steps = ended z w1 (Err NoMemory) steps (Appends-kept b w w1 (answers_of so_far.lines) so_far.written stops) tt
 
-  pub too_many : (count : ℕ) → ServedText receipt_of nodes count a r b w (Err Input)
+  pub too_many : (count : ℕ) → ServedText receipt_of nodes count x y a r b w (Err Input)
   too_many count = reading_failed r [] (Consumes-none r) count Input tt

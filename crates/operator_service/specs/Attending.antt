@@ -24,7 +24,7 @@ use Rattle.program_lines.specs.declared.taking.LineTaken.TheVariants.{Line, TooL
 use Rattle.program_lines.specs.ControlLines.{IsControlLine, IsAskedWithin}
 use Rattle.schedule_text.specs.Lines.{with_line_feed}
 use Rattle.operator_service.specs.Looks.{IsLookText, IsKickText}
-use Rattle.operator_service.specs.Servings.{IsCarriedOut, IsWritten, report_line}
+use Rattle.operator_service.specs.Servings.{IsCarriedOut, IsWritten, StepsEnded, event_of_change, report_line, steps_for}
 use Rattle.program_lines.specs.TakenLines.{IsUnbroken}
 
 -- ---- answers
@@ -33,11 +33,12 @@ use Rattle.program_lines.specs.TakenLines.{IsUnbroken}
 abbrev pub no_order_line : ℕ → List ℕ
 no_order_line number = with_line_feed (codes "line " ++ decimal number ++ codes ": not an order: the orders are " ++ ORDERS.now)
 
--- to a line that asks for a change: the node's, with the reply to this very change
-pub record IsChangeLine {T : Type 0} (receipt_of : Event → Reply (List ℕ) → T → Type 0) (node : ℕ) (what : Change) (line : List ℕ) : Type 0 where
+-- to a line that asks for a change: the node's, with the reply to this very change, and what was stepped for it
+pub record IsChangeLine {T : Type 0} (receipt_of : Event → Reply (List ℕ) → T → Type 0) (node : ℕ) (what : Change) (line : List ℕ) (events : List Event) : Type 0 where
   pub response : Reply (List ℕ)
   pub receipt : Option T
   pub carried : IsCarriedOut receipt_of what response receipt
+  pub steps : events ≡ steps_for what receipt
   pub is : line ≡ line_text (Operator node) (Response response)
 
 -- to one that lets the server close: its report, or that a fault ended it
@@ -50,13 +51,32 @@ pub record IsClosingLine (closes : Option Report → Type 0) (line : List ℕ) :
   pub closed : closes report
   pub is : line ≡ closing_line report
 
--- the server is let close as it was asked for: `close now` ends the open sessions
-abbrev pub IsAnswer : {T : Type 0} → (Event → Reply (List ℕ) → T → Type 0) → (Bool → Option Report → Type 0) → ControlLine → List ℕ → Type 0
-IsAnswer receipt_of closes (asked.Order (order.Change node c)) line = IsChangeLine receipt_of node c line
-IsAnswer receipt_of closes (asked.Order order.Close) line = IsClosingLine (closes false) line
-IsAnswer receipt_of closes asked.CloseNow line = IsClosingLine (closes true) line
-IsAnswer receipt_of closes (asked.Look node what) line = IsLookText node what line
-IsAnswer receipt_of closes (asked.Kick node job session) line = IsKickText node job.0 session line
+-- the server is let close as it was asked for: `close now` ends the open sessions. Only a change is stepped
+abbrev pub IsAnswer : {T : Type 0} → (Event → Reply (List ℕ) → T → Type 0) → (Bool → Option Report → Type 0) → ControlLine → List ℕ → List Event → Type 0
+IsAnswer receipt_of closes (asked.Order (order.Change node c)) line events = IsChangeLine receipt_of node c line events
+IsAnswer receipt_of closes (asked.Order order.Close) line events = IsClosingLine (closes false) line × (events ≡ [])
+IsAnswer receipt_of closes asked.CloseNow line events = IsClosingLine (closes true) line × (events ≡ [])
+IsAnswer receipt_of closes (asked.Look node what) line events = IsLookText node what line × (events ≡ [])
+IsAnswer receipt_of closes (asked.Kick node job session) line events = IsKickText node job.0 session line × (events ≡ [])
+
+-- the event is the change that is asked for
+pub record IsChangeOf (what : ControlLine) (e : Event) : Type 0 where
+  pub node : ℕ
+  pub change : Change
+  pub is_asked : what ≡ asked.Order (order.Change node change)
+  pub is : e ≡ event_of_change change
+
+-- the text of a line asks for it
+pub record IsAskedFor (nodes : ℕ) (text : List ℕ) (e : Event) : Type 0 where
+  pub what : ControlLine
+  pub spelled : IsControlLine nodes text what
+  pub of : IsChangeOf what e
+
+-- an actor has stepped some events, of which this is true
+pub record HasStepped (is_true : List Event → Type 0) (before after : List Event) : Type 0 where
+  pub events : List Event
+  pub steps : after ≡ before ++ events
+  pub is : is_true events
 
 -- after it nothing more is read
 abbrev pub is_closing : ControlLine → Bool
@@ -69,29 +89,29 @@ pub record IsNoAsked (nodes count : ℕ) (text : List ℕ) : Type 0 where
   pub speaks : is_skipped text ≡ false
   pub none : IsUtf8 text → (a : ControlLine) → IsControlLine nodes text a → IsAskedWithin count a → ⊥
 
--- a line with this number, without its line feed, was answered so, and whether it was the last: what is skipped has no answer, an order
--- its own, and any other line is answered that it is none
-pub data IsHandled (answers : ControlLine → List ℕ → Type 0) (nodes count number : ℕ) (text : List ℕ) : List ℕ → Bool → Type 0 where
-  skipped : is_skipped text ≡ true → IsHandled answers nodes count number text [] false
-  long : LONGEST_LINE < length text → IsHandled answers nodes count number text (no_order_line number) false
-  none : IsNoAsked nodes count text → IsHandled answers nodes count number text (no_order_line number) false
-  answered : (a : ControlLine) (line : List ℕ) → IsControlLine nodes text a → answers a line → IsHandled answers nodes count number text line (is_closing a)
+-- a line with this number, without its line feed, was answered so, what was stepped for it, and whether it was the last: what is skipped
+-- has no answer, an order its own, and any other line is answered that it is none
+pub data IsHandled (answers : ControlLine → List ℕ → List Event → Type 0) (nodes count number : ℕ) (text : List ℕ) : List ℕ → List Event → Bool → Type 0 where
+  skipped : is_skipped text ≡ true → IsHandled answers nodes count number text [] [] false
+  long : LONGEST_LINE < length text → IsHandled answers nodes count number text (no_order_line number) [] false
+  none : IsNoAsked nodes count text → IsHandled answers nodes count number text (no_order_line number) [] false
+  answered : (a : ControlLine) (line : List ℕ) (events : List Event) → IsControlLine nodes text a → answers a line events → IsHandled answers nodes count number text line events (is_closing a)
 
 -- the answer that was made of it
-abbrev pub IsAnswered : (ControlLine → List ℕ → Type 0) → ℕ → ℕ → ℕ → List ℕ → Answer → Type 0
-IsAnswered answers nodes count number text a = IsHandled answers nodes count number text (string_bytes a.line) a.is_last
+abbrev pub IsAnswered : (ControlLine → List ℕ → List Event → Type 0) → ℕ → ℕ → ℕ → List ℕ → List Event → List Event → Answer → Type 0
+IsAnswered answers nodes count number text before after a = HasStepped (λ events. IsHandled answers nodes count number text (string_bytes a.line) events a.is_last) before after
 
 -- what was made of an order: its answer, or that it is none, since there is no such node
 pub record IsNone (number : ℕ) (a : Answer) : Type 0 where
   pub line : string_bytes a.line ≡ no_order_line number
   pub further : a.is_last ≡ false
 
-pub record IsAnswerOf (answers : ControlLine → List ℕ → Type 0) (what : ControlLine) (a : Answer) : Type 0 where
-  pub line : answers what (string_bytes a.line)
+pub record IsAnswerOf (answers : ControlLine → List ℕ → List Event → Type 0) (what : ControlLine) (before after : List Event) (a : Answer) : Type 0 where
+  pub line : HasStepped (answers what (string_bytes a.line)) before after
   pub last : a.is_last ≡ is_closing what
 
-abbrev pub IsAnswerMade : (ControlLine → List ℕ → Type 0) → ℕ → ℕ → ControlLine → Answer → Type 0
-IsAnswerMade answers count number what a = IsAnswerOf answers what a ⊎ ((IsAskedWithin count what → ⊥) × IsNone number a)
+abbrev pub IsAnswerMade : (ControlLine → List ℕ → List Event → Type 0) → ℕ → ℕ → ControlLine → List Event → List Event → Answer → Type 0
+IsAnswerMade answers count number what before after a = IsAnswerOf answers what before after a ⊎ ((IsAskedWithin count what → ⊥) × IsNone number a × (after ≡ before))
 
 -- the text that was taken, of which only a line that isn't too long was kept
 abbrev pub IsAnswerText : LineTaken → List ℕ → List ℕ → Type 0
@@ -99,23 +119,29 @@ IsAnswerText Line line text = text ≡ line
 IsAnswerText TooLong line text = LONGEST_LINE < length text
 
 -- a line is answered, and the answer written
-pub record Replies (answers : ControlLine → List ℕ → Type 0) (nodes count number : ℕ) (text : List ℕ) (written_old written_new : Option (List ℕ)) (is_last : Bool) : Type 0 where
+pub record Replies (answers : ControlLine → List ℕ → List Event → Type 0) (nodes count number : ℕ) (text : List ℕ) (before after : List Event) (written_old written_new : Option (List ℕ)) (is_last : Bool) : Type 0 where
   pub answer : List ℕ
-  pub handled : IsHandled answers nodes count number text answer is_last
+  pub handled : HasStepped (λ events. IsHandled answers nodes count number text answer events is_last) before after
   pub written : Appends written_old written_new answer
 
 -- ---- the whole of a connection
 
--- a line, without its line feed, and its answer
+-- a line, without its line feed, its answer, and what was stepped for it
 pub record Attended : Type 0 where
   pub text : List ℕ
   pub answer : List ℕ
+  pub events : List Event
   pub is_last : Bool
 
 -- of lines that stand newest first: each is one, with the next number, and was answered
-abbrev pub AreAttended : (ControlLine → List ℕ → Type 0) → ℕ → ℕ → List Attended → Type 0
+abbrev pub AreAttended : (ControlLine → List ℕ → List Event → Type 0) → ℕ → ℕ → List Attended → Type 0
 AreAttended answers nodes count [] = ⊤
-AreAttended answers nodes count (a ∷ lines) = IsUnbroken a.text × IsHandled answers nodes count (suc (length lines)) a.text a.answer a.is_last × AreAttended answers nodes count lines
+AreAttended answers nodes count (a ∷ lines) = IsUnbroken a.text × IsHandled answers nodes count (suc (length lines)) a.text a.answer a.events a.is_last × AreAttended answers nodes count lines
+
+-- what was stepped for them, in its order
+abbrev pub steps_of : List Attended → List Event
+steps_of [] = []
+steps_of (a ∷ lines) = steps_of lines ++ a.events
 
 -- the bytes that were read
 abbrev pub texts_of : List Attended → List ℕ
@@ -128,12 +154,13 @@ answers_of [] = []
 answers_of (a ∷ lines) = answers_of lines ++ a.answer
 
 -- the connection so far
-pub record Attending (answers : ControlLine → List ℕ → Type 0) (nodes count number : ℕ) (read_old read_new written_old written_new : Option (List ℕ)) : Type 0 where
+pub record Attending (answers : ControlLine → List ℕ → List Event → Type 0) (nodes count number : ℕ) (before after : List Event) (read_old read_new written_old written_new : Option (List ℕ)) : Type 0 where
   -- newest first
   pub lines : List Attended
   -- the number of the next line
   pub counted : suc (length lines) ≡ number
   pub attended : AreAttended answers nodes count lines
+  pub steps : after ≡ before ++ steps_of lines
   pub consumed : Consumes read_old read_new (texts_of lines)
   pub written : Appends written_old written_new (answers_of lines)
 
@@ -152,13 +179,21 @@ AttendingEnds read_new lines rest (Err Socket) = ⊥
 AttendingEnds read_new lines rest (Err Folded) = ⊥
 AttendingEnds read_new lines rest (Err NoMemory) = ⊤
 
+-- the bytes after the last line that was answered are a line that asks for the event
+pub record IsAskedLine (nodes : ℕ) (bytes : List ℕ) (e : Event) : Type 0 where
+  pub text : List ℕ
+  pub is_text : bytes ≡ with_line_feed text
+  pub asks : IsAskedFor nodes text e
+
 -- the whole of it
-pub record HasAttended (answers : ControlLine → List ℕ → Type 0) (nodes count : ℕ) (read_old read_new written_old written_new : Option (List ℕ)) (result : Result ⊤ Fault) : Type 0 where
+pub record HasAttended (answers : ControlLine → List ℕ → List Event → Type 0) (nodes count : ℕ) (before after : List Event) (read_old read_new written_old written_new : Option (List ℕ)) (result : Result ⊤ Fault) : Type 0 where
   -- newest first
   pub lines : List Attended
   -- what was read after them
   pub rest : List ℕ
   pub attended : AreAttended answers nodes count lines
+  -- what was stepped is what they ask for, and perhaps what the line after them asks for, whose answer nobody got
+  pub steps : StepsEnded (IsAskedLine nodes rest) (before ++ steps_of lines) after result
   pub consumed : Consumes read_old read_new (texts_of lines ++ rest)
   pub written : IsWritten written_old written_new (answers_of lines) result
   pub ends : AttendingEnds read_new lines rest result

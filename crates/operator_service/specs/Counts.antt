@@ -47,6 +47,13 @@ event_word event.Restore = codes "restores"
 event_word event.RestoreFailed = codes "restores-failed"
 event_word event.Pull = codes "pulls"
 event_word event.Arrival = codes "arrivals"
+event_word event.Locate = codes "locates"
+event_word event.Fetched = codes "fetched"
+event_word event.SourceGone = codes "sources-gone"
+event_word event.ChunkSent = codes "chunks-sent"
+event_word event.NotHere = codes "not-here"
+event_word event.Evicted = codes "evictions"
+event_word event.Removed = codes "removals"
 
 -- a refusal by its number
 abbrev pub name_text : CountName → List ℕ
@@ -65,15 +72,18 @@ counts_text (count ∷ counts) = count_text count ++ counts_text counts
 abbrev pub job_counts_line : ℕ → ℕ → List Count → List ℕ
 job_counts_line node job counts = with_line_feed (codes "n" ++ decimal node ++ codes " op counts " ++ decimal job ++ counts_text counts)
 
--- a node's own, of its sessions and of its lock
+-- a node's own, of its sessions, of its lock and of its journal
 abbrev pub sessions_text : NodeCounts → List ℕ
 sessions_text counts = codes " hellos:" ++ decimal counts.hellos ++ codes " hellos-refused:" ++ decimal counts.hellos_refused ++ codes " malformed:" ++ decimal counts.malformed
 
 abbrev pub lock_text : NodeCounts → List ℕ
 lock_text counts = codes " lock-waits:" ++ decimal counts.lock_waits ++ codes " lock-sleeps:" ++ decimal counts.lock_sleeps
 
+abbrev pub folds_text : NodeCounts → List ℕ
+folds_text counts = codes " end-folds:" ++ decimal counts.end_folds
+
 abbrev pub own_text : NodeCounts → List ℕ
-own_text counts = sessions_text counts ++ lock_text counts
+own_text counts = sessions_text counts ++ lock_text counts ++ folds_text counts
 
 abbrev pub node_counts_line : ℕ → NodeCounts → List ℕ
 node_counts_line node counts = with_line_feed (codes "n" ++ decimal node ++ codes " op counts" ++ own_text counts)

@@ -1,5 +1,6 @@
 -- The operator's lines that were carried out, and what was printed for them.
-use Rattle.std.specs.Prelude.{◌≡◌, ℕ, suc, false, true, Bool, List, [], ◌∷◌, ◌++◌, length, Option, IfSome, MatchOption, Result, Ok, Err, codes, decimal, ⊤}
+use Rattle.std.specs.Prelude.{◌≡◌, ◌⊎◌, ℕ, suc, false, true, Bool, List, [], ◌∷◌, ◌++◌, length, Option, IfSome, MatchOption, Result, Ok, Err, codes, decimal, ⊤}
+use Rattle.std.specs.Option.{option_map_or}
 use Rattle.std.specs.Io.KnownBytes.{Appends, Consumes, Keeps}
 use Rattle.std.specs.Str.{IsUtf8}
 use Rattle.obj_id.specs.declared.commands.Reply.{Reply}
@@ -32,6 +33,14 @@ event_of_change (change.End job) = event.JobEnd job
 abbrev pub IsCarriedOut : {T : Type 0} → (Event → Reply (List ℕ) → T → Type 0) → Change → Reply (List ℕ) → Option T → Type 0
 IsCarriedOut receipt_of asked response receipt = MatchOption receipt (response ≡ reply.Refused refusal.NoMemory) (receipt_of (event_of_change asked) response)
 
+-- what was stepped for a change: it alone, if there is a receipt
+abbrev pub steps_for : {T : Type 0} → Change → Option T → List Event
+steps_for asked receipt = option_map_or (λ _. event_of_change asked ∷ []) receipt []
+
+-- nothing was stepped, or one event of those that were asked for
+abbrev pub MayStep : (Event → Type 0) → List Event → List Event → Type 0
+MayStep asks before after = (after ≡ before) ⊎ ((e : Event) × asks e × (after ≡ before ++ e ∷ []))
+
 -- a line, without its line feed, and the answer to it, with the receipt of its step
 pub record Obeyed (T : Type 0) : Type 0 where
   pub text : List ℕ
@@ -49,6 +58,11 @@ abbrev pub AreObeyed : {T : Type 0} → (Event → Reply (List ℕ) → T → Ty
 AreObeyed receipt_of nodes [] = ⊤
 AreObeyed receipt_of nodes (o ∷ lines) = IsOrder nodes o.text (order.Change o.node o.change) × IsCarriedOut receipt_of o.change o.reply o.receipt × AreObeyed receipt_of nodes lines
 
+-- what was stepped for them, in its order
+abbrev pub steps_of : {T : Type 0} → List (Obeyed T) → List Event
+steps_of [] = []
+steps_of (o ∷ lines) = steps_of lines ++ steps_for o.change o.receipt
+
 -- the bytes that were read
 abbrev pub orders_of : {T : Type 0} → List (Obeyed T) → List ℕ
 orders_of [] = []
@@ -60,18 +74,20 @@ answers_of [] = []
 answers_of (o ∷ lines) = answers_of lines ++ order_answer_text o
 
 -- a change is carried out, and its answer written
-pub record Replies {T : Type 0} (receipt_of : Event → Reply (List ℕ) → T → Type 0) (node : ℕ) (asked : Change) (written_old written_new : Option (List ℕ)) : Type 0 where
+pub record Replies {T : Type 0} (receipt_of : Event → Reply (List ℕ) → T → Type 0) (node : ℕ) (asked : Change) (before after : List Event) (written_old written_new : Option (List ℕ)) : Type 0 where
   pub reply : Reply (List ℕ)
   pub receipt : Option T
   pub carried : IsCarriedOut receipt_of asked reply receipt
+  pub steps : after ≡ before ++ steps_for asked receipt
   pub written : Appends written_old written_new (line_text (Operator node) (Response reply))
 
 -- a line is carried out, and its answer written
-pub record CarriesOut {T : Type 0} (receipt_of : Event → Reply (List ℕ) → T → Type 0) (nodes : ℕ) (bytes : List ℕ) (written_old written_new : Option (List ℕ)) : Type 0 where
+pub record CarriesOut {T : Type 0} (receipt_of : Event → Reply (List ℕ) → T → Type 0) (nodes : ℕ) (bytes : List ℕ) (before after : List Event) (written_old written_new : Option (List ℕ)) : Type 0 where
   pub obeyed : Obeyed T
   pub is_text : bytes ≡ with_line_feed obeyed.text
   pub spelled : IsOrder nodes obeyed.text (order.Change obeyed.node obeyed.change)
   pub carried : IsCarriedOut receipt_of obeyed.change obeyed.reply obeyed.receipt
+  pub steps : after ≡ before ++ steps_for obeyed.change obeyed.receipt
   pub written : Appends written_old written_new (order_answer_text obeyed)
 
 -- the bytes of `close`
@@ -79,9 +95,9 @@ abbrev pub close_line : List ℕ
 close_line = with_line_feed (codes "close")
 
 -- a line after which it goes on, or doesn't
-abbrev pub ServesLine : {T : Type 0} → (Event → Reply (List ℕ) → T → Type 0) → ℕ → List ℕ → Option (List ℕ) → Option (List ℕ) → Bool → Type 0
-ServesLine receipt_of nodes bytes written_old written_new true = CarriesOut receipt_of nodes bytes written_old written_new
-ServesLine receipt_of nodes bytes written_old written_new false = (bytes ≡ close_line) × Keeps written_old written_new
+abbrev pub ServesLine : {T : Type 0} → (Event → Reply (List ℕ) → T → Type 0) → ℕ → List ℕ → List Event → List Event → Option (List ℕ) → Option (List ℕ) → Bool → Type 0
+ServesLine receipt_of nodes bytes before after written_old written_new true = CarriesOut receipt_of nodes bytes before after written_old written_new
+ServesLine receipt_of nodes bytes before after written_old written_new false = (bytes ≡ close_line) × (after ≡ before) × Keeps written_old written_new
 
 -- an answer that isn't written, but perhaps a part if the output failed
 abbrev pub StopsReply : Option (List ℕ) → Option (List ℕ) → Fault → Type 0
@@ -105,13 +121,37 @@ StopsOrder nodes count number bytes written_old written_new Socket = ⊥
 StopsOrder nodes count number bytes written_old written_new Folded = ⊥
 StopsOrder nodes count number bytes written_old written_new NoMemory = Keeps written_old written_new
 
+-- the bytes spell the change that the event is
+pub record IsSpelled (nodes : ℕ) (bytes : List ℕ) (e : Event) : Type 0 where
+  pub text : List ℕ
+  pub node : ℕ
+  pub change : Change
+  pub is_text : bytes ≡ with_line_feed text
+  pub spelled : IsOrder nodes text (order.Change node change)
+  pub is : e ≡ event_of_change change
+
+-- what was stepped for a line at which the serving stops: nothing, or what was asked for, of which the answer could not be made or written
+abbrev pub StepsStopped : (Event → Type 0) → List Event → List Event → Fault → Type 0
+StepsStopped asks before after (NotAStep n) = after ≡ before
+StepsStopped asks before after Input = after ≡ before
+StepsStopped asks before after Output = MayStep asks before after
+StepsStopped asks before after Socket = after ≡ before
+StepsStopped asks before after Folded = after ≡ before
+StepsStopped asks before after NoMemory = MayStep asks before after
+
+-- the same of how it ends
+abbrev pub StepsEnded : {A : Type 0} → (Event → Type 0) → List Event → List Event → Result A Fault → Type 0
+StepsEnded asks before after (Ok u) = after ≡ before
+StepsEnded asks before after (Err fault) = StepsStopped asks before after fault
+
 -- the serving so far
-pub record Serving {T : Type 0} (receipt_of : Event → Reply (List ℕ) → T → Type 0) (nodes number : ℕ) (read_old read_new written_old written_new : Option (List ℕ)) : Type 0 where
+pub record Serving {T : Type 0} (receipt_of : Event → Reply (List ℕ) → T → Type 0) (nodes number : ℕ) (before after : List Event) (read_old read_new written_old written_new : Option (List ℕ)) : Type 0 where
   -- newest first
   pub lines : List (Obeyed T)
   -- the number of the next line
   pub counted : suc (length lines) ≡ number
   pub obeyed : AreObeyed receipt_of nodes lines
+  pub steps : after ≡ before ++ steps_of lines
   pub consumed : Consumes read_old read_new (orders_of lines)
   pub written : Appends written_old written_new (answers_of lines)
 
@@ -138,12 +178,14 @@ IsWritten written_old written_new text (Err Folded) = ⊥
 IsWritten written_old written_new text (Err NoMemory) = Appends written_old written_new text
 
 -- the whole of it, at a cluster of so many nodes, which lines may name up to another number
-pub record ServedText {T : Type 0} (receipt_of : Event → Reply (List ℕ) → T → Type 0) (nodes count : ℕ) (read_old read_new written_old written_new : Option (List ℕ)) (result : Result LastLine Fault) : Type 0 where
+pub record ServedText {T : Type 0} (receipt_of : Event → Reply (List ℕ) → T → Type 0) (nodes count : ℕ) (before after : List Event) (read_old read_new written_old written_new : Option (List ℕ)) (result : Result LastLine Fault) : Type 0 where
   -- newest first
   pub lines : List (Obeyed T)
   -- what was read of the line after them
   pub rest : List ℕ
   pub obeyed : AreObeyed receipt_of nodes lines
+  -- what was stepped is what they spell, and perhaps what the line after them spells, whose answer nobody got
+  pub steps : StepsEnded (IsSpelled nodes rest) (before ++ steps_of lines) after result
   pub consumed : Consumes read_old read_new (orders_of lines ++ rest)
   pub written : IsWritten written_old written_new (answers_of lines) result
   pub ends : ServingEnds nodes count (suc (length lines)) read_old (orders_of lines) rest result

@@ -1,17 +1,17 @@
 //! A control connection: each line of it is answered by one line.
-ghost use Rattle.std.specs.Prelude.{◌≡◌, ℕ, List, true, false, length, IfOk, IfErr, IfSome};
+ghost use Rattle.std.specs.Prelude.{◌≡◌, ℕ, List, true, false, length, IfOk, IfErr, OnErr, IfSome};
 ghost use Rattle.std.specs.String.{string_bytes};
 ghost use Rattle.std.specs.Str.{IsUtf8};
 ghost use Rattle.schedule_text.specs.Fields.{Reads};
 ghost use Rattle.program_lines.specs.ControlLines.{IsControlLine};
-ghost use Rattle.operator_service.specs.Attending.{HasAttended, IsAnswer, IsAnswered, IsChangeLine, IsAnswerMade, IsNone, IsAnswerText, Replies, closing_line as closing_line_lem, no_order_line as no_order_line_lem};
+ghost use Rattle.operator_service.specs.Attending.{HasAttended, HasStepped, IsAnswer, IsAnswered, IsAskedFor, IsChangeLine, IsChangeOf, IsAnswerMade, IsNone, IsAnswerText, Replies, closing_line as closing_line_lem, no_order_line as no_order_line_lem};
 ghost use Rattle.operator_service.specs.Looks.{IsKickText, IsLookText};
-ghost use Rattle.operator_service.specs.Servings.{StopsReply};
+ghost use Rattle.operator_service.specs.Servings.{MayStep, StopsReply, event_of_change};
 
 use crate::looks::{kick_text, look_text};
 use crate::serving::{carry_out, node_at, report_line, write_out};
 use memory_growth::{OutOfMemory, text_of, texts};
-use node_gate::JournaledNode;
+use node_gate::{Actor, JournaledNode};
 use node_housekeeping::Report;
 use obj_id::JobNo;
 use private_store::StepAnswer;
@@ -56,9 +56,11 @@ struct Answer {
 /// What was read is those lines, and perhaps a part of another one; what was written is their answers, in that order. An empty line and
 /// one that begins with `#` have none. A line that is no order is answered so, with its number, counted from 1, and so is one of more
 /// than 4,096 bytes. A fault is of this connection alone, and the next line has no answer; only if the output failed nobody knows what
-/// was written.
+/// was written. The actor steps the changes that those lines ask for, each once and in their order, and nothing else; of a line whose answer
+/// nobody got it is not known whether it was stepped.
 pub fn attend<K: JournaledNode, R: Wait + Clock, I: Read, O: Write, C: Closing>(
     rt: &R,
+    actor: &mut Actor,
     alloc: Global,
     nodes: &[Arc<SharedNode<K>>],
     count: u32,
@@ -66,7 +68,7 @@ pub fn attend<K: JournaledNode, R: Wait + Clock, I: Read, O: Write, C: Closing>(
     writer: &mut O,
     closing: &C,
 ) -> Result<(), Fault>
-    ensures { HasAttended (IsAnswer K.receipt_of (C.closes closing.now)) count (length nodes.now) (I.remaining reader.old) (I.remaining reader.new) (O.contents writer.old) (O.contents writer.new) result }
+    ensures { HasAttended (IsAnswer K.receipt_of (C.closes closing.now)) count (length nodes.now) actor.old actor.new (I.remaining reader.old) (I.remaining reader.new) (O.contents writer.old) (O.contents writer.new) result }
 {
     let mut line = Vec::new(alloc);
     for number in 1..u64::MAX {
@@ -74,7 +76,7 @@ pub fn attend<K: JournaledNode, R: Wait + Clock, I: Read, O: Write, C: Closing>(
             Err(fault) => return Err(fault),
             Ok(None) => return Ok(()),
             Ok(Some(taken)) => match reply_to(
-                rt, alloc, nodes, count, number, taken, &line, writer, closing,
+                rt, actor, alloc, nodes, count, number, taken, &line, writer, closing,
             ) {
                 Err(fault) => return Err(fault),
                 Ok(true) => return Ok(()),
@@ -89,6 +91,7 @@ pub fn attend<K: JournaledNode, R: Wait + Clock, I: Read, O: Write, C: Closing>(
 /// Answers the line of this number, and hands the answer over: whether it is the last.
 fn reply_to<K: JournaledNode, R: Wait + Clock, O: Write, C: Closing>(
     rt: &R,
+    actor: &mut Actor,
     alloc: Global,
     nodes: &[Arc<SharedNode<K>>],
     count: u32,
@@ -98,11 +101,12 @@ fn reply_to<K: JournaledNode, R: Wait + Clock, O: Write, C: Closing>(
     writer: &mut O,
     closing: &C,
 ) -> Result<bool, Fault>
-    ensures ok { IfOk result (λ is_last. (text : List ℕ) → IsAnswerText taken line.now text → Replies (IsAnswer K.receipt_of (C.closes closing.now)) count (length nodes.now) number text (O.contents writer.old) (O.contents writer.new) is_last) }
+    ensures ok { IfOk result (λ is_last. (text : List ℕ) → IsAnswerText taken line.now text → Replies (IsAnswer K.receipt_of (C.closes closing.now)) count (length nodes.now) number text actor.old actor.new (O.contents writer.old) (O.contents writer.new) is_last) }
     ensures err { IfErr result (StopsReply (O.contents writer.old) (O.contents writer.new)) }
+    ensures stopped { OnErr result ((text : List ℕ) → IsAnswerText taken line.now text → MayStep (IsAskedFor count text) actor.old actor.new) }
 {
     let Ok(Answer { line, is_last }) = answer_of(
-        rt, alloc, nodes, count, number, taken, line, closing,
+        rt, actor, alloc, nodes, count, number, taken, line, closing,
     ) else {
         return Err(Fault::NoMemory)
     };
@@ -115,6 +119,7 @@ fn reply_to<K: JournaledNode, R: Wait + Clock, O: Write, C: Closing>(
 /// The answer to what was taken as the line of this number.
 fn answer_of<K: JournaledNode, R: Wait + Clock, C: Closing>(
     rt: &R,
+    actor: &mut Actor,
     alloc: Global,
     nodes: &[Arc<SharedNode<K>>],
     count: u32,
@@ -123,10 +128,11 @@ fn answer_of<K: JournaledNode, R: Wait + Clock, C: Closing>(
     line: &[u8],
     closing: &C,
 ) -> Result<Answer, OutOfMemory>
-    ensures { IfOk result (λ answer. (text : List ℕ) → IsAnswerText taken line.now text → IsAnswered (IsAnswer K.receipt_of (C.closes closing.now)) count (length nodes.now) number text answer) }
+    ensures answered { IfOk result (λ answer. (text : List ℕ) → IsAnswerText taken line.now text → IsAnswered (IsAnswer K.receipt_of (C.closes closing.now)) count (length nodes.now) number text actor.old actor.new answer) }
+    ensures stopped { OnErr result ((text : List ℕ) → IsAnswerText taken line.now text → MayStep (IsAskedFor count text) actor.old actor.new) }
 {
     match taken {
-        LineTaken::Line => answer_to(rt, alloc, nodes, count, number, line, closing),
+        LineTaken::Line => answer_to(rt, actor, alloc, nodes, count, number, line, closing),
         LineTaken::TooLong => no_order(alloc, number),
     }
 }
@@ -134,6 +140,7 @@ fn answer_of<K: JournaledNode, R: Wait + Clock, C: Closing>(
 /// The answer to the text of a line.
 fn answer_to<K: JournaledNode, R: Wait + Clock, C: Closing>(
     rt: &R,
+    actor: &mut Actor,
     alloc: Global,
     nodes: &[Arc<SharedNode<K>>],
     count: u32,
@@ -141,7 +148,8 @@ fn answer_to<K: JournaledNode, R: Wait + Clock, C: Closing>(
     text: &[u8],
     closing: &C,
 ) -> Result<Answer, OutOfMemory>
-    ensures { IfOk result (IsAnswered (IsAnswer K.receipt_of (C.closes closing.now)) count (length nodes.now) number text.now) }
+    ensures answered { IfOk result (IsAnswered (IsAnswer K.receipt_of (C.closes closing.now)) count (length nodes.now) number text.now actor.old actor.new) }
+    ensures stopped { OnErr result (MayStep (IsAskedFor count text.now) actor.old actor.new) }
 {
     if is_skipped(text) {
         return Ok(Answer {
@@ -150,7 +158,7 @@ fn answer_to<K: JournaledNode, R: Wait + Clock, C: Closing>(
         });
     }
     match hear_asked(alloc, text, count)? {
-        Some(asked) => answer_asked(rt, alloc, nodes, number, asked, closing),
+        Some(asked) => answer_asked(rt, actor, alloc, nodes, number, asked, closing),
         None => no_order(alloc, number),
     }
 }
@@ -169,19 +177,21 @@ fn hear_asked(alloc: Global, text: &[u8], nodes: u32) -> Result<Option<ControlLi
 /// Does what was asked for, and answers.
 fn answer_asked<K: JournaledNode, R: Wait + Clock, C: Closing>(
     rt: &R,
+    actor: &mut Actor,
     alloc: Global,
     nodes: &[Arc<SharedNode<K>>],
     number: u64,
     asked: ControlLine,
     closing: &C,
 ) -> Result<Answer, OutOfMemory>
-    ensures { IfOk result (IsAnswerMade (IsAnswer K.receipt_of (C.closes closing.now)) (length nodes.now) number asked) }
+    ensures made { IfOk result (IsAnswerMade (IsAnswer K.receipt_of (C.closes closing.now)) (length nodes.now) number asked actor.old actor.new) }
+    ensures stopped { OnErr result (MayStep (IsChangeOf asked) actor.old actor.new) }
 {
     match asked {
         ControlLine::Order(Order::Close) => last_answer(alloc, closing.close(rt, false)),
         ControlLine::CloseNow => last_answer(alloc, closing.close(rt, true)),
         ControlLine::Order(Order::Change(node, change)) => match node_at(nodes, node) {
-            Some(shared) => change_answer(rt, alloc, shared, node, change),
+            Some(shared) => change_answer(rt, actor, alloc, shared, node, change),
             None => no_order(alloc, number),
         },
         ControlLine::Look(node, look) => match node_at(nodes, node) {
@@ -215,14 +225,16 @@ fn no_order_line(alloc: Global, number: u64) -> Result<String, OutOfMemory>
 /// Makes a change at the node of this number, and answers.
 fn change_answer<K: JournaledNode, R: Wait>(
     rt: &R,
+    actor: &mut Actor,
     alloc: Global,
     shared: &SharedNode<K>,
     node: u32,
     change: Change,
 ) -> Result<Answer, OutOfMemory>
-    ensures { IfOk result (λ answer. IsChangeLine K.receipt_of node change (string_bytes answer.line) × (answer.is_last ≡ false)) }
+    ensures changed { IfOk result (λ answer. HasStepped (IsChangeLine K.receipt_of node change (string_bytes answer.line)) actor.old actor.new × (answer.is_last ≡ false)) }
+    ensures stopped { OnErr result (MayStep (λ e. e ≡ event_of_change change) actor.old actor.new) }
 {
-    let (reply, _looked_for) = carry_out(rt, shared, change);
+    let (reply, _looked_for) = carry_out(rt, actor, shared, change);
     Ok(Answer {
         line: answer_line(alloc, Prefix::Operator(node), &StepAnswer::Response(reply))?,
         is_last: false,

@@ -1,7 +1,7 @@
 //! What was counted of a node and of its jobs, as lines.
 ghost use Rattle.std.specs.Prelude.{◌≡◌, IfOk};
 ghost use Rattle.std.specs.String.{string_bytes};
-ghost use Rattle.operator_service.specs.Counts.{IsJobCountsLine, IsNodeCountsLine, count_text as count_text_lem, counts_text as counts_text_lem, event_word as event_word_lem, job_counts_line as job_counts_line_lem, kind_word as kind_word_lem, lock_text as lock_text_lem, name_text as name_text_lem, node_counts_line as node_counts_line_lem, own_text as own_text_lem, sessions_text as sessions_text_lem};
+ghost use Rattle.operator_service.specs.Counts.{IsJobCountsLine, IsNodeCountsLine, count_text as count_text_lem, counts_text as counts_text_lem, event_word as event_word_lem, folds_text as folds_text_lem, job_counts_line as job_counts_line_lem, kind_word as kind_word_lem, lock_text as lock_text_lem, name_text as name_text_lem, node_counts_line as node_counts_line_lem, own_text as own_text_lem, sessions_text as sessions_text_lem};
 
 use command_kinds::CommandKind;
 use memory_growth::{OutOfMemory, text_of, texts};
@@ -58,6 +58,7 @@ fn own_text(alloc: Global, counts: &NodeCounts) -> Result<String, OutOfMemory>
 {
     let mut text = sessions_text(alloc, counts)?;
     texts::push_str(&mut text, &lock_text(alloc, counts)?)?;
+    texts::push_str(&mut text, &folds_text(alloc, counts)?)?;
     Ok(text)
 }
 
@@ -78,6 +79,14 @@ fn lock_text(alloc: Global, counts: &NodeCounts) -> Result<String, OutOfMemory>
     let waits = counts.lock_waits;
     let sleeps = counts.lock_sleeps;
     text_of!(in alloc; " lock-waits:{waits} lock-sleeps:{sleeps}")
+}
+
+/// ` end-folds:NUMBER`.
+fn folds_text(alloc: Global, counts: &NodeCounts) -> Result<String, OutOfMemory>
+    ensures { IfOk result (λ text. string_bytes text ≡ folds_text_lem counts.now) }
+{
+    let folds = counts.end_folds;
+    text_of!(in alloc; " end-folds:{folds}")
 }
 
 /// `nNODE op counts JOB`, and each of the job's.
@@ -176,5 +185,12 @@ fn event_word(event: JobEvent) -> &'static str
         JobEvent::RestoreFailed => "restores-failed",
         JobEvent::Pull => "pulls",
         JobEvent::Arrival => "arrivals",
+        JobEvent::Locate => "locates",
+        JobEvent::Fetched => "fetched",
+        JobEvent::SourceGone => "sources-gone",
+        JobEvent::ChunkSent => "chunks-sent",
+        JobEvent::NotHere => "not-here",
+        JobEvent::Evicted => "evictions",
+        JobEvent::Removed => "removals",
     }
 }

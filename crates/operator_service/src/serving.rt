@@ -1,5 +1,5 @@
 //! Nodes that serve, as their operator has them on standard input.
-ghost use Rattle.std.specs.Prelude.{◌≡◌, ◌↔◌, ◌<◌, IfOk, OnOk, IfErr, IfSome, IsSome, length, option_map, slice_get};
+ghost use Rattle.std.specs.Prelude.{◌≡◌, ◌↔◌, ◌<◌, IfOk, OnOk, IfErr, OnErr, IfSome, IsSome, length, option_map, slice_get};
 ghost use Rattle.std.specs.Arc.{arc_value};
 ghost use Rattle.std.specs.Io.KnownBytes.{Appends};
 ghost use Rattle.std.specs.Str.{IsUtf8};
@@ -7,14 +7,15 @@ ghost use Rattle.private_store.specs.declared.schedules.StepAnswer.TheVariants.{
 ghost use Rattle.schedule_text.specs.declared.prefixes.Prefix.TheVariants.{Operator};
 ghost use Rattle.schedule_text.specs.Fields.{Reads};
 ghost use Rattle.schedule_text.specs.Printing.{line_text};
+ghost use Rattle.node_gate.specs.Actors.{ActsIf};
 ghost use Rattle.program_lines.specs.declared.fault.Fault.TheVariants.{Output};
 ghost use Rattle.program_lines.specs.Orders.{IsOrder};
 ghost use Rattle.std.specs.String.{string_bytes};
-ghost use Rattle.operator_service.specs.Servings.{report_line, IsCarriedOut, ServedText, ServesLine, StopsOrder, Replies, StopsReply};
+ghost use Rattle.operator_service.specs.Servings.{report_line, event_of_change, IsCarriedOut, IsSpelled, MayStep, ServedText, ServesLine, StepsStopped, StopsOrder, Replies, StopsReply};
 
 use bytes::Bytes;
 use memory_growth::{OutOfMemory, text_of};
-use node_gate::JournaledNode;
+use node_gate::{Actor, JournaledNode};
 use node_housekeeping::Report;
 use obj_id::Reply;
 use private_store::StepAnswer;
@@ -41,16 +42,18 @@ pub enum LastLine {
 /// What was read is those lines, each of which spells a change at a node, and `close` if it came; what was written is the
 /// answers' lines, in that order. `NotAStep` has the number of the first line, counted from 1, that is none of the operator's,
 /// names a node that the cluster doesn't have, or lacks its line feed; every other line is carried out, but for want of memory or a
-/// failure of the output.
+/// failure of the output. The actor steps what those lines spell, each once and in their order, and nothing else; of a line whose answer
+/// nobody got it is not known whether it was stepped.
 pub fn serve_text<K: JournaledNode, R: Wait, I: BufRead, O: Write>(
     rt: &R,
+    actor: &mut Actor,
     alloc: Global,
     nodes: &[Arc<SharedNode<K>>],
     count: u32,
     reader: &mut I,
     writer: &mut O,
 ) -> Result<LastLine, Fault>
-    ensures { ServedText K.receipt_of count (length nodes.now) (I.remaining reader.old) (I.remaining reader.new) (O.contents writer.old) (O.contents writer.new) result }
+    ensures { ServedText K.receipt_of count (length nodes.now) actor.old actor.new (I.remaining reader.old) (I.remaining reader.new) (O.contents writer.old) (O.contents writer.new) result }
 {
     let mut line = Vec::new(alloc);
     for number in 1..u64::MAX {
@@ -59,7 +62,7 @@ pub fn serve_text<K: JournaledNode, R: Wait, I: BufRead, O: Write>(
             Ok(false) => return Ok(LastLine::OfInput),
             Ok(true) => {}
         }
-        match serve_line(rt, alloc, nodes, count, number, &line, writer) {
+        match serve_line(rt, actor, alloc, nodes, count, number, &line, writer) {
             Err(fault) => return Err(fault),
             Ok(false) => return Ok(LastLine::Close),
             Ok(true) => {}
@@ -73,6 +76,7 @@ pub fn serve_text<K: JournaledNode, R: Wait, I: BufRead, O: Write>(
 /// such node.
 fn serve_line<K: JournaledNode, R: Wait, O: Write>(
     rt: &R,
+    actor: &mut Actor,
     alloc: Global,
     nodes: &[Arc<SharedNode<K>>],
     count: u32,
@@ -80,8 +84,9 @@ fn serve_line<K: JournaledNode, R: Wait, O: Write>(
     line: &[u8],
     writer: &mut O,
 ) -> Result<bool, Fault>
-    ensures ok { IfOk result (ServesLine K.receipt_of count line.now (O.contents writer.old) (O.contents writer.new)) }
+    ensures ok { IfOk result (ServesLine K.receipt_of count line.now actor.old actor.new (O.contents writer.old) (O.contents writer.new)) }
     ensures err { IfErr result (StopsOrder count (length nodes.now) number line.now (O.contents writer.old) (O.contents writer.new)) }
+    ensures stopped { IfErr result (StepsStopped (IsSpelled count line.now) actor.old actor.new) }
 {
     let Some((b'\n', text)) = line.split_last() else {
         return Err(Fault::NotAStep(number))
@@ -92,7 +97,7 @@ fn serve_line<K: JournaledNode, R: Wait, O: Write>(
         Ok(Some(Order::Close)) => Ok(false),
         Ok(Some(Order::Change(node, change))) => match node_at(nodes, node) {
             None => Err(Fault::NotAStep(number)),
-            Some(shared) => match answer_change(rt, alloc, shared, node, change, writer) {
+            Some(shared) => match answer_change(rt, actor, alloc, shared, node, change, writer) {
                 Err(fault) => Err(fault),
                 Ok(()) => Ok(true),
             },
@@ -114,16 +119,18 @@ fn hear_order(alloc: Global, text: &[u8], nodes: u32) -> Result<Option<Order>, O
 /// Makes a change at the node of this number, and writes the line of the answer.
 fn answer_change<K: JournaledNode, R: Wait, O: Write>(
     rt: &R,
+    actor: &mut Actor,
     alloc: Global,
     shared: &SharedNode<K>,
     node: u32,
     change: Change,
     writer: &mut O,
 ) -> Result<(), Fault>
-    ensures ok { OnOk result (Replies K.receipt_of node change (O.contents writer.old) (O.contents writer.new)) }
+    ensures ok { OnOk result (Replies K.receipt_of node change actor.old actor.new (O.contents writer.old) (O.contents writer.new)) }
     ensures err { IfErr result (StopsReply (O.contents writer.old) (O.contents writer.new)) }
+    ensures stopped { OnErr result (MayStep (λ e. e ≡ event_of_change change) actor.old actor.new) }
 {
-    let (reply, _looked_for) = carry_out(rt, shared, change);
+    let (reply, _looked_for) = carry_out(rt, actor, shared, change);
     write_answer(alloc, node, reply, writer)
 }
 
@@ -131,15 +138,17 @@ fn answer_change<K: JournaledNode, R: Wait, O: Write>(
 /// reply is `NoMemory`.
 pub(crate) fn carry_out<K: JournaledNode, R: Wait>(
     rt: &R,
+    actor: &mut Actor,
     shared: &SharedNode<K>,
     change: Change,
 ) -> (Reply<Bytes>, Option<K::Receipt>)
-    ensures { IsCarriedOut K.receipt_of change result.0 result.1 }
+    ensures carried { IsCarriedOut K.receipt_of change result.0 result.1 }
+    ensures acts { ActsIf result.1 (event_of_change change) actor.old actor.new }
 {
     match change {
-        Change::Admit { job, quota, key } => shared.admit(rt, job, quota, key),
-        Change::Requota(job, quota) => shared.requota(rt, job, quota),
-        Change::End(job) => shared.end_job(rt, job),
+        Change::Admit { job, quota, key } => shared.admit(rt, actor, job, quota, key),
+        Change::Requota(job, quota) => shared.requota(rt, actor, job, quota),
+        Change::End(job) => shared.end_job(rt, actor, job),
     }
 }
 

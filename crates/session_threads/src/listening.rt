@@ -1,7 +1,7 @@
 //! Listeners, and the sessions of the streams that they accept.
 use crate::Session;
 use memory_growth::{OutOfMemory, boxes};
-use node_gate::{JournaledNode, Posted};
+use node_gate::{ActorSource, JournaledNode, Posted};
 use node_housekeeping::{OpenStream, Pause};
 use session_engine::{Ended, serve};
 use shared_nodes::SharedNode;
@@ -48,6 +48,7 @@ pub fn listen<
 >(
     rt: R,
     alloc: Global,
+    actors: ActorSource,
     node: Arc<SharedNode<K, P>>,
     listener: UnixListener,
 ) -> io::Result<Listening>
@@ -62,7 +63,7 @@ where
     K::Gone: Send + 'static,
 {
     let socket = UnixStream::from(OwnedFd::from(listener.try_clone()?));
-    let job = move || accept_all(rt, alloc, &node, &listener);
+    let job = move || accept_all(rt, alloc, actors, &node, &listener);
     let thread = thread::spawn(&rt, job)?;
     Ok(Listening { socket, thread })
 }
@@ -72,7 +73,7 @@ fn accept_all<
     K: JournaledNode + Send + 'static,
     R: Threads + Wait + Clock + Copy + Send + 'static,
     P: Pause + Send + Sync + 'static,
->(rt: R, alloc: Global, node: &Arc<SharedNode<K, P>>, listener: &UnixListener)
+>(rt: R, alloc: Global, actors: ActorSource, node: &Arc<SharedNode<K, P>>, listener: &UnixListener)
 where
     K::Receipt: Send + 'static,
     K::Mail: Send + 'static,
@@ -89,7 +90,7 @@ where
         }
         match stream {
             Ok(stream) => {
-                let _ = start_session(rt, alloc, node, stream);
+                let _ = start_session(rt, alloc, actors, node, stream);
             }
             Err(_) => thread::sleep(&rt, Duration::from_millis(REST)),
         }
@@ -101,7 +102,13 @@ fn start_session<
     K: JournaledNode + Send + 'static,
     R: Threads + Wait + Clock + Copy + Send + 'static,
     P: Pause + Send + Sync + 'static,
->(rt: R, alloc: Global, node: &Arc<SharedNode<K, P>>, stream: UnixStream) -> Result<(), OutOfMemory>
+>(
+    rt: R,
+    alloc: Global,
+    actors: ActorSource,
+    node: &Arc<SharedNode<K, P>>,
+    stream: UnixStream,
+) -> Result<(), OutOfMemory>
 where
     K::Receipt: Send + 'static,
     K::Mail: Send + 'static,
@@ -117,7 +124,7 @@ where
     if !upkeep.streams.have_spare(&stream) || !upkeep.sessions.begin(&rt) {
         return Ok(());
     }
-    let job = move || serve_stream(&rt, alloc, &*theirs, stream);
+    let job = move || serve_stream(&rt, alloc, actors, &*theirs, stream);
     if thread::spawn(&rt, job).is_err() {
         node.housekeeping().sessions.end(&rt);
     }
@@ -128,12 +135,13 @@ where
 fn serve_stream<K: JournaledNode, P: Pause, R: Wait + Clock>(
     rt: &R,
     alloc: Global,
+    actors: ActorSource,
     node: &SharedNode<K, P>,
     stream: UnixStream,
 ) {
     // without memory for its place among the open ones it is closed
     if let Ok(stream) = node.housekeeping().streams.open(rt, alloc, stream) {
-        serve_open(rt, alloc, node, &*stream);
+        serve_open(rt, alloc, actors, node, &*stream);
         node.housekeeping().streams.close(rt, stream.stream());
     }
     node.housekeeping().sessions.end(rt);
@@ -143,10 +151,11 @@ fn serve_stream<K: JournaledNode, P: Pause, R: Wait + Clock>(
 fn serve_open<K: JournaledNode, P: Pause, R: Wait + Clock>(
     rt: &R,
     alloc: Global,
+    actors: ActorSource,
     node: &SharedNode<K, P>,
     open: &OpenStream,
 ) {
-    let mut session = Session::of_stream(rt, node, open);
+    let mut session = Session::of_stream(rt, actors, node, open);
     let stream = open.stream();
     let mut reader = stream;
     // so that the answers to what came in one piece leave together; without memory for it the stream is closed

@@ -1,12 +1,12 @@
 //! A session at a node.
-ghost use Rattle.std.specs.Prelude.{◌≡◌, true, IsTrue};
+ghost use Rattle.std.specs.Prelude.{◌≡◌, true, IsTrue, []};
 ghost use Rattle.private_store.specs.laws.Answers.{is_small_reply};
 ghost use Rattle.wire_frames.specs.Writing.{has_reply_frame};
 
 use crate::frames::framed;
 use bytes::Bytes;
-use node_gate::JournaledNode;
-use node_housekeeping::{JobCounts, NoPause, OpenStream, Pause};
+use node_gate::{Actor, ActorSource, JournaledNode};
+use node_housekeeping::{JobCounts, LeaveMark, NoPause, OpenStream, Pause};
 use obj_id::{Command, JobKey, JobNo, Refusal, Reply};
 use private_store::Awaited;
 use session_engine::Gate;
@@ -19,6 +19,7 @@ use std::time::Clock;
 pub struct Session<'a, K: JournaledNode, R: Wait + Clock, P = NoPause> {
     rt: &'a R,
     node: &'a SharedNode<K, P>,
+    actor: Actor,
     receipts: ReceiptBuffer<K::Receipt>,
     // the session that the node let in last
     entered: Option<K::Entered>,
@@ -30,10 +31,13 @@ pub struct Session<'a, K: JournaledNode, R: Wait + Clock, P = NoPause> {
 
 impl<'a, K: JournaledNode, R: Wait + Clock, P: Pause> Session<'a, K, R, P> {
     /// A session that has made no step.
-    pub fn new(rt: &'a R, node: &'a SharedNode<K, P>) -> Session<'a, K, R, P> {
+    pub fn new(rt: &'a R, actors: ActorSource, node: &'a SharedNode<K, P>) -> Session<'a, K, R, P>
+        ensures { result.actor ≡ [] }
+    {
         Session {
             rt,
             node,
+            actor: actors.actor(),
             receipts: ReceiptBuffer::new(node.housekeeping().alloc),
             entered: None,
             client: None,
@@ -44,16 +48,25 @@ impl<'a, K: JournaledNode, R: Wait + Clock, P: Pause> Session<'a, K, R, P> {
     /// The same of a client's stream: its calls wait no longer than its other end is open.
     pub(crate) fn of_stream(
         rt: &'a R,
+        actors: ActorSource,
         node: &'a SharedNode<K, P>,
         client: &'a OpenStream,
-    ) -> Session<'a, K, R, P> {
+    ) -> Session<'a, K, R, P>
+        ensures { result.actor ≡ [] }
+    {
         Session {
-            rt,
-            node,
-            receipts: ReceiptBuffer::new(node.housekeeping().alloc),
-            entered: None,
             client: Some(client),
-            counts: None,
+            ..Session::new(rt, actors, node)
+        }
+    }
+
+    /// Asks for the job's counts, if they weren't there yet: a session may enter before its job's admission has begun them.
+    fn find_counts(&mut self, job: JobNo)
+        ensures receipts { self.new.receipts ≡ self.old.receipts }
+        ensures actor { self.new.actor ≡ self.old.actor }
+    {
+        if self.counts.is_none() {
+            self.counts = self.node.housekeeping().counts.of(self.rt, job);
         }
     }
 
@@ -89,6 +102,11 @@ impl<'a, K: JournaledNode, R: Wait + Clock, P: Pause> Session<'a, K, R, P> {
         framed(reply)
     }
 
+    /// Marks the session, which is then left by a later step of its node.
+    fn leave_later(&self, job: JobNo, session: u32) {
+        self.node.leave_later(self.rt, LeaveMark { job, session });
+    }
+
     /// Looks for the entries of the receipts that are left, and counts those that aren't there: at the end of the session.
     pub(crate) fn check(&self) {
         self.node.audit_all(self.rt, &self.receipts);
@@ -97,12 +115,13 @@ impl<'a, K: JournaledNode, R: Wait + Clock, P: Pause> Session<'a, K, R, P> {
 
 /// Who enters has the number that the node gave to this job and key. After each answer the last receipt is of this job, session, command and
 /// reply, and of a step that came after that of the receipt before; or the reply is `NoMemory`, and the last receipt the same as before.
-/// After the session was left, the last receipt is of its Leave, or the same as before.
+/// After the session was left, the last receipt is of its Leave, or the same as before. The steps of these receipts, and the tries of calls that
+/// wait, are all steps that the session has made.
 impl<'a, K: JournaledNode, R: Wait + Clock, P: Pause> Gate for Session<'a, K, R, P> {
     ghost use Rattle.std.specs.Prelude.{option_map};
     ghost use Rattle.session_threads.specs.Gates.{IsWitnessed, IsLetIn};
 
-    ghost gives = { λ before asked response after. IsWitnessed K.called_by K.rises asked response before.receipts.last after.receipts.last × IsLetIn asked response (option_map K.pass after.entered) };
+    ghost gives = { λ before asked response after. IsWitnessed K.called_by K.rises asked response before.receipts.last after.receipts.last before.actor after.actor × IsLetIn asked response (option_map K.pass after.entered) };
 
     fn enter(&mut self, job: JobNo, key: JobKey) -> Result<u32, Refusal> {
         let counts = &self.node.housekeeping().counts;
@@ -124,12 +143,14 @@ impl<'a, K: JournaledNode, R: Wait + Clock, P: Pause> Gate for Session<'a, K, R,
     }
 
     fn call(&mut self, job: JobNo, session: u32, command: Command<Bytes>) -> Reply<Bytes> {
+        self.find_counts(job);
         self.count_command(&command);
         if let Err(error) = self.node.make_room(self.rt, &mut self.receipts) {
             return self.counted(out_of_memory(error));
         }
         let last = self.receipts.last();
-        let (reply, receipt) = self.node.call_next(self.rt, last, job, session, command);
+        let (node, actor) = (self.node, &mut self.actor);
+        let (reply, receipt) = node.call_next(self.rt, actor, last, job, session, command);
         if let Some(receipt) = receipt {
             self.receipts.add(receipt);
         }
@@ -137,15 +158,17 @@ impl<'a, K: JournaledNode, R: Wait + Clock, P: Pause> Gate for Session<'a, K, R,
     }
 
     fn call_wait(&mut self, job: JobNo, session: u32, awaited: Awaited) -> Reply<Bytes> {
+        self.find_counts(job);
         self.count_awaited(&awaited);
         if let Err(error) = self.node.make_room(self.rt, &mut self.receipts) {
             return self.counted(out_of_memory(error));
         }
         let last = self.receipts.last();
         let client = self.client.map(|client| client.stream());
+        let actor = &mut self.actor;
         let (reply, receipt) = self
             .node
-            .call_wait_next(self.rt, last, job, session, awaited, client);
+            .call_wait_next(self.rt, actor, last, job, session, awaited, client);
         if let Some(receipt) = receipt {
             self.receipts.add(receipt);
         }
@@ -154,12 +177,14 @@ impl<'a, K: JournaledNode, R: Wait + Clock, P: Pause> Gate for Session<'a, K, R,
 
     fn leave(&mut self, job: JobNo, session: u32) {
         if self.node.make_room(self.rt, &mut self.receipts).is_err() {
-            self.node.leave_later(self.rt, job, session);
+            self.leave_later(job, session);
             return;
         }
         let last = self.receipts.last();
-        if let Some(receipt) = self.node.leave(self.rt, last, job, session) {
-            self.receipts.add(receipt);
+        let actor = &mut self.actor;
+        match self.node.leave(self.rt, actor, last, job, session) {
+            Some(receipt) => self.receipts.add(receipt),
+            None => self.leave_later(job, session),
         }
     }
 }

@@ -1,2 +1,3 @@
 mod Answering
-mod Rounds
+mod KeysErased
+mod Trying

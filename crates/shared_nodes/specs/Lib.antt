@@ -1,2 +1,3 @@
+pub mod Erasing
 pub mod Gathering
 pub mod Rounds

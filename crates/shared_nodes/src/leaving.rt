@@ -1,36 +1,38 @@
 //! How a session is left at its end: now, or, if there is no memory for it, by a later step of its node.
-ghost use Rattle.std.specs.Prelude.{IfSome};
+ghost use Rattle.std.specs.Prelude.{◌≡◌, IfSome};
+ghost use Rattle.obj_id.specs.declared.commands.Command.TheVariants as command;
+ghost use Rattle.private_store.specs.declared.schedules.Event.TheVariants as event;
+ghost use Rattle.node_gate.specs.Actors.{ActsIf};
 ghost use Rattle.node_gate.specs.Calls.{IsLast};
 
 use crate::SharedNode;
-use node_gate::JournaledNode;
-use node_housekeeping::{MOST_SESSIONS, Pause};
+use node_gate::{Actor, JournaledNode};
+use node_housekeeping::{LeaveMark, MOST_SESSIONS, Pause, Sender};
 use node_steps::step_mark;
 use obj_id::{Command, JobNo};
 use std::sync::Wait;
 
 impl<K: JournaledNode, P: Pause> SharedNode<K, P> {
-    /// Leaves a session whose last receipt is shown, if it has one, with the receipt of the entry. If there is no memory for that, the
-    /// session is marked.
+    /// Leaves a session whose last receipt is shown, if it has one, with the receipt of the entry. There is none if there is no memory
+    /// for that: then it is to be marked.
     pub fn leave<R: Wait>(
         &self,
         rt: &R,
+        actor: &mut Actor,
         last: &Option<K::Receipt>,
         job: JobNo,
         session: u32,
     ) -> Option<K::Receipt>
-        ensures { IfSome result (λ r. IsLast K.called_by K.rises last.now job session r) }
+        ensures acts { ActsIf result (event.Call job session command.Leave) actor.old actor.new }
+        ensures last { IfSome result (λ r. IsLast K.called_by K.rises last.now job session r) }
     {
-        let (_, receipt) = self.call_next(rt, last, job, session, Command::Leave);
-        if receipt.is_none() {
-            self.leave_later(rt, job, session);
-        }
+        let (_, receipt) = self.call_next(rt, actor, last, job, session, Command::Leave);
         receipt
     }
 
     /// Marks a session: it is left by a later step.
-    pub fn leave_later<R: Wait>(&self, rt: &R, job: JobNo, session: u32) {
-        self.housekeeping.sessions.mark(rt, job, session);
+    pub fn leave_later<R: Wait>(&self, rt: &R, mark: LeaveMark) {
+        self.housekeeping.sessions.mark(rt, mark);
     }
 
     /// Leaves the sessions that are marked, in order, until one finds no memory.
@@ -42,18 +44,21 @@ impl<K: JournaledNode, P: Pause> SharedNode<K, P> {
             let Some(mail) = self.leave_first(rt) else {
                 return;
             };
-            self.post(rt, mail);
+            self.post(rt, Sender::Other, mail);
         }
     }
 
-    /// Leaves the session that was marked first: what that sends. None if no session is marked, or there is no memory for it.
+    /// Leaves the session that was marked first: what that sends. None if no session is marked, or there is no memory for it: then it is
+    /// marked again.
     fn leave_first<R: Wait>(&self, rt: &R) -> Option<K::Mail> {
         let mut kept = self.lock(rt);
         let sessions = &self.housekeeping.sessions;
-        let mark = sessions.first_marked(rt)?;
-        let mail = step_mark(rt, &mut *kept, &self.housekeeping, mark)?;
-        sessions.unmark(rt);
-        Some(mail)
+        let (mark, mut actor) = sessions.take_marked(rt)?;
+        let mail = step_mark(rt, &mut *kept, &self.housekeeping, &mut actor, mark);
+        if mail.is_none() {
+            sessions.mark(rt, mark);
+        }
+        mail
     }
 
     /// Waits for the open sessions to end, and leaves those that are marked then.

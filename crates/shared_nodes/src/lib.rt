@@ -2,8 +2,10 @@
 //! makes its steps by `node_steps`, and hands over what they send once the lock is left.
 #![tactic(auto)]
 
+mod erasing;
 mod leaving;
 mod looking;
+mod pending;
 mod posting;
 mod preparing;
 mod receipt_buffer;
@@ -11,6 +13,7 @@ mod refusing;
 mod shared;
 mod working;
 
+pub use pending::PendingFinish;
 pub use receipt_buffer::ReceiptBuffer;
 pub use refusing::out_of_memory;
 pub use shared::SharedNode;

@@ -2,29 +2,41 @@
 use crate::SharedNode;
 use crate::receipt_buffer::ReceiptBuffer;
 use node_gate::{JournaledNode, Posted};
-use node_housekeeping::{JobEvent, Pause};
+use node_housekeeping::{JobEvent, Pause, Sender, SentCounts};
 use node_links::Delivery;
-use obj_id::{Message, PeerMessage};
 use std::sync::Wait;
 
 impl<K: JournaledNode, P: Pause> SharedNode<K, P> {
-    /// Hands over what a step has sent, in order, and counts what is lost: whether a Pull was among it.
-    pub(crate) fn post<R: Wait>(&self, rt: &R, mail: K::Mail) -> bool {
-        let mut is_pulling = false;
-        let mut lost = 0u64;
-        for posted in mail {
-            if is_pull(posted.message()) {
-                self.housekeeping
-                    .counts
-                    .note(rt, posted.job(), JobEvent::Pull);
-                is_pulling = true;
-            }
-            if !self.deliver(rt, posted) {
-                lost = lost.saturating_add(1);
-            }
+    /// Hands over what a step has sent, in order, and counts it, and what is lost: whether a Pull was among it.
+    pub(crate) fn post<R: Wait>(&self, rt: &R, sender: Sender, mut mail: K::Mail) -> bool {
+        match mail.next() {
+            Some(first) => self.post_all(rt, sender, first, mail),
+            None => false,
         }
+    }
+
+    /// The same of a step that has sent something: most send nothing.
+    fn post_all<R: Wait>(&self, rt: &R, sender: Sender, first: K::Posted, others: K::Mail) -> bool {
+        let mut sent = SentCounts::new();
+        let mut lost = self.post_one(rt, sender, first, &mut sent);
+        for posted in others {
+            lost = lost.saturating_add(self.post_one(rt, sender, posted, &mut sent));
+        }
+        self.housekeeping.counts.note_sent(rt, &sent);
         self.housekeeping.tallies.lost(rt, lost);
-        is_pulling
+        sent.number(JobEvent::Pull) > 0
+    }
+
+    /// Counts a message, and hands it over: how many are lost.
+    fn post_one<R: Wait>(
+        &self,
+        rt: &R,
+        sender: Sender,
+        posted: K::Posted,
+        sent: &mut SentCounts,
+    ) -> u64 {
+        sent.count(sender, posted.job(), posted.from(), posted.message());
+        u64::from(!self.deliver(rt, posted))
     }
 
     /// Hands a message over to its place: whether it came there. What the directory answers arrives here, and no answer of it makes
@@ -53,9 +65,4 @@ impl<K: JournaledNode, P: Pause> SharedNode<K, P> {
             Err(_) => self.housekeeping.tallies.lost(rt, 1),
         }
     }
-}
-
-/// Whether the message asks another node for chunks.
-fn is_pull(message: &Message) -> bool {
-    matches!(message, Message::ToPeer(PeerMessage::Pull { .. }))
 }

@@ -1,11 +1,12 @@
 //! A node with its journal behind a lock.
-ghost use Rattle.std.specs.Prelude.{◌≡◌, ◌⊎◌, ◌<◌, true, false, Some, None, MatchOption, MatchResult, IfSome, IfOk, IfErr};
+ghost use Rattle.std.specs.Prelude.{◌≡◌, ◌⊎◌, ◌<◌, ◌++◌, ◌∷◌, [], true, false, Some, None, MatchOption, MatchResult, IfSome, IfOk, IfErr, OnErr};
 ghost use Rattle.obj_id.specs.declared.commands.Reply.TheVariants as reply;
 ghost use Rattle.obj_id.specs.declared.refusals.Refusal.TheVariants.{NoMemory, NotAdmitted, Stale, TooMany};
 ghost use Rattle.private_store.specs.laws.Answers.{is_small_reply};
 ghost use Rattle.private_store.specs.declared.schedules.Event.TheVariants as event;
+ghost use Rattle.node_gate.specs.Actors.{ActsIf, HasTried};
 ghost use Rattle.node_gate.specs.Calls.{IsNext};
-ghost use Rattle.shared_nodes.specs.Rounds.{IsHandedIn, IsWorkTaken};
+ghost use Rattle.shared_nodes.specs.Rounds.{HasAskedForWork, IsHandedIn};
 ghost use Rattle.shared_nodes.specs.Gathering.{receipts_in_order};
 ghost use Rattle.private_store.specs.rules.Frames.{tried};
 
@@ -15,8 +16,10 @@ use crate::refusing::out_of_memory;
 use bytes::Bytes;
 use command_kinds::{CommandKind, Preparation};
 use memory_growth::OutOfMemory;
-use node_gate::{Access, JournaledNode, Keeper, Posted};
-use node_housekeeping::{Housekeeping, JobEvent, NoPause, Pause, Versions, Waiting, is_gone};
+use node_gate::{Access, Actor, ActorSource, JournaledNode, Keeper, Posted};
+use node_housekeeping::{
+    Housekeeping, JobEvent, NoPause, Pause, Sender, Versions, Waiting, is_gone,
+};
 use node_links::Outbox;
 use node_steps::{
     Stepped, audit_one, step_arrival, step_call, step_call_after, step_end, step_event,
@@ -43,7 +46,7 @@ const PAUSES: u32 = 16;
 pub struct SharedNode<K: JournaledNode, P = NoPause> {
     pub(crate) kept: Mutex<K>,
     pub(crate) outbox: Outbox<K::Posted>,
-    pub(crate) housekeeping: Housekeeping<P>,
+    pub(crate) housekeeping: Housekeeping<P, K::Erase>,
 }
 
 // By hand, so that it is proved here and not in each crate above.
@@ -64,9 +67,10 @@ impl<K: JournaledNode, P: Pause> Keeper<K> for SharedNode<K, P> {
 }
 
 impl<K: JournaledNode, P: Pause> SharedNode<K, P> {
-    /// This node, with these ways out. This pauses its steps.
+    /// This node, with these ways out. These actors leave its sessions that are marked, and this pauses its steps.
     pub fn new(
         alloc: Global,
+        actors: ActorSource,
         kept: K,
         outbox: Outbox<K::Posted>,
         waiting: Arc<Waiting>,
@@ -75,7 +79,7 @@ impl<K: JournaledNode, P: Pause> SharedNode<K, P> {
         SharedNode {
             kept: Mutex::new(kept),
             outbox,
-            housekeeping: Housekeeping::new(alloc, waiting, pause),
+            housekeeping: Housekeeping::new(alloc, actors, waiting, pause),
         }
     }
 
@@ -84,42 +88,50 @@ impl<K: JournaledNode, P: Pause> SharedNode<K, P> {
     pub fn call<R: Wait>(
         &self,
         rt: &R,
+        actor: &mut Actor,
         job: JobNo,
         session: u32,
         command: Command<Bytes>,
     ) -> (Reply<Bytes>, Option<K::Receipt>)
+        ensures acts { ActsIf result.1 (event.Call job session command) actor.old actor.new }
         ensures called { MatchOption result.1 (result.0 ≡ reply.Refused NoMemory) (λ r. K.called_by (event.Call job session command) result.0 r) }
         ensures small { is_small_reply result.0 ≡ true }
     {
-        self.call_next(rt, &None, job, session, command)
+        self.call_next(rt, actor, &None, job, session, command)
     }
 
     /// The same, of a session whose last receipt is shown, if it has one: the step comes after that of the receipt.
     pub fn call_next<R: Wait>(
         &self,
         rt: &R,
+        actor: &mut Actor,
         last: &Option<K::Receipt>,
         job: JobNo,
         session: u32,
         command: Command<Bytes>,
     ) -> (Reply<Bytes>, Option<K::Receipt>)
+        ensures acts { ActsIf result.1 (event.Call job session command) actor.old actor.new }
         ensures called { MatchOption result.1 (result.0 ≡ reply.Refused NoMemory) (λ r. IsNext K.called_by K.rises last.now (event.Call job session command) result.0 r) }
         ensures small { is_small_reply result.0 ≡ true }
     {
         self.leave_marked(rt);
-        let stepped = self.step_command(rt, last, job, session, command);
-        self.answer(rt, stepped)
+        let sender = Sender::of_command(&command);
+        let stepped = self.step_command(rt, actor, last, job, session, command);
+        self.answer(rt, sender, stepped)
     }
 
     /// The step of a command, for which something may be prepared before the node is locked.
     fn step_command<R: Wait>(
         &self,
         rt: &R,
+        actor: &mut Actor,
         last: &Option<K::Receipt>,
         job: JobNo,
         session: u32,
         command: Command<Bytes>,
     ) -> Result<Stepped<K::Receipt, K::Mail>, OutOfMemory>
+        ensures acts { IfOk result (λ s. actor.new ≡ actor.old ++ event.Call job session command ∷ []) }
+        ensures still { OnErr result (actor.new ≡ actor.old) }
         ensures called { IfOk result (λ s. IsNext K.called_by K.rises last.now (event.Call job session command) s.reply s.receipt) }
         ensures small { IfOk result (λ s. is_small_reply s.reply ≡ true) }
     {
@@ -127,13 +139,14 @@ impl<K: JournaledNode, P: Pause> SharedNode<K, P> {
         if kept.wants(job, &command) {
             drop(kept);
             drop(queued);
-            return self.step_prepared(rt, last, job, session, command);
+            return self.step_prepared(rt, actor, last, job, session, command);
         }
         let kind = CommandKind::of(&command);
         let stepped = step_call(
             rt,
             &mut *kept,
             &self.housekeeping,
+            actor,
             last,
             job,
             session,
@@ -190,23 +203,26 @@ impl<K: JournaledNode, P: Pause> SharedNode<K, P> {
     fn step_prepared<R: Wait>(
         &self,
         rt: &R,
+        actor: &mut Actor,
         last: &Option<K::Receipt>,
         job: JobNo,
         session: u32,
         command: Command<Bytes>,
     ) -> Result<Stepped<K::Receipt, K::Mail>, OutOfMemory>
+        ensures acts { IfOk result (λ s. actor.new ≡ actor.old ++ event.Call job session command ∷ []) }
+        ensures still { OnErr result (actor.new ≡ actor.old) }
         ensures called { IfOk result (λ s. IsNext K.called_by K.rises last.now (event.Call job session command) s.reply s.receipt) }
         ensures small { IfOk result (λ s. is_small_reply s.reply ≡ true) }
     {
         match Preparation::of(&command) {
             Preparation::Digest(id) => {
-                return self.step_seal(rt, last, job, session, &id, command);
+                return self.step_seal(rt, actor, last, job, session, &id, command);
             }
             Preparation::NewExtent { .. } | Preparation::CopyExtent(_) | Preparation::Nothing => {}
         }
         let making = self.housekeeping.makers.of(job).lock(rt);
         let prepared = self.prepare_place(rt, job, &command);
-        let stepped = self.step_with(rt, prepared, last, job, session, command);
+        let stepped = self.step_with(rt, actor, prepared, last, job, session, command);
         drop(making);
         stepped
     }
@@ -215,12 +231,15 @@ impl<K: JournaledNode, P: Pause> SharedNode<K, P> {
     fn step_seal<R: Wait>(
         &self,
         rt: &R,
+        actor: &mut Actor,
         last: &Option<K::Receipt>,
         job: JobNo,
         session: u32,
         id: &ObjectId,
         command: Command<Bytes>,
     ) -> Result<Stepped<K::Receipt, K::Mail>, OutOfMemory>
+        ensures acts { IfOk result (λ s. actor.new ≡ actor.old ++ event.Call job session command ∷ []) }
+        ensures still { OnErr result (actor.new ≡ actor.old) }
         ensures called { IfOk result (λ s. IsNext K.called_by K.rises last.now (event.Call job session command) s.reply s.receipt) }
         ensures small { IfOk result (λ s. is_small_reply s.reply ≡ true) }
     {
@@ -228,7 +247,7 @@ impl<K: JournaledNode, P: Pause> SharedNode<K, P> {
         seals.begin(rt, job, id);
         self.prepare_seal(rt, job, id);
         let nothing = K::nothing_prepared();
-        let stepped = self.step_with(rt, nothing, last, job, session, command);
+        let stepped = self.step_with(rt, actor, nothing, last, job, session, command);
         seals.end(rt, job, id);
         stepped
     }
@@ -237,12 +256,15 @@ impl<K: JournaledNode, P: Pause> SharedNode<K, P> {
     fn step_with<R: Wait>(
         &self,
         rt: &R,
+        actor: &mut Actor,
         prepared: K::Prepared,
         last: &Option<K::Receipt>,
         job: JobNo,
         session: u32,
         command: Command<Bytes>,
     ) -> Result<Stepped<K::Receipt, K::Mail>, OutOfMemory>
+        ensures acts { IfOk result (λ s. actor.new ≡ actor.old ++ event.Call job session command ∷ []) }
+        ensures still { OnErr result (actor.new ≡ actor.old) }
         ensures called { IfOk result (λ s. IsNext K.called_by K.rises last.now (event.Call job session command) s.reply s.receipt) }
         ensures small { IfOk result (λ s. is_small_reply s.reply ≡ true) }
     {
@@ -253,6 +275,7 @@ impl<K: JournaledNode, P: Pause> SharedNode<K, P> {
             rt,
             &mut *kept,
             &self.housekeeping,
+            actor,
             last,
             job,
             session,
@@ -271,16 +294,19 @@ impl<K: JournaledNode, P: Pause> SharedNode<K, P> {
     pub fn call_after<R: Wait>(
         &self,
         rt: &R,
+        actor: &mut Actor,
         receipt: &K::Receipt,
         job: JobNo,
         session: u32,
         command: Command<Bytes>,
     ) -> (Reply<Bytes>, Option<K::Receipt>)
+        ensures acts { ActsIf result.1 (event.Call job session command) actor.old actor.new }
         ensures called { MatchOption result.1 ((result.0 ≡ reply.Refused NoMemory) ⊎ (result.0 ≡ reply.Refused Stale)) (λ r. IsNext K.called_by K.rises (Some receipt.now) (event.Call job session command) result.0 r) }
         ensures later { IfSome result.1 (λ r. (K.made_at r ≡ K.made_at receipt.now) × (K.entry_number receipt.now < K.entry_number r)) }
         ensures small { is_small_reply result.0 ≡ true }
     {
         self.leave_marked(rt);
+        let sender = Sender::of_command(&command);
         let queued = self.housekeeping.queues.of(job).lock(rt);
         let mut kept = self.lock(rt);
         let kind = CommandKind::of(&command);
@@ -288,6 +314,7 @@ impl<K: JournaledNode, P: Pause> SharedNode<K, P> {
             rt,
             &mut *kept,
             &self.housekeeping,
+            actor,
             receipt,
             job,
             session,
@@ -299,7 +326,7 @@ impl<K: JournaledNode, P: Pause> SharedNode<K, P> {
         drop(queued);
         drop(spent);
         match stepped {
-            Ok(stepped) => self.hand_out(rt, stepped),
+            Ok(stepped) => self.hand_out(rt, sender, stepped),
             Err(refusal) => (Reply::Refused(refusal), None),
         }
     }
@@ -310,14 +337,16 @@ impl<K: JournaledNode, P: Pause> SharedNode<K, P> {
     pub fn call_wait<R: Wait + Clock>(
         &self,
         rt: &R,
+        actor: &mut Actor,
         job: JobNo,
         session: u32,
         awaited: Awaited,
     ) -> (Reply<Bytes>, Option<K::Receipt>)
+        ensures acts { HasTried (event.Call job session (tried awaited)) actor.old actor.new }
         ensures called { MatchOption result.1 (result.0 ≡ reply.Refused NoMemory) (λ r. K.called_by (event.Call job session (tried awaited)) result.0 r) }
         ensures small { is_small_reply result.0 ≡ true }
     {
-        self.call_wait_next(rt, &None, job, session, awaited, None)
+        self.call_wait_next(rt, actor, &None, job, session, awaited, None)
     }
 
     /// The same, of a session whose last receipt is shown, if it has one, and of a client's stream: it isn't tried again if its other end
@@ -325,38 +354,42 @@ impl<K: JournaledNode, P: Pause> SharedNode<K, P> {
     pub fn call_wait_next<R: Wait + Clock>(
         &self,
         rt: &R,
+        actor: &mut Actor,
         last: &Option<K::Receipt>,
         job: JobNo,
         session: u32,
         awaited: Awaited,
         client: Option<&UnixStream>,
     ) -> (Reply<Bytes>, Option<K::Receipt>)
+        ensures acts { HasTried (event.Call job session (tried awaited)) actor.old actor.new }
         ensures called { MatchOption result.1 (result.0 ≡ reply.Refused NoMemory) (λ r. IsNext K.called_by K.rises last.now (event.Call job session (tried awaited)) result.0 r) }
         ensures small { is_small_reply result.0 ≡ true }
     {
         for _ in rt.forever() {
-            let (reply, receipt, is_over) = self.try_once(rt, last, job, session, &awaited, client);
-            if is_over {
-                return (reply, receipt);
+            let last_try = self.try_once(rt, actor, last, job, session, &awaited, client);
+            if let Some(answer) = last_try {
+                return answer;
             }
         }
         unreachable!()
     }
 
-    /// One try of a call that waits, and whether it is the last. After another one something may have moved for the job.
+    /// One try of a call that waits: its answer, if it is the last. After another one something may have moved for the job.
     fn try_once<R: Wait + Clock>(
         &self,
         rt: &R,
+        actor: &mut Actor,
         last: &Option<K::Receipt>,
         job: JobNo,
         session: u32,
         awaited: &Awaited,
         client: Option<&UnixStream>,
-    ) -> (Reply<Bytes>, Option<K::Receipt>, bool)
-        ensures called { MatchOption result.1 (result.0 ≡ reply.Refused NoMemory) (λ r. IsNext K.called_by K.rises last.now (event.Call job session (tried awaited.now)) result.0 r) }
-        ensures small { is_small_reply result.0 ≡ true }
+    ) -> Option<(Reply<Bytes>, Option<K::Receipt>)>
+        ensures acts { MatchOption result (actor.new ≡ actor.old ++ event.Call job session (tried awaited.now) ∷ []) (λ answer. ActsIf answer.1 (event.Call job session (tried awaited.now)) actor.old actor.new) }
+        ensures called { IfSome result (λ answer. MatchOption answer.1 (answer.0 ≡ reply.Refused NoMemory) (λ r. IsNext K.called_by K.rises last.now (event.Call job session (tried awaited.now)) answer.0 r)) }
+        ensures small { IfSome result (λ answer. is_small_reply answer.0 ≡ true) }
     {
-        let (stepped, seen) = self.step_awaited(rt, last, job, session, awaited);
+        let (stepped, seen) = self.step_awaited(rt, actor, last, job, session, awaited);
         match stepped {
             Ok(
                 Stepped {
@@ -365,20 +398,20 @@ impl<K: JournaledNode, P: Pause> SharedNode<K, P> {
                     mail,
                 },
             ) => {
-                let is_pulling = self.post(rt, mail);
+                let is_pulling = self.post(rt, Sender::Placing, mail);
                 let is_pending = matches!(&reply, Reply::Refused(Refusal::Pending));
                 if !is_pending || self.housekeeping.waiting.is_shut() {
-                    return (reply, Some(receipt), true);
+                    return Some((reply, Some(receipt)));
                 }
                 let waiting = &self.housekeeping.waiting;
                 waiting.await_next(rt, job, seen, is_pulling, client);
                 if is_gone(client) {
-                    return (reply, Some(receipt), true);
+                    return Some((reply, Some(receipt)));
                 }
                 self.check(rt, &receipt);
-                (reply, Some(receipt), false)
+                None
             }
-            Err(error) => (out_of_memory(error), None, true),
+            Err(error) => Some((out_of_memory(error), None)),
         }
     }
 
@@ -386,11 +419,14 @@ impl<K: JournaledNode, P: Pause> SharedNode<K, P> {
     fn step_awaited<R: Wait>(
         &self,
         rt: &R,
+        actor: &mut Actor,
         last: &Option<K::Receipt>,
         job: JobNo,
         session: u32,
         awaited: &Awaited,
     ) -> (Result<Stepped<K::Receipt, K::Mail>, OutOfMemory>, Versions)
+        ensures acts { IfOk result.0 (λ s. actor.new ≡ actor.old ++ event.Call job session (tried awaited.now) ∷ []) }
+        ensures still { OnErr result.0 (actor.new ≡ actor.old) }
         ensures called { IfOk result.0 (λ s. IsNext K.called_by K.rises last.now (event.Call job session (tried awaited.now)) s.reply s.receipt) }
         ensures small { IfOk result.0 (λ s. is_small_reply s.reply ≡ true) }
     {
@@ -402,12 +438,16 @@ impl<K: JournaledNode, P: Pause> SharedNode<K, P> {
             drop(kept);
             drop(queued);
             let seen = self.housekeeping.waiting.seen(rt, job);
-            return (self.step_prepared(rt, last, job, session, command), seen);
+            return (
+                self.step_prepared(rt, actor, last, job, session, command),
+                seen,
+            );
         }
         let stepped = step_call(
             rt,
             &mut *kept,
             &self.housekeeping,
+            actor,
             last,
             job,
             session,
@@ -427,13 +467,15 @@ impl<K: JournaledNode, P: Pause> SharedNode<K, P> {
     pub fn admit<R: Wait>(
         &self,
         rt: &R,
+        actor: &mut Actor,
         job: JobNo,
         quota: Quota,
         key: JobKey,
     ) -> (Reply<Bytes>, Option<K::Receipt>)
-        ensures { MatchOption result.1 (result.0 ≡ reply.Refused NoMemory) (λ r. K.receipt_of (event.Admit job quota key) result.0 r) }
+        ensures acts { ActsIf result.1 (event.Admit job quota key) actor.old actor.new }
+        ensures receipt { MatchOption result.1 (result.0 ≡ reply.Refused NoMemory) (λ r. K.receipt_of (event.Admit job quota key) result.0 r) }
     {
-        let (reply, receipt) = self.order(rt, &Event::Admit { job, quota, key });
+        let (reply, receipt) = self.order(rt, actor, &Event::Admit { job, quota, key });
         if matches!(&reply, Reply::Ok) {
             self.housekeeping.counts.begin(rt, job);
         }
@@ -445,25 +487,33 @@ impl<K: JournaledNode, P: Pause> SharedNode<K, P> {
     pub fn requota<R: Wait>(
         &self,
         rt: &R,
+        actor: &mut Actor,
         job: JobNo,
         quota: Quota,
     ) -> (Reply<Bytes>, Option<K::Receipt>)
-        ensures { MatchOption result.1 (result.0 ≡ reply.Refused NoMemory) (λ r. K.receipt_of (event.Requota job quota) result.0 r) }
+        ensures acts { ActsIf result.1 (event.Requota job quota) actor.old actor.new }
+        ensures receipt { MatchOption result.1 (result.0 ≡ reply.Refused NoMemory) (λ r. K.receipt_of (event.Requota job quota) result.0 r) }
     {
-        self.order(rt, &Event::Requota(job, quota))
+        self.order(rt, actor, &Event::Requota(job, quota))
     }
 
     /// The operator ends a job, with the receipt of the entry, which was looked for. There is none exactly if the reply is
     /// `NoMemory`. If the end isn't refused, the job's journal is folded at once, unless there is no memory for that.
-    pub fn end_job<R: Wait>(&self, rt: &R, job: JobNo) -> (Reply<Bytes>, Option<K::Receipt>)
-        ensures { MatchOption result.1 (result.0 ≡ reply.Refused NoMemory) (λ r. K.receipt_of (event.JobEnd job) result.0 r) }
+    pub fn end_job<R: Wait>(
+        &self,
+        rt: &R,
+        actor: &mut Actor,
+        job: JobNo,
+    ) -> (Reply<Bytes>, Option<K::Receipt>)
+        ensures acts { ActsIf result.1 (event.JobEnd job) actor.old actor.new }
+        ensures receipt { MatchOption result.1 (result.0 ≡ reply.Refused NoMemory) (λ r. K.receipt_of (event.JobEnd job) result.0 r) }
     {
         let mut kept = self.lock(rt);
-        let stepped = step_end(rt, &mut *kept, &self.housekeeping, job);
+        let stepped = step_end(rt, &mut *kept, &self.housekeeping, actor, job);
         let gone = kept.take_gone();
         drop(kept);
         drop(gone);
-        let (reply, receipt) = self.answer(rt, stepped);
+        let (reply, receipt) = self.answer(rt, Sender::Other, stepped);
         if matches!(&reply, Reply::Ok) {
             self.housekeeping.counts.end(rt, job);
         }
@@ -471,46 +521,55 @@ impl<K: JournaledNode, P: Pause> SharedNode<K, P> {
     }
 
     /// An event of the operator's, with the receipt of its entry, which was looked for.
-    fn order<R: Wait>(&self, rt: &R, event: &Event) -> (Reply<Bytes>, Option<K::Receipt>)
-        ensures { MatchOption result.1 (result.0 ≡ reply.Refused NoMemory) (λ r. K.receipt_of event.now result.0 r) }
+    fn order<R: Wait>(
+        &self,
+        rt: &R,
+        actor: &mut Actor,
+        event: &Event,
+    ) -> (Reply<Bytes>, Option<K::Receipt>)
+        ensures acts { ActsIf result.1 (event.now) actor.old actor.new }
+        ensures receipt { MatchOption result.1 (result.0 ≡ reply.Refused NoMemory) (λ r. K.receipt_of event.now result.0 r) }
     {
         let mut kept = self.lock(rt);
-        let stepped = step_order(rt, &mut *kept, &self.housekeeping, event);
+        let stepped = step_order(rt, &mut *kept, &self.housekeeping, actor, event);
         drop(kept);
-        self.answer(rt, stepped)
+        self.answer(rt, Sender::Other, stepped)
     }
 
     /// An event of a worker, with the receipt of its entry.
     pub(crate) fn operate<R: Wait>(
         &self,
         rt: &R,
+        actor: &mut Actor,
         event: &Event,
     ) -> (Reply<Bytes>, Option<K::Receipt>)
-        ensures { MatchOption result.1 (result.0 ≡ reply.Refused NoMemory) (λ r. K.receipt_of event.now result.0 r) }
+        ensures acts { ActsIf result.1 (event.now) actor.old actor.new }
+        ensures receipt { MatchOption result.1 (result.0 ≡ reply.Refused NoMemory) (λ r. K.receipt_of event.now result.0 r) }
     {
         let (job, prepared) = prepare_finish::<K>(self.housekeeping.alloc, event);
         let mut kept = self.lock(rt);
         let before = kept.prepare(job, prepared);
-        let stepped = step_event(rt, &mut *kept, &self.housekeeping, &None, event);
+        let stepped = step_event(rt, &mut *kept, &self.housekeeping, actor, &None, event);
         let rest = kept.prepare(job, before);
         drop(kept);
         drop(rest);
-        self.answer(rt, stepped)
+        self.answer(rt, Sender::Other, stepped)
     }
 
     /// An event of a worker, whose receipt is gathered, if there is one.
     pub(crate) fn operate_gathering<R: Wait>(
         &self,
         rt: &R,
+        actor: &mut Actor,
         event: &Event,
         receipts: &mut ReceiptBuffer<K::Receipt>,
     ) -> Reply<Bytes>
-        ensures { IsHandedIn K.receipt_of event.now result receipts.old.last (receipts_in_order receipts.new.earlier.items receipts.new.last) }
+        ensures { IsHandedIn K.receipt_of event.now result receipts.old.last (receipts_in_order receipts.new.earlier.items receipts.new.last) actor.old actor.new }
     {
         if let Err(error) = self.make_room(rt, receipts) {
             return out_of_memory(error);
         }
-        let (reply, receipt) = self.operate(rt, event);
+        let (reply, receipt) = self.operate(rt, actor, event);
         if let Some(receipt) = receipt {
             receipts.add(receipt);
         }
@@ -521,14 +580,15 @@ impl<K: JournaledNode, P: Pause> SharedNode<K, P> {
     pub(crate) fn take_gathering<R: Wait>(
         &self,
         rt: &R,
+        actor: &mut Actor,
         receipts: &mut ReceiptBuffer<K::Receipt>,
     ) -> Reply<Bytes>
-        ensures { IsWorkTaken K.receipt_of result receipts.new.last }
+        ensures { HasAskedForWork K.receipt_of result receipts.new.last actor.old actor.new }
     {
         if let Err(error) = self.make_room(rt, receipts) {
             return out_of_memory(error);
         }
-        let (reply, receipt) = self.take(rt);
+        let (reply, receipt) = self.take(rt, actor);
         if let Some(receipt) = receipt {
             receipts.add(receipt);
         }
@@ -536,15 +596,16 @@ impl<K: JournaledNode, P: Pause> SharedNode<K, P> {
     }
 
     /// A worker takes a work, if one waits that nobody has taken: otherwise, and without memory, there is no receipt.
-    fn take<R: Wait>(&self, rt: &R) -> (Reply<Bytes>, Option<K::Receipt>)
-        ensures { MatchOption result.1 ((result.0 ≡ reply.NoWork) ⊎ (result.0 ≡ reply.Refused NoMemory)) (λ r. K.receipt_of event.Take result.0 r) }
+    fn take<R: Wait>(&self, rt: &R, actor: &mut Actor) -> (Reply<Bytes>, Option<K::Receipt>)
+        ensures acts { ActsIf result.1 event.Take actor.old actor.new }
+        ensures receipt { MatchOption result.1 ((result.0 ≡ reply.NoWork) ⊎ (result.0 ≡ reply.Refused NoMemory)) (λ r. K.receipt_of event.Take result.0 r) }
     {
         let mut kept = self.lock(rt);
-        let stepped = step_take(rt, &mut *kept, &self.housekeeping);
+        let stepped = step_take(rt, &mut *kept, &self.housekeeping, actor);
         drop(kept);
         match stepped {
             None => (Reply::NoWork, None),
-            Some(stepped) => self.answer(rt, stepped),
+            Some(stepped) => self.answer(rt, Sender::Other, stepped),
         }
     }
 
@@ -572,7 +633,7 @@ impl<K: JournaledNode, P: Pause> SharedNode<K, P> {
         drop(rest);
         let Stepped { receipt, mail, .. } = stepped?;
         self.housekeeping.counts.note(rt, job, JobEvent::Arrival);
-        self.post(rt, mail);
+        self.post(rt, Sender::Arrival, mail);
         Ok(receipt)
     }
 
@@ -590,12 +651,13 @@ impl<K: JournaledNode, P: Pause> SharedNode<K, P> {
     fn answer<R: Wait>(
         &self,
         rt: &R,
+        sender: Sender,
         stepped: Result<Stepped<K::Receipt, K::Mail>, OutOfMemory>,
     ) -> (Reply<Bytes>, Option<K::Receipt>)
         ensures { MatchResult stepped (λ s. (result.0 ≡ s.reply) × (result.1 ≡ Some s.receipt)) (λ _. (result.0 ≡ reply.Refused NoMemory) × (result.1 ≡ None)) }
     {
         match stepped {
-            Ok(stepped) => self.hand_out(rt, stepped),
+            Ok(stepped) => self.hand_out(rt, sender, stepped),
             Err(error) => (out_of_memory(error), None),
         }
     }
@@ -604,6 +666,7 @@ impl<K: JournaledNode, P: Pause> SharedNode<K, P> {
     fn hand_out<R: Wait>(
         &self,
         rt: &R,
+        sender: Sender,
         stepped: Stepped<K::Receipt, K::Mail>,
     ) -> (Reply<Bytes>, Option<K::Receipt>)
         ensures { (result.0 ≡ stepped.reply) × (result.1 ≡ Some stepped.receipt) }
@@ -613,7 +676,7 @@ impl<K: JournaledNode, P: Pause> SharedNode<K, P> {
             receipt,
             mail,
         } = stepped;
-        self.post(rt, mail);
+        self.post(rt, sender, mail);
         (reply, Some(receipt))
     }
 
@@ -629,7 +692,7 @@ impl<K: JournaledNode, P: Pause> SharedNode<K, P> {
     }
 
     /// What its steps leave to be done.
-    pub fn housekeeping(&self) -> &Housekeeping<P> {
+    pub fn housekeeping(&self) -> &Housekeeping<P, K::Erase> {
         &self.housekeeping
     }
 

@@ -1,25 +1,37 @@
 //! The rounds of a worker, which carries out the device works of a node.
-ghost use Rattle.std.specs.Prelude.{◌≡◌, List, None};
+ghost use Rattle.std.specs.Prelude.{◌≡◌, ◌⊎◌, ◌++◌, ◌∷◌, [], List, Option, None, IsSomeAnd, option_map};
 ghost use Rattle.shared_nodes.specs.Gathering.{receipts_in_order};
-ghost use Rattle.shared_nodes.specs.Rounds.{EndsRound, HasTakenWork, IsRound};
+ghost use Rattle.obj_id.specs.declared.commands.Reply.TheVariants as reply;
+ghost use Rattle.private_store.specs.declared.schedules.Event.TheVariants as event;
+ghost use Rattle.shared_nodes.specs.Rounds.{EndsRound, HasTakenWork, HasWorked, IsRound, done_after as done_after_lem};
+ghost use Rattle.node_housekeeping.specs.declared.work_done.WorkDone.TheVariants.{Nothing, NoMemory};
+ghost use Rattle.private_store.specs.declared.schedules.Event.{Event};
 
 use crate::SharedNode;
+use crate::pending::PendingFinish;
 use crate::receipt_buffer::ReceiptBuffer;
-use node_gate::JournaledNode;
-use node_housekeeping::{Finishing, Pause, PendingAnswer, WorkDone, call_device};
-use obj_id::{Refusal, Reply};
+use bytes::Bytes;
+use node_gate::{Actor, JournaledNode};
+use node_housekeeping::{Pause, WorkDone, call_device};
+use obj_id::{Refusal, Reply, Work};
 use spill_device::SpillDevice;
 use std::sync::Wait;
 
 impl<K: JournaledNode, P: Pause> SharedNode<K, P> {
     /// One round of a worker: sessions that are marked are left, and keys that wait are erased; then a work is taken, the device
-    /// called for it, and its answer handed in. An answer that found no memory when it was handed in is the work of the next round,
-    /// without a second call.
-    pub fn work_once<R: Wait, D: SpillDevice>(&self, rt: &R, device: &mut D) -> WorkDone
-        ensures { (receipts : List K.Receipt) × IsRound K.receipt_of D.write_gives D.read_gives D.erase_gives device.old result device.new None receipts }
+    /// called for it, and its answer handed in. An answer that found no memory when it was handed in is kept, and is the work of the worker's
+    /// next round, without a second call.
+    pub fn work_once<R: Wait, D: SpillDevice>(
+        &self,
+        rt: &R,
+        actor: &mut Actor,
+        device: &mut D,
+        kept: &mut Option<PendingFinish<K, D>>,
+    ) -> WorkDone
+        ensures { (receipts : List K.Receipt) × (last : Option K.Receipt) × IsRound K.receipt_of K.keys D.write_gives D.read_gives D.erase_gives device.old (option_map (λ p. p.finishing) kept.old) result device.new (option_map (λ p. p.finishing) kept.new) None last receipts actor.old actor.new }
     {
         let mut receipts = ReceiptBuffer::new(self.housekeeping.alloc);
-        let done = self.round(rt, device, &mut receipts);
+        let done = self.round(rt, actor, device, kept, &mut receipts);
         self.audit_all(rt, &receipts);
         done
     }
@@ -28,56 +40,106 @@ impl<K: JournaledNode, P: Pause> SharedNode<K, P> {
     pub fn round<R: Wait, D: SpillDevice>(
         &self,
         rt: &R,
+        actor: &mut Actor,
         device: &mut D,
+        kept: &mut Option<PendingFinish<K, D>>,
         receipts: &mut ReceiptBuffer<K::Receipt>,
     ) -> WorkDone
-        ensures { IsRound K.receipt_of D.write_gives D.read_gives D.erase_gives device.old result device.new receipts.old.last (receipts_in_order receipts.new.earlier.items receipts.new.last) }
+        ensures { IsRound K.receipt_of K.keys D.write_gives D.read_gives D.erase_gives device.old (option_map (λ p. p.finishing) kept.old) result device.new (option_map (λ p. p.finishing) kept.new) receipts.old.last receipts.new.last (receipts_in_order receipts.new.earlier.items receipts.new.last) actor.old actor.new }
     {
         self.leave_marked(rt);
-        self.housekeeping.erase_keys(rt, device);
-        match self.housekeeping.place.take(rt) {
-            PendingAnswer::Taken => WorkDone::Nothing,
-            PendingAnswer::Holds(finishing) => self.hand_in(rt, device, finishing, receipts),
-            PendingAnswer::Free => self.take_one(rt, device, receipts),
+        self.erase_keys(rt, device);
+        match kept.take() {
+            Some(pending) => self.hand_in(rt, actor, device, pending, kept, receipts),
+            None => self.take_one(rt, actor, device, kept, receipts),
         }
     }
 
-    /// Takes a work, calls the device for it, and hands in the answer. The place is this round's.
+    /// Takes a work, calls the device for it, and hands in the answer.
     fn take_one<R: Wait, D: SpillDevice>(
         &self,
         rt: &R,
+        actor: &mut Actor,
         device: &mut D,
+        kept: &mut Option<PendingFinish<K, D>>,
         receipts: &mut ReceiptBuffer<K::Receipt>,
     ) -> WorkDone
-        ensures { HasTakenWork K.receipt_of D.write_gives D.read_gives D.erase_gives device.old result device.new (receipts_in_order receipts.new.earlier.items receipts.new.last) }
+        requires { kept.old ≡ None }
+        ensures { HasTakenWork K.receipt_of D.write_gives D.read_gives D.erase_gives device.old result device.new (option_map (λ p. p.finishing) kept.new) receipts.new.last (receipts_in_order receipts.new.earlier.items receipts.new.last) actor.old actor.new }
     {
-        match self.take_gathering(rt, receipts) {
-            Reply::Work(work) => {
-                let finishing = call_device(device, &work);
-                self.housekeeping.counts.note_device_call(rt, &finishing);
-                self.hand_in(rt, device, finishing, receipts)
-            }
-            other => self.housekeeping.end_take(rt, &other),
+        match self.take_gathering(rt, actor, receipts) {
+            Reply::Work(work) => self.carry_out(rt, actor, device, &work, kept, receipts),
+            other => done_without_work(&other),
         }
     }
 
-    /// Hands in a device's answer, in the round that has the place.
+    /// Calls the device for a work that a Take gave, whose receipt is the last, and hands in its answer.
+    fn carry_out<R: Wait, D: SpillDevice>(
+        &self,
+        rt: &R,
+        actor: &mut Actor,
+        device: &mut D,
+        work: &Work<Bytes>,
+        kept: &mut Option<PendingFinish<K, D>>,
+        receipts: &mut ReceiptBuffer<K::Receipt>,
+    ) -> WorkDone
+        requires given { IsSomeAnd receipts.old.last (K.receipt_of event.Take (reply.Work work.now)) }
+        requires free { kept.old ≡ None }
+        ensures { (before : List Event) → actor.old ≡ before ++ event.Take ∷ [] → HasWorked K.receipt_of D.write_gives D.read_gives D.erase_gives device.old result device.new (option_map (λ p. p.finishing) kept.new) (receipts_in_order receipts.new.earlier.items receipts.new.last) before actor.new }
+    {
+        let finishing = call_device(device, work);
+        self.housekeeping.counts.note_device_call(rt, &finishing);
+        self.hand_in(
+            rt,
+            actor,
+            device,
+            PendingFinish::new(finishing),
+            kept,
+            receipts,
+        )
+    }
+
+    /// Hands in a device's answer. One that found no memory is kept; what was written for a work that is no more is erased.
     fn hand_in<R: Wait, D: SpillDevice>(
         &self,
         rt: &R,
+        actor: &mut Actor,
         device: &mut D,
-        finishing: Finishing,
+        pending: PendingFinish<K, D>,
+        kept: &mut Option<PendingFinish<K, D>>,
         receipts: &mut ReceiptBuffer<K::Receipt>,
     ) -> WorkDone
-        ensures { EndsRound K.receipt_of D.erase_gives finishing.event finishing.written device.old result device.new receipts.old.last (receipts_in_order receipts.new.earlier.items receipts.new.last) }
+        requires { kept.old ≡ None }
+        ensures { EndsRound K.receipt_of D.erase_gives pending.finishing device.old result device.new (option_map (λ p. p.finishing) kept.new) receipts.old.last (receipts_in_order receipts.new.earlier.items receipts.new.last) actor.old actor.new }
     {
-        let reply = self.operate_gathering(rt, &finishing.event, receipts);
-        let done = match reply {
-            Reply::Refused(Refusal::NoMemory) => WorkDone::NoMemory,
-            Reply::Refused(_) => WorkDone::Stale,
-            _ => WorkDone::Done,
-        };
-        self.housekeeping.end_round(rt, device, finishing, done);
+        let reply = self.operate_gathering(rt, actor, &pending.finishing.event, receipts);
+        let done = done_after(&reply);
+        let written = pending.finishing.written;
+        if done == WorkDone::NoMemory {
+            *kept = Some(pending);
+        }
+        self.housekeeping.erase_stale(rt, device, written, done);
         done
+    }
+}
+
+/// What the answer to a Finish makes of a round.
+fn done_after(reply: &Reply<Bytes>) -> WorkDone
+    ensures { result ≡ done_after_lem reply.now }
+{
+    match reply {
+        Reply::Refused(Refusal::NoMemory) => WorkDone::NoMemory,
+        Reply::Refused(_) => WorkDone::Stale,
+        _ => WorkDone::Done,
+    }
+}
+
+/// What a round is that took no work.
+fn done_without_work(reply: &Reply<Bytes>) -> WorkDone
+    ensures { (result ≡ Nothing) ⊎ (result ≡ NoMemory) }
+{
+    match reply {
+        Reply::Refused(Refusal::NoMemory) => WorkDone::NoMemory,
+        _ => WorkDone::Nothing,
     }
 }

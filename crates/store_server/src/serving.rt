@@ -6,7 +6,7 @@ use cluster_history::{ClusterShape, HistoryName};
 use cluster_threads::{Cluster, Working, work};
 use control_socket::{Connecting, connect_control, take_input};
 use memory_growth::{MOST_ROOM, OutOfMemory, boxes, lists, text_of};
-use node_gate::{JournaledNode, Posted};
+use node_gate::{ActorSource, JournaledNode, Posted};
 use node_housekeeping::{NoPause, Report};
 use node_journal::{Recorded, Unnamed};
 use operator_service::{serve_text, write_report};
@@ -280,12 +280,20 @@ where
     let nodes = nodes_of(host.alloc(), cluster)?;
     let Some(path) = serving.control else {
         say_ready(host);
-        return match serve_text(&rt, host.alloc(), &nodes, count, reader, writer) {
+        return match serve_text(
+            &rt,
+            &mut cluster.actors().actor(),
+            host.alloc(),
+            &nodes,
+            count,
+            reader,
+            writer,
+        ) {
             Ok(_) => Ok(()),
             Err(fault) => Err(ServeFault::Fault(fault)),
         };
     };
-    let connecting = connect_control(rt, host.alloc(), nodes, count, path)?;
+    let connecting = connect_control(rt, host.alloc(), cluster.actors(), nodes, count, path)?;
     let control = boxes::another(&connecting.control)?;
     served.control = Some(connecting);
     say_ready(host);
@@ -343,6 +351,7 @@ where
     lists::reserve(&mut served.listeners, room)?;
     let telling = Telling::new(host.alloc())?;
     let most = most_descriptors(&host);
+    let actors = cluster.actors();
     for number in 0..serving.shape.nodes {
         let Some(node) = cluster.node(number) else {
             return Err(ServeFault::Fault(Fault::Socket))
@@ -352,10 +361,10 @@ where
         }
         let path = text_of!(in host.alloc(); "{}/{number}", serving.spill)?;
         let folder = SpillFolder::take(host, path.as_str())?;
-        let worker = start_worker(rt, host, node, number, &folder, telling.share()?)?;
+        let worker = start_worker(rt, host, actors, node, number, &folder, telling.share()?)?;
         let _ = lists::push(&mut served.folders, folder);
         let _ = lists::push(&mut served.workers, worker);
-        let door = open_listener(rt, host.alloc(), node, serving.socket, number)?;
+        let door = open_listener(rt, host.alloc(), actors, node, serving.socket, number)?;
         let _ = lists::push(&mut served.listeners, door);
     }
     Ok(())
@@ -369,6 +378,7 @@ fn start_worker<
 >(
     rt: R,
     host: HostRuntime,
+    actors: ActorSource,
     node: &Arc<SharedNode<K>>,
     number: u32,
     folder: &SpillFolder,
@@ -386,7 +396,7 @@ where
 {
     let node = boxes::another(node)?;
     let device = TellingDevice::new(rt, host, number, folder, telling)?;
-    match work(rt, node, device) {
+    match work(rt, actors, node, device) {
         Ok(working) => Ok(working),
         Err(error) => Err(ServeFault::Worker { error }),
     }
@@ -399,6 +409,7 @@ fn open_listener<
 >(
     rt: R,
     alloc: Global,
+    actors: ActorSource,
     node: &Arc<SharedNode<K>>,
     socket: &str,
     number: u32,
@@ -420,7 +431,7 @@ where
         Err(error) => return Err(ServeFault::Socket { path, error }),
     };
     let file = SocketFile::new(&rt, path);
-    match listen(rt, alloc, node, listener) {
+    match listen(rt, alloc, actors, node, listener) {
         Ok(listening) => Ok(NodeListener { file, listening }),
         Err(error) => {
             file.remove(&rt);

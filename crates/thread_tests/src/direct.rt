@@ -1,4 +1,5 @@
 //! The whole case of a direct caller, with the numbers of its report.
+use crate::actors::actor;
 use crate::named::Named;
 use crate::objects::{admit, is_hello, object, response, seal_hello};
 use crate::trials::{Trial, try_out};
@@ -38,7 +39,7 @@ pub(crate) fn six_commands<K: JournaledNode, R: Wait + Abort>(
     seal_hello(rt, alloc, node, id)?;
     holds!(rt; matches!(response(rt, node, JOB, Command::Get(id)), Reply::Got(20)));
     holds!(rt; is_hello(&response(rt, node, JOB, Command::Read { id, offset: 0, count: 20 })));
-    let (reply, receipt) = node.call(rt, JOB, 1, Command::Release(id));
+    let (reply, receipt) = node.call(rt, &mut actor(), JOB, 1, Command::Release(id));
     holds!(rt; matches!(reply, Reply::Ok));
     Ok(receipt.expect(rt, "a receipt"))
 }
@@ -52,12 +53,12 @@ pub(crate) fn live_on<K: JournaledNode, R: Wait + Abort>(
 where
     K::Receipt: Named,
 {
-    let (reply, receipt) = node.call_after(rt, earlier, JOB, 1, Command::Usage);
+    let (reply, receipt) = node.call_after(rt, &mut actor(), earlier, JOB, 1, Command::Usage);
     holds!(rt; uses_all_of(&reply));
     let (node_no, job, later) = receipt.expect(rt, "a receipt").named();
     same!(rt; (node_no, job, later > earlier.named().2), (0, JOB, true));
-    holds!(rt; matches!(node.requota(rt, JOB, NARROW).0, Reply::Ok));
-    holds!(rt; matches!(node.end_job(rt, JOB).0, Reply::Ok));
+    holds!(rt; matches!(node.requota(rt, &mut actor(), JOB, NARROW).0, Reply::Ok));
+    holds!(rt; matches!(node.end_job(rt, &mut actor(), JOB).0, Reply::Ok));
 }
 
 /// Whether the reply says that the object's 32 bytes of the window are used.

@@ -1,4 +1,5 @@
 //! What is sealed at one node is fetched at another one, and a message that finds no room is counted.
+use crate::actors::actor;
 use crate::named::Named;
 use crate::objects::{admit, is_hello, object, response, seal_hello};
 use crate::trials::{Trial, try_out};
@@ -33,7 +34,7 @@ where
     K::Receipt: Named,
 {
     let id = object(rt, JOB, 1);
-    let (reply, receipt) = node.call_wait(rt, JOB, 1, Awaited::Get(id));
+    let (reply, receipt) = node.call_wait(rt, &mut actor(), JOB, 1, Awaited::Get(id));
     holds!(rt; matches!(reply, Reply::Got(20)));
     same!(rt; receipt.map(|receipt| receipt.named().0), Some(1));
     holds!(rt; is_hello(&response(rt, node, JOB, Command::Read { id, offset: 0, count: 20 })));

@@ -1,4 +1,5 @@
 //! While a device writes, reads or erases for one job, another one is answered: no device is called under the node's lock.
+use crate::actors::actor;
 use crate::gates::Gate;
 use crate::kept_devices::{DeviceCall, KeptDevice};
 use crate::objects::{admit, object, response, seal_hello};
@@ -40,7 +41,7 @@ fn round<K: JournaledNode, R: Wait, D: SpillDevice>(
     device: D,
 ) -> (WorkDone, D) {
     let mut device = device;
-    let done = node.work_once(rt, &mut device);
+    let done = node.work_once(rt, &mut actor(), &mut device, &mut None);
     (done, device)
 }
 
@@ -189,7 +190,7 @@ where
     }
     let mut device = device;
     ask_for_read_again(&rt, node);
-    same!(rt; node.work_once(&rt, &mut device), WorkDone::Done);
+    same!(rt; node.work_once(&rt, &mut actor(), &mut device, &mut None), WorkDone::Done);
     Ok(device)
 }
 

@@ -1,6 +1,7 @@
 //! While a step of one node is kept under its lock, another node steps.
 ghost use Rattle.std.specs.Prelude.{◌≡◌};
 
+use crate::actors::actor;
 use crate::gates::Gate;
 use crate::named::Named;
 use crate::objects::admit;
@@ -50,7 +51,7 @@ fn usage_at<K: JournaledNode, P: Pause, R: Wait>(
     node: &SharedNode<K, P>,
     job: JobNo,
 ) -> Option<K::Receipt> {
-    let (reply, receipt) = node.call(rt, job, 1, Command::Usage);
+    let (reply, receipt) = node.call(rt, &mut actor(), job, 1, Command::Usage);
     if !matches!(reply, Reply::Usage(_)) {
         return None;
     }

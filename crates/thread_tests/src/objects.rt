@@ -1,4 +1,5 @@
 //! Jobs and their objects at a node, called as a direct caller does.
+use crate::actors::actor;
 use assertions::holds;
 use bytes::Bytes;
 use memory_growth::{OutOfMemory, lists, shared};
@@ -24,7 +25,7 @@ pub(crate) fn admit<K: JournaledNode, P: Pause, R: Wait + Abort>(
     job: JobNo,
     quota: Quota,
 ) {
-    let (reply, _) = node.admit(rt, job, quota, KEY);
+    let (reply, _) = node.admit(rt, &mut actor(), job, quota, KEY);
     holds!(rt; matches!(reply, Reply::Ok));
 }
 
@@ -35,7 +36,7 @@ pub(crate) fn response<K: JournaledNode, R: Wait>(
     job: JobNo,
     command: Command<Bytes>,
 ) -> Reply<Bytes> {
-    node.call(rt, job, 1, command).0
+    node.call(rt, &mut actor(), job, 1, command).0
 }
 
 /// Creates an object of 20 bytes, writes the first five of them, and seals it: none of it is refused.

@@ -356,10 +356,10 @@ def sessions_are_counted(words: Sequence[str], folder: str) -> None:
         for job in (1, 2):
             control.tell(admit(0, job), "n0 op ok")
             control.tell(f"counts 0 {job}", f"n0 op counts {job}")
-        assert list(counts(control, "0")) == ["hellos", "hellos-refused", "malformed", "lock-waits", "lock-sleeps"]
+        assert list(counts(control, "0")) == ["hellos", "hellos-refused", "malformed", "lock-waits", "lock-sleeps", "end-folds"]
         with session(folder, 0, 1) as stream, session(folder, 0, 1) as second:
             work(stream, 1, 1, 2)
-            due = {"create": 2, "write": 2, "seal": 2, "get": 2, "read": 2, "release": 2, "delete": 2, "bytes-in": 10, "bytes-out": 40}
+            due = {"create": 2, "write": 2, "seal": 2, "get": 2, "read": 2, "release": 2, "delete": 2, "bytes-in": 10, "bytes-out": 40, "removals": 2}
             await_counts(control, "0 1", due)
             ask(second, frame(0x04, ident(1, 9)), frame(0x8F, bytes([4])))
             ask(second, frame(0x07, ident(1, 9)), frame(0x8F, bytes([4])))
@@ -377,13 +377,16 @@ def sessions_are_counted(words: Sequence[str], folder: str) -> None:
             ask(stranger, frame(0x12), frame(0x8F, bytes([1])))
             ask(stranger, frame(0x7F), frame(0x8F, bytes([20])))
         await_sessions(control, 0, 0)
-        await_counts(control, "0", {"hellos": 2, "hellos-refused": 1, "malformed": 1})
-        await_counts(control, "1", {"hellos": 0, "hellos-refused": 0, "malformed": 0})
+        sessions = {"hellos": 2, "hellos-refused": 1, "malformed": 1}
+        await_counts(control, "0", {**sessions, "end-folds": 0})
         await_counts(control, "0 1", due)
+        control.tell("end 0 3", "n0 op refused 1 NotAdmitted")
         control.tell("end 0 1", "n0 op ok")
         control.tell("counts 0 1", "n0 op refused 1 NotAdmitted")
-        # two admissions, 14 commands of the first session and 4 of the second, their Leaves, and the end
-        closed(program, control, entries=23)
+        await_counts(control, "0", {**sessions, "end-folds": 1})
+        await_counts(control, "1", {"hellos": 0, "hellos-refused": 0, "malformed": 0, "end-folds": 0})
+        # two admissions, 14 commands of the first session and 4 of the second, their Leaves, and two ends, of which one was refused
+        closed(program, control, entries=24)
 
 
 def transfers_are_counted(words: Sequence[str], folder: str) -> None:
@@ -401,11 +404,113 @@ def transfers_are_counted(words: Sequence[str], folder: str) -> None:
             await_counts(control, "0 1", due)
             ask(other, frame(0x13, ident(1, 3)), frame(0x82, numbers(20)))
             # the directory says where the object is and how long, and its one chunk is asked for
-            await_counts(control, "1 1", {"get-wait": 1, "pulls": 1, "arrivals": 2})
-            await_counts(control, "0 1", {**due, "arrivals": 1})
+            await_counts(control, "1 1", {"get-wait": 1, "pulls": 1, "arrivals": 2, "locates": 1, "fetched": 1})
+            await_counts(control, "0 1", {**due, "arrivals": 1, "chunks-sent": 1})
         await_sessions(control, 0, 0)
         await_sessions(control, 1, 0)
         closed(program, control)
+
+
+def removals_are_counted(words: Sequence[str], folder: str) -> None:
+    """Secondaries that go since a Create needs their room; and what goes by Deletes and the end of a task, if it was sealed."""
+    program = serve(words, folder)
+    with Control(folder) as control:
+        control.tell(admit(0, 1, 64, 64), "n0 op ok")
+        with session(folder, 0, 1) as stream:
+            for n, offset in enumerate((0, 16, 32, 48), 1):
+                seal_at(stream, n, 16, offset, b"\1")
+            due = {"create": 4, "seal": 4}
+            await_counts(control, "0 1", due)
+            # the least recently used ones go, as many as it takes
+            ask(stream, frame(0x02, ident(1, 5) + b"\0" + numbers(40)), frame(0x81, numbers(0, 48)))
+            due.update({"create": 5, "evictions": 3})
+            await_counts(control, "0 1", due)
+            ask(stream, frame(0x0B, ident(1, 4)), frame(0x80))
+            # one that isn't sealed is known nowhere
+            ask(stream, frame(0x0B, ident(1, 5)), frame(0x80))
+            due.update({"delete": 2, "removals": 1})
+            await_counts(control, "0 1", due)
+            for n, offset in enumerate((0, 16), 6):
+                seal_at(stream, n, 16, offset, b"\0")
+            seal_at(stream, 8, 16, 32, b"\1")
+            ask(stream, frame(0x0C, ident(1, 1)[:20]), frame(0x80))
+            due.update({"create": 8, "seal": 7, "endtask": 1, "removals": 4})
+            await_counts(control, "0 1", due)
+        await_sessions(control, 0, 0)
+        closed(program, control)
+
+
+def seal_at(stream: socket.socket, n: int, length: int, offset: int, kind: bytes) -> None:
+    """A sealed copy of this kind, which lies there."""
+    ask(stream, frame(0x02, ident(1, n) + kind + numbers(length)), frame(0x81, numbers(offset, length)))
+    ask(stream, frame(0x04, ident(1, n)), frame(0x80))
+
+
+def fetches_are_counted(words: Sequence[str], folder: str) -> None:
+    """By stages, at both nodes: of three chunks, of one whose place is made and that goes again, and of one whose source has it no more."""
+    program = serve(words, folder)
+    with Control(folder) as control:
+        control.tell(admit(0, 1, 262144), "n0 op ok")
+        control.tell(admit(1, 1, 163840), "n1 op ok")
+        with session(folder, 0, 1) as stream, session(folder, 1, 1) as other:
+            seal_at(stream, 1, 163840, 0, b"\0")
+            seal_at(stream, 2, 32, 163840, b"\0")
+            ask(other, frame(0x13, ident(1, 1)), frame(0x82, numbers(163840)))
+            due = {"get-wait": 1, "pulls": 1, "arrivals": 4, "locates": 1, "fetched": 1}
+            await_counts(control, "1 1", due)
+            sent = {"create": 2, "seal": 2, "arrivals": 1, "chunks-sent": 3}
+            await_counts(control, "0 1", sent)
+            # it makes room for another one, which is deleted here
+            ask(other, frame(0x07, ident(1, 1)), frame(0x80))
+            ask(other, frame(0x13, ident(1, 2)), frame(0x82, numbers(32)))
+            ask(other, frame(0x07, ident(1, 2)), frame(0x80))
+            ask(other, frame(0x0B, ident(1, 2)), frame(0x80))
+            due.update({"get-wait": 2, "release": 2, "delete": 1, "pulls": 2, "arrivals": 6, "locates": 2, "fetched": 2, "evictions": 1})
+            await_counts(control, "1 1", {**due, "removals": 1})
+            sent.update({"arrivals": 2, "chunks-sent": 4})
+            await_counts(control, "0 1", sent)
+            lose_source(stream, other)
+            await_counts(control, "0 1", {**sent, "delete": 1, "arrivals": 3, "not-here": 1, "removals": 1})
+            due.update({"create": 1, "get": 3, "refused.9": 1, "refused.10": 2, "delete": 2, "pulls": 3, "arrivals": 8, "locates": 3})
+            await_counts(control, "1 1", {**due, "removals": 1, "sources-gone": 1})
+        for node in range(2):
+            await_sessions(control, node, 0)
+        closed(program, control)
+
+
+def room_for_other_nodes_is_counted(words: Sequence[str], folder: str) -> None:
+    """Of two secondaries one goes, since a spilled primary is read back for another node. That it had lost its place before isn't counted."""
+    program = serve(words, folder)
+    with Control(folder) as control:
+        for node in range(2):
+            control.tell(admit(node, 1, 64, 64), f"n{node} op ok")
+        with session(folder, 0, 1) as stream, session(folder, 1, 1) as other:
+            seal_at(stream, 1, 32, 0, b"\0")
+            seal_at(stream, 2, 32, 32, b"\0")
+            ask(stream, frame(0x14, ident(1, 3) + b"\0" + numbers(32)), frame(0x81, numbers(0, 32)))
+            for n in (2, 3):
+                ask(stream, frame(0x0B, ident(1, n)), frame(0x80))
+            seal_at(stream, 4, 32, 0, b"\1")
+            seal_at(stream, 5, 32, 32, b"\1")
+            await_counts(control, "0 1", {"create": 4, "seal": 4, "create-wait": 1, "delete": 2, "spills": 1, "removals": 1})
+            ask(other, frame(0x13, ident(1, 1)), frame(0x82, numbers(32)))
+            # chunks are asked for again every two seconds, once more or twice
+            found = counts(control, "0 1")
+            assert (found["evictions"], found["restores"], found["removals"]) == (1, 1, 1), f"got {found}"
+        for node in range(2):
+            await_sessions(control, node, 0)
+        closed(program, control)
+
+
+def lose_source(stream: socket.socket, other: socket.socket) -> None:
+    """The first object is located, and waits for room until its source has deleted it."""
+    refused_full, pending = frame(0x8F, bytes([9])), frame(0x8F, bytes([10]))
+    ask(other, frame(0x02, ident(1, 9) + b"\0" + numbers(163840)), frame(0x81, numbers(0, 163840)))
+    ask(other, frame(0x05, ident(1, 1)), pending)
+    ask(other, frame(0x05, ident(1, 1)), refused_full)
+    ask(stream, frame(0x0B, ident(1, 1)), frame(0x80))
+    ask(other, frame(0x0B, ident(1, 9)), frame(0x80))
+    ask(other, frame(0x05, ident(1, 1)), pending)
 
 
 def spill_first_and_hold_others(stream: socket.socket) -> None:
@@ -893,7 +998,7 @@ def whose_socket(words: Sequence[str], folder: str) -> None:
     assert path.read_text() == "of others"
 
 
-CASES = (every_order, looking_makes_no_entry, sessions_are_listed, kicks, sessions_are_counted, transfers_are_counted, two_hundred_wrong_lines, pieces, many_lines, many_connections, idle_ones_make_room,
+CASES = (every_order, looking_makes_no_entry, sessions_are_listed, kicks, sessions_are_counted, transfers_are_counted, removals_are_counted, fetches_are_counted, room_for_other_nodes_is_counted, two_hundred_wrong_lines, pieces, many_lines, many_connections, idle_ones_make_room,
          none_is_idle, input_that_ends, wrong_input, closes_by_standard_input, close_waits, close_now, close_now_of_many,
          close_now_at_a_slow_reader, whose_socket, mode_from_the_start)
 

@@ -22,7 +22,7 @@ class CountsFault(Exception):
 
 class NodeCounts(NamedTuple):
     """Hellos that were taken and refused, sessions that ended since what they sent was no frame, how often a thread found the node
-    locked, and how often it slept until it wasn't."""
+    locked, how often it slept until it wasn't, and jobs that ended, whose journal was folded then."""
 
     node: int
     hellos: int
@@ -30,6 +30,7 @@ class NodeCounts(NamedTuple):
     malformed: int
     lock_waits: int
     lock_sleeps: int
+    end_folds: int
 
 
 class JobCounts(NamedTuple):

@@ -32,6 +32,10 @@ _OF_JOB_COUNTS = (
     ("device_calls_total", "Device calls for a job's spills and restores."),
     ("pulls_total", "How often a job's node asked another one for chunks of an object."),
     ("arrivals_total", "Messages of other nodes and the directory that arrived for a job."),
+    ("fetches_total", "How often a job's node asked the directory for copies, had one fetched whole, or asked a node that has none."),
+    ("served_total", "What a job's node sent others that asked it for chunks."),
+    ("evictions_total", "Secondaries of a job that were removed to make room."),
+    ("removals_total", "Sealed copies that a job let go of."),
 )
 # by the server's name for a count of a job's: the family, and the labels in it
 _PLACES: Dict[str, Tuple[str, Labels]] = {
@@ -45,6 +49,13 @@ _PLACES: Dict[str, Tuple[str, Labels]] = {
     "restores-failed": ("device_calls_total", {"call": "restore", "result": "failed"}),
     "pulls": ("pulls_total", {}),
     "arrivals": ("arrivals_total", {}),
+    "locates": ("fetches_total", {"stage": "directory"}),
+    "fetched": ("fetches_total", {"stage": "whole"}),
+    "sources-gone": ("fetches_total", {"stage": "absent"}),
+    "chunks-sent": ("served_total", {"answer": "chunk"}),
+    "not-here": ("served_total", {"answer": "absent"}),
+    "evictions": ("evictions_total", {}),
+    "removals": ("removals_total", {}),
 }
 
 
@@ -161,6 +172,7 @@ def _of_counts(counts: Counts) -> List[Family]:
         _of_nodes("malformed_sessions_total", "Sessions that ended by what is no frame.", (row.malformed for row in counts.nodes)),
         _of_nodes("lock_waits_total", "How often a thread found the node locked.", (row.lock_waits for row in counts.nodes)),
         _of_nodes("lock_sleeps_total", "How often a thread slept until the node wasn't locked.", (row.lock_sleeps for row in counts.nodes)),
+        _of_nodes("end_folds_total", "Jobs that ended, and whose journal was folded then.", (row.end_folds for row in counts.nodes)),
     ]
 
 

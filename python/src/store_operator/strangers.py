@@ -25,7 +25,7 @@ class Strangers:
 
     def begin(self) -> None:
         """Of a run that begins nothing was counted yet."""
-        self._last = Counts(time.monotonic(), tuple(NodeCounts(node, 0, 0, 0, 0, 0) for node in range(self._settings.nodes)), ())
+        self._last = Counts(time.monotonic(), tuple(NodeCounts(node, 0, 0, 0, 0, 0, 0) for node in range(self._settings.nodes)), ())
         self._is_older = False
 
     async def look(self) -> None:

@@ -38,7 +38,8 @@ def sessions_table(sessions: Iterable[SessionRow]) -> str:
 
 
 def node_counts_table(rows: Iterable[NodeCounts]) -> str:
-    return table(("NODE", "HELLOS", "REFUSED", "MALFORMED", "LOCK WAITS", "LOCK SLEEPS"), (tuple(map(str, row)) for row in rows))
+    head = ("NODE", "HELLOS", "REFUSED", "MALFORMED", "LOCK WAITS", "LOCK SLEEPS", "END FOLDS")
+    return table(head, (tuple(map(str, row)) for row in rows))
 
 
 def job_counts_table(rows: Iterable[JobCounts]) -> str:

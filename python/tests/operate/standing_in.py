@@ -16,7 +16,7 @@ import threading
 from pathlib import Path
 
 # of a node of which the file says nothing
-ZEROS = "hellos:0 hellos-refused:0 malformed:0 lock-waits:0 lock-sleeps:0"
+ZEROS = "hellos:0 hellos-refused:0 malformed:0 lock-waits:0 lock-sleeps:0 end-folds:0"
 
 
 def main() -> None:

@@ -23,12 +23,13 @@ from store_operator.counting import OwnHellos
 from store_operator.counts import Counts, CountsFault, JobCounts, NodeCounts, counts_text, read_counts, read_job, read_node
 from store_operator.relaying import relay
 
-NODE = "n0 op counts hellos:7 hellos-refused:1000 malformed:2 lock-waits:12 lock-sleeps:3"
-JOB = "n0 op counts 1 create:2 get-wait:5 refused.4:1 refused.10:3 bytes-in:4096 bytes-out:8192 spills:2 restores-failed:1 pulls:4 arrivals:6"
+NODE = "n0 op counts hellos:7 hellos-refused:1000 malformed:2 lock-waits:12 lock-sleeps:3 end-folds:8"
 OF_JOB = {
     "create": 2, "get-wait": 5, "refused.4": 1, "refused.10": 3, "bytes-in": 4096, "bytes-out": 8192, "spills": 2, "restores-failed": 1,
-    "pulls": 4, "arrivals": 6,
+    "pulls": 4, "arrivals": 6, "locates": 9, "fetched": 10, "sources-gone": 11, "chunks-sent": 12, "not-here": 13, "evictions": 14,
+    "removals": 15,
 }
+JOB = " ".join(["n0 op counts 1", *(f"{name}:{count}" for name, count in OF_JOB.items())])
 SAMPLES = {
     'store_commands_total{node="0",job="1",command="create"}': 2, 'store_commands_total{node="0",job="1",command="get-wait"}': 5,
     'store_refusals_total{node="0",job="1",number="4",name="Absent"}': 1,
@@ -37,14 +38,19 @@ SAMPLES = {
     'store_device_calls_total{node="0",job="1",call="spill",result="done"}': 2,
     'store_device_calls_total{node="0",job="1",call="restore",result="failed"}': 1,
     'store_pulls_total{node="0",job="1"}': 4, 'store_arrivals_total{node="0",job="1"}': 6,
+    'store_fetches_total{node="0",job="1",stage="directory"}': 9, 'store_fetches_total{node="0",job="1",stage="whole"}': 10,
+    'store_fetches_total{node="0",job="1",stage="absent"}': 11, 'store_served_total{node="0",job="1",answer="chunk"}': 12,
+    'store_served_total{node="0",job="1",answer="absent"}': 13, 'store_evictions_total{node="0",job="1"}': 14,
+    'store_removals_total{node="0",job="1"}': 15,
     'store_hellos_total{node="0",result="taken"}': 7, 'store_hellos_total{node="0",result="refused"}': 1000,
     'store_malformed_sessions_total{node="0"}': 2, 'store_lock_waits_total{node="0"}': 12, 'store_lock_sleeps_total{node="0"}': 3,
-    'store_hellos_total{node="1",result="taken"}': 0, "store_counts_faults": 0,
+    'store_end_folds_total{node="0"}': 8, 'store_hellos_total{node="1",result="taken"}': 0, "store_counts_faults": 0,
 }
 FAMILIES = tuple(
     f"store_{name}"
     for name in (
-        "commands", "refusals", "session_bytes", "device_calls", "pulls", "arrivals", "hellos", "malformed", "lock", "counts_faults",
+        "commands", "refusals", "session_bytes", "device_calls", "pulls", "arrivals", "fetches", "served", "evictions", "removals",
+        "hellos", "malformed", "lock", "end_folds", "counts_faults",
     )
 )
 OLDER = "this server has no line counts: its program is older than that"
@@ -66,12 +72,12 @@ def strangers(place: Place) -> List[str]:
 
 
 def refused(count: int, malformed: int = 0) -> str:
-    return f"n0 op counts hellos:0 hellos-refused:{count} malformed:{malformed} lock-waits:0 lock-sleeps:0"
+    return f"n0 op counts hellos:0 hellos-refused:{count} malformed:{malformed} lock-waits:0 lock-sleeps:0 end-folds:0"
 
 
 class Lines(unittest.TestCase):
     def test_what_they_say(self) -> None:
-        self.assertEqual(read_node(NODE, 0), NodeCounts(0, 7, 1000, 2, 12, 3))
+        self.assertEqual(read_node(NODE, 0), NodeCounts(0, 7, 1000, 2, 12, 3, 8))
         row = read_job(JOB, 0, 1)
         assert row is not None
         self.assertEqual((row, row.commands), (JobCounts(0, 1, OF_JOB), 7))
@@ -92,11 +98,11 @@ class Lines(unittest.TestCase):
                 own.sent(0)
             for _ in range(unread):
                 own.unread(0)
-            told.append(own.left_out(NodeCounts(0, 0, count, 0, 0, 0)).hellos_refused)
+            told.append(own.left_out(NodeCounts(0, 0, count, 0, 0, 0, 0)).hellos_refused)
         self.assertEqual(told, [2, 2, 2, 6, 6])
         own.begin()
         own.sent(0)
-        self.assertEqual(own.left_out(NodeCounts(0, 0, 0, 0, 0, 0)).hellos_refused, 0)
+        self.assertEqual(own.left_out(NodeCounts(0, 0, 0, 0, 0, 0, 0)).hellos_refused, 0)
 
 
 class Asked(unittest.TestCase):
@@ -106,8 +112,8 @@ class Asked(unittest.TestCase):
             found = samples(place)
             self.assertEqual({name: found.get(name) for name in SAMPLES}, SAMPLES)
             ours = [name for name in found if name.startswith(FAMILIES)]
-            # of node 1 there are four more, which are 0
-            self.assertEqual(len(ours), len(SAMPLES) + 4, ours)
+            # of node 1 there are five more, which are 0
+            self.assertEqual(len(ours), len(SAMPLES) + 5, ours)
 
     def test_pings_are_the_daemon_s_own(self) -> None:
         with Counting() as place:
@@ -128,19 +134,23 @@ class Asked(unittest.TestCase):
     def test_storectl_shows_them(self) -> None:
         with Counting(2) as place:
             place.serve(counts_0=NODE, counts_0_1=JOB, counts_1_1="n1 op counts 1 list:4")
-            nodes = "NODE  HELLOS  REFUSED  MALFORMED  LOCK WAITS  LOCK SLEEPS\n   0       7     1000          2          12            3\n"
+            nodes = (
+                "NODE  HELLOS  REFUSED  MALFORMED  LOCK WAITS  LOCK SLEEPS  END FOLDS\n"
+                "   0       7     1000          2          12            3          8\n"
+            )
             status, printed, complained = ctl(place, "counts")
             self.assertEqual((status, complained), (0, ""))
             first, second = printed.split("\n\n")
-            self.assertEqual(first + "\n", nodes + "   1       0        0          0           0            0\n")
+            self.assertEqual(first + "\n", nodes + "   1       0        0          0           0            0          0\n")
             self.assertEqual(second.splitlines()[0], "NODE  JOB               COUNT  NUMBER")
+            self.assertIn("   0    1           evictions      14\n", second)
             self.assertIn("   0    1  refused 10 Pending       3\n", second)
             self.assertTrue(second.endswith("   1    1                list       4\n"), second)
             self.assertEqual(ctl(place, "counts", "1", "1")[1].splitlines()[-2:], ["NODE  JOB  COUNT  NUMBER", "   1    1   list       4"])
             self.assertEqual(ctl(place, "counts", "0", "9")[1], f"{nodes}\nNODE  JOB  COUNT  NUMBER\n")
             self.assertEqual(ctl(place, "counts", "2"), (1, "", "storectl: there is no node 2: the server has 0 to 1\n"))
             told: Any = json.loads(ctl(place, "--json", "counts", "0")[1])
-            names = {"node": 0, "hellos": 7, "hellos_refused": 1000, "malformed": 2, "lock_waits": 12, "lock_sleeps": 3}
+            names = {"node": 0, "hellos": 7, "hellos_refused": 1000, "malformed": 2, "lock_waits": 12, "lock_sleeps": 3, "end_folds": 8}
             self.assertEqual(told, [{**names, "jobs": [{"job": 1, "counts": OF_JOB}]}])
 
     def test_top_has_a_column_of_them(self) -> None:
@@ -294,7 +304,7 @@ def told_in_all(place: Place) -> Tuple[int, int]:
 
 class Text(unittest.TestCase):
     def test_the_daemon_s_line_is_read_again(self) -> None:
-        counts = Counts(12.5, (NodeCounts(0, 1, 2, 3, 4, 5),), (JobCounts(0, 1, OF_JOB),))
+        counts = Counts(12.5, (NodeCounts(0, 1, 2, 3, 4, 5, 6),), (JobCounts(0, 1, OF_JOB),))
         self.assertEqual(read_counts(json.loads(counts_text(counts))), counts)
 
 

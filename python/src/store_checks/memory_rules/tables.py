@@ -188,9 +188,6 @@ PLACES: Dict[str, Dict[str, str]] = {
     "journal_replay/src/program.rt": {
         "let Ok(text) = outcome_text(alloc, &outcome) else { return Err(ReplayFault::NoMemory": "the outcome's text wasn't made",
     },
-    "node_housekeeping/src/housekeeping.rt": {
-        "match response { Reply::Refused(Refusal::NoMemory) => WorkDone::NoMemory": "the answer to a worker's step was NoMemory",
-    },
     "node_journal/src/not_stepped.rt": {
         "impl From<NotStepped> for OutOfMemory": "which of two growths was refused is forgotten",
         "fn from { Refusal::from(OutOfMemory": "the same, as a refusal",
@@ -200,7 +197,7 @@ PLACES: Dict[str, Dict[str, str]] = {
         "match failure { Failure::Memory(_) => Refusal::NoMemory": "the failure was that memory ran out",
     },
     "operator_service/src/attending.rt": {
-        "...t, alloc, nodes, count, number, taken, line, closing) else { return Err(Fault::NoMemory": "the answer wasn't made",
+        "...r, alloc, nodes, count, number, taken, line, closing) else { return Err(Fault::NoMemory": "the answer wasn't made",
     },
     "operator_service/src/serving.rt": {
         "match hear_order(alloc, text, count) { Err(_) => Err(Fault::NoMemory": "the order wasn't read",
@@ -239,7 +236,7 @@ PLACES: Dict[str, Dict[str, str]] = {
             "the refusal isn't Malformed: what is left is out of memory",
     },
     "shared_nodes/src/working.rt": {
-        "let done = match reply { Reply::Refused(Refusal::NoMemory) => WorkDone::NoMemory": "the answer to a worker's step was NoMemory",
+        "match reply { Reply::Refused(Refusal::NoMemory) => WorkDone::NoMemory": "the answer to a worker's step was NoMemory",
     },
     "spill_device/src/file.rt": {
         "if error.kind() == ErrorKind::OutOfMemory { return Err(DeviceFault::NoMemory": "the system's error of a call",

@@ -1,5 +1,5 @@
 use Rattle.shared_nodes.proofs.Answering.{answered}
 use Rattle.shared_nodes.proofs.shared.SharedNode.operate.Goals as goal
 
-pub returns : goal.returns
-returns g c = answered c.step_event-stepped.result c.answer.result.0 c.answer.result.1 (g.K.JournaledNode.receipt_of c.args.event.now) c.answer.ensures c.step_event-stepped.ensures.stepped
+pub returns-clause-receipt : goal.returns-clause-receipt
+returns-clause-receipt g c = answered c.step_event-stepped.result c.answer.result.0 c.answer.result.1 (g.K.JournaledNode.receipt_of c.args.event.now) c.answer.ensures c.step_event-stepped.ensures.stepped

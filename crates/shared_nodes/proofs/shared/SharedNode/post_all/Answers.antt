@@ -1,4 +1,4 @@
-use Rattle.shared_nodes.proofs.shared.SharedNode.post.Goals as goal
+use Rattle.shared_nodes.proofs.shared.SharedNode.post_all.Goals as goal
 
 -- what a step sends comes to an end
 pub loop-posted-init : goal.loop-posted-init
