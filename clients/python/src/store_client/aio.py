@@ -33,10 +33,12 @@ from .putting import Progress
 from .refusals import ConnectionLost, ServerSilent, StoreError
 from .requests import Pieces, Request, Requests, hello, value_of
 from .steps import Ask, Deadline, Effect, Over, Rest, Steps, TakeBack, Together, answers_due, ask, fail, go_on
+from .tables import decode_table, encode_table
 from .values import check_trust, expected
 
 if TYPE_CHECKING:
     import numpy
+    import pyarrow
 
 T = TypeVar("T")
 V = TypeVar("V")
@@ -209,6 +211,16 @@ class Connection:
         whole = await self._get_whole(id, timeout, limit, since)
         array: numpy.ndarray[Any, numpy.dtype[Any]] = decode_array(whole, id.text(self.job))
         return array
+
+    async def put_table(self, table: Any, id: Optional[ObjectId] = None, timeout: Optional[float] = None) -> ObjectId:
+        """As `store_client.Connection.put_table`."""
+        return await self._put_pieces(encode_table(table), id, timeout)
+
+    async def get_table(
+        self, id: ObjectId, timeout: Optional[float] = None, limit: Optional[int] = None, since: Optional[str] = None
+    ) -> pyarrow.Table:
+        """As `store_client.Connection.get_table`."""
+        return decode_table(await self._get_whole(id, timeout, limit, since), id.text(self.job))
 
     async def delete_value(self, id: ObjectId) -> None:
         """As `store_client.Connection.delete_value`."""

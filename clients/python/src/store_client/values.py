@@ -1,11 +1,11 @@
-"""Python objects and arrays in the store, of any length.
+"""Python objects, arrays and tables in the store, of any length.
 
 `put_value` stores any object that can be pickled. Large buffers in it, as of arrays, are stored beside the pickle and not in it,
-and are got as read-only views of one buffer, without another copy. `put_array` stores an array without a pickle.
+and are got as read-only views of one buffer, without another copy. `put_array` stores an array without a pickle, and `put_table` a table.
 
 **Who unpickles trusts who pickled.** `get_value` runs what the pickle says, and that may be any code, with all that this process
-may do. Get values of your own job, or with `trust=True` of one that you would let run code here. From any other job get bytes (`get`)
-or arrays (`get_array`): these are only read.
+may do. Get values of your own job, or with `trust=True` of one that you would let run code here. From any other job get bytes (`get`),
+arrays (`get_array`) or tables (`get_table`): these are only read.
 """
 
 from __future__ import annotations
@@ -20,15 +20,17 @@ from .ids import ObjectId, expect_id
 from .putting import Progress
 from .requests import Pieces
 from .steps import Deadline, Steps
+from .tables import decode_table, encode_table
 
 if TYPE_CHECKING:
     import numpy
+    import pyarrow
 
 V = TypeVar("V")
 
 
 class ValueCalls(Calls):
-    """`Calls`, and those for values and arrays."""
+    """`Calls`, and those for values, arrays and tables."""
 
     def put_value(self, value: Any, id: Optional[ObjectId] = None, timeout: Optional[float] = None) -> ObjectId:
         """Stores any Python object that can be pickled, under the id or a new one. Arrays of numpy in it may have any order and gaps.
@@ -101,17 +103,32 @@ class ValueCalls(Calls):
         array: numpy.ndarray[Any, numpy.dtype[Any]] = decode_array(self._get_whole(id, timeout, limit, since), id.text(self.job))
         return array
 
+    def put_table(self, table: Any, id: Optional[ObjectId] = None, timeout: Optional[float] = None) -> ObjectId:
+        """Stores a table of Arrow by pyarrow, without a pickle, as a stream of Arrow's own format. Waits and is refused as `put`.
+
+        What is no table but has `__arrow_c_stream__`, as tables of pandas and polars have, is taken for the table that it hands over.
+        `TypeError` for what is none."""
+        return self._put_pieces(encode_table(table), id, timeout)
+
+    def get_table(
+        self, id: ObjectId, timeout: Optional[float] = None, limit: Optional[int] = None, since: Optional[str] = None
+    ) -> pyarrow.Table:
+        """The table that `put_table` stored, whose columns are read-only views of one buffer. Nothing is unpickled, so it may be another
+        job's, if that granted it. Waits and is refused as `get`. No hold stays. `ValueError` if it is no table, or has a column that can't
+        be right. The limit is that of `get_array`."""
+        return decode_table(self._get_whole(id, timeout, limit, since), id.text(self.job))
+
     def delete_value(self, id: ObjectId) -> None:
-        """Removes what `put_value` or `put_array` stored, with its parts."""
+        """Removes what `put_value`, `put_array` or `put_table` stored, with its parts."""
         self._run(parts.delete_whole(self._requests, expect_id(id)))
 
     def grant_value(self, id: ObjectId, job: int) -> None:
-        """Grants what `put_value` or `put_array` stored to a job, with its parts, each of which is one of the 64 grants that a job
-        may have given. If one can't be granted, none is."""
+        """Grants what `put_value`, `put_array` or `put_table` stored to a job, with its parts, each of which is one of the 64 grants that a
+        job may have given. If one can't be granted, none is."""
         self._run(parts.grant_whole(self._requests, expect_id(id), job))
 
     def withdraw_value(self, id: ObjectId, job: int) -> None:
-        """Ends the grants of what `put_value` or `put_array` stored."""
+        """Ends the grants of what `put_value`, `put_array` or `put_table` stored."""
         self._run(parts.withdraw_whole(self._requests, expect_id(id), job))
 
     def _put_pieces(
