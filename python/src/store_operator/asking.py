@@ -115,10 +115,7 @@ class Daemon:
 
     def usage(self, node: int, job: int) -> Optional[UsageRow]:
         """None if the job doesn't live there any more."""
-        answer = self.ask(f"usage {node} {job}")
-        if answer == f"n{node} op refused 1 NotAdmitted":
-            return None
-        return UsageRow(node, job, *_whole(_after(answer, f"n{node} op usage"), 6))
+        return read_usage(self.ask(f"usage {node} {job}"), node, job)
 
     def metrics(self) -> str:
         """The counters in Prometheus' text format."""
@@ -173,6 +170,13 @@ class Daemon:
         if isinstance(error, socket.timeout):
             return f"no answer for {self._socket.gettimeout():.3g} seconds"
         return error.strerror or str(error)
+
+
+def read_usage(answer: str, node: int, job: int) -> Optional[UsageRow]:
+    """What the daemon or its server answers to `usage NODE JOB`: None if the job doesn't live there. `AskFault` for anything else."""
+    if answer == f"n{node} op refused 1 NotAdmitted":
+        return None
+    return UsageRow(node, job, *_whole(_after(answer, f"n{node} op usage"), 6))
 
 
 def _after(answer: str, start: str) -> List[str]:

@@ -9,12 +9,10 @@ import logging
 import time
 from typing import Dict, Optional, Set
 
-import store_client
-
 from . import sockets
 from .counts import counts_text
 from .limits import needed_descriptors
-from .looking import PATIENCE, Looks, rows_text
+from .looking import Looks, rows_text
 from .metrics import Metrics
 from .orders import (
     LONGEST_LINE, Admit, AskCounts, Close, End, Jobs, Kick, NotAnOrder, Order, Ping, Prometheus, Quota, Sessions, Streams, Usage, Usages,
@@ -172,18 +170,10 @@ class Control:
         return await self._status()
 
     async def _usage(self, order: Usage) -> str:
-        """What a session of the job is told: the daemon has its key."""
-        job = self._supervisor.jobs.get(order.node, order.job)
-        if job is None:
+        """The server's answer, of a job that the daemon knows."""
+        if self._supervisor.jobs.get(order.node, order.job) is None:
             return f"n{order.node} op refused 1 NotAdmitted"
-        self._supervisor.running()
-        try:
-            row = await self._looks.usage(job, PATIENCE)
-        except store_client.Refused as refused:
-            return f"n{order.node} op refused {refused.number} {type(refused).__name__}"
-        except store_client.StoreError as error:
-            raise NotDone(str(error)) from error
-        return f"n{order.node} op usage {' '.join(map(str, row[2:]))}"
+        return await self._supervisor.relay(f"usage {order.node} {order.job}")
 
     async def _counts(self) -> str:
         try:

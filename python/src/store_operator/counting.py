@@ -12,8 +12,7 @@ from .relaying import Unanswered, relay_all
 
 
 class OwnHellos:
-    """Of one run of the server, by node: the daemon's own Hellos that it refuses. They ask whether it answers, or for a job that has just
-    ended."""
+    """Of one run of the server, by node: the daemon's own Hellos, which ask whether it answers. It refuses them."""
 
     def __init__(self) -> None:
         self._sent: Counter[int] = Counter()

@@ -1,6 +1,7 @@
 """What the daemon sees of its server: the nodes' answers, what jobs use, what was spilled, and the server's process.
 
-A session of each job asks its node for the job's usage, since the daemon has the keys. No other session is told of it.
+The server's own control socket tells what jobs use. No session is opened for that, no journal has an entry of it, and a node is locked for
+each job no longer than it takes to read six numbers.
 """
 
 from __future__ import annotations
@@ -9,22 +10,17 @@ import asyncio
 import time
 from typing import List, NamedTuple, Tuple
 
-import store_client
-from store_client import aio
-
 from .answering import Silent, ask_all
-from .asking import UsageRow
+from .asking import AskFault, UsageRow, read_usage
 from .counting import look_at_counts
 from .counts import Counts
 from .fresh import Fresh
 from .inspection import NO_PROCESS, Process, count_sessions, look_at
-from .orders import Admit
+from .relaying import Unanswered, relay_all
 from .spill import SpillFault, Spilled
 from .supervisor import NotDone, Supervisor
 from .tidying import aside
 
-# seconds that a question waits for an answer of the server's
-PATIENCE = 60.0
 # seconds that a look at all jobs or at the nodes may take, that one at the disk may, and for which what was seen is told again
 _LONGEST_LOOK, _LOOK_AT_DISK, _FRESH = 4.0, 2.0, 1.0
 
@@ -59,25 +55,6 @@ class Looks:
         """The server's own. `NotDone` if it doesn't serve, and `Unanswered` if it doesn't tell them."""
         self.supervisor.running()
         return await self._counts.get()
-
-    async def usage(self, job: Admit, patience: float) -> UsageRow:
-        """`store_client.StoreError` if the node refuses it, or doesn't answer for so many seconds."""
-        path = str(self.supervisor.settings.sockets()[job.node])
-        try:
-            used = await asyncio.wait_for(self._ask(path, job, patience), patience)
-        except asyncio.TimeoutError:
-            raise store_client.TimedOut(f"no answer for {patience:.3g} seconds") from None
-        return UsageRow(job.node, job.job, used.window, used.window_used, used.device, used.device_used, used.copies, used.works)
-
-    async def _ask(self, path: str, job: Admit, patience: float) -> store_client.Usage:
-        try:
-            session = await aio.connect(path, job.job, bytes.fromhex(job.key), patience)
-        except store_client.NotAdmitted:
-            # the job has ended meanwhile, and this is no stranger's Hello
-            self.supervisor.own_hellos.sent(job.node)
-            raise
-        async with session:
-            return await session.usage()
 
     async def ping(self) -> float:
         """The seconds in which all nodes answered, asked now, also if they didn't a moment ago. `NotDone` if one took longer than a look."""
@@ -122,17 +99,15 @@ class Looks:
         return Look(rows, faults, time.monotonic() - begun)
 
     async def _look_at_node(self, node: int, end: float) -> Tuple[List[UsageRow], str]:
-        """One job after another. A node that doesn't answer for one isn't asked for the next."""
-        rows: List[UsageRow] = []
-        for job in self.supervisor.jobs.at(node):
-            try:
-                rows.append(await self.usage(job, max(0.0, end - time.monotonic())))
-            except store_client.NotAdmitted:
-                # it has ended meanwhile
-                continue
-            except store_client.StoreError as error:
-                return rows, f"node {node}: job {job.job}: {error}"
-        return rows, ""
+        """All jobs there over one connection; one that has ended meanwhile is left out."""
+        jobs = [job.job for job in self.supervisor.jobs.at(node)]
+        control, patience = self.supervisor.settings.server_control(), max(0.0, end - time.monotonic())
+        try:
+            answers = await relay_all(control, [f"usage {node} {job}" for job in jobs], patience) if jobs else []
+            rows = [read_usage(answer, node, job) for answer, job in zip(answers, jobs)]
+        except (Unanswered, AskFault) as why:
+            return [], f"node {node}: {why}"
+        return [row for row in rows if row], ""
 
 
 def rows_text(look: Look) -> str:

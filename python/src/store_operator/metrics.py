@@ -168,7 +168,7 @@ def _of_counts(counts: Counts) -> List[Family]:
         hellos += [({"node": row.node, "result": "taken"}, row.hellos), ({"node": row.node, "result": "refused"}, row.hellos_refused)]
     return [
         *_of_job_counts(counts.jobs),
-        Family("hellos_total", True, "Hellos of clients; those of the looks at jobs are among those taken.", hellos),
+        Family("hellos_total", True, "Hellos of clients.", hellos),
         _of_nodes("malformed_sessions_total", "Sessions that ended by what is no frame.", (row.malformed for row in counts.nodes)),
         _of_nodes("lock_waits_total", "How often a thread found the node locked.", (row.lock_waits for row in counts.nodes)),
         _of_nodes("lock_sleeps_total", "How often a thread slept until the node wasn't locked.", (row.lock_sleeps for row in counts.nodes)),

@@ -15,6 +15,10 @@ class Unanswered(Exception):
     """A line that has no answer; the text says why."""
 
 
+class TooLate(Unanswered):
+    """No answer has come in time; what the line asks for may still be done."""
+
+
 class NoSuchLine(Unanswered):
     """The server is older than the line."""
 
@@ -29,7 +33,7 @@ async def relay_all(path: Path, lines: Sequence[str], patience: float) -> List[s
     try:
         answers = await asyncio.wait_for(_ask(path, lines), patience)
     except asyncio.TimeoutError:
-        raise Unanswered(f"no answer for {patience:.0f} seconds; it may still be carried out") from None
+        raise TooLate(f"no answer for {patience:.3g} seconds") from None
     except (OSError, asyncio.IncompleteReadError, asyncio.LimitOverrunError) as error:
         raise Unanswered(f"the server's control socket: {getattr(error, 'strerror', None) or 'it ended before it answered'}") from error
     if any(_NO_LINE in answer for answer in answers):

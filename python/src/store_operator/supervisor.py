@@ -22,7 +22,7 @@ from .notify import tell_manager
 from .orders import End, ServerOrder, server_line, told
 from .ready import write_new
 from .refusals import explained
-from .relaying import Unanswered, relay
+from .relaying import TooLate, Unanswered, relay
 from .server import Server, ServerEnded
 from .settings import Settings
 from .sockets import SocketFault
@@ -96,17 +96,19 @@ class Supervisor:
         """The server's answer to an order."""
         return await self._give(self.running(), order)
 
-    async def relay(self, line: str) -> str:
-        """The answer of the server's own control socket."""
+    async def relay(self, line: str, if_late: str = "") -> str:
+        """The answer of the server's own control socket. If none comes in time, what is to be said besides is added."""
         self.running()
         try:
             return await relay(self.settings.server_control(), line, _PATIENCE)
+        except TooLate as why:
+            raise NotDone(f"{why}{if_late}") from why
         except Unanswered as why:
             raise NotDone(str(why)) from why
 
     async def kick(self, line: str) -> str:
         """The same of a line that ends a session: the log tells of it."""
-        answer = await self.relay(line)
+        answer = await self.relay(line, "; it may still be carried out")
         self._log.info("%s: %s", line, answer)
         return answer
 

@@ -122,14 +122,14 @@ class Asked(unittest.TestCase):
             place.ask("ping")
             self.assertEqual(samples(place)['store_hellos_total{node="0",result="refused"}'], 1)
 
-    def test_a_look_at_a_job_that_has_just_ended_is_the_daemon_s_own(self) -> None:
+    def test_a_look_at_a_job_that_has_just_ended_is_no_hello(self) -> None:
         with Counting() as place:
             place.serve(counts_0=refused(3))
             # not by the daemon, which takes it for one that lives
             self.assertEqual(asyncio.run(relay(place.path / "store.new.c", "end 0 1", PATIENCE)), "n0 op ok")
-            self.assertEqual(place.ask("usage 0 1"), "n0 op refused 1 NotAdmitted")
+            self.assertEqual((place.ask("usage 0 1"), place.ask("usages")), ("n0 op refused 1 NotAdmitted", "usages"))
             with place.control() as daemon:
-                self.assertEqual([row.hellos_refused for row in daemon.counts().nodes], [2])
+                self.assertEqual([row.hellos_refused for row in daemon.counts().nodes], [3])
 
     def test_storectl_shows_them(self) -> None:
         with Counting(2) as place:
@@ -266,6 +266,20 @@ class AtTheProgram(unittest.TestCase):
             due = {"create": 1, "write": 1, "seal": 1, "usage": 3, "bytes-in": 1_000, "bytes-out": 1_000}
             self.assertEqual({name: told[0, 2].get(name) for name in due}, due)
             self.assertNotIn("bytes-in", told[0, 1])
+
+    def test_a_scrape_is_no_session_and_no_entry(self) -> None:
+        """What it costs a node's lock is a look at each job: no step is made."""
+        with Place(2, (1, 2), watch="0") as place:
+            place.start_ready()
+            for _ in range(3):
+                samples(place)
+            self.assertEqual((ctl(place, "usage")[0], ctl(place, "top", "--once")[0]), (0, 0))
+            if place.ask("counts") != f"not done: {OLDER}":
+                found = samples(place)
+                self.assertEqual([name for name in found if name.startswith("store_commands_total")], [])
+                self.assertEqual([found[f'store_hellos_total{{node="{node}",result="taken"}}'] for node in (0, 1)], [0, 0])
+            # four admissions
+            self.assertEqual(place.ask("close"), "report 4 4 0 0 0")
 
     def test_strangers_are_told_and_its_own_hellos_are_not(self) -> None:
         with Place(1, (1,), watch="0.5") as place:

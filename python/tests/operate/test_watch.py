@@ -178,7 +178,7 @@ class Watched(unittest.TestCase):
                     streams.append(stream)
                     stream.connect(str(place.socket()))
                 self.assertRegex(place.ask("ping"), "^pong nodes=1 ")
-                self.assertRegex(place.ask("usages"), "^not done: node 0: job 1: ")
+                self.assertEqual(place.ask("usages"), "usages 0:1:65536:0:1048576:0:0:0")
             finally:
                 for stream in streams:
                     stream.close()
