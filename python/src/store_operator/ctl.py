@@ -17,7 +17,7 @@ from .asking import AskFault, Daemon, Mark, SessionRow
 from .counts import JobCounts
 from .keys import KeyFault, read_key
 from .refusals import explained
-from .sizes import parse_size
+from .sizes import many, parse_size
 from .tables import job_counts_table, jobs_table, node_counts_table, sessions_table, status_text, table, usage_table
 from .top import see, top_text
 
@@ -55,7 +55,7 @@ def _ping(daemon: Daemon, words: Words) -> int:
     if words.json:
         _print_json({"nodes": nodes, "milliseconds": milliseconds})
     else:
-        print(f"pong: {nodes} nodes, {milliseconds} ms")
+        print(f"pong: {many(nodes, 'node')}, {milliseconds} ms")
     return 0
 
 

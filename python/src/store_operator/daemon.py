@@ -25,6 +25,7 @@ from .metrics import Metrics
 from .reloading import Reloading
 from .serving import MetricsServer
 from .settings import Place, Settings, SettingsFault, metrics_place, read_settings
+from .sizes import many
 from .sockets import SocketFault
 from .spill import SpillFault
 from .supervisor import StartFault, Supervisor
@@ -150,7 +151,7 @@ def check(settings: Settings, path: Path) -> None:
         print(f"store-daemon: {path}: {fault}", file=sys.stderr)
     if last:
         raise SettingsFault(f"{path}: {last}")
-    print(f"{path}: {settings.nodes} nodes, {len(settings.jobs)} admissions")
+    print(f"{path}: {many(settings.nodes, 'node')}, {many(len(settings.jobs), 'admission')}")
 
 
 def main(given: Optional[Sequence[str]] = None) -> int:

@@ -5,6 +5,7 @@ Paths are taken from the file's own folder on. An option that isn't known is a f
 
 from __future__ import annotations
 
+import ast
 import configparser
 import grp
 import logging
@@ -109,9 +110,22 @@ def read_settings(path: Path, usual_program: Callable[[], Path]) -> Settings:
             parser.read_file(file)
     except OSError as error:
         raise SettingsFault(f"{path}: {error.strerror}") from error
+    except configparser.MissingSectionHeaderError as error:
+        raise SettingsFault(f"{path}: line {error.lineno}: {error.line.strip()!r} stands before any section, as [store] is one") from error
+    except configparser.ParsingError as error:
+        number, line = error.errors[0]
+        raise SettingsFault(f"{path}: line {number}: {_text_of(line)!r} is neither an option, as window = 64M, nor a section") from error
     except (configparser.Error, UnicodeDecodeError) as error:
         raise SettingsFault(" ".join(str(error).split())) from error
     return _Reader(path, parser).settings(usual_program)
+
+
+def _text_of(line: str) -> str:
+    """A line of a file, of which configparser gives what Python would show of it."""
+    try:
+        return str(ast.literal_eval(line)).strip()
+    except (SyntaxError, ValueError):
+        return line.strip()
 
 
 def _check_writers(path: Path, found: os.stat_result) -> None:

@@ -23,3 +23,8 @@ def size_text(count: int) -> str:
         if count >= size:
             return f"{count // size}{unit}" if count % size == 0 else f"{count / size:.1f}{unit}"
     return str(count)
+
+
+def many(count: int, what: str) -> str:
+    """So many of what is counted: `1 node`, `2 nodes`."""
+    return f"{count} {what}" if count == 1 else f"{count} {what}s"

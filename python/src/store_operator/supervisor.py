@@ -25,6 +25,7 @@ from .refusals import explained
 from .relaying import TooLate, Unanswered, relay
 from .server import Server, ServerEnded
 from .settings import Settings
+from .sizes import many
 from .sockets import SocketFault
 from .spill import SpillFault, SpillFolders
 from .tidying import Tidying
@@ -220,8 +221,8 @@ class Supervisor:
             write_new(settings.ready, f"{server.process_id}\n")
         self.state = State.RUNNING
         self._has_served = True
-        self._log.info("ready: %d nodes, %d admissions", self.settings.nodes, len(self.jobs.in_order()))
-        tell_manager("READY=1", f"STATUS=serves {self.settings.nodes} nodes")
+        self._log.info("ready: %s, %s", many(settings.nodes, "node"), many(len(self.jobs.in_order()), "admission"))
+        tell_manager("READY=1", f"STATUS=serves {many(settings.nodes, 'node')}")
         # that nobody reads it any more doesn't end the service
         with contextlib.suppress(OSError):
             print("store-daemon: ready", flush=True)

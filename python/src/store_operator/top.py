@@ -8,7 +8,7 @@ from typing import Callable, Dict, List, NamedTuple, Optional, Sequence, Tuple
 
 from .asking import AskFault, Daemon, Mark, UsageRow
 from .counts import Counts
-from .sizes import size_text
+from .sizes import many, size_text
 from .tables import table
 
 _BAR = 20
@@ -84,10 +84,10 @@ def _header(seen: Seen, last: Optional[Seen]) -> List[str]:
     count = sum(sessions) if isinstance(sessions, list) else 0
     sizes = {name: size_text(_whole(status, name)) for name in ("resident", "spilled_bytes", "spill_free")}
     return [
-        f"store: {status['state']}, up {_time_text(_whole(status, 'seconds'))}, {_many(_whole(status, 'nodes'), 'node')}, "
-        f"{_many(count, 'session')}, {_many(_whole(status, 'restarts'), 'restart')}",
-        f"memory {sizes['resident']}, processor {_processor(seen, last)}, {_many(_whole(status, 'threads'), 'thread')}, "
-        f"{status['descriptors']} of {status['descriptors_needed']} descriptors, {_many(_whole(status, 'spilled_files'), 'file')} "
+        f"store: {status['state']}, up {_time_text(_whole(status, 'seconds'))}, {many(_whole(status, 'nodes'), 'node')}, "
+        f"{many(count, 'session')}, {many(_whole(status, 'restarts'), 'restart')}",
+        f"memory {sizes['resident']}, processor {_processor(seen, last)}, {many(_whole(status, 'threads'), 'thread')}, "
+        f"{status['descriptors']} of {status['descriptors_needed']} descriptors, {many(_whole(status, 'spilled_files'), 'file')} "
         f"with {sizes['spilled_bytes']} spilled, {sizes['spill_free']} free",
         "",
     ]
@@ -96,10 +96,6 @@ def _header(seen: Seen, last: Optional[Seen]) -> List[str]:
 def _whole(status: Dict[str, Mark], name: str) -> int:
     mark = status[name]
     return mark if isinstance(mark, int) else 0
-
-
-def _many(count: int, what: str) -> str:
-    return f"{count} {what}" if count == 1 else f"{count} {what}s"
 
 
 def _time_text(seconds: int) -> str:

@@ -99,6 +99,9 @@ class Orders(unittest.TestCase):
                 session.put(b"Hello\n")
             printed = ctl(place, "metrics")[1].splitlines()
         self.assertEqual([line for line in printed if 'job="1"' in line][: len(due)], due)
+        counted = block_with("store_commands_total{").splitlines()
+        if any(line.startswith("store_hellos_total") for line in printed):
+            self.assertEqual([line for line in counted if line not in printed], [])
 
     def test_nobody_is_left(self) -> None:
         with Place() as place:

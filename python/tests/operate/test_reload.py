@@ -172,6 +172,17 @@ class Check(unittest.TestCase):
             place.settings.write_text(text.replace("window = 64K", "window = 512M").replace("memory = 1M", "memory = 16G"))
             self.assertIn("[job 1] window: 512M isn't 16 to 256M", self.check(place).stderr)
 
+    def test_a_line_that_is_none_is_told_with_its_number(self) -> None:
+        with Place() as place:
+            text = place.settings.read_text()
+            rows = (
+                (f"{text}nonsense\n", f"line {text.count(chr(10)) + 1}: 'nonsense' is neither an option, as window = 64M, nor a section"),
+                (f"nodes = 1\n{text}", "line 1: 'nodes = 1' stands before any section, as [store] is one"),
+            )
+            for written, due in rows:
+                place.settings.write_text(written)
+                self.assertEqual(self.check(place).stderr, f"store-daemon: {place.settings}: {due}\n")
+
     def test_what_the_machine_has_not_is_a_warning(self) -> None:
         with Place(8, (1, 2)) as place:
             text = place.settings.read_text().replace("memory = 1M", "memory = 16G").replace("device = 1M", "device = 1T")

@@ -83,6 +83,7 @@ class Answers(unittest.TestCase):
         with Place() as place:
             place.write(1, (1,), watch="0")
             place.start_ready()
+            self.assertRegex(ctl(place, "ping")[1], r"^pong: 1 node, [0-9]+\.[0-9] ms\n$")
             with stopped(place):
                 self.assertEqual(ctl(place, "ping"), (1, "", "storectl: not done: node 0: no answer for 4 seconds\n"))
 

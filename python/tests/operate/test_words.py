@@ -52,7 +52,7 @@ SETTINGS_FAULTS = (
     ("[job 1]", "[job 1]\nnodes = 2", "[job 1] nodes: '2' isn't a node from 0 to 1"),
     ("key_file = key", "key_file = lost", "lost: No such file or directory"),
     ("[store]", "[stor]", "there is no section [store]"),
-    ("[store]", "store", "no section headers"),
+    ("[store]", "store", "stands before any section"),
 )
 
 
@@ -175,7 +175,7 @@ class SettingsFiles(unittest.TestCase):
         with Place() as place:
             folder = place.path / "first"
             self.assertEqual(self.daemon("--new", str(folder)), (0, f"{DAEMON} {folder}/store.ini\n", ""))
-            self.assertEqual(self.daemon("--check", f"{folder}/store.ini"), (0, f"{folder}/store.ini: 1 nodes, 1 admissions\n", ""))
+            self.assertEqual(self.daemon("--check", f"{folder}/store.ini"), (0, f"{folder}/store.ini: 1 node, 1 admission\n", ""))
             modes = {path.name: path.stat().st_mode & 0o777 for path in (folder, *folder.iterdir())}
             self.assertEqual(modes, {"first": 0o700, "store.ini": 0o600, "job1.key": 0o600})
             status, said, fault = self.daemon("--new", str(folder))
