@@ -4,8 +4,15 @@
  *
  *     put       Create, Writes, Seal and Delete of an object of so many bytes
  *     get       Get, Reads and Release of one
+ *     put-once  the commands of a put in one write, of at most 1 MiB
+ *     get-once  those of a get
  *     together  16 commands at once, in one write: Usage, Get and Release of an object of so many bytes in turn
  *     apart     these commands, each once the one before is answered
+ *
+ * or, of a Redis server, for which the key is as long and means nothing,
+ *
+ *     set-redis  SET of so many bytes, under a name with the job's number
+ *     get-redis  GET of them
  *
  * Prints how many times that was done, and in how many seconds. These print three numbers more, for the first connection gets, reads and
  * releases an object of 1 KiB meanwhile: milliseconds of such a get at the median, at the 99th percentile and at most. Each other one has
@@ -15,11 +22,12 @@
  *     creates   Create and Delete
  *     restores  two objects in a window of one, of which each Get restores the one that is away: GetWait and Release
  *     spills    eight objects in a window of eight, and eight Creates more, each of which spills one: once, and then all end
+ *     floods    what `together` asks; several may be of one job, and at another server than the first connection
  *
  *     load floor PATH
  *
- * is a server that answers each of these commands at once and keeps no object: its replies have the lengths of the store's, and the bytes
- * that are due. It says that it is ready in a line on standard output.
+ * is a server that answers each of the store's commands at once and keeps no object: its replies have the lengths of the store's, and the
+ * bytes that are due, and those to commands that came together are one write. It says that it is ready in a line on standard output.
  *
  * Connections enter, and refusals are named, by the C client; its calls make their commands while they are timed. Here a command is one write,
  * and is made before it is timed. The kind and length of each reply are looked at, of the bytes of each first get all, and of
@@ -69,7 +77,11 @@ enum {
     LONGEST_FRAME = 4 + 65600,
     SMALL = 1 << 10,
     AT_ONCE = 16,
+    /* of which an object in one trip may be, and what the commands of its put come to */
+    LARGEST_ONCE = 1 << 20,
+    MOST_DUE = LARGEST_ONCE / STORE_MOST_BYTES + 3,
     SPILLED = 8,
+    LONGEST_HEAD = 16,
     /* of which the times are kept */
     MOST_TIMES = 1 << 22,
     MOST_SECONDS = 3600,
@@ -77,12 +89,13 @@ enum {
     PATIENCE = 60
 };
 
-/* What a command of this kind has to be answered: the reply's beginning, how many bytes come after that, and where in the object they are if
- * they are its own. */
+/* What a command of this kind has to be answered: the reply's beginning, how many bytes come after that, whether and where they are the
+ * object's, and how many come after those. */
 struct due {
     enum command kind;
-    unsigned char head[HEAD_BYTES];
-    size_t length;
+    unsigned char head[LONGEST_HEAD];
+    size_t head_length, length, rest;
+    bool is_content;
     uint32_t offset;
 };
 
@@ -90,7 +103,7 @@ struct due {
 struct trip {
     unsigned char *sent;
     size_t length;
-    struct due due[AT_ONCE];
+    struct due due[MOST_DUE];
     int count;
     size_t answer_length;
 };
@@ -104,6 +117,9 @@ struct script {
 struct client {
     const char *path;
     uint32_t job;
+    /* of the connection, from 1 */
+    uint32_t number;
+    bool is_redis;
     unsigned char key[STORE_KEY_BYTES];
     struct script before, timed, after;
     bool is_once;
@@ -197,7 +213,9 @@ static struct due *begin_command(struct trip *trip, enum command kind, size_t fi
     due->kind = kind;
     put_number(due->head, (uint32_t)(1 + length));
     due->head[4] = (unsigned char)reply;
+    due->head_length = HEAD_BYTES;
     due->length = length;
+    due->is_content = reply == BYTES;
     trip->answer_length += HEAD_BYTES + length;
     return due;
 }
@@ -277,10 +295,84 @@ static void prepare_gets(struct client *client, uint32_t length)
     add(new_trip(&client->after), DELETE, one);
 }
 
+/* Makes one trip of a script's. */
+static void join(struct script *script)
+{
+    struct trip all = {0};
+    for (int index = 0; index < script->count; index++) {
+        const struct trip *trip = &script->trips[index];
+        if (all.count + trip->count > MOST_DUE)
+            fail("in one trip go objects of %d bytes at most", LARGEST_ONCE);
+        append(&all, trip->sent, trip->length);
+        memcpy(all.due + all.count, trip->due, (size_t)trip->count * sizeof *trip->due);
+        all.count += trip->count;
+        all.answer_length += trip->answer_length;
+        free(trip->sent);
+    }
+    script->count = 0;
+    *new_trip(script) = all;
+}
+
+static void prepare_puts_once(struct client *client, uint32_t length)
+{
+    prepare_puts(client, length);
+    join(&client->timed);
+}
+
+static void prepare_gets_once(struct client *client, uint32_t length)
+{
+    prepare_gets(client, length);
+    join(&client->timed);
+}
+
+/* A command of Redis but for its last word: so many words, of which these are the first two. What answers it begins with `head`. */
+static struct due *begin_redis(struct trip *trip, const struct client *client, int words, const char *command, const char *head)
+{
+    char name[LONGEST_HEAD], begin[8 * LONGEST_HEAD];
+    struct due *due = &trip->due[trip->count++];
+    int length = snprintf(name, sizeof name, "object%u", client->job);
+    length = snprintf(begin, sizeof begin, "*%d\r\n$%zu\r\n%s\r\n$%d\r\n%s\r\n", words, strlen(command), command, length, name);
+    append(trip, begin, (size_t)length);
+    due->head_length = strlen(head);
+    memcpy(due->head, head, due->head_length);
+    trip->answer_length += due->head_length;
+    return due;
+}
+
+static void add_set(struct script *script, const struct client *client, uint32_t length)
+{
+    char head[LONGEST_HEAD];
+    struct trip *trip = new_trip(script);
+    begin_redis(trip, client, 3, "SET", "+OK\r\n");
+    append(trip, head, (size_t)snprintf(head, sizeof head, "$%u\r\n", length));
+    append(trip, content, length);
+    append(trip, "\r\n", 2);
+}
+
+static void prepare_redis_sets(struct client *client, uint32_t length)
+{
+    client->is_redis = true;
+    add_set(&client->timed, client, length);
+}
+
+static void prepare_redis_gets(struct client *client, uint32_t length)
+{
+    char head[LONGEST_HEAD];
+    client->is_redis = true;
+    add_set(&client->before, client, length);
+    snprintf(head, sizeof head, "$%u\r\n", length);
+    struct trip *trip = new_trip(&client->timed);
+    struct due *due = begin_redis(trip, client, 2, "GET", head);
+    due->length = length;
+    due->is_content = true;
+    due->rest = 2;
+    trip->answer_length += length + due->rest;
+}
+
 /* Usage, Get, Release in turn, and no Get is left without its Release. */
 static void prepare_burst(struct client *client, uint32_t length, bool is_together)
 {
-    struct store_id one = store_id_of(1, client->job, 1);
+    struct store_id one = store_id_of(1, client->job, client->number);
     struct trip *trip = NULL;
     put(&client->before, one, length);
     for (int turn = 0; turn < AT_ONCE; turn++) {
@@ -350,6 +442,9 @@ __attribute__((noreturn)) static void fail_at(const struct client *client, const
 {
     const unsigned char *told = client->answer + at;
     const struct due *due = &trip->due[index];
+    if (client->is_redis)
+        fail("object%u: answered %.*s, and due is %.*s", client->job, (int)strcspn((const char *)told, "\r"), (const char *)told,
+             (int)due->head_length - 2, (const char *)due->head);
     /* the number of a refusal is the byte after it */
     if (told[4] == REFUSED && got == at + HEAD_BYTES && recv(client->store.socket, client->answer + got, 1, 0) == 1)
         got++;
@@ -394,7 +489,7 @@ static bool are_right(const struct client *client, const unsigned char *bytes, c
     return bytes[0] == right[0] && bytes[last] == right[last] && bytes[middle] == right[middle];
 }
 
-/* Commands go out at once. Each reply's beginning is looked at as soon as it is there, since a refusal is shorter. */
+/* Commands go out at once. Each reply's beginning is looked at as soon as five bytes are there, since a refusal is shorter. */
 static void ask(const struct client *client, const struct trip *trip, bool is_whole)
 {
     size_t at = 0, got = 0;
@@ -404,13 +499,15 @@ static void ask(const struct client *client, const struct trip *trip, bool is_wh
         got += receive_some(client, got, trip->answer_length);
         while (index < trip->count && got >= at + HEAD_BYTES) {
             const struct due *due = &trip->due[index];
-            if (memcmp(client->answer + at, due->head, HEAD_BYTES) != 0)
+            size_t whole = due->head_length + due->length + due->rest;
+            size_t there = got - at < due->head_length ? got - at : due->head_length;
+            if (memcmp(client->answer + at, due->head, there) != 0)
                 fail_at(client, trip, index, at, got);
-            if (got < at + HEAD_BYTES + due->length)
+            if (got < at + whole)
                 break;
-            if (due->head[4] == BYTES && !are_right(client, client->answer + at + HEAD_BYTES, due, is_whole))
+            if (due->is_content && !are_right(client, client->answer + at + due->head_length, due, is_whole))
                 fail("job %u: other bytes than were put, in the %zu from %u on", client->job, due->length, due->offset);
-            at += HEAD_BYTES + due->length;
+            at += whole;
             index++;
         }
     }
@@ -422,16 +519,42 @@ static void ask_all(const struct client *client, const struct script *script, bo
         ask(client, &script->trips[index], is_whole);
 }
 
-static void enter(struct client *client)
+static struct sockaddr_un address_of(const char *path)
 {
-    struct timeval patience = {.tv_sec = PATIENCE};
-    size_t most = HEAD_BYTES + 1;
+    struct sockaddr_un address = {.sun_family = AF_UNIX};
+    if (strlen(path) >= sizeof address.sun_path)
+        fail("the path %s is too long", path);
+    strcpy(address.sun_path, path);
+    return address;
+}
+
+/* A session, whose calls block from here on. */
+static void enter_store(struct client *client)
+{
     int result = store_connect(&client->store, client->path, client->job, client->key);
     if (result)
         fail("job %u at %s: %s", client->job, client->path, store_result_name(result));
     /* the client's own calls don't block; these do, for so long at most */
     if (fcntl(client->store.socket, F_SETFL, 0))
         fail("job %u: the socket can't block: %s", client->job, strerror(errno));
+}
+
+static void enter_redis(struct client *client)
+{
+    struct sockaddr_un address = address_of(client->path);
+    client->store.socket = socket(AF_UNIX, SOCK_STREAM, 0);
+    if (client->store.socket < 0 || connect(client->store.socket, (struct sockaddr *)&address, sizeof address))
+        fail("%s: %s", client->path, strerror(errno));
+}
+
+static void enter(struct client *client)
+{
+    struct timeval patience = {.tv_sec = PATIENCE};
+    size_t most = HEAD_BYTES + 1;
+    if (client->is_redis)
+        enter_redis(client);
+    else
+        enter_store(client);
     setsockopt(client->store.socket, SOL_SOCKET, SO_RCVTIMEO, &patience, sizeof patience);
     setsockopt(client->store.socket, SOL_SOCKET, SO_SNDTIMEO, &patience, sizeof patience);
     for (int index = 0; index < client->timed.count; index++)
@@ -466,19 +589,41 @@ static void *work(void *argument)
     pthread_barrier_wait(&all_are_ready);
     work_on(client);
     ask_all(client, &client->after, true);
-    store_close(&client->store);
+    if (client->is_redis)
+        close(client->store.socket);
+    else
+        store_close(&client->store);
     return NULL;
 }
 
 /* ---- the floor */
 
-/* Answers a frame by one write, as the store does; `length` is that of the object created last. */
-static void answer(int stream, const unsigned char *frame, uint32_t *length)
+/* Replies that go out in one write. */
+struct replies {
+    unsigned char heads[AT_ONCE][HEAD_BYTES + USAGE_BYTES];
+    struct iovec parts[2 * AT_ONCE];
+    size_t length;
+    int count;
+};
+
+static void send_replies(int stream, struct replies *replies)
 {
-    unsigned char head[HEAD_BYTES + USAGE_BYTES] = {0};
+    struct msghdr message = {.msg_iov = replies->parts, .msg_iovlen = (size_t)(2 * replies->count)};
+    if (replies->count > 0 && sendmsg(stream, &message, MSG_NOSIGNAL) != (ssize_t)replies->length)
+        fail("floor: a reply was cut");
+    replies->count = 0;
+    replies->length = 0;
+}
+
+/* Makes a frame's reply, for which there is room; `length` is that of the object created last. */
+static void answer(struct replies *replies, const unsigned char *frame, uint32_t *length)
+{
+    unsigned char *head = replies->heads[replies->count];
     const unsigned char *fields = frame + HEAD_BYTES + STORE_ID_BYTES;
-    struct iovec parts[2] = {{head, HEAD_BYTES}, {NULL, 0}};
-    struct msghdr message = {.msg_iov = parts, .msg_iovlen = 2};
+    struct iovec *parts = &replies->parts[2 * replies->count++];
+    memset(head, 0, sizeof *replies->heads);
+    parts[0] = (struct iovec){head, HEAD_BYTES};
+    parts[1] = (struct iovec){NULL, 0};
     head[4] = OK;
     if (frame[4] == CREATE) {
         *length = number_at(fields + 1);
@@ -497,39 +642,40 @@ static void answer(int stream, const unsigned char *frame, uint32_t *length)
     }
     size_t whole = parts[0].iov_len + parts[1].iov_len;
     put_number(head, (uint32_t)(whole - 4));
-    if (sendmsg(stream, &message, MSG_NOSIGNAL) != (ssize_t)whole)
-        fail("floor: a reply was cut");
+    replies->length += whole;
 }
 
 static void *answer_all(void *argument)
 {
     int stream = (int)(intptr_t)argument;
-    unsigned char *frame = memory(NULL, LONGEST_FRAME);
+    unsigned char *frames = memory(NULL, LONGEST_FRAME);
+    struct replies replies = {.count = 0};
     uint32_t length = 0;
     size_t got = 0;
     ssize_t count;
-    while ((count = recv(stream, frame + got, LONGEST_FRAME - got, 0)) > 0) {
+    while ((count = recv(stream, frames + got, LONGEST_FRAME - got, 0)) > 0) {
+        size_t at = 0;
         got += (size_t)count;
-        while (got >= HEAD_BYTES && got >= 4 + (size_t)number_at(frame)) {
-            size_t whole = 4 + (size_t)number_at(frame);
-            answer(stream, frame, &length);
-            memmove(frame, frame + whole, got - whole);
-            got -= whole;
+        while (got >= at + HEAD_BYTES && got >= at + 4 + (size_t)number_at(frames + at)) {
+            if (replies.count == AT_ONCE)
+                send_replies(stream, &replies);
+            answer(&replies, frames + at, &length);
+            at += 4 + (size_t)number_at(frames + at);
         }
+        send_replies(stream, &replies);
+        memmove(frames, frames + at, got - at);
+        got -= at;
     }
-    free(frame);
+    free(frames);
     close(stream);
     return NULL;
 }
 
 static int serve_floor(const char *path)
 {
-    struct sockaddr_un address = {.sun_family = AF_UNIX};
+    struct sockaddr_un address = address_of(path);
     pthread_t thread;
     int listener = socket(AF_UNIX, SOCK_STREAM, 0), stream;
-    if (strlen(path) >= sizeof address.sun_path)
-        fail("floor: the path %s is too long", path);
-    strcpy(address.sun_path, path);
     if (listener < 0 || bind(listener, (struct sockaddr *)&address, sizeof address) || listen(listener, 64))
         fail("floor: %s: %s", path, strerror(errno));
     puts("ready");
@@ -554,13 +700,18 @@ struct kind {
 static const struct kind kinds[] = {
     {"put", prepare_puts, false},
     {"get", prepare_gets, false},
+    {"put-once", prepare_puts_once, false},
+    {"get-once", prepare_gets_once, false},
     {"together", prepare_together, false},
     {"apart", prepare_apart, false},
+    {"set-redis", prepare_redis_sets, false},
+    {"get-redis", prepare_redis_gets, false},
     {"reads", prepare_gets, true},
     {"seals", prepare_seals, true},
     {"creates", prepare_creates, true},
     {"restores", prepare_restores, true},
     {"spills", prepare_spills, true},
+    {"floods", prepare_together, true},
 };
 
 static const struct kind *kind_of(const char *name)
@@ -618,6 +769,7 @@ static int load(const struct kind *kind, uint32_t length, char **words, int coun
     pthread_barrier_init(&all_are_ready, NULL, (unsigned)count);
     for (int index = 0; index < count; index++) {
         clients[index] = client_of(words + 3 * index);
+        clients[index].number = (uint32_t)index + 1;
         bool is_timed = kind->is_beside && index == 0;
         if (is_timed)
             clients[index].times = memory(NULL, MOST_TIMES * sizeof(double));

@@ -582,7 +582,7 @@ class Load(unittest.TestCase):
             try:
                 assert floor.stdout is not None
                 self.assertEqual(floor.stdout.readline(), "ready\n")
-                for word in ("get", "put", "together"):
+                for word in ("get", "put", "get-once", "put-once", "together", "floods"):
                     done = said([load, word, "70000", "0", path, "1", key(1).hex()])
                     self.assertEqual((done.returncode, done.stderr), (0, ""))
             finally:
