@@ -16,9 +16,11 @@ The rows, and what they are compared with, take turns, and each keeps its best r
 are looked at, and the bytes of each client's first get: a wrong one ends all with status 1. With the default options
 that is some five minutes.
 
---redis measures the store beside redis-server alone: puts and gets of 64 KiB and 1 MiB by four connections at one node, in rounds (5 by
-default) in which both take turns, by the same Python clients. A figure is the median of the rounds, a ratio the median of the rounds'
-own ratios, with the least and the greatest. If cc is there, the native load measures the store in the same rounds, too.
+--now measures by the native load alone, in one run, what bench/RESULTS.md has first: the program of now beside that of the last release
+(the newest in dist/ whose program is another one), Redis, and the floor of load.c. It measures puts and gets of 1 KiB, 64 KiB and 1 MiB, commands
+16 at once, one node to four, and a neighbour's gets beside floods, in rounds by turns, 5 by default, which takes some ten minutes. It prints
+tables as RESULTS has them; a figure is the median of the rounds, a ratio the median of the rounds' own ratios, with the least and the
+greatest. --write also writes them there, and into README.md what that has of them. What isn't there is left out, which is said.
 
 At last come ratios by a native load, load.c, each of figures of the same rounds, in at most some three minutes; --native
 measures these alone. It is compiled with cc into a temporary folder, and its floor answers the same trips. The rows, with the goal
@@ -30,17 +32,15 @@ of each beside it:
 - get of another job's 1 KiB (median, 99th percentile, longest) beside four sessions that seal, restore, create and
   delete, or spill 16 MiB, to the same beside four that read.
 
-How each is measured stands in serving_rows.py and load.c. It takes the program that operate/program finds.
+How each is measured stands in serving_rows.py, serving_now.py and load.c. It takes the program that operate/program finds.
 """
 
 import argparse
 import contextlib
 import importlib.util
-import os
 import shutil
 import signal
 import socket
-import statistics
 import subprocess
 import sys
 import tempfile
@@ -48,17 +48,18 @@ from pathlib import Path
 from typing import ContextManager, Dict, Iterator, List, Optional, Sequence, Tuple
 
 from store_client import StoreError
-from store_testing.daemon import listens
+from store_release.faults import DistFault
 from store_testing.frames import frame, key, numbers
 from store_testing.program import program_or_end
-from store_testing.waiting import until
 
 from .drawing import Bar, Drawing, bytes_text, draw_bars
 from .serving_clients import (
     BYTES, CREATE, DELETE, GET, GOT, HELLO, OK, PIECE, PLACED, READ, RELEASE, SEAL, WRITE, Preparing, Row, asking, content, floor_script,
     hashing, processes, redis_script, speed_of, store_script,
 )
-from .serving_rows import LIMIT, PATIENCE, ROUNDS, Admitted, Side, compiled, number_text, run_rows, serving, told_by
+from .serving_now import QUICK as NOW_QUICK
+from .serving_now import run_now
+from .serving_rows import LIMIT, ROUNDS, Admitted, redis, run_rows, serving
 from .value_rows import ARRAY_BYTES, VALUES_WINDOW, measure_values, print_values
 
 SIZES = (1 << 10, 1 << 16, 1 << 20)
@@ -77,10 +78,6 @@ QUICK = (1, 2, 0.2)
 # in a Read's frame, where the number of its bytes stands
 READ_COUNT = slice(37, 41)
 STORE, FLOOR, REDIS, HASH = "the store", "the floor", "Redis", "SHA-256"
-# the store again, by the native load
-NATIVE = "the store, natively"
-# sizes that are measured beside Redis alone
-BESIDE_REDIS = (1 << 16, 1 << 20)
 # of a row and a side operations a second
 Best = Dict[Tuple[Row, str], float]
 
@@ -127,22 +124,6 @@ def store(program: Path, folder: str) -> ContextManager[None]:
     """A cluster at whose nodes each client's job is admitted, and at the first one a job for values."""
     admitted = [Admitted(node, job, WINDOW) for node in range(NODES) for job in range(1, CLIENTS + 1)]
     return serving([str(program.resolve())], folder, NODES, [*admitted, Admitted(0, VALUES_JOB, VALUES_WINDOW)])
-
-
-@contextlib.contextmanager
-def redis(program: str, folder: str) -> Iterator[None]:
-    """A server for each node, which writes no files."""
-    servers: List[subprocess.Popen[bytes]] = []
-    try:
-        for node in range(NODES):
-            words = ["--port", "0", "--unixsocket", f"{folder}/redis.{node}", "--save", "", "--appendonly", "no", "--dir", folder]
-            servers.append(subprocess.Popen([program, *words], stdin=subprocess.DEVNULL, stdout=subprocess.DEVNULL))
-        until(lambda: all(listens(Path(folder, f"redis.{node}")) for node in range(NODES)), "Redis listens", PATIENCE)
-        yield
-    finally:
-        for server in servers:
-            server.terminate()
-            server.wait()
 
 
 # ---- the table
@@ -215,7 +196,7 @@ def run_python(asked: argparse.Namespace) -> None:
     with tempfile.TemporaryDirectory() as folder, contextlib.ExitStack() as servers:
         servers.enter_context(floor(folder))
         if redis_program:
-            servers.enter_context(redis(redis_program, folder))
+            servers.enter_context(redis(redis_program, folder, NODES))
         servers.enter_context(store(asked.program, folder))
         best = measure(rows, sides, folder, asked)
         print_table(rows, best)
@@ -229,60 +210,6 @@ def run_python(asked: argparse.Namespace) -> None:
         draw_table(rows, best).save(asked.svg)
 
 
-# ---- beside Redis alone
-
-# of a row and a side operations a second in each round
-Turns = Dict[Tuple[Row, str], List[float]]
-
-
-def measure_rounds(rows: List[Row], load: Optional[str], folder: str, asked: argparse.Namespace) -> Turns:
-    """Store and Redis begin in turn."""
-    sides = [STORE, REDIS, *([NATIVE] if load else [])]
-    speeds: Turns = {(row, side): [] for row in rows for side in sides}
-    for done in range(asked.rounds or ROUNDS):
-        for row in rows:
-            for side in sides if done % 2 else sides[::-1]:
-                speeds[row, side].append(speed_beside(side, row, load, folder, asked.seconds))
-    return speeds
-
-
-def speed_beside(side: str, row: Row, load: Optional[str], folder: str, seconds: float) -> float:
-    if side == NATIVE and load:
-        told = told_by(load, Side(row.operation, row.size, row.connections), seconds, folder)
-        return told.times / told.seconds
-    return speed_of(works_of(side, row, folder), seconds)
-
-
-def print_beside_redis(rows: List[Row], speeds: Turns) -> None:
-    print("| Four connections, one node | Store, MB/s | Redis, MB/s | Ratio | Store by the native load, MB/s |")
-    print("|---|---|---|---|---|")
-    for row in rows:
-        ratios = [one / other for one, other in zip(speeds[row, STORE], speeds[row, REDIS])]
-        ratio = f"{statistics.median(ratios):.2f} ({min(ratios):.2f} to {max(ratios):.2f})"
-        found = [speeds.get((row, side)) for side in (STORE, REDIS, NATIVE)]
-        ours, theirs, natively = [number_text(statistics.median(one) * row.size / 1e6) if one else "-" for one in found]
-        print(f"| {row.operation} {bytes_text(row.size)} | {ours} | {theirs} | {ratio} | {natively} |")
-
-
-def load_text() -> str:
-    return f"load {os.getloadavg()[0]:.1f} on {os.cpu_count()} processors"
-
-
-def run_beside_redis(asked: argparse.Namespace) -> None:
-    redis_program, compiler = shutil.which("redis-server") or "redis-server", shutil.which("cc")
-    rows = [Row(word, size, CLIENTS, 1) for word in ("put", "get") for size in BESIDE_REDIS]
-    version = subprocess.run([redis_program, "--version"], capture_output=True, text=True, check=True).stdout.split()[2]
-    before = load_text()
-    with tempfile.TemporaryDirectory() as folder, contextlib.ExitStack() as servers:
-        load = compiled(compiler, folder) if compiler else None
-        servers.enter_context(redis(redis_program, folder))
-        servers.enter_context(store(asked.program, folder))
-        speeds = measure_rounds(rows, load, folder, asked)
-    rounds = len(speeds[rows[0], STORE])
-    print(f"Beside Redis {version.partition('=')[2]}, medians of {rounds} rounds; before {before}, after {load_text()}.\n")
-    print_beside_redis(rows, speeds)
-
-
 def run_native(asked: argparse.Namespace) -> None:
     compiler = shutil.which("cc")
     left_out = run_rows(compiler, asked) if compiler else ["the native load, since there is no cc"]
@@ -291,13 +218,29 @@ def run_native(asked: argparse.Namespace) -> None:
 
 
 def run(asked: argparse.Namespace) -> None:
-    if asked.redis:
-        run_beside_redis(asked)
+    if asked.now:
+        run_now(shutil.which("cc") or "cc", asked)
         return
     if not asked.native:
         run_python(asked)
         print()
     run_native(asked)
+
+
+def look_at(options: argparse.ArgumentParser, asked: argparse.Namespace) -> None:
+    """Options that don't go together end all."""
+    if asked.now and (asked.native or asked.svg):
+        options.error("--now measures by itself, without --native and --svg")
+    if asked.now and not shutil.which("cc"):
+        options.error("--now wants cc on the path, for the native load")
+    if (asked.release or asked.write or asked.largest != WINDOW) and not asked.now:
+        options.error("--release, --largest and --write go with --now")
+    if asked.write and (asked.quick or asked.largest < WINDOW):
+        options.error("a trial isn't written: leave --quick and --largest out")
+    if asked.write and not shutil.which("redis-server"):
+        options.error("--write wants redis-server on the path, for the front page: apt-get install redis-server")
+    if asked.native and asked.svg:
+        options.error("--svg draws the table that --native leaves out")
 
 
 def main() -> None:
@@ -307,28 +250,29 @@ def main() -> None:
     options.add_argument("--seconds", type=float, default=SECONDS, help=f"of a row in each run (default {SECONDS:g})")
     options.add_argument("--array", type=int, default=ARRAY_BYTES, metavar="BYTES", help=f"of the array (default {ARRAY_BYTES})")
     options.add_argument("--native", action="store_true", help="only the rows of the native load")
-    options.add_argument("--redis", action="store_true", help="only puts and gets beside Redis")
-    rounds = f"of the native rows (default {ROUNDS}, or as many as {LIMIT} s allow)"
+    options.add_argument("--now", action="store_true", help="only the program of now beside the last release, Redis and the floor")
+    options.add_argument("--release", type=Path, metavar="FILE", help="with --now: the archive of another release than the newest in dist/")
+    options.add_argument("--largest", type=int, default=WINDOW, metavar="BYTES", help="with --now: leave out larger objects, as a slow build wants it")
+    options.add_argument("--write", action="store_true", help="with --now: write the tables into bench/RESULTS.md and README.md")
+    rounds = f"of the native rows (default {ROUNDS}, or as many as {LIMIT} s allow; with --now {ROUNDS})"
     options.add_argument("--rounds", type=int, help=rounds)
-    options.add_argument("--quick", action="store_true", help="as --runs {} --rounds {} --seconds {}".format(*QUICK))
+    quick = "a trial: as --runs {} --rounds {} --seconds {}, with --now as --rounds {} --seconds {}".format(*QUICK, *NOW_QUICK)
+    options.add_argument("--quick", action="store_true", help=quick)
     options.add_argument("--svg", type=Path, metavar="FILE", help="draw the table as bars into this file")
     asked = options.parse_args()
-    if asked.redis and (asked.native or asked.svg):
-        options.error("--redis measures by itself, without --native and --svg")
-    if asked.redis and not shutil.which("redis-server"):
-        options.error("--redis wants redis-server on the path: apt-get install redis-server")
-    if asked.quick:
+    look_at(options, asked)
+    if asked.quick and asked.now:
+        asked.rounds, asked.seconds = NOW_QUICK
+    elif asked.quick:
         asked.runs, asked.rounds, asked.seconds = QUICK
     if asked.runs < 1 or (asked.rounds or 1) < 1 or asked.seconds <= 0 or not 8 <= asked.array <= ARRAY_BYTES:
         options.error("there is nothing to measure")
-    if asked.native and asked.svg:
-        options.error("--svg draws the table that --native leaves out")
     asked.program = asked.program or Path(program_or_end())
     # so that a script which is ended from outside ends what it started, too
     signal.signal(signal.SIGTERM, lambda *_: sys.exit("serve: ended"))
     try:
         run(asked)
-    except (AssertionError, OSError, ValueError, StoreError, subprocess.SubprocessError) as fault:
+    except (AssertionError, OSError, ValueError, DistFault, StoreError, subprocess.SubprocessError) as fault:
         sys.exit(f"serve: {fault}")
     except KeyboardInterrupt:
         sys.exit("serve: interrupted")

@@ -25,8 +25,10 @@ from pathlib import Path
 from typing import Callable, Dict, Iterator, List, NamedTuple, Optional, Sequence, Tuple
 
 from store_testing import ROOT
+from store_testing.daemon import listens
 from store_testing.frames import key
 from store_testing.server import Server
+from store_testing.waiting import until
 
 from .drawing import bytes_text
 
@@ -129,6 +131,22 @@ def floor(load: str, folder: str) -> Iterator[None]:
         server.communicate()
 
 
+@contextlib.contextmanager
+def redis(program: str, folder: str, count: int) -> Iterator[None]:
+    """So many servers, which write no files."""
+    servers: List[subprocess.Popen[bytes]] = []
+    try:
+        for node in range(count):
+            words = ["--port", "0", "--unixsocket", f"{folder}/redis.{node}", "--save", "", "--appendonly", "no", "--dir", folder]
+            servers.append(subprocess.Popen([program, *words], stdin=subprocess.DEVNULL, stdout=subprocess.DEVNULL))
+        until(lambda: all(listens(Path(folder, f"redis.{node}")) for node in range(count)), "Redis listens", PATIENCE)
+        yield
+    finally:
+        for server in servers:
+            server.terminate()
+            server.wait()
+
+
 def compiled(compiler: str, folder: str) -> str:
     load = f"{folder}/load"
     words = ["-O2", "-std=c11", "-Wall", "-Wextra", "-pthread", f"-I{SOURCES[1].parent}", "-o", load, *map(str, SOURCES)]
@@ -148,13 +166,19 @@ def clients_of(side: Side) -> List[Tuple[int, int]]:
 
 def told_by(load: str, side: Side, seconds: float, folder: str) -> Told:
     """What load.c says of a run. Its faults end all."""
-    words = [side.word, str(side.size), f"{seconds:g}"]
-    for job, node in clients_of(side):
-        words += [f"{folder}/floor" if side.at_floor else f"{folder}/store.{node}", str(job), key(job).hex()]
+    clients = [(f"{folder}/floor" if side.at_floor else f"{folder}/store.{node}", job) for job, node in clients_of(side)]
+    return told_of(load, side.word, side.size, clients, seconds)
+
+
+def told_of(load: str, word: str, size: int, clients: Sequence[Tuple[str, int]], seconds: float) -> Told:
+    """The same of clients, each with its socket and its job."""
+    words = [word, str(size), f"{seconds:g}"]
+    for path, job in clients:
+        words += [path, str(job), key(job).hex()]
     done = subprocess.run([load, *words], capture_output=True, text=True, check=False, timeout=seconds + 2 * PATIENCE)
     if done.returncode:
         said = done.stderr.strip() or f"load.c ended with {done.returncode}"
-        raise ValueError(f"{side.word} of {bytes_text(side.size)}, {len(clients_of(side))} connections: {said}")
+        raise ValueError(f"{word} of {bytes_text(size)}, {len(clients)} connections: {said}")
     return Told(*map(float, done.stdout.split()))
 
 

@@ -6,7 +6,7 @@ import hashlib
 import tarfile
 import zlib
 from pathlib import Path
-from typing import Dict, List, NamedTuple, Tuple
+from typing import Dict, List, NamedTuple, Optional, Tuple
 
 from .contents import Files
 from .debian import unpacked
@@ -35,13 +35,26 @@ class Kept(NamedTuple):
         """The name of the folder that it is unpacked to."""
         return self.path.name[: -len(ENDING)]
 
+    @property
+    def version(self) -> str:
+        return self.path.name.split("-")[1]
+
 
 def newest() -> Kept:
     """That of the greatest version, whose bytes are those that its checksums say."""
-    found = sorted(PLACE.glob(_NAMES), key=_version)
+    found = _by_version(PLACE)
     if not found:
         raise DistFault(f"there is no release in {PLACE}")
     return read_release(found[-1])
+
+
+def newest_other(program: bytes, place: Path = PLACE) -> Optional[Kept]:
+    """That of the greatest version whose program is another than this one, if there is one."""
+    for path in reversed(_by_version(place)):
+        kept = read_release(path)
+        if kept.program != program:
+            return kept
+    return None
 
 
 def read_release(path: Path) -> Kept:
@@ -60,6 +73,10 @@ def read_release(path: Path) -> Kept:
     except (tarfile.TarError, zlib.error, OSError, EOFError, KeyError, UnicodeDecodeError) as error:
         raise DistFault(f"{path}: no release: {' '.join(str(error).split())}") from error
     return Kept(path, digest, told, files)
+
+
+def _by_version(place: Path) -> List[Path]:
+    return sorted(place.glob(_NAMES), key=_version)
 
 
 def _version(path: Path) -> Tuple[List[int], str]:
