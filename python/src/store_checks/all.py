@@ -84,6 +84,7 @@ PARTS = [
     script("tests/journals", 200),
     Part("growths", [sys.executable, "-B", "tests/growths", "refusals_want_no_memory", "a_full_window", "refusals"], 400, Needs.PROGRAM),
     script("tests/pictures", 400),
+    script("tests/measuring", 800),
     Part("types", [sys.executable, "-B", "tests/strict"], 600, Needs.NOTHING),
     script("tests/lint", 200, Needs.NOTHING),
     script("tests/pages", 300, Needs.NOTHING),
