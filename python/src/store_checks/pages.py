@@ -23,6 +23,7 @@ import sys
 from functools import lru_cache
 from typing import Callable, Iterator, List, Sequence, Set, Tuple
 
+from store_bench.now_table import BEGIN, END, FRONT_BEGIN, FRONT_END, between, front_faults
 from store_testing import ROOT
 from store_testing.looks import Looks, text_of
 
@@ -472,14 +473,13 @@ def look_at_release() -> None:
 
 
 def look_at_figures() -> None:
-    """That each ratio beside Redis on the front page stands in the table of figures."""
-    page = ROOT / "README.md"
-    table = text_of(ROOT / "bench/RESULTS.md").split("**Beside Redis")[1].split("\n\n**")[0]
-    for word in ("get", "put"):
-        row = re.search(rf"^\| the store's {word}s.*?\| (.*?) \| (.*?) \|$", text_of(page), re.M)
-        due = [re.search(rf"^\| {word} {size} \|.*?\|.*?\| (.*?) \|", table, re.M) for size in ("64 KiB", "1 MiB")]
-        said, measured = list(row.groups()) if row else None, [found[1] if found else None for found in due]
-        look(page, 1, f"of a {word} beside Redis it says {said}, and {measured} was measured", said == measured)
+    """That each ratio beside Redis on the front page stands on the page of figures, where bench/serve --now writes both."""
+    page, figures = ROOT / "README.md", ROOT / "bench/RESULTS.md"
+    try:
+        faults = front_faults(between(text_of(page), FRONT_BEGIN, FRONT_END), between(text_of(figures), BEGIN, END))
+    except ValueError as fault:
+        faults = [str(fault)]
+    look(page, 1, "; ".join(faults), not faults)
 
 
 def look_at_bounds() -> None:
