@@ -171,7 +171,8 @@ def all_pairs() -> Iterator[Pair]:
     for jobs, text in ((1, f"{SESSIONS} sessions of one job"), (SESSIONS, f"{SESSIONS} jobs of one session each")):
         here = Ask("floods", KIB, SESSIONS, 1, jobs)
         for name, figure in figures:
-            yield Pair(f"a neighbour's {name} beside {text}, us: to the same at another server", here, here._replace(elsewhere=True), microseconds(figure))
+            there = here._replace(elsewhere=True)
+            yield Pair(f"a neighbour's {name} beside {text}, us: to the same at another server", here, there, microseconds(figure))
 
 
 def turns(places: Sequence[str], largest: int = MIB) -> List[List[Tuple[str, Ask]]]:

@@ -252,7 +252,8 @@ def main() -> None:
     options.add_argument("--native", action="store_true", help="only the rows of the native load")
     options.add_argument("--now", action="store_true", help="only the program of now beside the last release, Redis and the floor")
     options.add_argument("--release", type=Path, metavar="FILE", help="with --now: the archive of another release than the newest in dist/")
-    options.add_argument("--largest", type=int, default=WINDOW, metavar="BYTES", help="with --now: leave out larger objects, as a slow build wants it")
+    largest = "with --now: leave out larger objects, as a slow build wants it"
+    options.add_argument("--largest", type=int, default=WINDOW, metavar="BYTES", help=largest)
     options.add_argument("--write", action="store_true", help="with --now: write the tables into bench/RESULTS.md and README.md")
     rounds = f"of the native rows (default {ROUNDS}, or as many as {LIMIT} s allow; with --now {ROUNDS})"
     options.add_argument("--rounds", type=int, help=rounds)

@@ -41,7 +41,7 @@ FIGURES, FRONT = ROOT / "bench/RESULTS.md", ROOT / "README.md"
 # jobs from 1 on have a connection each; that of all sessions of a flood, and their neighbour
 FLOODING, VICTIM = SESSIONS + 1, SESSIONS + 2
 SMALL_WINDOW, WINDOW = 64 * KIB, MIB
-# figures that tell of hexadecimal digits of a name
+# of a commit's name, those that are said
 DIGITS = 8
 # rounds and seconds of a trial
 QUICK = (1, 0.05)
@@ -164,7 +164,8 @@ def run_now(compiler: str, asked: argparse.Namespace) -> None:
     """Measures all, prints it, and writes it if that is asked for."""
     asked.rounds = asked.rounds or ROUNDS
     kept, redis_program = kept_release(asked), shutil.which("redis-server")
-    for there, text in ((kept, "the last release: dist/ has none with another program"), (redis_program, "Redis: there is no redis-server on the path")):
+    no_release, no_redis = "the last release: dist/ has none with another program", "Redis: there is no redis-server on the path"
+    for there, text in ((kept, no_release), (redis_program, no_redis)):
         if not there:
             print(f"serve: LEFT OUT: {text}", file=sys.stderr, flush=True)
     with tempfile.TemporaryDirectory() as folder, contextlib.ExitStack() as servers:

@@ -26,7 +26,10 @@ from store_release.proved import PROVED, told_of
 from store_testing import PATIENCE, ROOT
 from store_testing.program import program_or_end
 
-MADE = Made("2026-12-01", "0123abcd", "store 0.6.0 of the crates/ of this commit, proved", "release 0.5.0 of commit 4567cdef, proved", "7.0.15", 4, 0.5, 3.94, 3, 1)
+MADE = Made(
+    "2026-12-01", "0123abcd", "store 0.6.0 of the crates/ of this commit, proved", "release 0.5.0 of commit 4567cdef, proved", "7.0.15",
+    4, 0.5, 3.94, 3, 1,
+)
 # how fast each place is
 SPEEDS = {NOW: 300, RELEASE: 200, REDIS: 600, FLOOR: 3000}
 # what a page may have around it
@@ -226,7 +229,8 @@ class Command(unittest.TestCase):
 
     def test_what_does_not_go_together(self) -> None:
         refused: Dict[str, Sequence[str]] = {
-            "without --native and --svg": ("--native",), "a trial isn't written": ("--write", "--quick"), "there is nothing to measure": ("--rounds", "-1"),
+            "without --native and --svg": ("--native",), "a trial isn't written": ("--write", "--quick"),
+            "there is nothing to measure": ("--rounds", "-1"),
         }
         for text, words in refused.items():
             done = self.run_now(*words)
