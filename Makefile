@@ -142,11 +142,12 @@ model:
 bench:
 	STORE_PROGRAM=$$(operate/program) && export STORE_PROGRAM && bench/growth && bench/serve && bench/journal
 
-# Draws the pictures of the parts, of the crates and of storectl top, and the example's from the journal that the plain model keeps of it.
+# Draws the pictures of the parts, of the crates, of storectl top and of storectl metrics, and the example's from the journal that the plain model keeps of it.
 picture:
 	bench/parts -o docs/pictures/parts.svg
 	bench/crates_picture -o docs/pictures/crates.svg
 	bench/top_picture docs/pictures/top.json -o docs/pictures/top.svg
+	bench/metrics_picture docs/pictures/metrics.txt -o docs/pictures/metrics.svg
 	tests/model journal < docs/pictures/spilling.schedule > docs/pictures/spilling.log
 	bench/picture docs/pictures/spilling.log -o docs/pictures/spilling.svg
 	rm docs/pictures/spilling.log

@@ -1,6 +1,6 @@
-"""Tests of bench/picture, and of the replay by the plain model that it draws from; of bench/parts, bench/crates_picture and
-bench/top_picture; of tests/proof_picture; and of bench/guarantee, with the plain model in place of the program. No program is needed. The last line counts
-them."""
+"""Tests of bench/picture, and of the replay by the plain model that it draws from; of bench/parts, bench/crates_picture,
+bench/top_picture and bench/metrics_picture; of tests/proof_picture; and of bench/guarantee, with the plain model in place of the program.
+No program is needed. The last line counts them."""
 
 from __future__ import annotations
 
@@ -232,6 +232,51 @@ class Top(unittest.TestCase):
             drawn = self.draw(Path(file.name))
         self.assertIn(">4321</text>", drawn)
         self.assertIn(">56789</text>", drawn)
+
+
+class Metrics(unittest.TestCase):
+    def draw(self, scrape: str) -> Tuple[int, str, str]:
+        """The status of bench/metrics_picture, what it says, and what it draws."""
+        with tempfile.TemporaryDirectory() as folder:
+            source, drawn = Path(folder) / "txt", Path(folder) / "svg"
+            source.write_text(scrape)
+            command = [str(ROOT / "bench/metrics_picture"), str(source), "-o", str(drawn)]
+            done = subprocess.run(command, capture_output=True, text=True, check=False)
+            return done.returncode, done.stderr, drawn.read_text() if drawn.exists() else ""
+
+    def saved(self) -> str:
+        return (PICTURES / "metrics.txt").read_text()
+
+    def test_the_picture_is_drawn_again_alike(self) -> None:
+        self.assertEqual(self.draw(self.saved()), (0, "", (PICTURES / "metrics.svg").read_text()))
+
+    def test_the_metrics_have_each_family_that_it_shows(self) -> None:
+        # the tests of the daemon compare this table with what a server's metrics have
+        table = (ROOT / "docs/OPERATING.md").read_text().split("| Names, after `store_` | Of |")[1].split("\n\n")[0]
+        named = {f"store_{name}" for row in table.splitlines()[2:] for name in re.findall("`([a-z_]+)`", row.split("|")[1])}
+        self.assertEqual(set(re.findall("^# TYPE (store_[a-z_]+) ", self.saved(), re.MULTILINE)), named)
+        shown = set(re.findall("store_[a-z_]+", (PICTURES / "metrics.svg").read_text()))
+        self.assertTrue(shown)
+        self.assertEqual(shown - named, set())
+
+    def test_it_shows_what_the_scrape_has(self) -> None:
+        drawn = (PICTURES / "metrics.svg").read_text()
+        changed = self.saved()
+        for name, count, text in (
+            ('commands_total{node="1",job="1",command="get"}', 4_321, "4,321"),
+            ('refusals_total{node="1",job="1",number="5",name="NotSealed"}', 5_432, "5,432"),
+            ('window_used_bytes{node="0",job="2"}', 65_536, "50% 64K of 128K"), ("threads", 6_543, "6,543"),
+        ):
+            self.assertNotIn(f">{text}</text>", drawn)
+            changed, found = re.subn(f"^store_{re.escape(name)} .*$", f"store_{name} {count}", changed, flags=re.MULTILINE)
+            self.assertEqual(found, 1, name)
+            drawn = self.draw(changed)[2]
+            self.assertIn(f">{text}</text>", drawn)
+
+    def test_what_is_not_there_is_told_in_a_line(self) -> None:
+        without = "".join(line for line in self.saved().splitlines(keepends=True) if "store_evictions_total" not in line)
+        self.assertEqual(self.draw(without), (1, "metrics_picture: the scrape has no store_evictions_total\n", ""))
+        self.assertEqual(self.draw("up\n"), (1, "metrics_picture: no sample of a family that was named: 'up'\n", ""))
 
 
 class Proof(unittest.TestCase):
