@@ -137,18 +137,23 @@ class Listening(WithServer):
                 tried.assert_not_called()
             # if no keeper can be started, that is tried once
             with self.connect() as store:
-                for index in (2, 3):
-                    with self.assertRaises(Absent):
-                        store.get(self.object_id(index), 0.1)
-            self.assertEqual(tried.call_count, 1)
+                self.tries_once(store, tried)
 
     def test_a_process_that_can_t_start_a_thread_looks(self) -> None:
         with mock.patch.object(finding, "_LISTENS_AFTER", 0.0), mock.patch.object(threading, "Thread") as thread:
             thread.return_value.start.side_effect = RuntimeError("can't start new thread")
-            for index in (2, 3):
-                with self.assertRaises(Absent):
-                    self.store.get(self.object_id(index), 0.1)
-            self.assertEqual(thread.call_count, 1)
+            self.tries_once(self.store, thread)
+
+    def tries_once(self, store: store_client.Connection, tried: mock.Mock) -> None:
+        """Waits in vain until that was tried, and once more. At a slow server a short wait is over before anything is."""
+        def waits_in_vain(index: int) -> bool:
+            with self.assertRaises(Absent):
+                store.get(self.object_id(index), 0.1)
+            return bool(tried.called)
+
+        until(lambda: waits_in_vain(2), "it is tried", PATIENCE)
+        waits_in_vain(3)
+        self.assertEqual(tried.call_count, 1)
 
     def test_a_keeper_that_was_killed_is_listened_to_anew(self) -> None:
         with looks_never(), self.assertRaises(Absent):
