@@ -1,14 +1,13 @@
 //! Those that call nodes in tests.
-use node_gate::{Actor, ActorSource, SeatedNode};
+ghost use Rattle.std.specs.Prelude.{◌≡◌, []};
+
+use node_gate::{Actor, SeatedNode};
 use node_journal::Recorded;
 use std::marker::Brand;
 
-/// The leave to make some, which any name gives.
-pub(crate) fn actors() -> ActorSource {
-    <Recorded<Brand, Brand> as SeatedNode>::actors()
-}
-
-/// One that has made no step.
-pub(crate) fn actor() -> Actor {
-    actors().actor()
+/// One that has made no step. Any name gives the leave to make it.
+pub(crate) fn actor() -> Actor
+    ensures { result ≡ [] }
+{
+    <Recorded<Brand, Brand> as SeatedNode>::actors().actor()
 }

@@ -1,5 +1,5 @@
 //! Calls at nodes behind locks, with the receipts that they give.
-use crate::actors::{actor, actors};
+use crate::actors::actor;
 use crate::named::Named;
 use assertions::{holds, same};
 use bytes::Bytes;
@@ -18,6 +18,8 @@ use std::sync::Wait;
 use std::time::Clock;
 
 pub(crate) const JOB: JobNo = JobNo(1);
+
+const KEY: JobKey = JobKey([0; 32]);
 
 const QUOTA: Quota = Quota {
     window: 64,
@@ -150,9 +152,9 @@ pub(crate) fn admit<K: JournaledNode, R: Wait>(rt: &R, node: &SharedNode<K>) {
 
 /// The same, with this quota.
 pub(crate) fn admit_with<K: JournaledNode, R: Wait>(rt: &R, node: &SharedNode<K>, quota: Quota) {
-    let (reply, _) = node.admit(rt, &mut actor(), JOB, quota, JobKey([0; 32]));
+    let (reply, _) = node.admit(rt, &mut actor(), JOB, quota, KEY);
     if matches!(&reply, Reply::Refused(Refusal::NoMemory)) {
-        node.admit(rt, &mut actor(), JOB, quota, JobKey([0; 32]));
+        node.admit(rt, &mut actor(), JOB, quota, KEY);
     }
 }
 
@@ -219,14 +221,15 @@ where
 fn called_again<K: JournaledNode, R: Wait>(
     rt: &R,
     node: &SharedNode<K>,
+    session: u32,
     id: ObjectId,
     is_get: bool,
 ) -> Reply<Bytes> {
-    let (reply, _) = node.call(rt, &mut actor(), JOB, 1, get_or_release(id, is_get));
+    let command = get_or_release(id, is_get);
+    let (reply, _) = node.call(rt, &mut actor(), JOB, session, command);
     if matches!(&reply, Reply::Refused(Refusal::NoMemory)) {
-        return node
-            .call(rt, &mut actor(), JOB, 1, get_or_release(id, is_get))
-            .0;
+        let command = get_or_release(id, is_get);
+        return node.call(rt, &mut actor(), JOB, session, command).0;
     }
     reply
 }
@@ -239,17 +242,34 @@ fn get_or_release(id: ObjectId, is_get: bool) -> Command<Bytes> {
     }
 }
 
-/// The session holds the object and ends: the hold is gone at the next step.
+/// A session holds the object and ends: the hold is gone at the next step.
 fn hold_and_leave<K: JournaledNode, R: Wait + Clock + Abort>(
     rt: &R,
     node: &SharedNode<K>,
     id: ObjectId,
 ) {
-    let reply = called_again(rt, node, id, true);
+    let mut session = Session::new(rt, actor(), node);
+    let number = session.enter(JOB, KEY).expect(rt, "a session");
+    let reply = called_again(rt, node, number, id, true);
     holds!(rt; matches!(&reply, Reply::Got(20)));
-    Session::new(rt, actors(), node).leave(JOB, 1);
-    let reply = called_again(rt, node, id, false);
+    session.leave(JOB, number);
+    let reply = called_again(rt, node, number, id, false);
     holds!(rt; matches!(&reply, Reply::Refused(Refusal::NotHeld)));
+}
+
+/// The same of a session that is marked: the hold is gone at the next step, before which the session is left.
+fn hold_and_mark<K: JournaledNode, R: Wait + Abort>(rt: &R, node: &SharedNode<K>, id: ObjectId) {
+    let sessions = &node.housekeeping().sessions;
+    // makes the room for the mark
+    holds!(rt; sessions.begin(rt) || sessions.begin(rt));
+    let entered = node.enter(rt, JOB, &KEY).expect(rt, "a session");
+    let number = K::session(&entered);
+    let reply = called_again(rt, node, number, id, true);
+    holds!(rt; matches!(&reply, Reply::Got(20)));
+    node.leave_later(rt, entered);
+    let reply = called_again(rt, node, number, id, false);
+    holds!(rt; matches!(&reply, Reply::Refused(Refusal::NotHeld)));
+    sessions.end(rt);
 }
 
 /// Each Leave is made once: at once, or before the next step if memory ran out, as it may if the journal's list has to grow.
@@ -268,6 +288,7 @@ where
     for _ in 0..4u32 {
         hold_and_leave(rt, node, id);
     }
+    hold_and_mark(rt, node, id);
     end(rt, node);
     Ok(())
 }

@@ -1,7 +1,7 @@
 //! Sessions at a node: streams that were written by hand, and what they are answered.
 ghost use Rattle.std.specs.Prelude.{◌≡◌};
 
-use crate::actors::actors;
+use crate::actors::actor;
 use crate::calls::admit;
 use assertions::same;
 use cluster_history::{ClusterShape, HistoryName};
@@ -69,7 +69,7 @@ fn told_at<K: JournaledNode, R: Wait + Clock>(
 ) -> Result<Served, OutOfMemory> {
     let mut written = lists::with_capacity(alloc, ROOM)?;
     let mut reader = input;
-    let mut session = Session::new(rt, actors(), node);
+    let mut session = Session::new(rt, actor(), node);
     let outcome = serve(alloc, &mut reader, &mut written, &mut session);
     Ok(Served { outcome, written })
 }

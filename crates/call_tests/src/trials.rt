@@ -4,7 +4,7 @@ ghost use Rattle.std.specs.Prelude.{◌≡◌};
 use crate::calls::{call_six, call_with_receipts, leave_often};
 use crate::gathering::{DENIED, GATHERED, gather_many};
 use crate::named::Named;
-use crate::works::{ask_for_deleted, work_at_a_failing_device};
+use crate::works::{ask_by_a_closed_link, ask_for_deleted, work_at_a_failing_device};
 use assertions::{holds, same};
 use cluster_history::{ClusterShape, HistoryName};
 use cluster_threads::Cluster;
@@ -31,6 +31,7 @@ enum Trial {
     ManyReceipts,
     FailingDevice,
     Deletion,
+    ClosedLink,
 }
 
 impl Trial {
@@ -38,7 +39,7 @@ impl Trial {
     fn nodes(&self) -> u32 {
         match self {
             Trial::DirectCalls | Trial::Leaves | Trial::FailingDevice => 1,
-            Trial::LaterCall | Trial::ManyReceipts | Trial::Deletion => 2,
+            Trial::LaterCall | Trial::ManyReceipts | Trial::Deletion | Trial::ClosedLink => 2,
         }
     }
 
@@ -62,6 +63,10 @@ impl Trial {
                 let last = ask_for_deleted(rt, cluster);
                 return Ok(matches!(&last, Reply::Refused(Refusal::Absent)));
             }
+            Trial::ClosedLink => {
+                let last = ask_by_a_closed_link(rt, cluster);
+                return Ok(matches!(&last, Reply::Refused(Refusal::Pending)));
+            }
         }
         Ok(true)
     }
@@ -77,12 +82,13 @@ impl Trial {
             Trial::LaterCall =>
                 same!(rt; (entries, receipts, report.lost == 0), (10, (4, 1), true)),
             Trial::Leaves => {
-                same!(rt; (entries, report.disagreeing, report.lost <= 1), (20, 0, true))
+                same!(rt; (entries, report.disagreeing, report.lost <= 1), (23, 0, true))
             }
             // and those of two admissions
             Trial::ManyReceipts => same!(rt; receipts, (GATHERED + 2, DENIED)),
             Trial::FailingDevice => same!(rt; (entries, receipts), (16, (7, 0))),
             Trial::Deletion => {}
+            Trial::ClosedLink => same!(rt; report.lost, 1),
         }
         same!(rt; report.erase_failures, 0);
     }
@@ -156,6 +162,11 @@ fn a_session_is_left_though_memory_runs_out(rt: HostRuntime) -> Result<(), Fail>
 #[test]
 fn every_receipt_that_is_gathered_is_looked_for(rt: HostRuntime) -> Result<(), Fail> {
     Ok(try_once(&rt, rt.alloc(), &Trial::ManyReceipts)?)
+}
+
+#[test]
+fn what_a_closed_link_is_to_carry_is_lost(rt: HostRuntime) -> Result<(), Fail> {
+    Ok(try_once(&rt, rt.alloc(), &Trial::ClosedLink)?)
 }
 
 #[test]

@@ -111,3 +111,20 @@ pub(crate) fn ask_for_deleted<K: JournaledNode, R: Wait + Abort>(
     holds!(rt; matches!(response(rt, node, &Asked::Get(first)), Reply::Refused(Refusal::Pending)));
     response(rt, node, &Asked::Get(first))
 }
+
+/// What node 1 is answered, asked twice, of an object that was sealed at node 0, if its links are closed: what asks node 0 for it is lost.
+pub(crate) fn ask_by_a_closed_link<K: JournaledNode, R: Wait + Abort>(
+    rt: &R,
+    cluster: &Cluster<K>,
+) -> Reply<Bytes> {
+    let first = object(rt, 1);
+    let node = cluster.node(0).expect(rt, "a node");
+    admit_with(rt, node, ONE);
+    holds!(rt; matches!(response(rt, node, &Asked::Create(first, 32)), Reply::Placed(0, 32)));
+    holds!(rt; matches!(response(rt, node, &Asked::Seal(first)), Reply::Ok));
+    let node = cluster.node(1).expect(rt, "a node");
+    admit_with(rt, node, ONE);
+    node.close_ways(rt);
+    holds!(rt; matches!(response(rt, node, &Asked::Get(first)), Reply::Refused(Refusal::Pending)));
+    response(rt, node, &Asked::Get(first))
+}

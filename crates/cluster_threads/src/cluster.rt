@@ -68,7 +68,7 @@ impl<K: JournaledNode, P: Pause> Cluster<K, P> {
             let outbox = Outbox::open(alloc, number as usize, &directory, &mut inboxes)?;
             let woken = boxes::another(&waiting)?;
             let paused = pause.clone()?;
-            let shared = SharedNode::new(alloc, K::actors(), node, outbox, woken, paused);
+            let shared = SharedNode::new(alloc, node, outbox, woken, paused);
             lists::push(&mut all, boxes::counted(alloc, shared)?)?;
         }
         Ok(Cluster {

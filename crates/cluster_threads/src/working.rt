@@ -1,6 +1,6 @@
 //! The threads of workers.
 use memory_growth::boxes;
-use node_gate::{ActorSource, JournaledNode, Posted};
+use node_gate::{Actor, ActorSource, JournaledNode, Posted};
 use node_housekeeping::{NoPause, Pause, WorkDone, WorkerBell};
 use shared_nodes::{ReceiptBuffer, SharedNode};
 use spill_device::SpillDevice;
@@ -46,20 +46,20 @@ where
     K::Gone: Send + 'static,
 {
     let theirs = boxes::another(&node)?;
-    let job = move || work_all(&rt, actors, &*theirs, device);
+    let job = move || work_all(&rt, actors.actor(), &*theirs, device);
     let thread = thread::spawn(&rt, job)?;
     Ok(Working { node, thread })
 }
 
-/// Carries out the works of the node until the worker is to end, and erases the keys that are left.
+/// Carries out the works of the node by this actor until the worker is to end, and erases the keys that are left.
 fn work_all<K: JournaledNode, P: Pause, R: Wait + Clock, D: SpillDevice + Drop>(
     rt: &R,
-    actors: ActorSource,
+    actor: Actor,
     node: &SharedNode<K, P>,
     device: D,
 ) {
     let mut device = device;
-    let mut actor = actors.actor();
+    let mut actor = actor;
     let mut kept = None;
     let mut receipts = ReceiptBuffer::new(node.housekeeping().alloc);
     for _ in rt.forever() {

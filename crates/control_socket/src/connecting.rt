@@ -3,7 +3,7 @@ ghost use Rattle.std.specs.Prelude.{None};
 
 use crate::control::{Asking, Control, Course, PATIENCE};
 use memory_growth::{OutOfMemory, boxes, texts};
-use node_gate::{ActorSource, JournaledNode, Posted};
+use node_gate::{Actor, ActorSource, JournaledNode, Posted};
 use operator_service::{LastLine, attend, serve_text};
 use program_lines::Fault;
 use server_host::{Patient, ServeFault, SocketFile, bind_alone};
@@ -71,7 +71,7 @@ where
     K::Prepared: Send + 'static,
     K::Gone: Send + 'static,
 {
-    let control = boxes::counted(alloc, Control::new(alloc, actors, nodes, count))?;
+    let control = boxes::counted(alloc, Control::new(alloc, nodes, count))?;
     let theirs = boxes::another(&control)?;
     let path = texts::from_str(alloc, path)?;
     let listener = match bind_alone(&rt, path.as_str()) {
@@ -79,7 +79,7 @@ where
         Err(error) => return Err(ServeFault::Socket { path, error }),
     };
     let file = SocketFile::new(&rt, path);
-    match accept(rt, alloc, theirs, listener) {
+    match accept(rt, alloc, actors, theirs, listener) {
         Ok((socket, thread)) => Ok(Connecting {
             control,
             file,
@@ -97,6 +97,7 @@ where
 fn accept<K: JournaledNode + Send + 'static, R: Threads + Wait + Clock + Copy + Send + 'static>(
     rt: R,
     alloc: Global,
+    actors: ActorSource,
     control: Arc<Control<K>>,
     listener: UnixListener,
 ) -> io::Result<(UnixStream, JoinHandle<()>)>
@@ -111,7 +112,7 @@ where
     K::Gone: Send + 'static,
 {
     let socket = UnixStream::from(OwnedFd::from(listener.try_clone()?));
-    let job = move || accept_all(rt, alloc, &control, &listener);
+    let job = move || accept_all(rt, alloc, actors, &control, &listener);
     let thread = thread::spawn(&rt, job)?;
     Ok((socket, thread))
 }
@@ -120,6 +121,7 @@ where
 fn accept_all<K: JournaledNode + Send + 'static, R: Threads + Wait + Clock + Copy + Send + 'static>(
     rt: R,
     alloc: Global,
+    actors: ActorSource,
     control: &Arc<Control<K>>,
     listener: &UnixListener,
 )
@@ -139,7 +141,7 @@ where
         }
         match stream {
             Ok(stream) => {
-                let _ = start_connection(rt, alloc, control, stream);
+                let _ = start_connection(rt, alloc, actors, control, stream);
             }
             Err(_) => thread::sleep(&rt, Duration::from_millis(REST)),
         }
@@ -150,7 +152,13 @@ where
 fn start_connection<
     K: JournaledNode + Send + 'static,
     R: Threads + Wait + Clock + Copy + Send + 'static,
->(rt: R, alloc: Global, control: &Arc<Control<K>>, stream: UnixStream) -> Result<(), OutOfMemory>
+>(
+    rt: R,
+    alloc: Global,
+    actors: ActorSource,
+    control: &Arc<Control<K>>,
+    stream: UnixStream,
+) -> Result<(), OutOfMemory>
 where
     K::Receipt: Send + 'static,
     K::Mail: Send + 'static,
@@ -162,20 +170,22 @@ where
     K::Gone: Send + 'static,
 {
     let theirs = boxes::another(control)?;
-    let job = move || serve_connection(&rt, alloc, &*theirs, stream);
+    let job = move || serve_connection(&rt, alloc, actors.actor(), &*theirs, stream);
     let _ = thread::spawn(&rt, job);
     Ok(())
 }
 
-/// Serves a connection to its end, if it may begin.
+/// Serves a connection to its end, if it may begin, by this actor.
 fn serve_connection<K: JournaledNode, R: Wait + Clock>(
     rt: &R,
     alloc: Global,
+    actor: Actor,
     control: &Control<K>,
     stream: UnixStream,
 ) {
+    let mut actor = actor;
     if let Ok(Some(stream)) = control.course.begin(rt, alloc, stream) {
-        answer_all(rt, alloc, control, &*stream);
+        answer_all(rt, alloc, &mut actor, control, &*stream);
         control.course.leave(rt, &*stream);
     }
 }
@@ -207,6 +217,7 @@ impl<'a, R: Wait> Read for Heard<'a, R> {
 fn answer_all<K: JournaledNode, R: Wait + Clock>(
     rt: &R,
     alloc: Global,
+    actor: &mut Actor,
     control: &Control<K>,
     stream: &UnixStream,
 ) {
@@ -227,7 +238,7 @@ fn answer_all<K: JournaledNode, R: Wait + Clock>(
         // a fault ends this connection alone
         let _ = attend(
             rt,
-            &mut control.actors.actor(),
+            actor,
             alloc,
             &control.nodes,
             control.count,
@@ -242,7 +253,12 @@ fn answer_all<K: JournaledNode, R: Wait + Clock>(
 pub fn take_input<
     K: JournaledNode + Send + 'static,
     R: Threads + Wait + Clock + Copy + Send + 'static,
->(rt: R, host: HostRuntime, control: &Arc<Control<K>>) -> Result<(), ServeFault>
+>(
+    rt: R,
+    host: HostRuntime,
+    actors: ActorSource,
+    control: &Arc<Control<K>>,
+) -> Result<(), ServeFault>
 where
     K::Receipt: Send + 'static,
     K::Mail: Send + 'static,
@@ -255,7 +271,7 @@ where
 {
     let alloc = host.alloc();
     let theirs = boxes::another(control)?;
-    let job = move || serve_input(&rt, alloc, &*theirs, host);
+    let job = move || serve_input(&rt, alloc, actors.actor(), &*theirs, host);
     match thread::spawn(&rt, job) {
         Ok(_) => Ok(()),
         Err(failed) => Err(ServeFault::Worker {
@@ -287,13 +303,15 @@ impl<'a, R: Wait, S: Read + Drop> Read for Awaited<'a, R, S> {
     }
 }
 
-/// Carries out the lines of standard input. Its end changes nothing.
+/// Carries out the lines of standard input by this actor. Its end changes nothing.
 fn serve_input<K: JournaledNode, R: Wait + Clock>(
     rt: &R,
     alloc: Global,
+    actor: Actor,
     control: &Control<K>,
     host: HostRuntime,
 ) {
+    let mut actor = actor;
     let input = Awaited {
         rt,
         course: &control.course,
@@ -303,7 +321,7 @@ fn serve_input<K: JournaledNode, R: Wait + Clock>(
         let mut writer = Patient::new(io::writer(&host), host);
         match serve_text(
             rt,
-            &mut control.actors.actor(),
+            &mut actor,
             alloc,
             &control.nodes,
             control.count,

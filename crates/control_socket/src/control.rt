@@ -1,6 +1,6 @@
 //! The control socket of nodes that serve: what its connections share, and when the server closes.
 use memory_growth::{OutOfMemory, boxes, lists};
-use node_gate::{ActorSource, JournaledNode};
+use node_gate::JournaledNode;
 use node_housekeeping::Report;
 use operator_service::Closing;
 use program_lines::Fault;
@@ -334,23 +334,15 @@ pub struct Control<K: JournaledNode> {
     pub nodes: Vec<Arc<SharedNode<K>>>,
     /// How many nodes lines may name.
     pub count: u32,
-    /// Of the operator's connections.
-    pub actors: ActorSource,
     pub course: Course,
 }
 
 impl<K: JournaledNode> Control<K> {
     /// Of nodes that serve.
-    pub fn new(
-        alloc: Global,
-        actors: ActorSource,
-        nodes: Vec<Arc<SharedNode<K>>>,
-        count: u32,
-    ) -> Control<K> {
+    pub fn new(alloc: Global, nodes: Vec<Arc<SharedNode<K>>>, count: u32) -> Control<K> {
         Control {
             nodes,
             count,
-            actors,
             course: Course::new(alloc),
         }
     }

@@ -32,7 +32,7 @@ impl Model for Actor {
 
 impl Actor {
     /// One that has made no step.
-    fn new() -> Actor
+    pub(crate) fn new() -> Actor
         ensures { result ≡ [] }
     {
         Actor {

@@ -110,6 +110,9 @@ pub trait JournaledNode: Drop + Sized {
     // no event: the node and its journal are as they were
     ghost rests: { Self → Self → Type 0 };
 
+    // a session was let in, or none: no step was made, and the journal is as it was
+    ghost lets_in: { Self → Self → Type 0 };
+
     // what is known of a session that was let in
     ghost pass: { Self.Entered → Pass };
 
@@ -215,8 +218,13 @@ pub trait JournaledNode: Drop + Sized {
     /// Lets a session into the job, whose key it shows, with the job's next number.
     fn enter(&mut self, job: JobNo, key: &JobKey) -> Result<Self::Entered, Refusal>
         ensures entered { IfOk result (λ e. ((pass e).job ≡ job) × ((pass e).key ≡ key.now)) }
+        ensures lets_in { lets_in self.old self.new }
         ensures refusal { IfErr result (λ r. (r ≡ NotAdmitted) ⊎ (r ≡ TooMany)) }
         ensures number { node_number self.new ≡ node_number self.old };
+
+    /// The job that the session was let into.
+    fn job_entered(entered: &Self::Entered) -> JobNo
+        ensures { result ≡ (pass entered.now).job };
 
     /// The number of the session, from 1.
     fn session(entered: &Self::Entered) -> u32
@@ -256,7 +264,8 @@ pub trait JournaledNode: Drop + Sized {
 
     /// Keeps what was prepared for the next step of the job, and gives back what was kept. No event.
     fn prepare(&mut self, job: JobNo, prepared: Self::Prepared) -> Self::Prepared
-        ensures { rests self.old self.new };
+        ensures rests { rests self.old self.new }
+        ensures number { node_number self.new ≡ node_number self.old };
 
     /// What was kept of the job that ended last. No event.
     fn take_gone(&mut self) -> Option<Self::Gone>

@@ -5,9 +5,11 @@
 mod actor;
 mod journaled;
 mod keeping;
+mod leaving;
 mod posted;
 
 pub use actor::{Actor, ActorSource};
 pub use journaled::{JournaledNode, LiveJob, Made};
 pub use keeping::{Access, Keeper, SeatedNode, nothing_beside};
+pub use leaving::{leave_entered, leave_of};
 pub use posted::Posted;

@@ -13,7 +13,6 @@ use crate::waiting::{Waiting, WakeScope};
 use crate::waiting_keys::WaitingKeys;
 use crate::work_done::WorkDone;
 use crate::worker_bell::WorkerBell;
-use node_gate::ActorSource;
 use obj_id::{DeviceKey, JobNo};
 use spill_device::SpillDevice;
 use std::alloc::Global;
@@ -31,12 +30,12 @@ const MAKERS: u32 = 16;
 // Each has a lock of its own, under which no other is taken, but for a maker's and a queue's: under the first a queue's and the node's are
 // taken, under the second the node's.
 #[derive(Drop)]
-pub struct Housekeeping<P, E> {
+pub struct Housekeeping<P, E, N> {
     // of what its actors gather
     pub alloc: Global,
     pub tallies: Tallies,
     pub counts: Counts,
-    pub sessions: OpenSessions,
+    pub sessions: OpenSessions<N>,
     pub streams: OpenStreams,
     pub keys: WaitingKeys<E>,
     pub bell: WorkerBell,
@@ -47,19 +46,14 @@ pub struct Housekeeping<P, E> {
     pub pause: P,
 }
 
-impl<P: Pause, E: Drop> Housekeeping<P, E> {
+impl<P: Pause, E: Drop, N: Drop> Housekeeping<P, E, N> {
     /// Of a node that has made no step.
-    pub fn new(
-        alloc: Global,
-        actors: ActorSource,
-        waiting: Arc<Waiting>,
-        pause: P,
-    ) -> Housekeeping<P, E> {
+    pub fn new(alloc: Global, waiting: Arc<Waiting>, pause: P) -> Housekeeping<P, E, N> {
         Housekeeping {
             alloc,
             tallies: Tallies::new(),
             counts: Counts::new(alloc),
-            sessions: OpenSessions::new(alloc, actors),
+            sessions: OpenSessions::new(alloc),
             streams: OpenStreams::new(alloc),
             keys: WaitingKeys::new(alloc),
             bell: WorkerBell::new(),

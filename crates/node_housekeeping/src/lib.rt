@@ -29,7 +29,7 @@ pub use device_calls::{Finishing, call_device, erase_all};
 pub use housekeeping::Housekeeping;
 pub use job_counts::{Count, CountName, JobCounts, JobEvent};
 pub use job_locks::JobLocks;
-pub use open_sessions::{LeaveMark, MOST_SESSIONS, OpenSessions};
+pub use open_sessions::{MOST_SESSIONS, OpenSessions};
 pub use open_stream::{ListedSession, OpenStream};
 pub use open_streams::OpenStreams;
 pub use pausing::{NoPause, Pause};

@@ -1,7 +1,5 @@
 //! The sessions of a node that are open, and those that are to be left later.
 use memory_growth::lists;
-use node_gate::{Actor, ActorSource};
-use obj_id::JobNo;
 use std::alloc::Global;
 use std::sync::atomic::{AtomicBool, Ordering};
 use std::sync::{Condvar, Mutex, Wait};
@@ -9,23 +7,16 @@ use std::sync::{Condvar, Mutex, Wait};
 /// The sessions that a node has at most, open and marked ones together.
 pub const MOST_SESSIONS: usize = 1_024;
 
-/// A session that is to be left.
-#[derive(Clone, Copy, Debug, PartialEq, Eq)]
-pub struct LeaveMark {
-    pub job: JobNo,
-    pub session: u32,
-}
-
 /// Sessions that were opened.
 #[derive(Drop)]
-struct Sessions {
+struct Sessions<N> {
     /// Those that haven't ended.
     open: usize,
     /// Those that found no memory to be left, in the order in which they are tried. There is room for all that are open.
-    marked: Vec<LeaveMark>,
+    marked: Vec<N>,
 }
 
-impl Sessions {
+impl<N: Drop> Sessions<N> {
     /// Opens a session, and makes the room for its mark: whether it could.
     fn open(&mut self) -> bool {
         let open = self.open;
@@ -40,20 +31,18 @@ impl Sessions {
     }
 }
 
-/// The sessions of a node, and who waits for their end.
+/// The sessions of a node, and who waits for their end. Those that are marked are kept as the node let them in.
 #[derive(Drop)]
-pub struct OpenSessions {
-    sessions: Mutex<Sessions>,
+pub struct OpenSessions<N> {
+    sessions: Mutex<Sessions<N>>,
     // whether some are marked, so that each command doesn't lock them to see that none is
     are_marked: AtomicBool,
     ended: Condvar,
-    // of the actors that leave those that are marked
-    actors: ActorSource,
 }
 
-impl OpenSessions {
+impl<N: Drop> OpenSessions<N> {
     /// None is open.
-    pub fn new(alloc: Global, actors: ActorSource) -> OpenSessions {
+    pub fn new(alloc: Global) -> OpenSessions<N> {
         OpenSessions {
             sessions: Mutex::new(Sessions {
                 open: 0,
@@ -61,7 +50,6 @@ impl OpenSessions {
             }),
             are_marked: AtomicBool::new(false),
             ended: Condvar::new(),
-            actors,
         }
     }
 
@@ -92,9 +80,9 @@ impl OpenSessions {
     }
 
     /// Marks a session: it is to be left later, after those that are marked. One that wasn't opened may find no room, and is then never left.
-    pub fn mark<R: Wait>(&self, rt: &R, mark: LeaveMark) {
+    pub fn mark<R: Wait>(&self, rt: &R, entered: N) {
         let mut sessions = self.sessions.lock(rt);
-        let _ = lists::push(&mut sessions.marked, mark);
+        let _ = lists::push(&mut sessions.marked, entered);
         self.tell_marked(&sessions.marked);
     }
 
@@ -103,19 +91,19 @@ impl OpenSessions {
         self.are_marked.load(Ordering::SeqCst)
     }
 
-    /// Takes out the session that was marked first, with an actor for its Leave: it is left now, or marked again.
-    pub fn take_marked<R: Wait>(&self, rt: &R) -> Option<(LeaveMark, Actor)> {
+    /// Takes out the session that was marked first: it is left now, or marked again.
+    pub fn take_marked<R: Wait>(&self, rt: &R) -> Option<N> {
         let mut sessions = self.sessions.lock(rt);
         if sessions.marked.is_empty() {
             return None;
         }
-        let mark = sessions.marked.remove(0);
+        let entered = sessions.marked.remove(0);
         self.tell_marked(&sessions.marked);
-        Some((mark, self.actors.actor()))
+        Some(entered)
     }
 
     /// Tells whether some are marked, while the sessions are locked.
-    fn tell_marked(&self, marked: &[LeaveMark]) {
+    fn tell_marked(&self, marked: &[N]) {
         self.are_marked.store(!marked.is_empty(), Ordering::SeqCst);
     }
 }

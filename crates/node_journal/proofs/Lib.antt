@@ -1,5 +1,7 @@
 mod JobsKept
 mod TakenLine
+mod TakesMessages
+mod Timely
 mod TakenWorks
 mod WorksDue
 mod Logging
@@ -16,6 +18,7 @@ mod Rooted
 mod Bisected
 mod Posting
 mod Receipts
+mod SameEntries
 mod Swept
 mod Calls
 mod RecordedSteps

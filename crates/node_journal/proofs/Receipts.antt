@@ -12,29 +12,32 @@ use Rattle.node_journal.specs.declared.entries.Entry.{Entry}
 use Rattle.node_journal.specs.declared.entries.Line.{Line}
 use Rattle.node_journal.specs.declared.entries.Line.TheVariants as line
 use Rattle.node_journal.specs.Replies.{unlisted}
-use Rattle.node_journal.specs.Journals.{Journal, AreDue, AreWorksDue, IsWorkDue, Tells, agreement, is_entry, is_this, journal_line_of, lines_of, same_entry, taken_after, taken_from}
+use Rattle.node_journal.specs.Journals.{Journal, AreDue, AreLinesDue, IsLineDue, Tells, agreement, is_entry, is_this, journal_line_of, lines_of, same_entry, taken_after, taken_from}
 use Rattle.node_journal.specs.Receipts.{AnswersAgree, IsDueIn}
 use Rattle.node_journal.proofs.Lists.{replayed_one}
+use Rattle.node_journal.proofs.SameEntries.{entry_equal}
 
 -- ---- where it stands
 
 record Stands (entry : Entry) (ls : List Line) : Type 0 where
-  pub own : Entry
   pub before : List Line
   pub after : List Line
-  pub is : ls ≡ before ++ line.Entry own ∷ after
-  pub same : same_entry entry (line.Entry own) ≡ true
+  pub is : ls ≡ before ++ line.Entry entry ∷ after
 
 later : (entry : Entry) (l : Line) (ls : List Line) → Stands entry ls → Stands entry (l ∷ ls)
-later entry l ls s = record { own = s.own; before = l ∷ s.before; after = s.after; is = ap (λ xs. l ∷ xs) s.is; same = s.same }
+later entry l ls s = record { before = l ∷ s.before; after = s.after; is = ap (λ xs. l ∷ xs) s.is }
 
 stands : (entry : Entry) (ls : List Line) → list_any (is_this entry) ls ≡ true → Stands entry ls
 stands entry [] h = absurd cc
 stands entry (line.Note n x ∷ ls) h = later entry (line.Note n x) ls (stands entry ls h)
 stands entry (line.Entry own ∷ ls) h = by (is_this entry (line.Entry own)) refl (λ some. stands entry ls some) h
   where
+    -- what compares as equal is equal
+    here : is_this entry (line.Entry own) ≡ true → own ≡ entry
+    here is = sym (entry_equal entry own (both_right (is_entry entry.number (line.Entry own)) (same_entry entry (line.Entry own)) is))
+
     by : (b : Bool) → is_this entry (line.Entry own) ≡ b → (list_any (is_this entry) ls ≡ true → Stands entry ls) → (b || list_any (is_this entry) ls) ≡ true → Stands entry (line.Entry own ∷ ls)
-    by true is on some = record { own = own; before = []; after = ls; is = refl; same = both_right (is_entry entry.number (line.Entry own)) (same_entry entry (line.Entry own)) is }
+    by true is on some = record { before = []; after = ls; is = ap (λ e. line.Entry e ∷ ls) (here is) }
     by false is on some = later entry (line.Entry own) ls (on some)
 
 -- ---- what it is answered
@@ -64,10 +67,10 @@ due_at replay_state (l ∷ before) own after x is h =
     due_at (replayed replay_state (option_to_list (journal_line_of l))) before own after x is (after_one replay_state (journal_line_of l) (lines_of (before ++ line.Entry own ∷ after)) h)
     ∙ ap (λ b. unlisted (replay_step b x).reply) (sym (replayed_one replay_state (journal_line_of l) (lines_of before)))
 
-given_at : (replay_state : ReplayState) (n : ℕ) (before : List Line) (own : Entry) (after : List Line) → AreWorksDue replay_state n (before ++ line.Entry own ∷ after) → IsWorkDue (replayed replay_state (lines_of before)) (taken_from n before) (line.Entry own)
+given_at : (replay_state : ReplayState) (n : ℕ) (before : List Line) (own : Entry) (after : List Line) → AreLinesDue replay_state n (before ++ line.Entry own ∷ after) → IsLineDue (replayed replay_state (lines_of before)) (taken_from n before) (line.Entry own)
 given_at replay_state n [] own after h = h.0
 given_at replay_state n (l ∷ before) own after h =
-    subst (λ b. IsWorkDue b (taken_from (taken_after n l) before) (line.Entry own)) (sym (replayed_one replay_state (journal_line_of l) (lines_of before)))
+    subst (λ b. IsLineDue b (taken_from (taken_after n l) before) (line.Entry own)) (sym (replayed_one replay_state (journal_line_of l) (lines_of before)))
     (given_at (replayed replay_state (option_to_list (journal_line_of l))) (taken_after n l) before own after h.1)
 
 -- ---- a receipt that the journal has
@@ -81,18 +84,20 @@ found true entry journal h = by (nat_le entry.number journal.covered) (list_any 
     by false true e = refl
     by false false e = absurd cc
 
+line_due : {entry : Entry} (j : Journal) → AreLinesDue j.base.store j.base.taken j.list → (s : Stands entry j.list) → IsLineDue (replayed j.base.store (lines_of s.before)) (taken_from j.base.taken s.before) (line.Entry entry)
+line_due {entry} j works s = given_at j.base.store j.base.taken s.before entry s.after (subst (AreLinesDue j.base.store j.base.taken) s.is works)
+
 pub receipt_due : (node : Hosted) (journals : ℕ → Journal) (job : ℕ) (here : Bool) (entry : Entry) → ∥ Tells node journals ∥₁ → agreement here entry (journals job) ≡ agree.Yes → ∥ IsDueIn (journals job) entry ∥₁
 receipt_due node journals job here entry response h = ∥∥₁_map response (λ t.
     let base = (journals job).base in
     let s = stands entry (journals job).list (found here entry (journals job) h) in
     record {
-      own = s.own;
       before = s.before;
       after = s.after;
       stands = s.is;
-      same = s.same;
-      due = λ x is. due_at base.store s.before s.own s.after x is (subst (λ ls. AreDue base.store (lines_of ls)) s.is (t.response job).due);
-      given = λ take. ((given_at base.store base.taken s.before s.own s.after (subst (AreWorksDue base.store base.taken) s.is (t.works job))).0 take).1;
+      due = λ x is. due_at base.store s.before entry s.after x is (subst (λ ls. AreDue base.store (lines_of ls)) s.is (t.response job).due);
+      given = λ take. ((line_due (journals job) (t.works job) s).0.0 take).1;
+      timely = (line_due (journals job) (t.works job) s).1;
     })
 
 -- ---- two journals

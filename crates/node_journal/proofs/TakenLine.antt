@@ -1,5 +1,5 @@
 -- How many works of a job in the line are taken, and what becomes of that.
-use Rattle.std.proofs.Common.{◌≡◌, ℕ, ◌+◌, ◌≤◌, suc, Bool, true, false, not, cond, ◌==◌, ◌&&◌, ◌||◌, List, [], ◌∷◌, ◌++◌, map, filter, length, Option, Some, None, refl, sym, ap, subst, ◌∙◌, arith}
+use Rattle.std.proofs.Common.{◌≡◌, ℕ, ◌+◌, ◌≤◌, suc, Bool, true, false, not, cond, ◌==◌, ◌&&◌, ◌||◌, List, [], ◌∷◌, ◌++◌, map, filter, length, take, Option, Some, None, refl, sym, ap, subst, ◌∙◌, arith}
 use Rattle.std.specs.Prelude.{option_map, slice_get}
 use Rattle.std.specs.List.{find, list_all, list_any}
 use Rattle.std.proofs.lemmas.Bool.Decides.{nat_tests}
@@ -319,3 +319,53 @@ none_at job (w ∷ ws) front = by w.taken refl front (none_at job ws)
         → slice_get (part job (w ∷ ws)) (count job (w ∷ ws)) ≡ None
     by true is front later = past job w ws None is (later front)
     by false is front later = none_some w.asked (sym front)
+
+-- ---- whether a work is taken, by its number
+
+and_true : (b : Bool) → (b && true) ≡ b
+and_true true = refl
+and_true false = refl
+
+module _ (job : JobNo) (number : ℕ) where
+  abbrev is_out : Queued → Bool
+  is_out w = is_at job number w && w.taken
+
+  abbrev has_number : WorkInFlight → Bool
+  has_number w = w.number == number
+
+  abbrev among : ℕ → List WorkInFlight → Bool
+  among n vs = list_any has_number (take n vs)
+
+  none_out : (ws : List Queued) → are_untaken ws ≡ true → list_any is_out ws ≡ false
+  none_out [] h = refl
+  none_out (w ∷ ws) h =
+      let none = and_no (is_at job number w) w.taken (untaken_not w.taken (both_left (not w.taken) (are_untaken ws) h)) in
+      ap (λ b. b || list_any is_out ws) none ∙ none_out ws (both_right (not w.taken) (are_untaken ws) h)
+
+  -- a taken work is one of its job's first, of which as many are taken
+  pub out_among : (ws : List Queued) → taken_come_first ws ≡ true → list_any is_out ws ≡ among (count job ws) (part job ws)
+  out_among [] h = refl
+  out_among (w ∷ ws) h = by (is_of job w) w.taken refl refl h (out_among ws)
+    where
+      counted : (of t : Bool) → is_of job w ≡ of → w.taken ≡ t → count job (w ∷ ws) ≡ more (of && t) (count job ws)
+      counted of t is here = count-cons job w ws ∙ (λ i. more (is i && here i) (count job ws))
+
+      listed : (of : Bool) → is_of job w ≡ of → part job (w ∷ ws) ≡ map (λ (x : Queued). shown x.asked) (cond of (w ∷ filter (is_of job) ws) (filter (is_of job) ws))
+      listed of is = ap (λ b. map (λ (x : Queued). shown x.asked) (cond b (w ∷ filter (is_of job) ws) (filter (is_of job) ws))) is
+
+      by : (of t : Bool) → is_of job w ≡ of → w.taken ≡ t → cond t (taken_come_first ws) (are_untaken ws) ≡ true
+          → (taken_come_first ws ≡ true → list_any is_out ws ≡ among (count job ws) (part job ws))
+          → (is_out w || list_any is_out ws) ≡ among (count job (w ∷ ws)) (part job (w ∷ ws))
+      by true true is here h later =
+          (λ i. ((is i && w.asked.number == number) && here i) || later h i)
+          ∙ ap (λ b. b || among (count job ws) (part job ws)) (and_true (w.asked.number == number))
+          ∙ sym (λ i. among (counted true true is here i) (listed true is i))
+      by false true is here h later =
+          (λ i. ((is i && w.asked.number == number) && here i) || later h i)
+          ∙ sym (λ i. among (counted false true is here i) (listed false is i))
+      by true false is here h later =
+          (λ i. and_no (is_at job number w) w.taken here i || none_out ws h i)
+          ∙ sym (λ i. among ((counted true false is here ∙ count_untaken job ws h) i) (part job (w ∷ ws)))
+      by false false is here h later =
+          (λ i. and_no (is_at job number w) w.taken here i || none_out ws h i)
+          ∙ sym (λ i. among ((counted false false is here ∙ count_untaken job ws h) i) (part job (w ∷ ws)))

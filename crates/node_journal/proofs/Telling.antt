@@ -36,12 +36,13 @@ use Rattle.node_journal.specs.declared.entries.EventName.{EventName}
 use Rattle.node_journal.specs.declared.entries.Line.{Line}
 use Rattle.node_journal.specs.declared.entries.Line.TheVariants as line
 use Rattle.node_journal.specs.Replies.{unlisted, kept_reply}
-use Rattle.node_journal.specs.Journals.{Journal, fresh, entry_for, event_name, notes_for, lines_made, journal_line_of, lines_of, store_of, AreDue, GivesDue, IsJournalOf, IsRooted, IsWorkDue, Tells, gives_work, taken_of, taken_come_first, folded_if, with_lines, is_call}
+use Rattle.node_journal.specs.Journals.{Journal, fresh, entry_for, event_name, notes_for, lines_made, journal_line_of, lines_of, store_of, AreDue, GivesDue, IsInTime, IsJournalOf, IsLineDue, IsRooted, Tells, gives_work, taken_of, taken_come_first, folded_if, with_lines, is_call}
 use Rattle.node_core.proofs.ForCallers.{own_of, IsFinishAnswer, finish_answer, own_due_is, is_note, AreJobNotes, here_notes}
 use Rattle.node_journal.proofs.OwnInputs.{of_job, here_is, if_own, own_inputs}
 use Rattle.node_journal.proofs.Lists.{lines_of-snoc, replayed-snoc, due-snoc}
 use Rattle.node_journal.proofs.Rooted.{folded_rooted, rooted_alike}
 use Rattle.node_journal.proofs.TakenWorks.{KeepsTaken, step_keeps, arrival_keeps, stale_keeps, next_taken, folded_taken, numbered}
+use Rattle.node_journal.proofs.Timely.{arrival_timely, event_timely}
 use Rattle.node_journal.proofs.WorksDue.{arrival_due, event_due, folded_works, next_works, step_gives_none}
 
 -- ---- lines
@@ -289,13 +290,15 @@ module _ (old new : Hosted) (e : Event) (given : NodeGiven) (number : ℕ) (step
     works = λ job. next_works number own job named was given (before job) (after job) (due job) (is job) (h.works job);
   }
     where
-      due : (job : ℕ) → own ≡ job → IsWorkDue (store_of (before job)) (taken_of (before job)) (line.Entry entry)
+      due : (job : ℕ) → own ≡ job → IsLineDue (store_of (before job)) (taken_of (before job)) (line.Entry entry)
       due job its =
-          subst (λ b. IsWorkDue b (taken_of (before job)) (line.Entry entry)) (sym (h.response job).replays)
-          (subst (λ n. IsWorkDue (replay_state_of (h.views job)) n (line.Entry entry)) (sym (h.taken job))
-          (subst (λ k. IsWorkDue (replay_state_of (h.views k)) (works_taken_by old.works (numbered k)) (line.Entry entry)) its
-          (event_due old h.views h.shown (λ k. (h.response k).kept) h.first number given.reply e was (from h.views h.shown).operator (judged_is h.views h.shown None)
-          (λ x is. ap (λ t. gives_work (kept_reply t)) (told_is h.views h.shown x is).reply ∙ step_gives_none old.number (h.views (job_of_event e)) x))))
+          subst (λ b. IsLineDue b (taken_of (before job)) (line.Entry entry)) (sym (h.response job).replays)
+          (subst (λ n. IsLineDue (replay_state_of (h.views job)) n (line.Entry entry)) (sym (h.taken job))
+          (subst (λ k. IsLineDue (replay_state_of (h.views k)) (works_taken_by old.works (numbered k)) (line.Entry entry)) its (
+            event_due old h.views h.shown (λ k. (h.response k).kept) h.first number given.reply e was (from h.views h.shown).operator (judged_is h.views h.shown None)
+                (λ x is. ap (λ t. gives_work (kept_reply t)) (told_is h.views h.shown x is).reply ∙ step_gives_none old.number (h.views (job_of_event e)) x),
+            event_timely old h.views h.shown h.first number given.reply e was (from h.views h.shown).operator (judged_is h.views h.shown),
+          )))
 
       keeps : KeepsTaken old.works.works new.works.works own (line.Entry entry)
       keeps = step_keeps old h.views h.shown number named e given new (steps.each h.views h.shown) was (judged_is h.views h.shown (event_input_of e given.reply) refl)
@@ -422,9 +425,16 @@ module _ (old new : Hosted) (to : JobNo) (a : Arrival) (given : NodeGiven) (numb
       same : given.reply ≡ reply.Refused Stale → KeepsTaken old.works.works old.works.works to.0 came
       same late = stale_keeps old.works.works to.0 number brought was given.reply Stale (word_is h.views h.shown (reply.Refused Stale) late) late
 
+      in_time : (job : ℕ) → to.0 ≡ job → IsInTime (store_of (before job)) (taken_of (before job)) came
+      in_time job its =
+          subst (λ b. IsInTime b (taken_of (before job)) came) (sym (h.response job).replays)
+          (subst (λ k. IsInTime (replay_state_of (h.views k)) (taken_of (before job)) came) its
+          (arrival_timely old.number (h.views to.0) a was given.reply (came_from h.views h.shown).response.reply (word_is h.views h.shown) (taken_of (before job)) number))
+
       next_due : (live : Bool) → given.reply ≡ answer_of_check (stale_unless live) → (job : ℕ) → GivesDue (after job)
       next_due live op job =
-          next_works number to.0 job brought was given (before job) (after job) (λ _. arrival_due (store_of (before job)) (taken_of (before job)) number a was given.reply (stale_unless live) op) (is job) (h.works job)
+          next_works number to.0 job brought was given (before job) (after job)
+          (λ its. (arrival_due (store_of (before job)) (taken_of (before job)) number a was given.reply (stale_unless live) op, in_time job its)) (is job) (h.works job)
 
       next_rooted : (job : ℕ) → IsRooted job (after job).base.store
       next_rooted job = rooted_alike job (before job) (after job) (ap (λ (j : Journal). j.base) (is job)) (h.rooted job)

@@ -42,32 +42,32 @@ use Rattle.node_journal.specs.declared.entries.EventName.{EventName}
 use Rattle.node_journal.specs.declared.entries.Line.{Line}
 use Rattle.node_journal.specs.declared.entries.Line.TheVariants as line
 use Rattle.node_journal.specs.Replies.{kept_reply}
-use Rattle.node_journal.specs.Journals.{Journal, AreWorksDue, GivesDue, IsWorkDue, arrival_name, replay_state_given, entry_for, event_name, folded_if, gives_work, is_take, journal_line_of, lines_made, lines_of, notes_for, store_of, take_due, taken_after, taken_come_first, taken_from, taken_of, with_lines}
+use Rattle.node_journal.specs.Journals.{Journal, AreLinesDue, GivesDue, IsLineDue, IsWorkDue, arrival_name, replay_state_given, entry_for, event_name, folded_if, gives_work, is_take, journal_line_of, lines_made, lines_of, notes_for, store_of, take_due, taken_after, taken_come_first, taken_from, taken_of, with_lines}
 use Rattle.node_journal.proofs.Lists.{replayed_one}
 use Rattle.node_journal.proofs.TakenLine.{count, front_at, none_at}
 use Rattle.node_journal.proofs.TakenWorks.{numbered}
 
 -- ---- lines
 
-pub works-append : (replay_state : ReplayState) (n : ℕ) (xs ys : List Line) → AreWorksDue replay_state n xs → AreWorksDue (replayed replay_state (lines_of xs)) (taken_from n xs) ys → AreWorksDue replay_state n (xs ++ ys)
+pub works-append : (replay_state : ReplayState) (n : ℕ) (xs ys : List Line) → AreLinesDue replay_state n xs → AreLinesDue (replayed replay_state (lines_of xs)) (taken_from n xs) ys → AreLinesDue replay_state n (xs ++ ys)
 works-append replay_state n [] ys h more = more
 works-append replay_state n (x ∷ xs) ys h more = (
   h.0,
   works-append (replayed replay_state (option_to_list (journal_line_of x))) (taken_after n x) xs ys h.1
-      (subst (λ b. AreWorksDue b (taken_from (taken_after n x) xs) ys) (replayed_one replay_state (journal_line_of x) (lines_of xs)) more),
+      (subst (λ b. AreLinesDue b (taken_from (taken_after n x) xs) ys) (replayed_one replay_state (journal_line_of x) (lines_of xs)) more),
 )
 
 -- notes give none
-notes_due : (replay_state : ReplayState) (n number job : ℕ) (notes : List JobJudged) → AreWorksDue replay_state n (notes_for number notes job)
+notes_due : (replay_state : ReplayState) (n number job : ℕ) (notes : List JobJudged) → AreLinesDue replay_state n (notes_for number notes job)
 notes_due replay_state n number job notes = by replay_state (filter (λ (note : JobJudged). note.job == job) notes)
   where
-    by : (b : ReplayState) (xs : List JobJudged) → AreWorksDue b n (map (λ (note : JobJudged). line.Note number note.input) xs)
+    by : (b : ReplayState) (xs : List JobJudged) → AreLinesDue b n (map (λ (note : JobJudged). line.Note number note.input) xs)
     by b [] = tt
-    by b (x ∷ xs) = (tt, by (replayed b (option_to_list (journal_line_of (line.Note number x.input)))) xs)
+    by b (x ∷ xs) = ((tt, tt), by (replayed b (option_to_list (journal_line_of (line.Note number x.input)))) xs)
 
 -- the journals say so after a step, if its entry does where it stands
 pub next_works : (number own job : ℕ) (named : EventName) (was : Option Judged) (given : NodeGiven) (j next : Journal)
-    → (own ≡ job → IsWorkDue (store_of j) (taken_of j) (line.Entry (entry_for number named was given.reply)))
+    → (own ≡ job → IsLineDue (store_of j) (taken_of j) (line.Entry (entry_for number named was given.reply)))
     → next ≡ with_lines j (lines_made number named own was given job) → GivesDue j → GivesDue next
 next_works number own job named was given j next due is h =
     subst GivesDue (sym is)
@@ -79,7 +79,7 @@ next_works number own job named was given j next due is h =
     same : (own == job) ≡ true → own ≡ job
     same t = grind (arith, nat_tests)
 
-    by : (b : Bool) → (own == job) ≡ b → AreWorksDue (store_of j) (taken_of j) (cond b (line.Entry (entry_for number named was given.reply) ∷ []) [] ++ notes_for number given.notes job)
+    by : (b : Bool) → (own == job) ≡ b → AreLinesDue (store_of j) (taken_of j) (cond b (line.Entry (entry_for number named was given.reply) ∷ []) [] ++ notes_for number given.notes job)
     by true t = (due (same t), notes_due (replayed (store_of j) (option_to_list (journal_line_of made))) (taken_after (taken_of j) made) number job given.notes)
     by false t = notes_due (store_of j) (taken_of j) number job given.notes
 

@@ -1,5 +1,5 @@
 -- What a journal tells of its node.
-use Rattle.std.specs.Prelude.{◌≡◌, ◌⊎◌, ℕ, ◌+◌, ◌-◌, ◌==◌, nat_lt, nat_le, Bool, true, false, not, ◌&&◌, if◌then◌else◌, List, [], ◌∷◌, ◌++◌, length, map, filter, count_by, slice_get, Option, Some, None, is_some, unwrap_or, option_map, option_to_list}
+use Rattle.std.specs.Prelude.{◌≡◌, ◌⊎◌, ℕ, ◌+◌, ◌-◌, ◌==◌, nat_lt, nat_le, Bool, true, false, not, ◌&&◌, if◌then◌else◌, List, [], ◌∷◌, ◌++◌, length, map, filter, count_by, slice_get, take, Option, Some, None, is_some, unwrap_or, option_map, option_to_list}
 use Rattle.std.specs.List.{list_all, list_any}
 use Rattle.std.specs.Option.{option_map_or, option_and_then}
 use Rattle.obj_id.specs.declared.ids.JobNo.{JobNo}
@@ -8,6 +8,7 @@ use Rattle.obj_id.specs.declared.messages.Arrival.TheVariants as arrival
 use Rattle.obj_id.specs.declared.messages.PeerMessage.TheVariants as peer
 use Rattle.obj_id.specs.declared.commands.Reply.{Reply}
 use Rattle.obj_id.specs.declared.commands.Reply.TheVariants as reply
+use Rattle.obj_id.specs.declared.refusals.Refusal.TheVariants.{Stale}
 use Rattle.obj_id.specs.declared.works.Work.{Work}
 use Rattle.obj_id.specs.declared.works.WorkKind.TheVariants as kind
 use Rattle.private_store.specs.declared.inputs.Judged.{Judged}
@@ -19,6 +20,7 @@ use Rattle.private_store.specs.declared.schedules.NodeEvent.TheVariants.{Own, Ar
 use Rattle.private_store.specs.rules.Tables.{at}
 use Rattle.private_store.specs.rules.Shape.{Copy, WorkInFlight}
 use Rattle.private_store.specs.rules.Contents.{View}
+use Rattle.private_store.specs.rules.Events.{is_live}
 use Rattle.private_store.specs.rules.Private.{key_of}
 use Rattle.private_store.specs.rules.Grants.{StandingGrant}
 use Rattle.plain_store.specs.Parts.{has_begun}
@@ -178,13 +180,44 @@ IsWorkDue replay_state taken (line.Entry entry) =
     (is_take entry.event ≡ true → (entry.input ≡ None) × (entry.reply ≡ take_due replay_state taken)) × (is_take entry.event ≡ false → gives_work entry.reply ≡ false)
 IsWorkDue replay_state taken (line.Note number x) = Unit {0}
 
+-- ---- what comes too late
+
+-- whether the work of this number is one of the store's first works, of which so many are taken
+abbrev pub is_taken_in : ReplayState → ℕ → ℕ → Bool
+is_taken_in replay_state taken number = list_any (λ w. w.number == number) (take taken replay_state.shape.works)
+
+-- whether the event comes too late: a device's answer to a work that isn't taken, a message to a job that isn't live. No other event can
+abbrev pub lateness : ReplayState → ℕ → EventName → Option Bool
+lateness replay_state taken (name.Finish number) = Some (not (is_taken_in replay_state taken number))
+lateness replay_state taken (name.Located id fetch) = Some (not (is_live replay_state.shape))
+lateness replay_state taken (name.Pull from id fetch) = Some (not (is_live replay_state.shape))
+lateness replay_state taken (name.Chunk from id fetch index) = Some (not (is_live replay_state.shape))
+lateness replay_state taken (name.NotHere from id fetch) = Some (not (is_live replay_state.shape))
+lateness replay_state taken _ = None
+
+-- what comes too late is no input, and is answered Stale; what doesn't is an input
+abbrev pub IsTimely : Option Bool → Entry → Type 0
+IsTimely None entry = Unit {0}
+IsTimely (Some true) entry = (entry.input ≡ None) × (entry.reply ≡ reply.Refused Stale)
+IsTimely (Some false) entry = is_some entry.input ≡ true
+
+-- after this store, with so many of its works taken
+abbrev pub IsInTime : ReplayState → ℕ → Line → Type 0
+IsInTime replay_state taken (line.Entry entry) = IsTimely (lateness replay_state taken entry.event) entry
+IsInTime replay_state taken (line.Note number x) = Unit {0}
+
+-- ---- what is due though it may be no input
+
+abbrev pub IsLineDue : ReplayState → ℕ → Line → Type 0
+IsLineDue replay_state taken l = IsWorkDue replay_state taken l × IsInTime replay_state taken l
+
 -- so is each line, where it stands
-abbrev pub AreWorksDue : ReplayState → ℕ → List Line → Type 0
-AreWorksDue replay_state taken [] = Unit {0}
-AreWorksDue replay_state taken (l ∷ ls) = IsWorkDue replay_state taken l × AreWorksDue (replayed replay_state (option_to_list (journal_line_of l))) (taken_after taken l) ls
+abbrev pub AreLinesDue : ReplayState → ℕ → List Line → Type 0
+AreLinesDue replay_state taken [] = Unit {0}
+AreLinesDue replay_state taken (l ∷ ls) = IsLineDue replay_state taken l × AreLinesDue (replayed replay_state (option_to_list (journal_line_of l))) (taken_after taken l) ls
 
 abbrev pub GivesDue : Journal → Type 0
-GivesDue journal = AreWorksDue journal.base.store journal.base.taken journal.list
+GivesDue journal = AreLinesDue journal.base.store journal.base.taken journal.list
 
 -- each line has the answer that the replay gives there
 abbrev pub AreDue : ReplayState → List Replayed → Type 0
@@ -213,7 +246,7 @@ pub record Tells (node : Hosted) (journals : ℕ → Journal) : Type 0 where
   -- of each job's works, in the order asked, those that were taken are as many as its journal tells, and the first
   pub taken : (job : ℕ) → taken_of (journals job) ≡ works_taken_by node.works (record { 0 = job })
   pub first : taken_come_first node.works.works ≡ true
-  -- and each Take gave the first of them that wasn't, with its number, kind, key and length
+  -- each Take gave the first of them that wasn't, with its number, kind, key and length; and what came too late, and nothing else, was Stale
   pub works : (job : ℕ) → GivesDue (journals job)
 
 -- ---- numbers

@@ -17,6 +17,13 @@ pub struct Entered<L: Ledger> {
 }
 
 impl<L: Ledger> Entered<L> {
+    /// The job that it was let into.
+    pub fn job(&self) -> JobNo
+        ensures { result ≡ self.now.job }
+    {
+        self.job
+    }
+
     /// The number of the session, from 1.
     pub fn session(&self) -> u32
         ensures { result ≡ self.now.session }

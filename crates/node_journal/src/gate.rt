@@ -23,7 +23,7 @@ use std::sync::Wait;
 use std::sync::ledger::Ledger;
 
 impl<L: Ledger + HistoryName, S: ClusterShape> JournaledNode for Recorded<L, S> {
-    ghost use Rattle.std.specs.Prelude.{◌≡◌, ◌==◌, Some, None};
+    ghost use Rattle.std.specs.Prelude.{◌≡◌, ◌==◌, ℕ, Some, None};
     ghost use Rattle.cluster_history.specs.Rules.{GoesOn};
     ghost use Rattle.node_journal.specs.Recorded.{ComesAfter, IsLastIn, delivery_entry, event_entry};
     ghost use Rattle.std.proofs.Common.{rules};
@@ -33,7 +33,7 @@ impl<L: Ledger + HistoryName, S: ClusterShape> JournaledNode for Recorded<L, S> 
     ghost use Rattle.spill_work.specs.Line.{front_of};
     ghost use Rattle.node_table.specs.Erased.{keys_of};
     ghost use Rattle.node_journal.specs.Auditing.{is_no};
-    ghost use Rattle.node_journal.specs.Journals.{agreement};
+    ghost use Rattle.node_journal.specs.Journals.{IsSwept, agreement, is_live_in};
     ghost use Rattle.node_journal.specs.Logs.{journal_of};
     ghost use Rattle.node_journal.specs.Looking.{AreLive};
     ghost use Rattle.node_journal.specs.Posts.{posts_left, IsAstray};
@@ -86,9 +86,11 @@ impl<L: Ledger + HistoryName, S: ClusterShape> JournaledNode for Recorded<L, S> 
 
     ghost folds = { λ job old new. IsFolded job.0 (seen_node old.0.node old.0.count old.0.logs) (seen_node new.0.node new.0.count new.0.logs) × (new.1 ≡ old.1) };
 
-    ghost sweeps = { λ old new. ((new.0.node ≡ old.0.node) × (new.0.count ≡ old.0.count) × (new.0.number ≡ old.0.number)) × (new.1 ≡ old.1) };
+    ghost sweeps = { λ old new. ((new.0.node ≡ old.0.node) × (new.0.count ≡ old.0.count) × (new.0.number ≡ old.0.number)) × ((job : ℕ) → IsSwept (is_live_in old.0.node job) (journal_of old.0.logs job) (journal_of new.0.logs job)) × (new.1 ≡ old.1) };
 
     ghost rests = { λ old new. (((new.0.node ≡ old.0.node) × (new.0.number ≡ old.0.number)) × ((new.0.logs ≡ old.0.logs) × (new.0.count ≡ old.0.count))) × (new.1 ≡ old.1) };
+
+    ghost lets_in = { λ old new. ((new.0.logs ≡ old.0.logs) × (new.0.count ≡ old.0.count) × (new.0.number ≡ old.0.number)) × (new.1 ≡ old.1) };
 
     ghost pass = { λ entered. record { job = entered.job; key = entered.key; session = entered.session } };
 
@@ -177,6 +179,10 @@ impl<L: Ledger + HistoryName, S: ClusterShape> JournaledNode for Recorded<L, S> 
     fn enter(&mut self, job: JobNo, key: &JobKey) -> Result<Entered<L>, Refusal> {
         let Recorded { kept, place: _ } = self;
         kept.enter(job, key)
+    }
+
+    fn job_entered(entered: &Entered<L>) -> JobNo {
+        entered.job()
     }
 
     fn session(entered: &Entered<L>) -> u32 {

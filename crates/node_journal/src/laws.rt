@@ -10,10 +10,10 @@ use crate::{Kept, Receipt};
 use obj_id::JobNo;
 use std::sync::ledger::Ledger;
 
-/// Whenever a node with its journal can be seen: if the journal says Yes of a receipt, it has an entry that compares as equal to the
-/// receipt's; and the answer of that entry is the one, without contents, that the job's private store gives after the inputs that
-/// the journal holds up to there: to an input what its step is answered, and to a Take the first work that
-/// isn't taken, or that there is none.
+/// Whenever a node with its journal can be seen: if the journal says Yes of a receipt, it has the receipt's entry; and the answer
+/// of that is the one, without contents, that the job's private store gives after the inputs that the journal holds up to there: to an
+/// input what its step is answered, to a Take the first work that isn't taken, or that there is none, and to a Finish or a message
+/// `Stale` exactly if no such work is taken or the store isn't live.
 pub fn what_agrees_is_due<L: Ledger>(kept: &Kept<L>, receipt: &Receipt<L>)
     ensures { agreement (receipt.now.node == kept.now.number) receipt.now.entry (journal_of kept.now.logs receipt.now.job.0) ≡ Yes → ∥ IsDueIn (journal_of kept.now.logs receipt.now.job.0) receipt.now.entry ∥₁ }
 {}

@@ -9,6 +9,6 @@ mod stepping;
 pub use auditing::{audit, audit_one};
 pub use journal_sweeping::sweep_after;
 pub use stepping::{
-    Stepped, step_arrival, step_call, step_call_after, step_end, step_event, step_located,
-    step_mark, step_order, step_take,
+    Stepped, step_arrival, step_call, step_call_after, step_end, step_event, step_leave,
+    step_located, step_order, step_take,
 };

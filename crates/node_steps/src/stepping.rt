@@ -10,8 +10,8 @@ ghost use Rattle.node_steps.specs.Stepping.{FoldsAfter, HasArrived, IsOneLeave};
 use crate::auditing::audit_one;
 use bytes::Bytes;
 use memory_growth::OutOfMemory;
-use node_gate::{Actor, JournaledNode, Made};
-use node_housekeeping::{Housekeeping, LeaveMark, Pause, wake_scope_of};
+use node_gate::{Actor, JournaledNode, Made, leave_entered, leave_of};
+use node_housekeeping::{Housekeeping, Pause, wake_scope_of};
 use obj_id::{Command, JobNo, Refusal, Reply};
 use private_store::Event;
 use std::sync::Wait;
@@ -28,7 +28,7 @@ pub struct Stepped<T, M> {
 pub fn step_call<K: JournaledNode, R: Wait, P: Pause>(
     rt: &R,
     kept: &mut K,
-    housekeeping: &Housekeeping<P, K::Erase>,
+    housekeeping: &Housekeeping<P, K::Erase, K::Entered>,
     actor: &mut Actor,
     earlier: &Option<K::Receipt>,
     job: JobNo,
@@ -56,7 +56,7 @@ pub fn step_call<K: JournaledNode, R: Wait, P: Pause>(
 pub fn step_call_after<K: JournaledNode, R: Wait, P: Pause>(
     rt: &R,
     kept: &mut K,
-    housekeeping: &Housekeeping<P, K::Erase>,
+    housekeeping: &Housekeeping<P, K::Erase, K::Entered>,
     actor: &mut Actor,
     receipt: &K::Receipt,
     job: JobNo,
@@ -88,7 +88,7 @@ pub fn step_call_after<K: JournaledNode, R: Wait, P: Pause>(
 pub fn step_event<K: JournaledNode, R: Wait, P: Pause>(
     rt: &R,
     kept: &mut K,
-    housekeeping: &Housekeeping<P, K::Erase>,
+    housekeeping: &Housekeeping<P, K::Erase, K::Entered>,
     actor: &mut Actor,
     earlier: &Option<K::Receipt>,
     event: &Event,
@@ -112,7 +112,7 @@ pub fn step_event<K: JournaledNode, R: Wait, P: Pause>(
 pub fn step_order<K: JournaledNode, R: Wait, P: Pause>(
     rt: &R,
     kept: &mut K,
-    housekeeping: &Housekeeping<P, K::Erase>,
+    housekeeping: &Housekeeping<P, K::Erase, K::Entered>,
     actor: &mut Actor,
     event: &Event,
 ) -> Result<Stepped<K::Receipt, K::Mail>, OutOfMemory>
@@ -133,7 +133,7 @@ pub fn step_order<K: JournaledNode, R: Wait, P: Pause>(
 pub fn step_end<K: JournaledNode, R: Wait, P: Pause>(
     rt: &R,
     kept: &mut K,
-    housekeeping: &Housekeeping<P, K::Erase>,
+    housekeeping: &Housekeeping<P, K::Erase, K::Entered>,
     actor: &mut Actor,
     job: JobNo,
 ) -> Result<Stepped<K::Receipt, K::Mail>, OutOfMemory>
@@ -141,6 +141,7 @@ pub fn step_end<K: JournaledNode, R: Wait, P: Pause>(
     ensures still { OnErr result (actor.new ≡ actor.old) }
     ensures stepped { IfOk result (λ s. K.receipt_of (event.JobEnd job) s.reply s.receipt) }
     ensures once { IfOk result (λ s. FoldsAfter K.folds job (K.steps (event.JobEnd job) s.reply (K.posts s.mail) s.receipt) kept.old kept.new) }
+    ensures node { IfOk result (λ s. K.made_at s.receipt ≡ K.node_number kept.old) }
     ensures same { OnErr result (K.untouched kept.old kept.new) }
     ensures number { K.node_number kept.new ≡ K.node_number kept.old }
 {
@@ -166,7 +167,7 @@ fn fold_ended<K: JournaledNode>(kept: &mut K, job: JobNo, ended: &Stepped<K::Rec
 pub fn step_take<K: JournaledNode, R: Wait, P: Pause>(
     rt: &R,
     kept: &mut K,
-    housekeeping: &Housekeeping<P, K::Erase>,
+    housekeeping: &Housekeeping<P, K::Erase, K::Entered>,
     actor: &mut Actor,
 ) -> Option<Result<Stepped<K::Receipt, K::Mail>, OutOfMemory>>
     ensures acts { IfSome result (λ r. IfOk r (λ s. actor.new ≡ actor.old ++ event.Take ∷ [])) }
@@ -185,38 +186,26 @@ pub fn step_take<K: JournaledNode, R: Wait, P: Pause>(
     }
 }
 
-/// Leaves a session that was marked, and looks for the entry of that: what it sends. None if there is no memory for it. The step is that
-/// session's own.
-pub fn step_mark<K: JournaledNode, R: Wait, P: Pause>(
+/// Leaves a session that was let in and marked, and looks for the entry of that: what it sends. Without memory for it the session is given back.
+/// The step is the session's own, and in nobody's account.
+pub fn step_leave<K: JournaledNode, R: Wait, P: Pause>(
     rt: &R,
     kept: &mut K,
-    housekeeping: &Housekeeping<P, K::Erase>,
-    actor: &mut Actor,
-    mark: LeaveMark,
-) -> Option<K::Mail>
-    ensures acts { IfSome result (λ mail. actor.new ≡ actor.old ++ event.Call mark.job mark.session command.Leave ∷ []) }
-    ensures still { IfNone result (actor.new ≡ actor.old) }
-    ensures once { IfSome result (λ mail. IsOneLeave K.steps mark.job mark.session (K.posts mail) kept.old kept.new) }
-    ensures same { IfNone result (K.untouched kept.old kept.new) }
+    housekeeping: &Housekeeping<P, K::Erase, K::Entered>,
+    entered: K::Entered,
+) -> Result<K::Mail, K::Entered>
+    ensures once { IfOk result (λ mail. IsOneLeave K.steps (K.pass entered).job (K.pass entered).session (K.posts mail) kept.old kept.new) }
+    ensures back { IfErr result (λ e. e ≡ entered) }
+    ensures same { OnErr result (K.untouched kept.old kept.new) }
     ensures number { K.node_number kept.new ≡ K.node_number kept.old }
 {
-    match step_call(
-        rt,
-        kept,
-        housekeeping,
-        actor,
-        &None,
-        mark.job,
-        mark.session,
-        Command::Leave,
-    ) {
-        Err(_) => None,
-        Ok(stepped) => {
-            let Stepped { receipt, mail, .. } = stepped;
-            audit_one(rt, kept, &housekeeping.tallies, &receipt);
-            Some(mail)
-        }
-    }
+    housekeeping
+        .pause
+        .before_step(kept.number(), &leave_of::<K>(&entered));
+    let made = leave_entered(rt, kept, entered)?;
+    let Stepped { receipt, mail, .. } = finish_step(rt, kept, housekeeping, made);
+    audit_one(rt, kept, &housekeeping.tallies, &receipt);
+    Ok(mail)
 }
 
 /// A message that was posted to the node arrives. `Stale` if it was posted to another place or isn't made for a node, and
@@ -224,7 +213,7 @@ pub fn step_mark<K: JournaledNode, R: Wait, P: Pause>(
 pub fn step_arrival<K: JournaledNode, R: Wait, P: Pause>(
     rt: &R,
     kept: &mut K,
-    housekeeping: &Housekeeping<P, K::Erase>,
+    housekeeping: &Housekeeping<P, K::Erase, K::Entered>,
     posted: K::Posted,
 ) -> Result<Stepped<K::Receipt, K::Mail>, Refusal>
     ensures once { IfOk result (λ s. K.arrives posted s.reply (K.posts s.mail) s.receipt kept.old kept.new) }
@@ -244,7 +233,7 @@ pub fn step_arrival<K: JournaledNode, R: Wait, P: Pause>(
 pub fn step_located<K: JournaledNode, R: Wait, P: Pause>(
     rt: &R,
     kept: &mut K,
-    housekeeping: &Housekeeping<P, K::Erase>,
+    housekeeping: &Housekeeping<P, K::Erase, K::Entered>,
     located: K::Posted,
 ) -> bool
     ensures once { result ≡ true → HasArrived K.arrives located kept.old kept.new }
@@ -264,7 +253,7 @@ pub fn step_located<K: JournaledNode, R: Wait, P: Pause>(
 fn finish_step<K: JournaledNode, R: Wait, P: Pause>(
     rt: &R,
     kept: &K,
-    housekeeping: &Housekeeping<P, K::Erase>,
+    housekeeping: &Housekeeping<P, K::Erase, K::Entered>,
     made: Made<K::Receipt, K::Mail, K::Erase>,
 ) -> Stepped<K::Receipt, K::Mail>
     ensures reply { result.reply ≡ made.reply }

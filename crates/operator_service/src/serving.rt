@@ -134,7 +134,7 @@ fn answer_change<K: JournaledNode, R: Wait, O: Write>(
     write_answer(alloc, node, reply, writer)
 }
 
-/// Makes a change at the node, and gives its reply, with the receipt of its entry, which was looked for. There is none exactly if the
+/// Makes a change at the node, and gives its reply, with the receipt of its entry there, which was looked for. There is none exactly if the
 /// reply is `NoMemory`.
 pub(crate) fn carry_out<K: JournaledNode, R: Wait>(
     rt: &R,
@@ -143,6 +143,7 @@ pub(crate) fn carry_out<K: JournaledNode, R: Wait>(
     change: Change,
 ) -> (Reply<Bytes>, Option<K::Receipt>)
     ensures carried { IsCarriedOut K.receipt_of change result.0 result.1 }
+    ensures node { IfSome result.1 (λ r. K.made_at r ≡ shared.now.number) }
     ensures acts { ActsIf result.1 (event_of_change change) actor.old actor.new }
 {
     match change {

@@ -1,5 +1,5 @@
 -- What a session's gate promises of its answers.
-use Rattle.std.specs.Prelude.{◌≡◌, ℕ, ◌⊎◌, List, [], ◌∷◌, ◌++◌, Option, Some, IsSomeAnd, ⊤}
+use Rattle.std.specs.Prelude.{◌≡◌, ℕ, ◌⊎◌, List, [], ◌∷◌, ◌++◌, Option, Some, None, IfSome, IsSomeAnd, ⊤}
 use Rattle.obj_id.specs.declared.ids.JobNo.{JobNo}
 use Rattle.obj_id.specs.declared.commands.Reply.{Reply}
 use Rattle.obj_id.specs.declared.commands.Reply.TheVariants as reply
@@ -22,20 +22,26 @@ IsStepped called rises e response before last was acts =
 abbrev pub IsAwaited : {T : Type 0} → (Event → Reply (List ℕ) → T → Type 0) → (T → T → Type 0) → Event → Reply (List ℕ) → Option T → Option T → List Event → List Event → Type 0
 IsAwaited called rises e response before last was acts = (IsSomeAnd last (IsNext called rises before e response) ⊎ ((response ≡ reply.Refused NoMemory) × (last ≡ before))) × HasTried e was acts
 
--- the last receipt is of the Leave, its step came after that of the one before, and the session made no other; or it is left later, by an actor
--- of the node, and made none
-abbrev pub IsLeaveOf : {T : Type 0} → (Event → Reply (List ℕ) → T → Type 0) → (T → T → Type 0) → JobNo → ℕ → Option T → Option T → List Event → List Event → Type 0
-IsLeaveOf called rises job session before last was acts =
-    (IsSomeAnd last (IsLast called rises before job session) × (acts ≡ was ++ event.Call job session command.Leave ∷ [])) ⊎ ((last ≡ before) × (acts ≡ was))
+-- the last receipt is of the Leave, its step came after that of the one before, and the session made no other; or it made none, and handed over
+-- what it was let in with, to be left later
+abbrev pub IsLeaveOf : {T : Type 0} → (Event → Reply (List ℕ) → T → Type 0) → (T → T → Type 0) → JobNo → ℕ → Option T → Option T → List Event → List Event → Option Pass → Option Pass → Type 0
+IsLeaveOf called rises job session before last was acts kept pass =
+    (IsSomeAnd last (IsLast called rises before job session) × (acts ≡ was ++ event.Call job session command.Leave ∷ []) × (pass ≡ kept))
+    ⊎ ((last ≡ before) × (acts ≡ was) × (pass ≡ None))
 
--- the session that entered is the last that was let in, with this job, key and number
-abbrev pub IsLetIn : GateCall → GateAnswer → Option Pass → Type 0
-IsLetIn (to_enter job key) (entered number) pass = pass ≡ Some (record { job = job; key = key; session = number })
-IsLetIn _ _ pass = ⊤
+-- the session that entered is the last that was let in, with this job, key and number; it keeps that until it is left
+abbrev pub IsLetIn : GateCall → GateAnswer → Option Pass → Option Pass → Type 0
+IsLetIn (to_enter job key) (entered number) kept pass = pass ≡ Some (record { job = job; key = key; session = number })
+IsLetIn (to_leave job session) response kept pass = ⊤
+IsLetIn _ _ kept pass = pass ≡ kept
+
+-- the last receipt is the one from before, or of a step at the session's node
+abbrev pub IsMadeAt : {T : Type 0} → (T → ℕ) → ℕ → Option T → Option T → Type 0
+IsMadeAt made_at node before last = (last ≡ before) ⊎ IfSome last (λ receipt. made_at receipt ≡ node)
 
 -- who only enters has no receipt of it, and makes no step
-abbrev pub IsWitnessed : {T : Type 0} → (Event → Reply (List ℕ) → T → Type 0) → (T → T → Type 0) → GateCall → GateAnswer → Option T → Option T → List Event → List Event → Type 0
-IsWitnessed called rises (to_call job session c) (replied response) before last was acts = IsStepped called rises (event.Call job session c) response before last was acts
-IsWitnessed called rises (to_wait job session a) (replied response) before last was acts = IsAwaited called rises (event.Call job session (tried a)) response before last was acts
-IsWitnessed called rises (to_leave job session) left before last was acts = IsLeaveOf called rises job session before last was acts
-IsWitnessed called rises _ _ before last was acts = (last ≡ before) × (acts ≡ was)
+abbrev pub IsWitnessed : {T : Type 0} → (Event → Reply (List ℕ) → T → Type 0) → (T → T → Type 0) → GateCall → GateAnswer → Option T → Option T → List Event → List Event → Option Pass → Option Pass → Type 0
+IsWitnessed called rises (to_call job session c) (replied response) before last was acts kept pass = IsStepped called rises (event.Call job session c) response before last was acts
+IsWitnessed called rises (to_wait job session a) (replied response) before last was acts kept pass = IsAwaited called rises (event.Call job session (tried a)) response before last was acts
+IsWitnessed called rises (to_leave job session) left before last was acts kept pass = IsLeaveOf called rises job session before last was acts kept pass
+IsWitnessed called rises _ _ before last was acts kept pass = (last ≡ before) × (acts ≡ was)

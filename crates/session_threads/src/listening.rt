@@ -1,7 +1,10 @@
-//! Listeners, and the sessions of the streams that they accept.
+//! Listeners, and the sessions of the streams that they accept. What starts a session's thread makes its actor: what serves the session can't
+//! make another.
+ghost use Rattle.std.specs.Prelude.{◌≡◌, []};
+
 use crate::Session;
 use memory_growth::{OutOfMemory, boxes};
-use node_gate::{ActorSource, JournaledNode, Posted};
+use node_gate::{Actor, ActorSource, JournaledNode, Posted};
 use node_housekeeping::{OpenStream, Pause};
 use session_engine::{Ended, serve};
 use shared_nodes::SharedNode;
@@ -124,7 +127,7 @@ where
     if !upkeep.streams.have_spare(&stream) || !upkeep.sessions.begin(&rt) {
         return Ok(());
     }
-    let job = move || serve_stream(&rt, alloc, actors, &*theirs, stream);
+    let job = move || serve_stream(&rt, alloc, actors.actor(), &*theirs, stream);
     if thread::spawn(&rt, job).is_err() {
         node.housekeeping().sessions.end(&rt);
     }
@@ -135,13 +138,15 @@ where
 fn serve_stream<K: JournaledNode, P: Pause, R: Wait + Clock>(
     rt: &R,
     alloc: Global,
-    actors: ActorSource,
+    actor: Actor,
     node: &SharedNode<K, P>,
     stream: UnixStream,
-) {
+)
+    requires { actor ≡ [] }
+{
     // without memory for its place among the open ones it is closed
     if let Ok(stream) = node.housekeeping().streams.open(rt, alloc, stream) {
-        serve_open(rt, alloc, actors, node, &*stream);
+        serve_open(rt, alloc, actor, node, &*stream);
         node.housekeeping().streams.close(rt, stream.stream());
     }
     node.housekeeping().sessions.end(rt);
@@ -151,11 +156,13 @@ fn serve_stream<K: JournaledNode, P: Pause, R: Wait + Clock>(
 fn serve_open<K: JournaledNode, P: Pause, R: Wait + Clock>(
     rt: &R,
     alloc: Global,
-    actors: ActorSource,
+    actor: Actor,
     node: &SharedNode<K, P>,
     open: &OpenStream,
-) {
-    let mut session = Session::of_stream(rt, actors, node, open);
+)
+    requires { actor ≡ [] }
+{
+    let mut session = Session::of_stream(rt, actor, node, open);
     let stream = open.stream();
     let mut reader = stream;
     // so that the answers to what came in one piece leave together; without memory for it the stream is closed

@@ -1,12 +1,12 @@
 //! A session at a node.
-ghost use Rattle.std.specs.Prelude.{◌≡◌, true, IsTrue, []};
+ghost use Rattle.std.specs.Prelude.{◌≡◌, true, IsTrue, [], None};
 ghost use Rattle.private_store.specs.laws.Answers.{is_small_reply};
 ghost use Rattle.wire_frames.specs.Writing.{has_reply_frame};
 
 use crate::frames::framed;
 use bytes::Bytes;
-use node_gate::{Actor, ActorSource, JournaledNode};
-use node_housekeeping::{JobCounts, LeaveMark, NoPause, OpenStream, Pause};
+use node_gate::{Actor, JournaledNode};
+use node_housekeeping::{JobCounts, NoPause, OpenStream, Pause};
 use obj_id::{Command, JobKey, JobNo, Refusal, Reply};
 use private_store::Awaited;
 use session_engine::Gate;
@@ -30,14 +30,15 @@ pub struct Session<'a, K: JournaledNode, R: Wait + Clock, P = NoPause> {
 }
 
 impl<'a, K: JournaledNode, R: Wait + Clock, P: Pause> Session<'a, K, R, P> {
-    /// A session that has made no step.
-    pub fn new(rt: &'a R, actors: ActorSource, node: &'a SharedNode<K, P>) -> Session<'a, K, R, P>
+    /// A session that has made no step, with the actor of all that it will make.
+    pub fn new(rt: &'a R, actor: Actor, node: &'a SharedNode<K, P>) -> Session<'a, K, R, P>
+        requires { actor ≡ [] }
         ensures { result.actor ≡ [] }
     {
         Session {
             rt,
             node,
-            actor: actors.actor(),
+            actor,
             receipts: ReceiptBuffer::new(node.housekeeping().alloc),
             entered: None,
             client: None,
@@ -48,15 +49,16 @@ impl<'a, K: JournaledNode, R: Wait + Clock, P: Pause> Session<'a, K, R, P> {
     /// The same of a client's stream: its calls wait no longer than its other end is open.
     pub(crate) fn of_stream(
         rt: &'a R,
-        actors: ActorSource,
+        actor: Actor,
         node: &'a SharedNode<K, P>,
         client: &'a OpenStream,
     ) -> Session<'a, K, R, P>
+        requires { actor ≡ [] }
         ensures { result.actor ≡ [] }
     {
         Session {
             client: Some(client),
-            ..Session::new(rt, actors, node)
+            ..Session::new(rt, actor, node)
         }
     }
 
@@ -64,6 +66,8 @@ impl<'a, K: JournaledNode, R: Wait + Clock, P: Pause> Session<'a, K, R, P> {
     fn find_counts(&mut self, job: JobNo)
         ensures receipts { self.new.receipts ≡ self.old.receipts }
         ensures actor { self.new.actor ≡ self.old.actor }
+        ensures entered { self.new.entered ≡ self.old.entered }
+        ensures node { self.new.node ≡ self.old.node }
     {
         if self.counts.is_none() {
             self.counts = self.node.housekeeping().counts.of(self.rt, job);
@@ -102,9 +106,16 @@ impl<'a, K: JournaledNode, R: Wait + Clock, P: Pause> Session<'a, K, R, P> {
         framed(reply)
     }
 
-    /// Marks the session, which is then left by a later step of its node.
-    fn leave_later(&self, job: JobNo, session: u32) {
-        self.node.leave_later(self.rt, LeaveMark { job, session });
+    /// Marks the session that was let in last, which is then left by a later step of its node.
+    fn leave_later(&mut self)
+        ensures receipts { self.new.receipts ≡ self.old.receipts }
+        ensures actor { self.new.actor ≡ self.old.actor }
+        ensures entered { self.new.entered ≡ None }
+        ensures node { self.new.node ≡ self.old.node }
+    {
+        if let Some(entered) = self.entered.take() {
+            self.node.leave_later(self.rt, entered);
+        }
     }
 
     /// Looks for the entries of the receipts that are left, and counts those that aren't there: at the end of the session.
@@ -114,14 +125,15 @@ impl<'a, K: JournaledNode, R: Wait + Clock, P: Pause> Session<'a, K, R, P> {
 }
 
 /// Who enters has the number that the node gave to this job and key. After each answer the last receipt is of this job, session, command and
-/// reply, and of a step that came after that of the receipt before; or the reply is `NoMemory`, and the last receipt the same as before.
-/// After the session was left, the last receipt is of its Leave, or the same as before. The steps of these receipts, and the tries of calls that
+/// reply, and of a step at the session's node that came after that of the receipt before; or the reply is `NoMemory`, and the last receipt the same as before.
+/// After the session was left, the last receipt is of its Leave; or it is the same as before, and what the node let the session in with is handed
+/// over, to be left later. The steps of these receipts, and the tries of calls that
 /// wait, are all steps that the session has made.
 impl<'a, K: JournaledNode, R: Wait + Clock, P: Pause> Gate for Session<'a, K, R, P> {
     ghost use Rattle.std.specs.Prelude.{option_map};
-    ghost use Rattle.session_threads.specs.Gates.{IsWitnessed, IsLetIn};
+    ghost use Rattle.session_threads.specs.Gates.{IsWitnessed, IsLetIn, IsMadeAt};
 
-    ghost gives = { λ before asked response after. IsWitnessed K.called_by K.rises asked response before.receipts.last after.receipts.last before.actor after.actor × IsLetIn asked response (option_map K.pass after.entered) };
+    ghost gives = { λ before asked response after. IsWitnessed K.called_by K.rises asked response before.receipts.last after.receipts.last before.actor after.actor (option_map K.pass before.entered) (option_map K.pass after.entered) × IsLetIn asked response (option_map K.pass before.entered) (option_map K.pass after.entered) × IsMadeAt K.made_at before.node.now.number before.receipts.last after.receipts.last × (after.node ≡ before.node) };
 
     fn enter(&mut self, job: JobNo, key: JobKey) -> Result<u32, Refusal> {
         let counts = &self.node.housekeeping().counts;
@@ -177,14 +189,14 @@ impl<'a, K: JournaledNode, R: Wait + Clock, P: Pause> Gate for Session<'a, K, R,
 
     fn leave(&mut self, job: JobNo, session: u32) {
         if self.node.make_room(self.rt, &mut self.receipts).is_err() {
-            self.leave_later(job, session);
+            self.leave_later();
             return;
         }
         let last = self.receipts.last();
         let actor = &mut self.actor;
         match self.node.leave(self.rt, actor, last, job, session) {
             Some(receipt) => self.receipts.add(receipt),
-            None => self.leave_later(job, session),
+            None => self.leave_later(),
         }
     }
 }

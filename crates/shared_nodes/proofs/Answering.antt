@@ -1,6 +1,6 @@
 -- What is said of a step is said of its answer, which is out of memory if the step wasn't made.
 use Rattle.std.proofs.Common.{◌≡◌, ℕ, true, List, Option, Some, None, sym, ap, subst, ◌∙◌}
-use Rattle.std.specs.Prelude.{Result, Ok, Err, IfOk, MatchOption, MatchResult}
+use Rattle.std.specs.Prelude.{Result, Ok, Err, IfOk, IfSome, MatchOption, MatchResult}
 use Rattle.memory_growth.specs.declared.OutOfMemory.{OutOfMemory}
 use Rattle.obj_id.specs.declared.commands.Reply.{Reply}
 use Rattle.obj_id.specs.declared.commands.Reply.TheVariants as reply
@@ -23,6 +23,12 @@ pub answered_small : {T M : Type 0} (stepped : Result (Stepped T M) OutOfMemory)
     → IfOk stepped (λ s. is_small_reply s.reply ≡ true) → is_small_reply response ≡ true
 answered_small (Ok s) response given is small = ap is_small_reply is.0 ∙ small
 answered_small (Err e) response given is small = ap is_small_reply is.0
+
+-- what is said of its receipt
+pub answered_at : {T M : Type 0} (stepped : Result (Stepped T M) OutOfMemory) (response : Reply (List ℕ)) (given : Option T) (P : T → Type 0) → IsAnswered stepped response given
+    → IfOk stepped (λ s. P s.receipt) → IfSome given P
+answered_at (Ok s) response given P is made = subst (λ o. IfSome o P) (sym is.1) made
+answered_at (Err e) response given P is made = subst (λ o. IfSome o P) (sym is.1) tt
 
 -- what is said of a session's command that came after others is said of it
 pub called_of : {T : Type 0} (called : Event → Reply (List ℕ) → T → Type 0) (rises : T → T → Type 0) (earlier : Option T) (e : Event) (response : Reply (List ℕ)) (given : Option T)

@@ -7,8 +7,8 @@ ghost use Rattle.node_gate.specs.Calls.{IsLast};
 
 use crate::SharedNode;
 use node_gate::{Actor, JournaledNode};
-use node_housekeeping::{LeaveMark, MOST_SESSIONS, Pause, Sender};
-use node_steps::step_mark;
+use node_housekeeping::{MOST_SESSIONS, Pause, Sender};
+use node_steps::step_leave;
 use obj_id::{Command, JobNo};
 use std::sync::Wait;
 
@@ -25,14 +25,15 @@ impl<K: JournaledNode, P: Pause> SharedNode<K, P> {
     ) -> Option<K::Receipt>
         ensures acts { ActsIf result (event.Call job session command.Leave) actor.old actor.new }
         ensures last { IfSome result (λ r. IsLast K.called_by K.rises last.now job session r) }
+        ensures node { IfSome result (λ r. K.made_at r ≡ self.now.number) }
     {
         let (_, receipt) = self.call_next(rt, actor, last, job, session, Command::Leave);
         receipt
     }
 
-    /// Marks a session: it is left by a later step.
-    pub fn leave_later<R: Wait>(&self, rt: &R, mark: LeaveMark) {
-        self.housekeeping.sessions.mark(rt, mark);
+    /// Marks a session that the node let in: it is left by a later step.
+    pub fn leave_later<R: Wait>(&self, rt: &R, entered: K::Entered) {
+        self.housekeeping.sessions.mark(rt, entered);
     }
 
     /// Leaves the sessions that are marked, in order, until one finds no memory.
@@ -53,12 +54,14 @@ impl<K: JournaledNode, P: Pause> SharedNode<K, P> {
     fn leave_first<R: Wait>(&self, rt: &R) -> Option<K::Mail> {
         let mut kept = self.lock(rt);
         let sessions = &self.housekeeping.sessions;
-        let (mark, mut actor) = sessions.take_marked(rt)?;
-        let mail = step_mark(rt, &mut *kept, &self.housekeeping, &mut actor, mark);
-        if mail.is_none() {
-            sessions.mark(rt, mark);
+        let entered = sessions.take_marked(rt)?;
+        match step_leave(rt, &mut *kept, &self.housekeeping, entered) {
+            Ok(mail) => Some(mail),
+            Err(entered) => {
+                sessions.mark(rt, entered);
+                None
+            }
         }
-        mail
     }
 
     /// Waits for the open sessions to end, and leaves those that are marked then.

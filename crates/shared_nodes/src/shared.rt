@@ -1,5 +1,6 @@
 //! A node with its journal behind a lock.
 ghost use Rattle.std.specs.Prelude.{◌≡◌, ◌⊎◌, ◌<◌, ◌++◌, ◌∷◌, [], true, false, Some, None, MatchOption, MatchResult, IfSome, IfOk, IfErr, OnErr};
+ghost use Rattle.std.specs.Sync.Mutex.{mutex_guard_value};
 ghost use Rattle.obj_id.specs.declared.commands.Reply.TheVariants as reply;
 ghost use Rattle.obj_id.specs.declared.refusals.Refusal.TheVariants.{NoMemory, NotAdmitted, Stale, TooMany};
 ghost use Rattle.private_store.specs.laws.Answers.{is_small_reply};
@@ -16,7 +17,7 @@ use crate::refusing::out_of_memory;
 use bytes::Bytes;
 use command_kinds::{CommandKind, Preparation};
 use memory_growth::OutOfMemory;
-use node_gate::{Access, Actor, ActorSource, JournaledNode, Keeper, Posted};
+use node_gate::{Access, Actor, JournaledNode, Keeper, Posted};
 use node_housekeeping::{
     Housekeeping, JobEvent, NoPause, Pause, Sender, Versions, Waiting, is_gone,
 };
@@ -44,15 +45,18 @@ const PAUSES: u32 = 16;
 // Locks are taken in this order: a maker's place, a queue, the node, and under it at most one of the others, which are let go at once. No
 // device is called under any, and nothing is hashed or made under a queue's.
 pub struct SharedNode<K: JournaledNode, P = NoPause> {
-    pub(crate) kept: Mutex<K>,
+    // the node's own, since of what is locked no clause knows it
+    number: u32,
+    kept: Mutex<K>,
     pub(crate) outbox: Outbox<K::Posted>,
-    pub(crate) housekeeping: Housekeeping<P, K::Erase>,
+    pub(crate) housekeeping: Housekeeping<P, K::Erase, K::Entered>,
 }
 
 // By hand, so that it is proved here and not in each crate above.
 impl<K: JournaledNode, P: Drop> Drop for SharedNode<K, P> {
     fn drop(self) {
         let SharedNode {
+            number: _,
             kept: _kept,
             outbox: _outbox,
             housekeeping: _housekeeping,
@@ -67,19 +71,19 @@ impl<K: JournaledNode, P: Pause> Keeper<K> for SharedNode<K, P> {
 }
 
 impl<K: JournaledNode, P: Pause> SharedNode<K, P> {
-    /// This node, with these ways out. These actors leave its sessions that are marked, and this pauses its steps.
+    /// This node, with these ways out, and what pauses its steps.
     pub fn new(
         alloc: Global,
-        actors: ActorSource,
         kept: K,
         outbox: Outbox<K::Posted>,
         waiting: Arc<Waiting>,
         pause: P,
     ) -> SharedNode<K, P> {
         SharedNode {
+            number: kept.number(),
             kept: Mutex::new(kept),
             outbox,
-            housekeeping: Housekeeping::new(alloc, actors, waiting, pause),
+            housekeeping: Housekeeping::new(alloc, waiting, pause),
         }
     }
 
@@ -96,6 +100,7 @@ impl<K: JournaledNode, P: Pause> SharedNode<K, P> {
         ensures acts { ActsIf result.1 (event.Call job session command) actor.old actor.new }
         ensures called { MatchOption result.1 (result.0 ≡ reply.Refused NoMemory) (λ r. K.called_by (event.Call job session command) result.0 r) }
         ensures small { is_small_reply result.0 ≡ true }
+        ensures node { IfSome result.1 (λ r. K.made_at r ≡ self.now.number) }
     {
         self.call_next(rt, actor, &None, job, session, command)
     }
@@ -113,6 +118,7 @@ impl<K: JournaledNode, P: Pause> SharedNode<K, P> {
         ensures acts { ActsIf result.1 (event.Call job session command) actor.old actor.new }
         ensures called { MatchOption result.1 (result.0 ≡ reply.Refused NoMemory) (λ r. IsNext K.called_by K.rises last.now (event.Call job session command) result.0 r) }
         ensures small { is_small_reply result.0 ≡ true }
+        ensures node { IfSome result.1 (λ r. K.made_at r ≡ self.now.number) }
     {
         self.leave_marked(rt);
         let sender = Sender::of_command(&command);
@@ -134,6 +140,7 @@ impl<K: JournaledNode, P: Pause> SharedNode<K, P> {
         ensures still { OnErr result (actor.new ≡ actor.old) }
         ensures called { IfOk result (λ s. IsNext K.called_by K.rises last.now (event.Call job session command) s.reply s.receipt) }
         ensures small { IfOk result (λ s. is_small_reply s.reply ≡ true) }
+        ensures node { IfOk result (λ s. K.made_at s.receipt ≡ self.now.number) }
     {
         let (queued, mut kept) = self.lock_for(rt, job, &command);
         if kept.wants(job, &command) {
@@ -160,9 +167,23 @@ impl<K: JournaledNode, P: Pause> SharedNode<K, P> {
         stepped
     }
 
-    /// Locks the node, for whose steps a session of each queue waits at most. A thread that sleeps is woken late, and most holds are over after a
+    /// Locks the node, which has the number that it had at first.
+    pub(crate) fn lock<R: Wait>(&self, rt: &R) -> MutexGuard<'_, K>
+        ensures { K.node_number (mutex_guard_value result) ≡ self.now.number }
+    {
+        for _ in rt.forever() {
+            let kept = self.lock_soon(rt);
+            // always: a node keeps its number. But of what lies under a lock a clause knows only what was looked at
+            if kept.number() == self.number {
+                return kept;
+            }
+        }
+        unreachable!()
+    }
+
+    /// The same. For the node's steps a session of each queue waits at most. A thread that sleeps is woken late, and most holds are over after a
     /// microsecond, so it looks for some ten of them first.
-    pub(crate) fn lock<R: Wait>(&self, rt: &R) -> MutexGuard<'_, K> {
+    fn lock_soon<R: Wait>(&self, rt: &R) -> MutexGuard<'_, K> {
         if let Some(kept) = self.kept.try_lock() {
             return kept;
         }
@@ -185,7 +206,9 @@ impl<K: JournaledNode, P: Pause> SharedNode<K, P> {
         rt: &R,
         job: JobNo,
         command: &Command<Bytes>,
-    ) -> (MutexGuard<'_, ()>, MutexGuard<'_, K>) {
+    ) -> (MutexGuard<'_, ()>, MutexGuard<'_, K>)
+        ensures { K.node_number (mutex_guard_value result.1) ≡ self.now.number }
+    {
         for _ in rt.forever() {
             let queued = self.housekeeping.queues.of(job).lock(rt);
             let kept = self.lock(rt);
@@ -213,6 +236,7 @@ impl<K: JournaledNode, P: Pause> SharedNode<K, P> {
         ensures still { OnErr result (actor.new ≡ actor.old) }
         ensures called { IfOk result (λ s. IsNext K.called_by K.rises last.now (event.Call job session command) s.reply s.receipt) }
         ensures small { IfOk result (λ s. is_small_reply s.reply ≡ true) }
+        ensures node { IfOk result (λ s. K.made_at s.receipt ≡ self.now.number) }
     {
         match Preparation::of(&command) {
             Preparation::Digest(id) => {
@@ -242,6 +266,7 @@ impl<K: JournaledNode, P: Pause> SharedNode<K, P> {
         ensures still { OnErr result (actor.new ≡ actor.old) }
         ensures called { IfOk result (λ s. IsNext K.called_by K.rises last.now (event.Call job session command) s.reply s.receipt) }
         ensures small { IfOk result (λ s. is_small_reply s.reply ≡ true) }
+        ensures node { IfOk result (λ s. K.made_at s.receipt ≡ self.now.number) }
     {
         let seals = &self.housekeeping.seals;
         seals.begin(rt, job, id);
@@ -267,6 +292,7 @@ impl<K: JournaledNode, P: Pause> SharedNode<K, P> {
         ensures still { OnErr result (actor.new ≡ actor.old) }
         ensures called { IfOk result (λ s. IsNext K.called_by K.rises last.now (event.Call job session command) s.reply s.receipt) }
         ensures small { IfOk result (λ s. is_small_reply s.reply ≡ true) }
+        ensures node { IfOk result (λ s. K.made_at s.receipt ≡ self.now.number) }
     {
         let queued = self.housekeeping.queues.of(job).lock(rt);
         let mut kept = self.lock(rt);
@@ -304,6 +330,7 @@ impl<K: JournaledNode, P: Pause> SharedNode<K, P> {
         ensures called { MatchOption result.1 ((result.0 ≡ reply.Refused NoMemory) ⊎ (result.0 ≡ reply.Refused Stale)) (λ r. IsNext K.called_by K.rises (Some receipt.now) (event.Call job session command) result.0 r) }
         ensures later { IfSome result.1 (λ r. (K.made_at r ≡ K.made_at receipt.now) × (K.entry_number receipt.now < K.entry_number r)) }
         ensures small { is_small_reply result.0 ≡ true }
+        ensures node { IfSome result.1 (λ r. K.made_at r ≡ self.now.number) }
     {
         self.leave_marked(rt);
         let sender = Sender::of_command(&command);
@@ -345,6 +372,7 @@ impl<K: JournaledNode, P: Pause> SharedNode<K, P> {
         ensures acts { HasTried (event.Call job session (tried awaited)) actor.old actor.new }
         ensures called { MatchOption result.1 (result.0 ≡ reply.Refused NoMemory) (λ r. K.called_by (event.Call job session (tried awaited)) result.0 r) }
         ensures small { is_small_reply result.0 ≡ true }
+        ensures node { IfSome result.1 (λ r. K.made_at r ≡ self.now.number) }
     {
         self.call_wait_next(rt, actor, &None, job, session, awaited, None)
     }
@@ -364,6 +392,7 @@ impl<K: JournaledNode, P: Pause> SharedNode<K, P> {
         ensures acts { HasTried (event.Call job session (tried awaited)) actor.old actor.new }
         ensures called { MatchOption result.1 (result.0 ≡ reply.Refused NoMemory) (λ r. IsNext K.called_by K.rises last.now (event.Call job session (tried awaited)) result.0 r) }
         ensures small { is_small_reply result.0 ≡ true }
+        ensures node { IfSome result.1 (λ r. K.made_at r ≡ self.now.number) }
     {
         for _ in rt.forever() {
             let last_try = self.try_once(rt, actor, last, job, session, &awaited, client);
@@ -388,6 +417,7 @@ impl<K: JournaledNode, P: Pause> SharedNode<K, P> {
         ensures acts { MatchOption result (actor.new ≡ actor.old ++ event.Call job session (tried awaited.now) ∷ []) (λ answer. ActsIf answer.1 (event.Call job session (tried awaited.now)) actor.old actor.new) }
         ensures called { IfSome result (λ answer. MatchOption answer.1 (answer.0 ≡ reply.Refused NoMemory) (λ r. IsNext K.called_by K.rises last.now (event.Call job session (tried awaited.now)) answer.0 r)) }
         ensures small { IfSome result (λ answer. is_small_reply answer.0 ≡ true) }
+        ensures node { IfSome result (λ answer. IfSome answer.1 (λ r. K.made_at r ≡ self.now.number)) }
     {
         let (stepped, seen) = self.step_awaited(rt, actor, last, job, session, awaited);
         match stepped {
@@ -429,6 +459,7 @@ impl<K: JournaledNode, P: Pause> SharedNode<K, P> {
         ensures still { OnErr result.0 (actor.new ≡ actor.old) }
         ensures called { IfOk result.0 (λ s. IsNext K.called_by K.rises last.now (event.Call job session (tried awaited.now)) s.reply s.receipt) }
         ensures small { IfOk result.0 (λ s. is_small_reply s.reply ≡ true) }
+        ensures node { IfOk result.0 (λ s. K.made_at s.receipt ≡ self.now.number) }
     {
         self.leave_marked(rt);
         let command = command_of(awaited);
@@ -474,6 +505,7 @@ impl<K: JournaledNode, P: Pause> SharedNode<K, P> {
     ) -> (Reply<Bytes>, Option<K::Receipt>)
         ensures acts { ActsIf result.1 (event.Admit job quota key) actor.old actor.new }
         ensures receipt { MatchOption result.1 (result.0 ≡ reply.Refused NoMemory) (λ r. K.receipt_of (event.Admit job quota key) result.0 r) }
+        ensures node { IfSome result.1 (λ r. K.made_at r ≡ self.now.number) }
     {
         let (reply, receipt) = self.order(rt, actor, &Event::Admit { job, quota, key });
         if matches!(&reply, Reply::Ok) {
@@ -493,6 +525,7 @@ impl<K: JournaledNode, P: Pause> SharedNode<K, P> {
     ) -> (Reply<Bytes>, Option<K::Receipt>)
         ensures acts { ActsIf result.1 (event.Requota job quota) actor.old actor.new }
         ensures receipt { MatchOption result.1 (result.0 ≡ reply.Refused NoMemory) (λ r. K.receipt_of (event.Requota job quota) result.0 r) }
+        ensures node { IfSome result.1 (λ r. K.made_at r ≡ self.now.number) }
     {
         self.order(rt, actor, &Event::Requota(job, quota))
     }
@@ -507,6 +540,7 @@ impl<K: JournaledNode, P: Pause> SharedNode<K, P> {
     ) -> (Reply<Bytes>, Option<K::Receipt>)
         ensures acts { ActsIf result.1 (event.JobEnd job) actor.old actor.new }
         ensures receipt { MatchOption result.1 (result.0 ≡ reply.Refused NoMemory) (λ r. K.receipt_of (event.JobEnd job) result.0 r) }
+        ensures node { IfSome result.1 (λ r. K.made_at r ≡ self.now.number) }
     {
         let mut kept = self.lock(rt);
         let stepped = step_end(rt, &mut *kept, &self.housekeeping, actor, job);
@@ -529,6 +563,7 @@ impl<K: JournaledNode, P: Pause> SharedNode<K, P> {
     ) -> (Reply<Bytes>, Option<K::Receipt>)
         ensures acts { ActsIf result.1 (event.now) actor.old actor.new }
         ensures receipt { MatchOption result.1 (result.0 ≡ reply.Refused NoMemory) (λ r. K.receipt_of event.now result.0 r) }
+        ensures node { IfSome result.1 (λ r. K.made_at r ≡ self.now.number) }
     {
         let mut kept = self.lock(rt);
         let stepped = step_order(rt, &mut *kept, &self.housekeeping, actor, event);
@@ -545,6 +580,7 @@ impl<K: JournaledNode, P: Pause> SharedNode<K, P> {
     ) -> (Reply<Bytes>, Option<K::Receipt>)
         ensures acts { ActsIf result.1 (event.now) actor.old actor.new }
         ensures receipt { MatchOption result.1 (result.0 ≡ reply.Refused NoMemory) (λ r. K.receipt_of event.now result.0 r) }
+        ensures node { IfSome result.1 (λ r. K.made_at r ≡ self.now.number) }
     {
         let (job, prepared) = prepare_finish::<K>(self.housekeeping.alloc, event);
         let mut kept = self.lock(rt);
@@ -621,6 +657,7 @@ impl<K: JournaledNode, P: Pause> SharedNode<K, P> {
     /// `Stale` if it was posted to another place, or isn't made for a node; and `NoMemory`. Then it is lost.
     pub fn arrive<R: Wait>(&self, rt: &R, posted: K::Posted) -> Result<K::Receipt, Refusal>
         ensures arrived { IfOk result (λ r. K.arrived posted r) }
+        ensures node { IfOk result (λ r. K.made_at r ≡ self.now.number) }
         ensures refused { IfErr result (λ r. (r ≡ NoMemory) ⊎ (r ≡ Stale)) }
     {
         let job = posted.job();
@@ -686,13 +723,20 @@ impl<K: JournaledNode, P: Pause> SharedNode<K, P> {
         audit_one(rt, &*self.lock(rt), &self.housekeeping.tallies, receipt);
     }
 
+    /// The node's number.
+    pub fn number(&self) -> u32
+        ensures { result ≡ self.now.number }
+    {
+        self.number
+    }
+
     /// How many entries the journal has.
     pub fn entries<R: Wait>(&self, rt: &R) -> u64 {
         self.lock(rt).entries()
     }
 
     /// What its steps leave to be done.
-    pub fn housekeeping(&self) -> &Housekeeping<P, K::Erase> {
+    pub fn housekeeping(&self) -> &Housekeeping<P, K::Erase, K::Entered> {
         &self.housekeeping
     }
 

@@ -297,7 +297,7 @@ where
     let control = boxes::another(&connecting.control)?;
     served.control = Some(connecting);
     say_ready(host);
-    take_input(rt, host, &control)?;
+    take_input(rt, host, cluster.actors(), &control)?;
     match control.course.await_stop(&rt) {
         None => Ok(()),
         Some(fault) => Err(ServeFault::Fault(fault)),

@@ -1,5 +1,5 @@
 //! Two sessions of one job at a node.
-use crate::actors::actors;
+use crate::actors::actor;
 use crate::objects::{KEY, admit, is_hello, object, seal_hello};
 use crate::trials::{Trial, try_out};
 use assertions::{holds, same};
@@ -52,8 +52,8 @@ pub(crate) fn two_sessions<K: JournaledNode, R: Wait + Clock + Abort>(
 ) -> Result<(), OutOfMemory> {
     admit(rt, node, JOB, QUOTA);
     seal_hello(rt, alloc, node, object(rt, JOB, 1))?;
-    let mut holding = Session::new(rt, actors(), node);
-    let mut ending = Session::new(rt, actors(), node);
+    let mut holding = Session::new(rt, actor(), node);
+    let mut ending = Session::new(rt, actor(), node);
     hold_beside(rt, &mut holding, &mut ending);
     Ok(())
 }

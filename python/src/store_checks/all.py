@@ -140,7 +140,8 @@ def run(part: Part) -> Came:
     came = Came(part, passed, failed, time.monotonic() - began, said)
     lines = [f"{'FAILED' if failed else 'passed'}: {part.name}: {passed} passed, {failed} failed ({came.seconds:.0f} s)"]
     if failed:
-        lines += [f"  {line}" for line in said.splitlines()[-SHOWN:]]
+        # what wasn't run would hide it
+        lines += [f"  {line}" for line in said.splitlines() if not left_out(line)][-SHOWN:]
     else:
         lines += [f"  {line}" for line in said.splitlines() if left_out(line)]
     print("\n".join(lines), flush=True)
