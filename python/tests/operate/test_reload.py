@@ -105,7 +105,8 @@ class Reload(unittest.TestCase):
         with Place() as place:
             process, terminal = pty.fork()
             if process == 0:
-                # as a shell at a terminal that closes
+                # as a shell at a terminal that closes, even if these tests run under nohup
+                signal.signal(signal.SIGHUP, signal.SIG_DFL)
                 os.execv("/bin/sh", ["sh", "-c", f"{sys.executable} {DAEMON} {place.settings} > {place.path}/out 2> {place.path}/log; :"])
             until(lambda: (place.path / "out").exists() and place.said(), "ready")
             server = place.server()
@@ -121,6 +122,7 @@ class Reload(unittest.TestCase):
             words = f"{sys.executable} {DAEMON} {place.settings} > {place.path}/out 2> {place.path}/log"
             process, terminal = pty.fork()
             if process == 0:
+                signal.signal(signal.SIGHUP, signal.SIG_DFL)
                 os.posix_spawn("/bin/sh", ["sh", "-c", f"echo $$ > {place.path}/daemon; exec {words}"], os.environ, setpgroup=0)
                 signal.pause()
             until(lambda: (place.path / "out").exists() and place.said(), "ready")
