@@ -29,10 +29,12 @@ pub struct LiveJob {
 
 /// A node with its journal, which is stepped by one thread at a time. Nothing that it makes can be made by those that step it.
 pub trait JournaledNode: Drop + Sized {
-    ghost use Rattle.std.specs.Prelude.{◌≡◌, ◌⊎◌, ◌↔◌, ◌<◌, ◌++◌, ◌∷◌, [], ℕ, Bool, List, IfOk, IfErr, IfSome, OnErr, IsErrOf, true, false};
+    ghost use Rattle.std.specs.Prelude.{◌≡◌, ◌⊎◌, ◌↔◌, ◌<◌, ◌++◌, ◌∷◌, [], ℕ, Bool, List, Result, IfOk, IfErr, IfSome, OnErr, IsErrOf, true, false};
     ghost use Rattle.std.specs.Iterator.{IsFinite};
     ghost use Rattle.obj_id.specs.declared.ids.JobNo.{JobNo};
     ghost use Rattle.obj_id.specs.declared.commands.Reply.{Reply};
+    ghost use Rattle.obj_id.specs.declared.commands.Usage.{Usage};
+    ghost use Rattle.obj_id.specs.declared.refusals.Refusal.{Refusal};
     ghost use Rattle.obj_id.specs.declared.refusals.Refusal.TheVariants.{NoMemory, NotAdmitted, Stale, TooMany};
     ghost use Rattle.obj_id.specs.declared.works.DeviceKey.{DeviceKey};
     ghost use Rattle.obj_id.specs.declared.commands.Reply.TheVariants as reply;
@@ -118,6 +120,9 @@ pub trait JournaledNode: Drop + Sized {
 
     // the live jobs, with what they use
     ghost shows_live: { Self → List LiveJob → Type 0 };
+
+    // a job's quotas, with what it uses of them, or that it isn't live
+    ghost shows_usage: { Self → JobNo → Result Usage Refusal → Type 0 };
 
     // no work waits that nobody has taken
     ghost idle: { Self → Type 0 };
@@ -282,7 +287,8 @@ pub trait JournaledNode: Drop + Sized {
 
     /// A job's quotas and what is used of them. `NotAdmitted` if the job isn't live. Takes no memory.
     fn usage(&self, job: JobNo) -> Result<Usage, Refusal>
-        ensures { IfErr result (λ refusal. refusal ≡ NotAdmitted) };
+        ensures shown { shows_usage self.now job result }
+        ensures refusal { IfErr result (λ refusal. refusal ≡ NotAdmitted) };
 
     /// The live jobs, by rising number. The error is out of memory.
     fn live_jobs(&self, alloc: Global) -> Result<Vec<LiveJob>, OutOfMemory>

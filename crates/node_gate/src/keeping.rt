@@ -66,7 +66,8 @@ pub trait SeatedNode: JournaledNode {
     /// A node of this number, with so many bytes of memory, no job and no entry, on one part of the name.
     fn seated(alloc: Global, number: u32, memory: u64, seat: Self::Seat) -> Self
         requires memory { may_have memory }
-        requires number { seat_number seat ≡ number };
+        requires number { seat_number seat ≡ number }
+        ensures { Self.JournaledNode.node_number result ≡ number };
 
     /// The directory of the nodes that stand on the name, which knows of no location yet, once each of them has its own.
     fn directory(alloc: Global, rest: Self::Share) -> <Self::Posted as Posted>::Directory

@@ -35,7 +35,7 @@ impl<L: Ledger + HistoryName, S: ClusterShape> JournaledNode for Recorded<L, S> 
     ghost use Rattle.node_journal.specs.Auditing.{is_no};
     ghost use Rattle.node_journal.specs.Journals.{IsSwept, agreement, is_live_in};
     ghost use Rattle.node_journal.specs.Logs.{journal_of};
-    ghost use Rattle.node_journal.specs.Looking.{AreLive};
+    ghost use Rattle.node_journal.specs.Looking.{AreLive, IsUsageTold};
     ghost use Rattle.node_journal.specs.Posts.{posts_left, IsAstray};
     ghost use Rattle.node_journal.specs.Stepping.{IsFolded, IsOneArrival, IsOneStep, IsUntouched, seen_node};
     ghost use Rattle.node_journal.specs.Witnesses.{IsArrived, IsCalledBy, IsReceiptOf, witness_of};
@@ -95,6 +95,8 @@ impl<L: Ledger + HistoryName, S: ClusterShape> JournaledNode for Recorded<L, S> 
     ghost pass = { λ entered. record { job = entered.job; key = entered.key; session = entered.session } };
 
     ghost shows_live = { λ r live. AreLive r.0.node r.0.logs live };
+
+    ghost shows_usage = { λ r job told. IsUsageTold r.0.node job told };
 
     ghost idle = { λ r. front_of r.0.node.works.works ≡ None };
 

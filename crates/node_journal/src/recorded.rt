@@ -112,6 +112,7 @@ impl<L: Ledger + HistoryName, S: ClusterShape> Recorded<L, S> {
     ) -> Recorded<L, S>
         requires memory { (memory ≤ largest_memory) × (memory ≡ S.memory) }
         requires number { seat ≡ number }
+        ensures { result.0.number ≡ number }
     {
         let (share, place) = seat.into_parts();
         Recorded {
