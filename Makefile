@@ -38,9 +38,10 @@ FAULTS = 1 2 3 5 8 13
 faults:
 	tests/faults $(FAULTS)
 
-# Growths of memory refused in turn, in runs of worked schedules (see tests/growths --help).
+# Growths of memory refused in turn, in runs of worked schedules and at a program that serves (see tests/growths --help).
 growths:
 	tests/growths
+	tests/growths_served
 
 # The must-fail edits that the gate doesn't try: what they turn is guarded by other clauses too, or their crate would have to be proved
 # once more for them (see tests/edits/README.md).

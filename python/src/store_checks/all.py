@@ -83,6 +83,7 @@ PARTS = [
     Part("conformance", [sys.executable, "-B", "tests/conformance/run"], 1800, Needs.PROGRAM),
     script("tests/journals", 200),
     Part("growths", [sys.executable, "-B", "tests/growths", "refusals_want_no_memory", "a_full_window", "refusals"], 400, Needs.PROGRAM),
+    script("tests/growths_served", 200),
     script("tests/pictures", 400),
     script("tests/measuring", 800),
     Part("types", [sys.executable, "-B", "tests/strict"], 600, Needs.NOTHING),
