@@ -1,7 +1,7 @@
 //! The threads that hand in what comes to a node.
 use node_gate::{JournaledNode, Posted};
 use node_housekeeping::Pause;
-use node_links::Inbox;
+use node_links::{Inbox, end_turn};
 use shared_nodes::{ReceiptBuffer, SharedNode};
 use std::sync::{Arc, Wait};
 use std::thread::{JoinHandle, Threads};
@@ -28,7 +28,8 @@ where
     Ok(thread)
 }
 
-/// Hands the messages in whose turn it is, until no node sends any more.
+/// Hands the messages in whose turn it is, until no node sends any more. A turn can't be ended before its message has arrived or is counted as
+/// lost.
 fn receive_all<K: JournaledNode, P: Pause, R: Wait>(
     rt: &R,
     node: &SharedNode<K, P>,
@@ -36,13 +37,11 @@ fn receive_all<K: JournaledNode, P: Pause, R: Wait>(
 ) {
     let mut receipts = ReceiptBuffer::new(node.housekeeping().alloc);
     for _ in rt.forever() {
-        let Some(turn) = inbox.next(rt) else {
+        let Some((posted, handing)) = inbox.next(rt) else {
             break;
         };
-        if let Some(posted) = inbox.receive(rt, turn) {
-            node.receive_one(rt, posted, &mut receipts);
-        }
-        inbox.end(rt, turn);
+        let lost = node.receive_one(rt, posted, &mut receipts);
+        end_turn::<K, R>(rt, inbox, handing, lost, receipts.last());
     }
     node.audit_all(rt, &receipts);
 }

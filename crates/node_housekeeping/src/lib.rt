@@ -36,7 +36,7 @@ pub use pausing::{NoPause, Pause};
 pub use report::Report;
 pub use seals::Seals;
 pub use sent_counts::{Sender, SentCounts};
-pub use tally::{Tallies, Tally};
+pub use tally::{CountedLost, Tallies, Tally};
 pub use turns::{LANES, Turn, Turns, lane_of};
 pub use waiting::{Versions, Waiting, WakeScope, wake_scope_of};
 pub use waiting_keys::WaitingKeys;

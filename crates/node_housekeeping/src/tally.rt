@@ -1,4 +1,6 @@
 //! What is counted at a node.
+ghost use Rattle.std.specs.Prelude.{◌≡◌};
+
 use std::sync::{Mutex, Wait};
 
 /// What was counted at a node. Each number stays at its type's last value.
@@ -12,6 +14,12 @@ pub struct Tally {
     pub lost: u64,
     /// Device keys whose erase failed, or for which there was no memory to wait in.
     pub unerased: u64,
+}
+
+/// That so many messages were counted as lost. Counting alone makes one.
+#[derive(Drop)]
+pub struct CountedLost {
+    messages: u64,
 }
 
 /// The counts of a node.
@@ -48,11 +56,14 @@ impl Tallies {
     }
 
     /// So many messages were lost.
-    pub fn lost<R: Wait>(&self, rt: &R, lost: u64) {
+    pub fn lost<R: Wait>(&self, rt: &R, lost: u64) -> CountedLost
+        ensures { result.messages ≡ lost }
+    {
         if lost > 0 {
             let mut tally = self.tally.lock(rt);
             tally.lost = tally.lost.saturating_add(lost);
         }
+        CountedLost { messages: lost }
     }
 
     /// So many keys were not erased.

@@ -6,5 +6,5 @@ mod inbox;
 mod lanes;
 mod outbox;
 
-pub use inbox::Inbox;
+pub use inbox::{Handing, Inbox, end_turn};
 pub use outbox::{Delivery, Outbox};

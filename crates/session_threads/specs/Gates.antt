@@ -18,9 +18,12 @@ abbrev pub IsStepped : {T : Type 0} → (Event → Reply (List ℕ) → T → Ty
 IsStepped called rises e response before last was acts =
     (IsSomeAnd last (IsNext called rises before e response) × (acts ≡ was ++ e ∷ [])) ⊎ ((response ≡ reply.Refused NoMemory) × (last ≡ before) × (acts ≡ was))
 
--- the same of a command that waits: the session made steps of it, as many as it was tried, and no others
+-- the same of a command that waits: the session made steps of it, as many as it was tried, and no others, and each try but the last was
+-- answered Pending
 abbrev pub IsAwaited : {T : Type 0} → (Event → Reply (List ℕ) → T → Type 0) → (T → T → Type 0) → Event → Reply (List ℕ) → Option T → Option T → List Event → List Event → Type 0
-IsAwaited called rises e response before last was acts = (IsSomeAnd last (IsNext called rises before e response) ⊎ ((response ≡ reply.Refused NoMemory) × (last ≡ before))) × HasTried e was acts
+IsAwaited called rises e response before last was acts =
+    (IsSomeAnd last (IsNext called rises before e response) × HasTried called last e was acts)
+    ⊎ ((response ≡ reply.Refused NoMemory) × (last ≡ before) × HasTried called None e was acts)
 
 -- the last receipt is of the Leave, its step came after that of the one before, and the session made no other; or it made none, and handed over
 -- what it was let in with, to be left later

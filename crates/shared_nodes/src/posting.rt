@@ -1,8 +1,10 @@
 //! What a step sends is handed over once the node's lock is left.
+ghost use Rattle.std.specs.Prelude.{◌≡◌, IsSomeAnd, MatchOption};
+
 use crate::SharedNode;
 use crate::receipt_buffer::ReceiptBuffer;
 use node_gate::{JournaledNode, Posted};
-use node_housekeeping::{JobEvent, Pause, Sender, SentCounts};
+use node_housekeeping::{CountedLost, JobEvent, Pause, Sender, SentCounts};
 use node_links::Delivery;
 use std::sync::Wait;
 
@@ -49,20 +51,24 @@ impl<K: JournaledNode, P: Pause> SharedNode<K, P> {
         }
     }
 
-    /// A message of a link arrives, and its receipt is gathered, or it is lost, as it is without room for the receipt.
+    /// A message of a link arrives, and its receipt is gathered; or it is counted as lost, as it is without room for the receipt.
     pub fn receive_one<R: Wait>(
         &self,
         rt: &R,
         posted: K::Posted,
         receipts: &mut ReceiptBuffer<K::Receipt>,
-    ) {
+    ) -> Option<CountedLost>
+        ensures { MatchOption result (IsSomeAnd receipts.new.last (K.arrived posted)) (λ counted. counted.messages ≡ 1) }
+    {
         if self.make_room(rt, receipts).is_err() {
-            self.housekeeping.tallies.lost(rt, 1);
-            return;
+            return Some(self.housekeeping.tallies.lost(rt, 1));
         }
         match self.arrive(rt, posted) {
-            Ok(receipt) => receipts.add(receipt),
-            Err(_) => self.housekeeping.tallies.lost(rt, 1),
+            Ok(receipt) => {
+                receipts.add(receipt);
+                None
+            }
+            Err(_) => Some(self.housekeeping.tallies.lost(rt, 1)),
         }
     }
 }

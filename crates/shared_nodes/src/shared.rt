@@ -1,8 +1,8 @@
 //! A node with its journal behind a lock.
-ghost use Rattle.std.specs.Prelude.{◌≡◌, ◌⊎◌, ◌<◌, ◌++◌, ◌∷◌, [], true, false, Some, None, MatchOption, MatchResult, IfSome, IfOk, IfErr, OnErr};
+ghost use Rattle.std.specs.Prelude.{◌≡◌, ◌⊎◌, ◌<◌, ◌++◌, ◌∷◌, [], true, false, Some, None, MatchOption, MatchResult, IfSome, IfNone, IfOk, IfErr, OnErr};
 ghost use Rattle.std.specs.Sync.Mutex.{mutex_guard_value};
 ghost use Rattle.obj_id.specs.declared.commands.Reply.TheVariants as reply;
-ghost use Rattle.obj_id.specs.declared.refusals.Refusal.TheVariants.{NoMemory, NotAdmitted, Stale, TooMany};
+ghost use Rattle.obj_id.specs.declared.refusals.Refusal.TheVariants.{NoMemory, NotAdmitted, Pending, Stale, TooMany};
 ghost use Rattle.private_store.specs.laws.Answers.{is_small_reply};
 ghost use Rattle.private_store.specs.declared.schedules.Event.TheVariants as event;
 ghost use Rattle.node_gate.specs.Actors.{ActsIf, HasTried};
@@ -369,7 +369,7 @@ impl<K: JournaledNode, P: Pause> SharedNode<K, P> {
         session: u32,
         awaited: Awaited,
     ) -> (Reply<Bytes>, Option<K::Receipt>)
-        ensures acts { HasTried (event.Call job session (tried awaited)) actor.old actor.new }
+        ensures acts { HasTried K.called_by result.1 (event.Call job session (tried awaited)) actor.old actor.new }
         ensures called { MatchOption result.1 (result.0 ≡ reply.Refused NoMemory) (λ r. K.called_by (event.Call job session (tried awaited)) result.0 r) }
         ensures small { is_small_reply result.0 ≡ true }
         ensures node { IfSome result.1 (λ r. K.made_at r ≡ self.now.number) }
@@ -389,7 +389,7 @@ impl<K: JournaledNode, P: Pause> SharedNode<K, P> {
         awaited: Awaited,
         client: Option<&UnixStream>,
     ) -> (Reply<Bytes>, Option<K::Receipt>)
-        ensures acts { HasTried (event.Call job session (tried awaited)) actor.old actor.new }
+        ensures acts { HasTried K.called_by result.1 (event.Call job session (tried awaited)) actor.old actor.new }
         ensures called { MatchOption result.1 (result.0 ≡ reply.Refused NoMemory) (λ r. IsNext K.called_by K.rises last.now (event.Call job session (tried awaited)) result.0 r) }
         ensures small { is_small_reply result.0 ≡ true }
         ensures node { IfSome result.1 (λ r. K.made_at r ≡ self.now.number) }
@@ -403,7 +403,8 @@ impl<K: JournaledNode, P: Pause> SharedNode<K, P> {
         unreachable!()
     }
 
-    /// One try of a call that waits: its answer, if it is the last. After another one something may have moved for the job.
+    /// One try of a call that waits: its answer, if it is the last. Another one was answered Pending, and after it something may have moved for
+    /// the job.
     fn try_once<R: Wait + Clock>(
         &self,
         rt: &R,
@@ -416,6 +417,7 @@ impl<K: JournaledNode, P: Pause> SharedNode<K, P> {
     ) -> Option<(Reply<Bytes>, Option<K::Receipt>)>
         ensures acts { MatchOption result (actor.new ≡ actor.old ++ event.Call job session (tried awaited.now) ∷ []) (λ answer. ActsIf answer.1 (event.Call job session (tried awaited.now)) actor.old actor.new) }
         ensures called { IfSome result (λ answer. MatchOption answer.1 (answer.0 ≡ reply.Refused NoMemory) (λ r. IsNext K.called_by K.rises last.now (event.Call job session (tried awaited.now)) answer.0 r)) }
+        ensures pending { IfNone result ((r : K.Receipt) × K.called_by (event.Call job session (tried awaited.now)) (reply.Refused Pending) r) }
         ensures small { IfSome result (λ answer. is_small_reply answer.0 ≡ true) }
         ensures node { IfSome result (λ answer. IfSome answer.1 (λ r. K.made_at r ≡ self.now.number)) }
     {
@@ -429,8 +431,7 @@ impl<K: JournaledNode, P: Pause> SharedNode<K, P> {
                 },
             ) => {
                 let is_pulling = self.post(rt, Sender::Placing, mail);
-                let is_pending = matches!(&reply, Reply::Refused(Refusal::Pending));
-                if !is_pending || self.housekeeping.waiting.is_shut() {
+                if !is_pending(&reply) || self.housekeeping.waiting.is_shut() {
                     return Some((reply, Some(receipt)));
                 }
                 let waiting = &self.housekeeping.waiting;
@@ -744,6 +745,13 @@ impl<K: JournaledNode, P: Pause> SharedNode<K, P> {
     pub fn close_ways<R: Wait>(&self, rt: &R) {
         self.outbox.close(rt);
     }
+}
+
+/// Whether what was asked for may come yet.
+fn is_pending(response: &Reply<Bytes>) -> bool
+    ensures { result ≡ true → response.now ≡ reply.Refused Pending }
+{
+    matches!(response, Reply::Refused(Refusal::Pending))
 }
 
 /// The command that is tried again.

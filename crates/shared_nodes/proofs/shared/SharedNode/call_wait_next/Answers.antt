@@ -5,8 +5,8 @@ use Rattle.shared_nodes.proofs.shared.SharedNode.call_wait_next.Goals as goal
 
 pub returns-in-Some-last_try-clause-acts : goal.returns-in-Some-last_try-clause-acts
 returns-in-Some-last_try-clause-acts g c =
-    tried_last c.in-Some-last_try.answer.1 (event.Call c.args.job c.args.session (tried c.args.awaited)) c.args.actor.now c.loop.actor c.try_once-last_try.new.actor c.loop.invariant c.in-Some-last_try.ensures.acts
+    tried_last g.K.JournaledNode.called_by (event.Call c.args.job c.args.session (tried c.args.awaited)) c.args.actor.now c.in-Some-last_try.answer.1 c.loop.actor c.try_once-last_try.new.actor c.loop.invariant c.in-Some-last_try.ensures.acts
 
 pub loop-preserved : goal.loop-preserved
 loop-preserved g c =
-    tried_again (event.Call c.args.job c.args.session (tried c.args.awaited)) c.args.actor.now c.loop.actor c.try_once-last_try.new.actor c.loop.invariant c.in_default.ensures.acts
+    tried_again g.K.JournaledNode.called_by (event.Call c.args.job c.args.session (tried c.args.awaited)) c.args.actor.now c.loop.actor c.try_once-last_try.new.actor c.loop.invariant c.in_default.ensures.acts c.in_default.ensures.pending.0 c.in_default.ensures.pending.1
