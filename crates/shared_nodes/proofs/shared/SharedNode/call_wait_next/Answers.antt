@@ -1,7 +1,10 @@
 use Rattle.private_store.specs.declared.schedules.Event.TheVariants as event
 use Rattle.private_store.specs.rules.Frames.{tried}
-use Rattle.shared_nodes.proofs.Trying.{tried_again, tried_last}
+use Rattle.shared_nodes.proofs.Trying.{tried_again, tried_last, tried_never}
 use Rattle.shared_nodes.proofs.shared.SharedNode.call_wait_next.Goals as goal
+
+pub loop-init : goal.loop-init
+loop-init g c = tried_never g.K.JournaledNode.called_by (event.Call c.args.job c.args.session (tried c.args.awaited)) c.args.actor.now
 
 pub returns-in-Some-last_try-clause-acts : goal.returns-in-Some-last_try-clause-acts
 returns-in-Some-last_try-clause-acts g c =
