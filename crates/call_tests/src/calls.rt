@@ -259,9 +259,8 @@ fn hold_and_leave<K: JournaledNode, R: Wait + Clock + Abort>(
 
 /// The same of a session that is marked: the hold is gone at the next step, before which the session is left.
 fn hold_and_mark<K: JournaledNode, R: Wait + Abort>(rt: &R, node: &SharedNode<K>, id: ObjectId) {
-    let sessions = &node.housekeeping().sessions;
     // makes the room for the mark
-    holds!(rt; sessions.begin(rt) || sessions.begin(rt));
+    holds!(rt; node.begin_session(rt) || node.begin_session(rt));
     let entered = node.enter(rt, JOB, &KEY).expect(rt, "a session");
     let number = K::session(&entered);
     let reply = called_again(rt, node, number, id, true);
@@ -269,7 +268,7 @@ fn hold_and_mark<K: JournaledNode, R: Wait + Abort>(rt: &R, node: &SharedNode<K>
     node.leave_later(rt, entered);
     let reply = called_again(rt, node, number, id, false);
     holds!(rt; matches!(&reply, Reply::Refused(Refusal::NotHeld)));
-    sessions.end(rt);
+    node.upkeep().sessions.end(rt);
 }
 
 /// Each Leave is made once: at once, or before the next step if memory ran out, as it may if the journal's list has to grow.

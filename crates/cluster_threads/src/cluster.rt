@@ -201,7 +201,7 @@ impl<K: JournaledNode, P: Pause> Cluster<K, P> {
     fn report<R: Wait>(&self, rt: &R) -> Report {
         let mut report = Report::new();
         for node in &self.nodes {
-            report.count(node.entries(rt), node.housekeeping().counted(rt));
+            report.count(node.entries(rt), node.counted(rt));
         }
         report
     }

@@ -35,7 +35,7 @@ fn receive_all<K: JournaledNode, P: Pause, R: Wait>(
     node: &SharedNode<K, P>,
     inbox: &Inbox<K::Posted>,
 ) {
-    let mut receipts = ReceiptBuffer::new(node.housekeeping().alloc);
+    let mut receipts = ReceiptBuffer::new(node.upkeep().alloc);
     for _ in rt.forever() {
         let Some((posted, handing)) = inbox.next(rt) else {
             break;

@@ -23,7 +23,7 @@ impl<K: JournaledNode, P: Pause> Working<K, P> {
     /// Waits for the worker, which erases the keys that wait. Works that nobody has taken by then are left.
     pub fn end<R: Threads + Wait>(self, rt: &R) {
         let Working { node, thread } = self;
-        node.housekeeping().bell.end(rt);
+        node.upkeep().bell.end(rt);
         thread.join(rt);
     }
 }
@@ -61,13 +61,13 @@ fn work_all<K: JournaledNode, P: Pause, R: Wait + Clock, D: SpillDevice + Drop>(
     let mut device = device;
     let mut actor = actor;
     let mut kept = None;
-    let mut receipts = ReceiptBuffer::new(node.housekeeping().alloc);
+    let mut receipts = ReceiptBuffer::new(node.upkeep().alloc);
     for _ in rt.forever() {
-        if !node.housekeeping().bell.await_round(rt) {
+        if !node.upkeep().bell.await_round(rt) {
             break;
         }
         let done = node.round(rt, &mut actor, &mut device, &mut kept, &mut receipts);
-        go_on(rt, &node.housekeeping().bell, done);
+        go_on(rt, &node.upkeep().bell, done);
     }
     node.erase_keys(rt, &mut device);
     node.audit_all(rt, &receipts);

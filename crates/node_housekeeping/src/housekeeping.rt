@@ -1,18 +1,16 @@
 //! What a node's steps leave to be done, beside the node itself.
 ghost use Rattle.node_housekeeping.specs.DeviceCalls.{IsErasedIf};
 
-use crate::counts::Counts;
 use crate::device_calls::erase_all;
 use crate::job_locks::JobLocks;
-use crate::open_sessions::OpenSessions;
-use crate::open_streams::OpenStreams;
+use crate::marked_sessions::MarkedSessions;
 use crate::pausing::Pause;
 use crate::seals::Seals;
 use crate::tally::{Tallies, Tally};
+use crate::upkeep::Upkeep;
 use crate::waiting::{Waiting, WakeScope};
 use crate::waiting_keys::WaitingKeys;
 use crate::work_done::WorkDone;
-use crate::worker_bell::WorkerBell;
 use obj_id::{DeviceKey, JobNo};
 use spill_device::SpillDevice;
 use std::alloc::Global;
@@ -25,24 +23,20 @@ const QUEUES: u32 = 64;
 /// How many sessions of a node may have something large that no window counts, 16 MiB each: what they make for a step, until it is made.
 const MAKERS: u32 = 16;
 
-/// The counts of a node, its sessions, the keys that wait, whom its steps wake, and what pauses them.
+/// What a node's steps alone see: the keys that wait, the sessions that are marked, what was counted of receipts, and what pauses a step. With it
+/// is what everybody sees who serves the node.
 //
-// Each has a lock of its own, under which no other is taken, but for a maker's and a queue's: under the first a queue's and the node's are
-// taken, under the second the node's.
+// Each has a lock of its own, under which no other is taken, but for a maker's, a queue's and that of the open sessions: under the first a
+// queue's and the node's are taken, under the second the node's, under the third that of the marked ones.
 #[derive(Drop)]
 pub struct Housekeeping<P, E, N> {
-    // of what its actors gather
-    pub alloc: Global,
+    pub upkeep: Upkeep,
     pub tallies: Tallies,
-    pub counts: Counts,
-    pub sessions: OpenSessions<N>,
-    pub streams: OpenStreams,
+    pub marked: MarkedSessions<N>,
     pub keys: WaitingKeys<E>,
-    pub bell: WorkerBell,
     pub queues: JobLocks,
     pub makers: JobLocks,
     pub seals: Seals,
-    pub waiting: Arc<Waiting>,
     pub pause: P,
 }
 
@@ -50,19 +44,20 @@ impl<P: Pause, E: Drop, N: Drop> Housekeeping<P, E, N> {
     /// Of a node that has made no step.
     pub fn new(alloc: Global, waiting: Arc<Waiting>, pause: P) -> Housekeeping<P, E, N> {
         Housekeeping {
-            alloc,
+            upkeep: Upkeep::new(alloc, waiting),
             tallies: Tallies::new(),
-            counts: Counts::new(alloc),
-            sessions: OpenSessions::new(alloc),
-            streams: OpenStreams::new(alloc),
+            marked: MarkedSessions::new(alloc),
             keys: WaitingKeys::new(alloc),
-            bell: WorkerBell::new(),
             queues: JobLocks::new(QUEUES),
             makers: JobLocks::new(MAKERS),
             seals: Seals::new(),
-            waiting,
             pause,
         }
+    }
+
+    /// A session begins, unless there are as many as may be or there is no memory for its mark: whether it does.
+    pub fn begin_session<R: Wait>(&self, rt: &R) -> bool {
+        self.upkeep.sessions.begin(rt, &self.marked)
     }
 
     /// Lets the keys of a step wait, of which there are so many, and wakes the worker, if it has something to do, and who waits for what the
@@ -79,9 +74,9 @@ impl<P: Pause, E: Drop, N: Drop> Housekeeping<P, E, N> {
         let (has_keys, unerased) = self.keys.add(rt, erase, keys);
         self.tallies.unerased(rt, unerased);
         if has_keys || has_work {
-            self.bell.ask(rt);
+            self.upkeep.bell.ask(rt);
         }
-        self.waiting.note(rt, job, wake_scope);
+        self.upkeep.waiting.note(rt, job, wake_scope);
     }
 
     /// Erases what was written for a work, if that is no more.

@@ -1,6 +1,7 @@
 //! What is counted at a node.
 ghost use Rattle.std.specs.Prelude.{◌≡◌};
 
+use std::snapshot::Snapshot;
 use std::sync::{Mutex, Wait};
 
 /// What was counted at a node. Each number stays at its type's last value.
@@ -20,6 +21,14 @@ pub struct Tally {
 #[derive(Drop)]
 pub struct CountedLost {
     messages: u64,
+}
+
+/// That receipts were looked for and counted. Only `Tallies::looked_for` makes one. Clauses see how many they were, and of how many of them the
+/// journal doesn't have the entry. Takes no bytes.
+#[derive(Drop)]
+pub struct LookedFor {
+    receipts: Snapshot<u64>,
+    disagreeing: Snapshot<u64>,
 }
 
 /// The counts of a node.
@@ -47,11 +56,18 @@ impl Tallies {
     }
 
     /// So many receipts were looked for, and the journal doesn't have the entries of so many of them.
-    pub fn looked_for<R: Wait>(&self, rt: &R, receipts: u64, missing: u64) {
+    pub fn looked_for<R: Wait>(&self, rt: &R, receipts: u64, missing: u64) -> LookedFor
+        ensures receipts { result.receipts.value ≡ receipts }
+        ensures disagreeing { result.disagreeing.value ≡ missing }
+    {
         if receipts > 0 {
             let mut tally = self.tally.lock(rt);
             tally.receipts = tally.receipts.saturating_add(receipts);
             tally.disagreeing = tally.disagreeing.saturating_add(missing);
+        }
+        LookedFor {
+            receipts: Snapshot::of(&receipts),
+            disagreeing: Snapshot::of(&missing),
         }
     }
 

@@ -1,8 +1,8 @@
 //! Receipts are looked for in the journal of the node that gave them.
-ghost use Rattle.std.specs.Prelude.{◌≡◌, length, filter};
+ghost use Rattle.std.specs.Prelude.{◌≡◌, ◌∷◌, [], length, filter};
 
 use node_gate::JournaledNode;
-use node_housekeeping::Tallies;
+use node_housekeeping::{LookedFor, Tallies};
 use std::sync::Wait;
 
 /// Looks for the entries of receipts, and counts them and those that the journal says aren't there.
@@ -11,8 +11,11 @@ pub fn audit<K: JournaledNode, R: Wait>(
     kept: &K,
     tallies: &Tallies,
     receipts: &[K::Receipt],
-) {
-    tallies.looked_for(rt, receipts.len() as u64, count_missing(kept, receipts));
+) -> LookedFor
+    ensures receipts { result.receipts.value ≡ length receipts.now }
+    ensures disagreeing { result.disagreeing.value ≡ length (filter (K.misses kept.now) receipts.now) }
+{
+    tallies.looked_for(rt, receipts.len() as u64, count_missing(kept, receipts))
 }
 
 /// The same of one receipt.
@@ -21,8 +24,15 @@ pub fn audit_one<K: JournaledNode, R: Wait>(
     kept: &K,
     tallies: &Tallies,
     receipt: &K::Receipt,
-) {
-    tallies.looked_for(rt, 1, u64::from(kept.misses(receipt)));
+) -> LookedFor
+    ensures receipts { result.receipts.value ≡ 1 }
+    ensures disagreeing { result.disagreeing.value ≡ length (filter (K.misses kept.now) (receipt.now ∷ [])) }
+{
+    if kept.misses(receipt) {
+        tallies.looked_for(rt, 1, 1)
+    } else {
+        tallies.looked_for(rt, 1, 0)
+    }
 }
 
 /// Of how many of the receipts the journal says that the entry isn't there. One that was folded isn't counted.

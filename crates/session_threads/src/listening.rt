@@ -88,7 +88,7 @@ where
     K::Gone: Send + 'static,
 {
     for stream in listener.incoming() {
-        if node.housekeeping().waiting.is_shut() {
+        if node.upkeep().waiting.is_shut() {
             return;
         }
         match stream {
@@ -123,13 +123,12 @@ where
     K::Gone: Send + 'static,
 {
     let theirs = boxes::another(node)?;
-    let upkeep = node.housekeeping();
-    if !upkeep.streams.have_spare(&stream) || !upkeep.sessions.begin(&rt) {
+    if !node.upkeep().streams.have_spare(&stream) || !node.begin_session(&rt) {
         return Ok(());
     }
     let job = move || serve_stream(&rt, alloc, actors.actor(), &*theirs, stream);
     if thread::spawn(&rt, job).is_err() {
-        node.housekeeping().sessions.end(&rt);
+        node.upkeep().sessions.end(&rt);
     }
     Ok(())
 }
@@ -145,11 +144,11 @@ fn serve_stream<K: JournaledNode, P: Pause, R: Wait + Clock>(
     requires { actor ≡ [] }
 {
     // without memory for its place among the open ones it is closed
-    if let Ok(stream) = node.housekeeping().streams.open(rt, alloc, stream) {
+    if let Ok(stream) = node.upkeep().streams.open(rt, alloc, stream) {
         serve_open(rt, alloc, actor, node, &*stream);
-        node.housekeeping().streams.close(rt, stream.stream());
+        node.upkeep().streams.close(rt, stream.stream());
     }
-    node.housekeeping().sessions.end(rt);
+    node.upkeep().sessions.end(rt);
 }
 
 /// The same of a stream that has its place among the open ones.
@@ -170,7 +169,7 @@ fn serve_open<K: JournaledNode, P: Pause, R: Wait + Clock>(
         // a fault of a client ends this session alone
         let ended = serve(alloc, &mut reader, &mut writer, &mut session);
         if let Ok(Ended::Malformed) = ended {
-            node.housekeeping().counts.note_malformed();
+            node.upkeep().counts.note_malformed();
         }
     }
     session.check();

@@ -1,12 +1,12 @@
 //! A session at a node.
-ghost use Rattle.std.specs.Prelude.{◌≡◌, true, IsTrue, [], None};
+ghost use Rattle.std.specs.Prelude.{◌≡◌, true, IsTrue, [], None, IsSomeAnd, MatchOption};
 ghost use Rattle.private_store.specs.laws.Answers.{is_small_reply};
 ghost use Rattle.wire_frames.specs.Writing.{has_reply_frame};
 
 use crate::frames::framed;
 use bytes::Bytes;
 use node_gate::{Actor, JournaledNode};
-use node_housekeeping::{JobCounts, NoPause, OpenStream, Pause};
+use node_housekeeping::{JobCounts, Marked, NoPause, OpenStream, Pause};
 use obj_id::{Command, JobKey, JobNo, Refusal, Reply};
 use private_store::Awaited;
 use session_engine::Gate;
@@ -23,6 +23,8 @@ pub struct Session<'a, K: JournaledNode, R: Wait + Clock, P = NoPause> {
     receipts: ReceiptBuffer<K::Receipt>,
     // the session that the node let in last
     entered: Option<K::Entered>,
+    // that of the last one that was marked
+    marked: Option<Marked<K::Entered>>,
     // whose end is looked for while a call waits, and of which the operator is told
     client: Option<&'a OpenStream>,
     // those of its job, once it has entered
@@ -39,8 +41,9 @@ impl<'a, K: JournaledNode, R: Wait + Clock, P: Pause> Session<'a, K, R, P> {
             rt,
             node,
             actor,
-            receipts: ReceiptBuffer::new(node.housekeeping().alloc),
+            receipts: ReceiptBuffer::new(node.upkeep().alloc),
             entered: None,
+            marked: None,
             client: None,
             counts: None,
         }
@@ -67,10 +70,11 @@ impl<'a, K: JournaledNode, R: Wait + Clock, P: Pause> Session<'a, K, R, P> {
         ensures receipts { self.new.receipts ≡ self.old.receipts }
         ensures actor { self.new.actor ≡ self.old.actor }
         ensures entered { self.new.entered ≡ self.old.entered }
+        ensures marked { self.new.marked ≡ self.old.marked }
         ensures node { self.new.node ≡ self.old.node }
     {
         if self.counts.is_none() {
-            self.counts = self.node.housekeeping().counts.of(self.rt, job);
+            self.counts = self.node.upkeep().counts.of(self.rt, job);
         }
     }
 
@@ -111,10 +115,11 @@ impl<'a, K: JournaledNode, R: Wait + Clock, P: Pause> Session<'a, K, R, P> {
         ensures receipts { self.new.receipts ≡ self.old.receipts }
         ensures actor { self.new.actor ≡ self.old.actor }
         ensures entered { self.new.entered ≡ None }
+        ensures marked { MatchOption self.old.entered (self.new.marked ≡ self.old.marked) (λ entered. IsSomeAnd self.new.marked (λ m. m.of.value ≡ entered)) }
         ensures node { self.new.node ≡ self.old.node }
     {
         if let Some(entered) = self.entered.take() {
-            self.node.leave_later(self.rt, entered);
+            self.marked = Some(self.node.leave_later(self.rt, entered));
         }
     }
 
@@ -126,17 +131,16 @@ impl<'a, K: JournaledNode, R: Wait + Clock, P: Pause> Session<'a, K, R, P> {
 
 /// Who enters has the number that the node gave to this job and key. After each answer the last receipt is of this job, session, command and
 /// reply, and of a step at the session's node that came after that of the receipt before; or the reply is `NoMemory`, and the last receipt the same as before.
-/// After the session was left, the last receipt is of its Leave; or it is the same as before, and what the node let the session in with is handed
-/// over, to be left later. The steps of these receipts, and the tries of calls that
+/// After the session was left, the last receipt is of its Leave; or it is the same as before, and what the node let the session in with is
+/// marked, to be left later. The steps of these receipts, and the tries of calls that
 /// wait, are all steps that the session has made.
 impl<'a, K: JournaledNode, R: Wait + Clock, P: Pause> Gate for Session<'a, K, R, P> {
-    ghost use Rattle.std.specs.Prelude.{option_map};
-    ghost use Rattle.session_threads.specs.Gates.{IsWitnessed, IsLetIn, IsMadeAt};
+    ghost use Rattle.session_threads.specs.Gates.{IsWitnessed, IsLetIn, IsMadeAt, holding};
 
-    ghost gives = { λ before asked response after. IsWitnessed K.called_by K.rises asked response before.receipts.last after.receipts.last before.actor after.actor (option_map K.pass before.entered) (option_map K.pass after.entered) × IsLetIn asked response (option_map K.pass before.entered) (option_map K.pass after.entered) × IsMadeAt K.made_at before.node.now.number before.receipts.last after.receipts.last × (after.node ≡ before.node) };
+    ghost gives = { λ before asked response after. IsWitnessed K.called_by K.rises asked response before.receipts.last after.receipts.last before.actor after.actor (holding K.pass before.entered before.marked) (holding K.pass after.entered after.marked) × IsLetIn asked response (holding K.pass before.entered before.marked) (holding K.pass after.entered after.marked) × IsMadeAt K.made_at before.node.now.number before.receipts.last after.receipts.last × (after.node ≡ before.node) };
 
     fn enter(&mut self, job: JobNo, key: JobKey) -> Result<u32, Refusal> {
-        let counts = &self.node.housekeeping().counts;
+        let counts = &self.node.upkeep().counts;
         let entered = match self.node.enter(self.rt, job, &key) {
             Ok(entered) => entered,
             Err(refusal) => {

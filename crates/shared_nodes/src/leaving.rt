@@ -7,7 +7,7 @@ ghost use Rattle.node_gate.specs.Calls.{IsLast};
 
 use crate::SharedNode;
 use node_gate::{Actor, JournaledNode};
-use node_housekeeping::{MOST_SESSIONS, Pause, Sender};
+use node_housekeeping::{MOST_SESSIONS, Marked, Pause, Sender};
 use node_steps::step_leave;
 use obj_id::{Command, JobNo};
 use std::sync::Wait;
@@ -31,15 +31,22 @@ impl<K: JournaledNode, P: Pause> SharedNode<K, P> {
         receipt
     }
 
+    /// A session begins, unless there are as many as may be or there is no memory for its mark: whether it does.
+    pub fn begin_session<R: Wait>(&self, rt: &R) -> bool {
+        self.housekeeping.begin_session(rt)
+    }
+
     /// Marks a session that the node let in: it is left by a later step.
-    pub fn leave_later<R: Wait>(&self, rt: &R, entered: K::Entered) {
-        self.housekeeping.sessions.mark(rt, entered);
+    pub fn leave_later<R: Wait>(&self, rt: &R, entered: K::Entered) -> Marked<K::Entered>
+        ensures { result.of.value ≡ entered }
+    {
+        self.housekeeping.marked.mark(rt, entered)
     }
 
     /// Leaves the sessions that are marked, in order, until one finds no memory.
     pub(crate) fn leave_marked<R: Wait>(&self, rt: &R) {
         for _ in 0..MOST_SESSIONS {
-            if !self.housekeeping.sessions.are_marked() {
+            if !self.housekeeping.marked.are_marked() {
                 return;
             }
             let Some(mail) = self.leave_first(rt) else {
@@ -53,12 +60,12 @@ impl<K: JournaledNode, P: Pause> SharedNode<K, P> {
     /// marked again.
     fn leave_first<R: Wait>(&self, rt: &R) -> Option<K::Mail> {
         let mut kept = self.lock(rt);
-        let sessions = &self.housekeeping.sessions;
-        let entered = sessions.take_marked(rt)?;
+        let marked = &self.housekeeping.marked;
+        let entered = marked.take_marked(rt)?;
         match step_leave(rt, &mut *kept, &self.housekeeping, entered) {
             Ok(mail) => Some(mail),
             Err(entered) => {
-                sessions.mark(rt, entered);
+                marked.mark(rt, entered);
                 None
             }
         }
@@ -66,7 +73,7 @@ impl<K: JournaledNode, P: Pause> SharedNode<K, P> {
 
     /// Waits for the open sessions to end, and leaves those that are marked then.
     pub fn end_sessions<R: Wait>(&self, rt: &R) {
-        self.housekeeping.sessions.wait_for_all(rt);
+        self.housekeeping.upkeep.sessions.wait_for_all(rt);
         self.leave_marked(rt);
     }
 }

@@ -21,12 +21,12 @@ impl<K: JournaledNode, P: Pause> SharedNode<K, P> {
 
     /// The live jobs, by rising number. The error is out of memory.
     pub fn live_jobs<R: Wait>(&self, rt: &R) -> Result<Vec<LiveJob>, OutOfMemory> {
-        self.lock(rt).live_jobs(self.housekeeping.alloc)
+        self.lock(rt).live_jobs(self.housekeeping.upkeep.alloc)
     }
 
     /// How many sessions are open.
     pub fn open_sessions<R: Wait>(&self, rt: &R) -> usize {
-        self.housekeeping.sessions.count(rt)
+        self.housekeeping.upkeep.sessions.count(rt)
     }
 
     /// The open sessions whose Hello was taken, in any order. The error is out of memory.
@@ -35,20 +35,21 @@ impl<K: JournaledNode, P: Pause> SharedNode<K, P> {
         rt: &R,
     ) -> Result<Vec<ListedSession>, OutOfMemory> {
         self.housekeeping
+            .upkeep
             .streams
-            .listed(rt, self.housekeeping.alloc)
+            .listed(rt, self.housekeeping.upkeep.alloc)
     }
 
     /// What was counted of its sessions and of its lock.
     pub fn node_counts(&self) -> NodeCounts {
-        self.housekeeping.counts.of_node()
+        self.housekeeping.upkeep.counts.of_node()
     }
 
     /// What was counted of a live job: nothing of another, or of one for which there was no memory when it was admitted. The error is out of
     /// memory.
     pub fn job_counts<R: Wait>(&self, rt: &R, job: JobNo) -> Result<Vec<Count>, OutOfMemory> {
-        let alloc = self.housekeeping.alloc;
-        match self.housekeeping.counts.of(rt, job) {
+        let alloc = self.housekeeping.upkeep.alloc;
+        match self.housekeeping.upkeep.counts.of(rt, job) {
             Some(counts) => counts.counted(alloc),
             None => Ok(Vec::new(alloc)),
         }
@@ -56,17 +57,20 @@ impl<K: JournaledNode, P: Pause> SharedNode<K, P> {
 
     /// Shuts down the stream of this job's session, if it is open: whether it is. The session then ends as if its client had gone.
     pub fn kick<R: Wait>(&self, rt: &R, job: JobNo, session: u32) -> bool {
-        self.housekeeping.streams.shut_session(rt, job, session)
+        self.housekeeping
+            .upkeep
+            .streams
+            .shut_session(rt, job, session)
     }
 
     /// Waits for the open sessions to end.
     pub fn await_sessions<R: Wait>(&self, rt: &R) {
-        self.housekeeping.sessions.wait_for_all(rt);
+        self.housekeeping.upkeep.sessions.wait_for_all(rt);
     }
 
     /// Shuts down the streams of all open sessions, and of those that are opened later. Of one that is shut down for reading, what was
     /// sent before is still answered, and then its session ends.
     pub fn shut_sessions<R: Wait>(&self, rt: &R, how: Shutdown) {
-        self.housekeeping.streams.shut(rt, how);
+        self.housekeeping.upkeep.streams.shut(rt, how);
     }
 }

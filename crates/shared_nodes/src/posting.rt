@@ -24,7 +24,7 @@ impl<K: JournaledNode, P: Pause> SharedNode<K, P> {
         for posted in others {
             lost = lost.saturating_add(self.post_one(rt, sender, posted, &mut sent));
         }
-        self.housekeeping.counts.note_sent(rt, &sent);
+        self.housekeeping.upkeep.counts.note_sent(rt, &sent);
         self.housekeeping.tallies.lost(rt, lost);
         sent.number(JobEvent::Pull) > 0
     }

@@ -51,7 +51,7 @@ impl<K: JournaledNode, P: Pause> SharedNode<K, P> {
     ) -> K::Prepared {
         let wanted = self.lock(rt).extent_wanted(job, command);
         match wanted {
-            Some(len) => K::prepared_zeros(self.housekeeping.alloc, len),
+            Some(len) => K::prepared_zeros(self.housekeeping.upkeep.alloc, len),
             None => K::nothing_prepared(),
         }
     }
@@ -83,7 +83,7 @@ impl<K: JournaledNode, P: Pause> SharedNode<K, P> {
         if len > LONGEST_OBJECT {
             return None;
         }
-        let mut whole = lists::with_capacity(self.housekeeping.alloc, len as usize).ok()?;
+        let mut whole = lists::with_capacity(self.housekeeping.upkeep.alloc, len as usize).ok()?;
         for index in 0..len.div_ceil(CHUNK_SIZE) {
             let part = if index == chunk.index.0 {
                 shared::again(chunk.bytes).ok()?

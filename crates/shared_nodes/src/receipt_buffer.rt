@@ -1,13 +1,13 @@
 //! The receipts of one actor at one node, until they are looked for in the node's journal.
-ghost use Rattle.std.specs.Prelude.{◌≡◌, ◌==◌, ◌+◌, ◌++◌, ◌<◌, [], if◌then◌else◌, Some, None, OnOk, OnErr, vec_len, vec_capacity};
-ghost use Rattle.shared_nodes.specs.Gathering.{receipts_in_order};
+ghost use Rattle.std.specs.Prelude.{◌≡◌, ◌==◌, ◌+◌, ◌++◌, ◌∷◌, ◌<◌, [], if◌then◌else◌, Some, None, IfOk, IfSome, IsSomeAnd, MatchOption, OnOk, OnErr, is_some, vec_len, vec_capacity};
+ghost use Rattle.shared_nodes.specs.Gathering.{AreLookedFor, receipts_in_order};
 ghost use Rattle.shared_nodes.specs.declared.receipt_buffer.TheConstants.{MOST_RECEIPTS};
 
 use crate::SharedNode;
 use memory_growth::{OutOfMemory, lists};
 use node_gate::JournaledNode;
-use node_housekeeping::Pause;
-use node_steps::{audit, audit_one};
+use node_housekeeping::{LookedFor, Pause};
+use node_steps::audit;
 use std::alloc::Global;
 use std::sync::Wait;
 
@@ -58,36 +58,53 @@ impl<T: Drop> ReceiptBuffer<T> {
 
 impl<K: JournaledNode, P: Pause> SharedNode<K, P> {
     /// Makes room for the receipt of a step, before the step. If 16 are there, all but the last are looked for under one lock
-    /// of the node, and forgotten. The error is out of memory, and then nothing has changed.
+    /// of the node, and forgotten: that they were is handed out. The error is out of memory, and then nothing has changed.
     pub fn make_room<R: Wait>(
         &self,
         rt: &R,
         receipts: &mut ReceiptBuffer<K::Receipt>,
-    ) -> Result<(), OutOfMemory>
+    ) -> Result<Option<LookedFor>, OutOfMemory>
         ensures last { receipts.new.last ≡ receipts.old.last }
         ensures earlier { receipts.new.earlier.items ≡ (if vec_len receipts.old.earlier + 1 == MOST_RECEIPTS then [] else receipts.old.earlier.items) }
+        ensures forgotten { IfOk result (λ found. is_some found ≡ (vec_len receipts.old.earlier + 1 == MOST_RECEIPTS)) }
+        ensures looked_for { IfOk result (λ found. IfSome found (AreLookedFor K.misses K.node_number self.now.number receipts.old.earlier.items)) }
         ensures memory { OnOk result (vec_len receipts.new.earlier < vec_capacity receipts.new.earlier) }
         ensures few { OnOk result (vec_len receipts.new.earlier + 1 < MOST_RECEIPTS) }
         ensures unchanged { OnErr result (receipts.new.earlier.items ≡ receipts.old.earlier.items) }
     {
-        if receipts.earlier.len() + 1 == MOST_RECEIPTS {
-            audit(
-                rt,
-                &*self.lock(rt),
-                &self.housekeeping.tallies,
-                &receipts.earlier,
-            );
-            receipts.earlier.clear();
+        if receipts.earlier.len() + 1 < MOST_RECEIPTS {
+            lists::reserve(&mut receipts.earlier, 1)?;
+            return Ok(None);
         }
-        lists::reserve(&mut receipts.earlier, 1)
+        let found = self.audit_earlier(rt, receipts);
+        receipts.earlier.clear();
+        lists::reserve(&mut receipts.earlier, 1)?;
+        Ok(Some(found))
     }
 
-    /// Looks for all that are there, under one lock of the node: what their actor does at its end.
-    pub fn audit_all<R: Wait>(&self, rt: &R, receipts: &ReceiptBuffer<K::Receipt>) {
-        let kept = self.lock(rt);
-        audit(rt, &*kept, &self.housekeeping.tallies, &receipts.earlier);
-        if let Some(last) = &receipts.last {
-            audit_one(rt, &*kept, &self.housekeeping.tallies, last);
-        }
+    /// Looks for all but the last, under one lock of the node.
+    fn audit_earlier<R: Wait>(&self, rt: &R, receipts: &ReceiptBuffer<K::Receipt>) -> LookedFor
+        ensures { AreLookedFor K.misses K.node_number self.now.number receipts.now.earlier.items result }
+    {
+        audit(
+            rt,
+            &*self.lock(rt),
+            &self.housekeeping.tallies,
+            &receipts.earlier,
+        )
+    }
+
+    /// Looks for all that are there: what their actor does at its end. The last is looked for apart, if there is one.
+    pub fn audit_all<R: Wait>(
+        &self,
+        rt: &R,
+        receipts: &ReceiptBuffer<K::Receipt>,
+    ) -> (LookedFor, Option<LookedFor>)
+        ensures earlier { AreLookedFor K.misses K.node_number self.now.number receipts.now.earlier.items result.0 }
+        ensures last { MatchOption receipts.now.last (result.1 ≡ None) (λ last. IsSomeAnd result.1 (AreLookedFor K.misses K.node_number self.now.number (last ∷ []))) }
+    {
+        let earlier = self.audit_earlier(rt, receipts);
+        let last = receipts.last.as_ref().map(|last| self.check(rt, last));
+        (earlier, last)
     }
 }

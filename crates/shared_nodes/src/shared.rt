@@ -8,7 +8,7 @@ ghost use Rattle.private_store.specs.declared.schedules.Event.TheVariants as eve
 ghost use Rattle.node_gate.specs.Actors.{ActsIf, HasTried};
 ghost use Rattle.node_gate.specs.Calls.{IsNext};
 ghost use Rattle.shared_nodes.specs.Rounds.{HasAskedForWork, IsHandedIn};
-ghost use Rattle.shared_nodes.specs.Gathering.{receipts_in_order};
+ghost use Rattle.shared_nodes.specs.Gathering.{AreLookedFor, receipts_in_order};
 ghost use Rattle.private_store.specs.rules.Frames.{tried};
 
 use crate::preparing::{prepare_finish, spent_by};
@@ -19,7 +19,8 @@ use command_kinds::{CommandKind, Preparation};
 use memory_growth::OutOfMemory;
 use node_gate::{Access, Actor, JournaledNode, Keeper, Posted};
 use node_housekeeping::{
-    Housekeeping, JobEvent, NoPause, Pause, Sender, Versions, Waiting, is_gone,
+    Housekeeping, JobEvent, LookedFor, NoPause, Pause, Sender, Tally, Upkeep, Versions, Waiting,
+    is_gone,
 };
 use node_links::Outbox;
 use node_steps::{
@@ -187,7 +188,7 @@ impl<K: JournaledNode, P: Pause> SharedNode<K, P> {
         if let Some(kept) = self.kept.try_lock() {
             return kept;
         }
-        self.housekeeping.counts.note_lock_wait();
+        self.housekeeping.upkeep.counts.note_lock_wait();
         for _ in 0..LOOKS {
             for _ in 0..PAUSES {
                 spin_loop();
@@ -196,7 +197,7 @@ impl<K: JournaledNode, P: Pause> SharedNode<K, P> {
                 return kept;
             }
         }
-        self.housekeeping.counts.note_lock_sleep();
+        self.housekeeping.upkeep.counts.note_lock_sleep();
         self.kept.lock(rt)
     }
 
@@ -431,10 +432,10 @@ impl<K: JournaledNode, P: Pause> SharedNode<K, P> {
                 },
             ) => {
                 let is_pulling = self.post(rt, Sender::Placing, mail);
-                if !is_pending(&reply) || self.housekeeping.waiting.is_shut() {
+                if !is_pending(&reply) || self.housekeeping.upkeep.waiting.is_shut() {
                     return Some((reply, Some(receipt)));
                 }
-                let waiting = &self.housekeeping.waiting;
+                let waiting = &self.housekeeping.upkeep.waiting;
                 waiting.await_next(rt, job, seen, is_pulling, client);
                 if is_gone(client) {
                     return Some((reply, Some(receipt)));
@@ -469,7 +470,7 @@ impl<K: JournaledNode, P: Pause> SharedNode<K, P> {
         if kept.wants(job, &command) {
             drop(kept);
             drop(queued);
-            let seen = self.housekeeping.waiting.seen(rt, job);
+            let seen = self.housekeeping.upkeep.waiting.seen(rt, job);
             return (
                 self.step_prepared(rt, actor, last, job, session, command),
                 seen,
@@ -486,7 +487,7 @@ impl<K: JournaledNode, P: Pause> SharedNode<K, P> {
             command,
         );
         sweep_after(&mut *kept, job, false, &stepped);
-        let seen = self.housekeeping.waiting.seen(rt, job);
+        let seen = self.housekeeping.upkeep.waiting.seen(rt, job);
         let spent = spent_by(&mut *kept, job, true);
         drop(kept);
         drop(queued);
@@ -510,7 +511,7 @@ impl<K: JournaledNode, P: Pause> SharedNode<K, P> {
     {
         let (reply, receipt) = self.order(rt, actor, &Event::Admit { job, quota, key });
         if matches!(&reply, Reply::Ok) {
-            self.housekeeping.counts.begin(rt, job);
+            self.housekeeping.upkeep.counts.begin(rt, job);
         }
         (reply, receipt)
     }
@@ -550,7 +551,7 @@ impl<K: JournaledNode, P: Pause> SharedNode<K, P> {
         drop(gone);
         let (reply, receipt) = self.answer(rt, Sender::Other, stepped);
         if matches!(&reply, Reply::Ok) {
-            self.housekeeping.counts.end(rt, job);
+            self.housekeeping.upkeep.counts.end(rt, job);
         }
         (reply, receipt)
     }
@@ -583,7 +584,7 @@ impl<K: JournaledNode, P: Pause> SharedNode<K, P> {
         ensures receipt { MatchOption result.1 (result.0 ≡ reply.Refused NoMemory) (λ r. K.receipt_of event.now result.0 r) }
         ensures node { IfSome result.1 (λ r. K.made_at r ≡ self.now.number) }
     {
-        let (job, prepared) = prepare_finish::<K>(self.housekeeping.alloc, event);
+        let (job, prepared) = prepare_finish::<K>(self.housekeeping.upkeep.alloc, event);
         let mut kept = self.lock(rt);
         let before = kept.prepare(job, prepared);
         let stepped = step_event(rt, &mut *kept, &self.housekeeping, actor, &None, event);
@@ -670,7 +671,10 @@ impl<K: JournaledNode, P: Pause> SharedNode<K, P> {
         drop(kept);
         drop(rest);
         let Stepped { receipt, mail, .. } = stepped?;
-        self.housekeeping.counts.note(rt, job, JobEvent::Arrival);
+        self.housekeeping
+            .upkeep
+            .counts
+            .note(rt, job, JobEvent::Arrival);
         self.post(rt, Sender::Arrival, mail);
         Ok(receipt)
     }
@@ -680,7 +684,10 @@ impl<K: JournaledNode, P: Pause> SharedNode<K, P> {
         let job = located.job();
         let is_taken = step_located(rt, &mut *self.lock(rt), &self.housekeeping, located);
         if is_taken {
-            self.housekeeping.counts.note(rt, job, JobEvent::Arrival);
+            self.housekeeping
+                .upkeep
+                .counts
+                .note(rt, job, JobEvent::Arrival);
         }
         is_taken
     }
@@ -720,8 +727,10 @@ impl<K: JournaledNode, P: Pause> SharedNode<K, P> {
 
     /// Looks for the entry of a receipt that was given by this node, and counts it if the journal says that it isn't there. One
     /// that was folded isn't counted.
-    pub fn check<R: Wait>(&self, rt: &R, receipt: &K::Receipt) {
-        audit_one(rt, &*self.lock(rt), &self.housekeeping.tallies, receipt);
+    pub fn check<R: Wait>(&self, rt: &R, receipt: &K::Receipt) -> LookedFor
+        ensures { AreLookedFor K.misses K.node_number self.now.number (receipt.now ∷ []) result }
+    {
+        audit_one(rt, &*self.lock(rt), &self.housekeeping.tallies, receipt)
     }
 
     /// The node's number.
@@ -736,9 +745,14 @@ impl<K: JournaledNode, P: Pause> SharedNode<K, P> {
         self.lock(rt).entries()
     }
 
-    /// What its steps leave to be done.
-    pub fn housekeeping(&self) -> &Housekeeping<P, K::Erase, K::Entered> {
-        &self.housekeeping
+    /// What everybody sees who serves it: what is to be done can't be taken out of that.
+    pub fn upkeep(&self) -> &Upkeep {
+        &self.housekeeping.upkeep
+    }
+
+    /// What was counted of its receipts, messages and keys.
+    pub fn counted<R: Wait>(&self, rt: &R) -> Tally {
+        self.housekeeping.counted(rt)
     }
 
     /// Closes the ways out to other nodes: what was accepted is still received.

@@ -30,7 +30,7 @@ impl<K: JournaledNode, P: Pause> SharedNode<K, P> {
     ) -> WorkDone
         ensures { (receipts : List K.Receipt) × (last : Option K.Receipt) × IsRound K.receipt_of K.keys D.write_gives D.read_gives D.erase_gives device.old (option_map (λ p. p.finishing) kept.old) result device.new (option_map (λ p. p.finishing) kept.new) None last receipts actor.old actor.new }
     {
-        let mut receipts = ReceiptBuffer::new(self.housekeeping.alloc);
+        let mut receipts = ReceiptBuffer::new(self.housekeeping.upkeep.alloc);
         let done = self.round(rt, actor, device, kept, &mut receipts);
         self.audit_all(rt, &receipts);
         done
@@ -88,7 +88,10 @@ impl<K: JournaledNode, P: Pause> SharedNode<K, P> {
         ensures { (before : List Event) → actor.old ≡ before ++ event.Take ∷ [] → HasWorked K.receipt_of D.write_gives D.read_gives D.erase_gives device.old result device.new (option_map (λ p. p.finishing) kept.new) (receipts_in_order receipts.new.earlier.items receipts.new.last) before actor.new }
     {
         let finishing = call_device(device, work);
-        self.housekeeping.counts.note_device_call(rt, &finishing);
+        self.housekeeping
+            .upkeep
+            .counts
+            .note_device_call(rt, &finishing);
         self.hand_in(
             rt,
             actor,

@@ -357,7 +357,7 @@ where
             return Err(ServeFault::Fault(Fault::Socket))
         };
         if let Some(most) = most {
-            node.housekeeping().streams.bound(most);
+            node.upkeep().streams.bound(most);
         }
         let path = text_of!(in host.alloc(); "{}/{number}", serving.spill)?;
         let folder = SpillFolder::take(host, path.as_str())?;
