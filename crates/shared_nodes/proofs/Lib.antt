@@ -1,3 +1,4 @@
 mod Answering
+pub mod ForCallers
 mod KeysErased
 mod Trying
