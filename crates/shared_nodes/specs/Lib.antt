@@ -1,3 +1,5 @@
 pub mod Erasing
 pub mod Gathering
+pub mod Looking
+pub mod NodeLists
 pub mod Rounds

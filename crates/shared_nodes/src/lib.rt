@@ -5,6 +5,7 @@
 mod erasing;
 mod leaving;
 mod looking;
+mod node_list;
 mod pending;
 mod posting;
 mod preparing;
@@ -13,6 +14,7 @@ mod refusing;
 mod shared;
 mod working;
 
+pub use node_list::NodeList;
 pub use pending::PendingFinish;
 pub use receipt_buffer::ReceiptBuffer;
 pub use refusing::out_of_memory;

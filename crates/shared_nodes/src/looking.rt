@@ -1,6 +1,7 @@
 //! What the operator is shown of a node that serves, and how its sessions are ended. None of it makes an entry or changes a job's store.
-ghost use Rattle.std.specs.Prelude.{◌≡◌, IfErr};
+ghost use Rattle.std.specs.Prelude.{◌≡◌, IfOk, IfErr};
 ghost use Rattle.obj_id.specs.declared.refusals.Refusal.TheVariants.{NotAdmitted};
+ghost use Rattle.shared_nodes.specs.Looking.{AreLiveAt, IsUsageAt};
 
 use crate::SharedNode;
 use memory_growth::OutOfMemory;
@@ -14,13 +15,16 @@ use std::time::Clock;
 impl<K: JournaledNode, P: Pause> SharedNode<K, P> {
     /// A job's quotas and what is used of them. `NotAdmitted` if the job isn't live. Takes no memory.
     pub fn usage<R: Wait>(&self, rt: &R, job: JobNo) -> Result<Usage, Refusal>
-        ensures { IfErr result (λ refusal. refusal ≡ NotAdmitted) }
+        ensures shown { IsUsageAt K.node_number K.shows_usage self.now.number job result }
+        ensures refusal { IfErr result (λ refusal. refusal ≡ NotAdmitted) }
     {
         self.lock(rt).usage(job)
     }
 
     /// The live jobs, by rising number. The error is out of memory.
-    pub fn live_jobs<R: Wait>(&self, rt: &R) -> Result<Vec<LiveJob>, OutOfMemory> {
+    pub fn live_jobs<R: Wait>(&self, rt: &R) -> Result<Vec<LiveJob>, OutOfMemory>
+        ensures { IfOk result (λ live. AreLiveAt K.node_number K.shows_live self.now.number live.items) }
+    {
         self.lock(rt).live_jobs(self.housekeeping.upkeep.alloc)
     }
 

@@ -79,7 +79,9 @@ impl<K: JournaledNode, P: Pause> SharedNode<K, P> {
         outbox: Outbox<K::Posted>,
         waiting: Arc<Waiting>,
         pause: P,
-    ) -> SharedNode<K, P> {
+    ) -> SharedNode<K, P>
+        ensures { result.number ≡ K.node_number kept }
+    {
         SharedNode {
             number: kept.number(),
             kept: Mutex::new(kept),
