@@ -12,4 +12,4 @@ pub use machine::{machine_memory, most_descriptors};
 pub use patient::Patient;
 pub use serve_fault::{PrintedFault, ServeFault};
 pub use sockets::{SocketFile, bind, bind_alone};
-pub use telling::{Telling, TellingDevice};
+pub use telling::{KnowsReason, Telling, TellingDevice};

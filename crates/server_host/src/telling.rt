@@ -41,11 +41,26 @@ impl Telling {
     }
 }
 
-/// A device over files in a folder. Of its calls that failed, and those of all devices with which it shares what was said, it tells one in
-/// a second at most on standard error. No call is answered otherwise or later for it, whoever reads standard error or doesn't.
+/// A device that knows why its calls failed.
+pub trait KnowsReason {
+    ghost use Rattle.std.specs.Prelude.{◌≡◌};
+
+    /// Why the last call that was `Failed` failed. None if it was taken before.
+    fn last_reason(&mut self) -> Option<io::Error>
+        ensures { self.new ≡ self.old };
+}
+
+impl KnowsReason for FileDevice<HostRuntime> {
+    fn last_reason(&mut self) -> Option<io::Error> {
+        self.take_reason()
+    }
+}
+
+/// A device, as one over files in a folder. Of its calls that failed, and those of all devices with which it shares what was said, it tells
+/// one in a second at most on standard error. No call is answered otherwise or later for it, whoever reads standard error or doesn't.
 #[derive(Drop)]
-pub struct TellingDevice<R: Threads + Wait + Clock + Drop> {
-    device: FileDevice<HostRuntime>,
+pub struct TellingDevice<D: Drop, R: Threads + Wait + Clock + Drop> {
+    device: D,
     rt: R,
     host: HostRuntime,
     node: u32,
@@ -81,7 +96,7 @@ impl Reason {
     }
 }
 
-impl<R: Threads + Wait + Clock + Drop> TellingDevice<R> {
+impl<R: Threads + Wait + Clock + Drop> TellingDevice<FileDevice<HostRuntime>, R> {
     /// The device of the node of this number, in its folder.
     pub fn new(
         rt: R,
@@ -89,7 +104,7 @@ impl<R: Threads + Wait + Clock + Drop> TellingDevice<R> {
         node: u32,
         folder: &SpillFolder,
         telling: Telling,
-    ) -> Result<TellingDevice<R>, FolderFault> {
+    ) -> Result<TellingDevice<FileDevice<HostRuntime>, R>, FolderFault> {
         Ok(TellingDevice {
             device: FileDevice::of(host, folder)?,
             rt,
@@ -98,7 +113,9 @@ impl<R: Threads + Wait + Clock + Drop> TellingDevice<R> {
             telling,
         })
     }
+}
 
+impl<D: KnowsReason + Drop, R: Threads + Wait + Clock + Drop> TellingDevice<D, R> {
     /// Tells of a call that was answered so, if it failed, or if there was no memory for it.
     fn tell<T>(&mut self, call: DeviceCall, key: DeviceKey, answer: &Result<T, DeviceFault>)
         ensures { self.new.device ≡ self.old.device }
@@ -107,7 +124,7 @@ impl<R: Threads + Wait + Clock + Drop> TellingDevice<R> {
             Ok(_) => {}
             Err(DeviceFault::NoMemory) => self.tell_failure(call, key, None),
             Err(DeviceFault::Failed) => {
-                if let Some(error) = self.device.take_reason() {
+                if let Some(error) = self.device.last_reason() {
                     self.tell_failure(call, key, Some(error));
                 }
             }
@@ -187,17 +204,16 @@ fn write_line(host: HostRuntime, line: &Line, is_writing: &AtomicBool) {
     is_writing.store(false, Ordering::SeqCst);
 }
 
-impl<R: Threads + Wait + Clock + Drop> SpillDevice for TellingDevice<R> {
-    ghost use Rattle.std.specs.Prelude.{◌≡◌};
+impl<D: SpillDevice + KnowsReason + Drop, R: Threads + Wait + Clock + Drop> SpillDevice
+    for TellingDevice<D, R> {
+    ghost failures_of = { λ d. D.SpillDevice.failures_of d.device };
 
-    ghost failures_of = { λ d. d.device.failures };
+    // each call is the wrapped device's
+    ghost write_gives = { λ old key bytes result new. D.SpillDevice.write_gives old.device key bytes result new.device };
 
-    // the folder stays
-    ghost write_gives = { λ old _ _ _ new. new.device.name ≡ old.device.name };
+    ghost read_gives = { λ old key len result new. D.SpillDevice.read_gives old.device key len result new.device };
 
-    ghost read_gives = { λ old _ _ _ new. new.device.name ≡ old.device.name };
-
-    ghost erase_gives = { λ old _ _ new. new.device.name ≡ old.device.name };
+    ghost erase_gives = { λ old key result new. D.SpillDevice.erase_gives old.device key result new.device };
 
     fn write(&mut self, key: DeviceKey, bytes: &[u8]) -> Result<(), DeviceFault> {
         let written = self.device.write(key, bytes);
