@@ -14,7 +14,7 @@ mod refusing;
 mod shared;
 mod working;
 
-pub use node_list::NodeList;
+pub use node_list::{NodeList, SessionsShut};
 pub use pending::PendingFinish;
 pub use receipt_buffer::ReceiptBuffer;
 pub use refusing::out_of_memory;

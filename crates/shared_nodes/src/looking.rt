@@ -74,7 +74,7 @@ impl<K: JournaledNode, P: Pause> SharedNode<K, P> {
 
     /// Shuts down the streams of all open sessions, and of those that are opened later. Of one that is shut down for reading, what was
     /// sent before is still answered, and then its session ends.
-    pub fn shut_sessions<R: Wait>(&self, rt: &R, how: Shutdown) {
+    pub(crate) fn shut_sessions<R: Wait>(&self, rt: &R, how: Shutdown) {
         self.housekeeping.upkeep.streams.shut(rt, how);
     }
 }

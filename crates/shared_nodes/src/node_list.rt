@@ -8,13 +8,20 @@ use memory_growth::{OutOfMemory, lists};
 use node_gate::JournaledNode;
 use node_housekeeping::{NoPause, Pause};
 use std::alloc::Global;
-use std::sync::Arc;
+use std::net::Shutdown;
+use std::sync::{Arc, Wait};
 
 /// Nodes, each at the place of its number: the first is node 0.
 #[derive(Drop)]
 pub struct NodeList<K: JournaledNode, P = NoPause> {
     nodes: Vec<Arc<SharedNode<K, P>>>,
     ghost numbered: { AreNumbered nodes.items (λ shared. (arc_value shared).number) },
+}
+
+/// That the streams of all sessions of so many nodes were shut down, which only a list of nodes says.
+#[derive(Clone, Copy)]
+pub struct SessionsShut {
+    nodes: usize,
 }
 
 impl<K: JournaledNode, P: Pause> NodeList<K, P> {
@@ -59,5 +66,18 @@ impl<K: JournaledNode, P: Pause> NodeList<K, P> {
         ensures { result.now ≡ self.now.nodes.items }
     {
         &self.nodes
+    }
+
+    /// Shuts down the streams of all open sessions of all nodes, and of those that are opened later. Of one that is shut down for reading,
+    /// what was sent before is still answered, and then its session ends.
+    pub fn shut_sessions<R: Wait>(&self, rt: &R, how: Shutdown) -> SessionsShut
+        ensures { result.nodes ≡ vec_len self.now.nodes }
+    {
+        for node in &self.nodes {
+            node.shut_sessions(rt, how);
+        }
+        SessionsShut {
+            nodes: self.nodes.len(),
+        }
     }
 }
