@@ -20,7 +20,7 @@ pub record Holding : Type 0 where
 
 -- the passes of what it holds
 abbrev pub holding : {N : Type 0} → (N → Pass) → Option N → Option (Marked N) → Holding
-holding pass entered marked = record { let_in = option_map pass entered; marked = option_map (λ m. pass m.of.value) marked }
+holding pass inside mark = record { let_in = option_map pass inside; marked = option_map (λ m. pass m.of.value) mark }
 
 -- what it was let in with is marked; if that was nothing, the mark is the one from before
 abbrev pub marked_after : Option Pass → Option Pass → Option Pass
