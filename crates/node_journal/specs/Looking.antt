@@ -1,11 +1,10 @@
 -- What the operator is shown of a node's live jobs.
-use Rattle.std.specs.Prelude.{◌≡◌, ℕ, ◌==◌, Bool, true, List, All, map, filter, is_some, Result, is_ok, IfOk, IfErr}
+use Rattle.std.specs.Prelude.{◌≡◌, ℕ, ◌==◌, Bool, true, List, All, map, filter, is_some, Result, is_ok, IfOk}
 use Rattle.std.specs.List.{list_any, IsDistinct}
 use Rattle.std.specs.List.Sorted.{IsNonDecreasingBy}
 use Rattle.obj_id.specs.declared.ids.JobNo.{JobNo}
 use Rattle.obj_id.specs.declared.commands.Usage.{Usage}
 use Rattle.obj_id.specs.declared.refusals.Refusal.{Refusal}
-use Rattle.obj_id.specs.declared.refusals.Refusal.TheVariants.{NotAdmitted}
 use Rattle.private_store.specs.rules.Jobs.{same_job}
 use Rattle.private_store.specs.rules.Commands.{usage_of}
 use Rattle.private_store.specs.rules.Contents.{View}
@@ -34,4 +33,3 @@ pub record AreLive (node : Hosted) (logs : List (JobNo × JobLog)) (live : List 
 pub record IsUsageTold (node : Hosted) (job : JobNo) (told : Result Usage Refusal) : Type 0 where
   pub response : IfOk told (λ usage. (view : View) → Shows node job.0 view → usage ≡ usage_of view.shape)
   pub live : is_ok told ≡ is_live_now node job
-  pub refused : IfErr told (λ refusal. refusal ≡ NotAdmitted)
