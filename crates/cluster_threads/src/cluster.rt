@@ -1,6 +1,5 @@
 //! The nodes of a process.
-ghost use Rattle.std.specs.Prelude.{◌≡◌, ◌↔◌, ◌≤◌, ◌<◌, vec_len, IfOk, IfSome, IsSome};
-ghost use Rattle.std.specs.Arc.{arc_value};
+ghost use Rattle.std.specs.Prelude.{◌≡◌, ◌↔◌, ◌≤◌, ◌<◌, vec_len, IfOk, IsSome};
 
 use crate::Working;
 use crate::receiving::receive;
@@ -8,7 +7,7 @@ use memory_growth::{boxes, lists};
 use node_gate::{ActorSource, JournaledNode, Posted, SeatedNode, nothing_beside};
 use node_housekeeping::{NoPause, Pause, Report, Waiting};
 use node_links::{Inbox, Outbox};
-use shared_nodes::{NodeList, SharedNode};
+use shared_nodes::SharedNode;
 use std::alloc::Global;
 use std::sync::{Arc, Mutex, Wait};
 use std::thread::{JoinHandle, Threads};
@@ -20,7 +19,7 @@ const RECEIVERS: usize = 4;
 /// The nodes of a process, by number, with one directory and a way from each node to each other one.
 #[derive(Drop)]
 pub struct Cluster<K: JournaledNode, P = NoPause> {
-    nodes: Arc<NodeList<K, P>>,
+    nodes: Vec<Arc<SharedNode<K, P>>>,
     waiting: Arc<Waiting>,
     actors: ActorSource,
     // by node, while nobody receives from them
@@ -45,7 +44,7 @@ impl<K: JournaledNode, P: Pause> Cluster<K, P> {
         requires seats { (K.SeatedNode.parts seats ≡ nodes) × (K.SeatedNode.amount seats ≡ 0) }
         requires first { K.SeatedNode.next_number seats ≡ 0 }
         requires all { K.SeatedNode.all_parts ≡ nodes }
-        ensures { IfOk result (λ cluster. vec_len (arc_value cluster.nodes).nodes ≡ nodes) }
+        ensures { IfOk result (λ cluster. vec_len cluster.nodes ≡ nodes) }
     {
         let mut seats = seats;
         let mut stepped = Vec::new(alloc);
@@ -54,21 +53,26 @@ impl<K: JournaledNode, P: Pause> Cluster<K, P> {
             lists::push(&mut stepped, K::seated(alloc, number, memory, seat))?;
         }
         let directory = boxes::counted(alloc, Mutex::new(K::directory(alloc, seats)))?;
-        let mut all = NodeList::new(alloc);
+        let mut all = Vec::new(alloc);
         let mut inboxes = Vec::new(alloc);
         for _ in 0..nodes {
             lists::push(&mut inboxes, Inbox::new(alloc, nodes.saturating_sub(1))?)?;
         }
         let waiting = boxes::counted(alloc, Waiting::new())?;
-        for node in stepped {
-            let outbox = Outbox::open(alloc, all.count(), &directory, &mut inboxes)?;
+        // the first one is taken out first
+        stepped.reverse();
+        for number in 0..nodes {
+            let Some(node) = stepped.pop() else {
+                unreachable!()
+            };
+            let outbox = Outbox::open(alloc, number as usize, &directory, &mut inboxes)?;
             let woken = boxes::another(&waiting)?;
             let paused = pause.clone()?;
             let shared = SharedNode::new(alloc, node, outbox, woken, paused);
-            all.push(boxes::counted(alloc, shared)?)?;
+            lists::push(&mut all, boxes::counted(alloc, shared)?)?;
         }
         Ok(Cluster {
-            nodes: boxes::counted(alloc, all)?,
+            nodes: all,
             waiting,
             actors: K::actors(),
             inboxes,
@@ -82,11 +86,11 @@ impl<K: JournaledNode, P: Pause> Cluster<K, P> {
     pub fn nothing_beside<R: Wait>(&self, rt: &R, other: &mut K::Share)
     where
         K: SeatedNode,
-        requires { vec_len (arc_value self.now.nodes).nodes ≡ K.SeatedNode.all_parts }
+        requires { vec_len self.now.nodes ≡ K.SeatedNode.all_parts }
         ensures none { K.SeatedNode.parts other.old ≡ 0 }
         ensures same { (K.SeatedNode.parts other.new ≡ K.SeatedNode.parts other.old) × (K.SeatedNode.amount other.new ≡ K.SeatedNode.amount other.old) }
     {
-        nothing_beside(rt, self.nodes.as_slice(), other);
+        nothing_beside(rt, &self.nodes, other);
     }
 
     /// Lets each node receive what the others send it, in threads of its own. A cluster of one node has nothing to receive.
@@ -133,7 +137,7 @@ impl<K: JournaledNode, P: Pause> Cluster<K, P> {
         P: Send + Sync + 'static,
     {
         let inbox = boxes::counted(self.alloc, inbox)?;
-        let Some(node) = self.nodes.as_slice().get(number) else {
+        let Some(node) = self.nodes.get(number) else {
             return Ok(());
         };
         for _ in 0..RECEIVERS {
@@ -146,7 +150,7 @@ impl<K: JournaledNode, P: Pause> Cluster<K, P> {
 
     /// Closes the links, and waits for what was accepted to be received. What is sent from then on is lost.
     fn disconnect<R: Threads + Wait>(&mut self, rt: &R) {
-        for node in self.nodes.as_slice() {
+        for node in &self.nodes {
             node.close_ways(rt);
         }
         for thread in mem::replace(&mut self.receiving, Vec::new(self.alloc)) {
@@ -161,24 +165,16 @@ impl<K: JournaledNode, P: Pause> Cluster<K, P> {
 
     /// How many nodes there are.
     pub fn count(&self) -> usize
-        ensures { result ≡ vec_len (arc_value self.now.nodes).nodes }
+        ensures { result ≡ vec_len self.now.nodes }
     {
-        self.nodes.count()
+        self.nodes.len()
     }
 
     /// The node of this number, if there is one.
     pub fn node(&self, number: u32) -> Option<&Arc<SharedNode<K, P>>>
-        ensures there { IsSome result ↔ (number < vec_len (arc_value self.now.nodes).nodes) }
-        ensures which { IfSome result (λ node. (arc_value node.now).number ≡ number) }
+        ensures { IsSome result ↔ (number < vec_len self.now.nodes) }
     {
-        self.nodes.get(number)
-    }
-
-    /// All nodes, by number.
-    pub fn nodes(&self) -> &Arc<NodeList<K, P>>
-        ensures { (arc_value result.now) ≡ arc_value self.now.nodes }
-    {
-        &self.nodes
+        self.nodes.get(number as usize)
     }
 
     /// Shuts all nodes: who waits for another answer is answered Pending, and no listener takes a stream any more.
@@ -191,7 +187,7 @@ impl<K: JournaledNode, P: Pause> Cluster<K, P> {
     pub fn close<R: Threads + Wait>(self, rt: &R, workers: Vec<Working<K, P>>) -> Report {
         let mut cluster = self;
         cluster.shut(rt);
-        for node in cluster.nodes.as_slice() {
+        for node in &cluster.nodes {
             node.end_sessions(rt);
         }
         cluster.disconnect(rt);
@@ -204,7 +200,7 @@ impl<K: JournaledNode, P: Pause> Cluster<K, P> {
     /// What was counted.
     fn report<R: Wait>(&self, rt: &R) -> Report {
         let mut report = Report::new();
-        for node in self.nodes.as_slice() {
+        for node in &self.nodes {
             report.count(node.entries(rt), node.counted(rt));
         }
         report
