@@ -7,7 +7,7 @@ use node_gate::{Actor, ActorSource, JournaledNode, Posted};
 use operator_service::{LastLine, attend, serve_text};
 use program_lines::Fault;
 use server_host::{Patient, ServeFault, SocketFile, bind_alone};
-use shared_nodes::SharedNode;
+use shared_nodes::NodeList;
 use std::alloc::Global;
 use std::fs::Files;
 use std::io::{BufReader, Read};
@@ -57,7 +57,7 @@ pub fn connect_control<
     rt: R,
     alloc: Global,
     actors: ActorSource,
-    nodes: Vec<Arc<SharedNode<K>>>,
+    nodes: Arc<NodeList<K>>,
     count: u32,
     path: &str,
 ) -> Result<Connecting<K>, ServeFault>
@@ -240,7 +240,7 @@ fn answer_all<K: JournaledNode, R: Wait + Clock>(
             rt,
             actor,
             alloc,
-            &control.nodes,
+            &*control.nodes,
             control.count,
             &mut reader,
             &mut writer,
@@ -323,7 +323,7 @@ fn serve_input<K: JournaledNode, R: Wait + Clock>(
             rt,
             &mut actor,
             alloc,
-            &control.nodes,
+            &*control.nodes,
             control.count,
             &mut reader,
             &mut writer,

@@ -1,10 +1,13 @@
 //! The control socket of nodes that serve: what its connections share, and when the server closes.
+ghost use Rattle.std.specs.Prelude.{◌≡◌, vec_len};
+ghost use Rattle.std.specs.Arc.{arc_value};
+
 use memory_growth::{OutOfMemory, boxes, lists};
 use node_gate::JournaledNode;
 use node_housekeeping::Report;
-use operator_service::Closing;
+use operator_service::{Closed, Closing};
 use program_lines::Fault;
-use shared_nodes::SharedNode;
+use shared_nodes::{NodeList, SessionsShut};
 use std::alloc::Global;
 use std::net::Shutdown;
 use std::os::fd::AsRawFd;
@@ -331,7 +334,7 @@ impl Course {
 /// The nodes as the operator's lines reach them, and how far the server has come.
 #[derive(Drop)]
 pub struct Control<K: JournaledNode> {
-    pub nodes: Vec<Arc<SharedNode<K>>>,
+    pub nodes: Arc<NodeList<K>>,
     /// How many nodes lines may name.
     pub count: u32,
     pub course: Course,
@@ -339,7 +342,7 @@ pub struct Control<K: JournaledNode> {
 
 impl<K: JournaledNode> Control<K> {
     /// Of nodes that serve.
-    pub fn new(alloc: Global, nodes: Vec<Arc<SharedNode<K>>>, count: u32) -> Control<K> {
+    pub fn new(alloc: Global, nodes: Arc<NodeList<K>>, count: u32) -> Control<K> {
         Control {
             nodes,
             count,
@@ -351,30 +354,30 @@ impl<K: JournaledNode> Control<K> {
     /// waits for the report, and what was read of standard input is done. A connection that takes its answers too slowly is cut off.
     pub fn quiet<R: Wait + Clock>(&self, rt: &R) {
         self.course.shut(rt);
-        for node in &self.nodes {
+        for node in self.nodes.as_slice() {
             node.await_sessions(rt);
         }
         self.course.quiet(rt);
     }
 
     /// Ends the sessions that are open once none begins any more: they answer what they were sent, and who takes no answer is cut off.
-    fn end_sessions<R: Wait, C: Clock>(&self, rt: &R, clock: &C) {
+    fn end_sessions<R: Wait, C: Clock>(&self, rt: &R, clock: &C) -> SessionsShut
+        ensures { result.nodes ≡ vec_len (arc_value self.now.nodes).nodes }
+    {
         self.course.await_shut(rt);
-        self.shut_sessions(rt, Shutdown::Read);
+        let shut = self.nodes.shut_sessions(rt, Shutdown::Read);
         for _ in 0..GRACE {
-            if self.nodes.iter().all(|node| node.open_sessions(rt) == 0) {
-                return;
+            if self
+                .nodes
+                .as_slice()
+                .iter()
+                .all(|node| node.open_sessions(rt) == 0)
+            {
+                return shut;
             }
             thread::sleep(clock, Duration::from_millis(10));
         }
-        self.shut_sessions(rt, Shutdown::Both);
-    }
-
-    /// Shuts down the streams of all sessions.
-    fn shut_sessions<R: Wait>(&self, rt: &R, how: Shutdown) {
-        for node in &self.nodes {
-            node.shut_sessions(rt, how);
-        }
+        self.nodes.shut_sessions(rt, Shutdown::Both)
     }
 }
 
@@ -389,14 +392,19 @@ pub struct Asking<'a, K: JournaledNode, C: Clock> {
 impl<'a, K: JournaledNode, C: Clock> Closing for Asking<'a, K, C> {
     ghost use Rattle.std.specs.Prelude.{⊤};
 
-    // threads end the server, and what they do no clause says
+    // threads end the server, and what they count no clause says
     ghost closes = { λ asking now report. ⊤ };
 
-    fn close<R: Wait>(&self, rt: &R, now: bool) -> Option<Report> {
+    fn close<R: Wait>(&self, rt: &R, now: bool) -> Closed {
         self.control.course.stop(rt, None);
-        if now {
-            self.control.end_sessions(rt, self.clock);
+        let shut = if now {
+            Some(self.control.end_sessions(rt, self.clock))
+        } else {
+            None
+        };
+        Closed {
+            shut,
+            report: self.control.course.await_report(rt, self.stream),
         }
-        self.control.course.await_report(rt, self.stream)
     }
 }

@@ -1,5 +1,6 @@
 mod Attends
 mod Handled
 mod Serves
+mod Shown
 mod Stepped
 mod Stepping

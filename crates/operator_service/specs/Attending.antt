@@ -4,6 +4,10 @@ use Rattle.std.specs.Io.KnownBytes.{Appends, Consumes, IsAtEnd}
 use Rattle.std.specs.Str.{IsUtf8}
 use Rattle.std.specs.String.{string_bytes}
 use Rattle.obj_id.specs.declared.commands.Reply.{Reply}
+use Rattle.obj_id.specs.declared.commands.Usage.{Usage}
+use Rattle.obj_id.specs.declared.ids.JobNo.{JobNo}
+use Rattle.obj_id.specs.declared.refusals.Refusal.{Refusal}
+use Rattle.node_gate.specs.declared.journaled.LiveJob.{LiveJob}
 use Rattle.private_store.specs.declared.schedules.StepAnswer.TheVariants.{Response}
 use Rattle.schedule_text.specs.declared.prefixes.Prefix.TheVariants.{Operator}
 use Rattle.schedule_text.specs.Printing.{line_text}
@@ -34,10 +38,10 @@ abbrev pub no_order_line : ℕ → List ℕ
 no_order_line number = with_line_feed (codes "line " ++ decimal number ++ codes ": not an order: the orders are " ++ ORDERS.now)
 
 -- to a line that asks for a change: the node's, with the reply to this very change, and what was stepped for it
-pub record IsChangeLine {T : Type 0} (receipt_of : Event → Reply (List ℕ) → T → Type 0) (node : ℕ) (what : Change) (line : List ℕ) (events : List Event) : Type 0 where
+pub record IsChangeLine {T : Type 0} (ordered : ℕ → Event → Reply (List ℕ) → T → Type 0) (node : ℕ) (what : Change) (line : List ℕ) (events : List Event) : Type 0 where
   pub response : Reply (List ℕ)
   pub receipt : Option T
-  pub carried : IsCarriedOut receipt_of what response receipt
+  pub carried : IsCarriedOut ordered node what response receipt
   pub steps : events ≡ steps_for what receipt
   pub is : line ≡ line_text (Operator node) (Response response)
 
@@ -51,13 +55,13 @@ pub record IsClosingLine (closes : Option Report → Type 0) (line : List ℕ) :
   pub closed : closes report
   pub is : line ≡ closing_line report
 
--- the server is let close as it was asked for: `close now` ends the open sessions. Only a change is stepped
-abbrev pub IsAnswer : {T : Type 0} → (Event → Reply (List ℕ) → T → Type 0) → (Bool → Option Report → Type 0) → ControlLine → List ℕ → List Event → Type 0
-IsAnswer receipt_of closes (asked.Order (order.Change node c)) line events = IsChangeLine receipt_of node c line events
-IsAnswer receipt_of closes (asked.Order order.Close) line events = IsClosingLine (closes false) line × (events ≡ [])
-IsAnswer receipt_of closes asked.CloseNow line events = IsClosingLine (closes true) line × (events ≡ [])
-IsAnswer receipt_of closes (asked.Look node what) line events = IsLookText node what line × (events ≡ [])
-IsAnswer receipt_of closes (asked.Kick node job session) line events = IsKickText node job.0 session line × (events ≡ [])
+-- what is shown is shown by the node that was asked for, and the server is let close as it was asked for: `close now` ends the open sessions. Only a change is stepped
+abbrev pub IsAnswer : {T : Type 0} → (ℕ → Event → Reply (List ℕ) → T → Type 0) → (ℕ → List LiveJob → Type 0) → (ℕ → JobNo → Result Usage Refusal → Type 0) → (Bool → Option Report → Type 0) → ControlLine → List ℕ → List Event → Type 0
+IsAnswer ordered are_live is_usage closes (asked.Order (order.Change node c)) line events = IsChangeLine ordered node c line events
+IsAnswer ordered are_live is_usage closes (asked.Order order.Close) line events = IsClosingLine (closes false) line × (events ≡ [])
+IsAnswer ordered are_live is_usage closes asked.CloseNow line events = IsClosingLine (closes true) line × (events ≡ [])
+IsAnswer ordered are_live is_usage closes (asked.Look node what) line events = IsLookText are_live is_usage node what line × (events ≡ [])
+IsAnswer ordered are_live is_usage closes (asked.Kick node job session) line events = IsKickText node job.0 session line × (events ≡ [])
 
 -- the event is the change that is asked for
 pub record IsChangeOf (what : ControlLine) (e : Event) : Type 0 where

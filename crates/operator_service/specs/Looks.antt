@@ -1,7 +1,10 @@
 -- What the operator is shown of a node, as lines.
-use Rattle.std.specs.Prelude.{◌≡◌, ◌⊎◌, ℕ, List, [], ◌∷◌, ◌++◌, Some, None, codes, decimal, ⊤}
+use Rattle.std.specs.Prelude.{◌≡◌, ◌⊎◌, ℕ, List, [], ◌∷◌, ◌++◌, Some, None, Result, Ok, Err, IfErr, codes, decimal}
 use Rattle.obj_id.specs.declared.commands.Reply.{Reply}
 use Rattle.obj_id.specs.declared.commands.Reply.TheVariants as reply
+use Rattle.obj_id.specs.declared.commands.Usage.{Usage}
+use Rattle.obj_id.specs.declared.ids.JobNo.{JobNo}
+use Rattle.obj_id.specs.declared.refusals.Refusal.{Refusal}
 use Rattle.obj_id.specs.declared.refusals.Refusal.TheVariants.{NotAdmitted}
 use Rattle.private_store.specs.declared.schedules.StepAnswer.TheVariants.{Response}
 use Rattle.schedule_text.specs.declared.prefixes.Prefix.TheVariants.{Operator}
@@ -49,20 +52,21 @@ abbrev pub IsKickText : ℕ → ℕ → ℕ → List ℕ → Type 0
 IsKickText node job session line = (line ≡ kicked_line node job session) ⊎ (line ≡ no_session_line node job session)
 
 -- a job's usage, or that it isn't live
-abbrev pub IsUsageReply : Reply (List ℕ) → Type 0
-IsUsageReply (reply.Usage usage) = ⊤
-IsUsageReply (reply.Refused refusal) = refusal ≡ NotAdmitted
-IsUsageReply _ = ⊥
+abbrev pub usage_reply : Result Usage Refusal → Reply (List ℕ)
+usage_reply (Ok usage) = reply.Usage usage
+usage_reply (Err refusal) = reply.Refused refusal
 
--- the line that shows it: what a session is told of its job, the live jobs, how many sessions are open, or which, or what was counted
-pub record IsJobsLine (node : ℕ) (line : List ℕ) : Type 0 where
+-- the line that shows it: what a session is told of this job, the live jobs, how many sessions are open, or which, or what was counted
+pub record IsJobsLine (are_live : ℕ → List LiveJob → Type 0) (node : ℕ) (line : List ℕ) : Type 0 where
   pub jobs : List LiveJob
+  pub shown : are_live node jobs
   pub is : line ≡ jobs_line node jobs
 
-pub record IsUsageLine (node : ℕ) (line : List ℕ) : Type 0 where
-  pub response : Reply (List ℕ)
-  pub is : line ≡ line_text (Operator node) (Response response)
-  pub of_usage : IsUsageReply response
+pub record IsUsageLine (is_usage : ℕ → JobNo → Result Usage Refusal → Type 0) (node : ℕ) (job : JobNo) (line : List ℕ) : Type 0 where
+  pub told : Result Usage Refusal
+  pub shown : is_usage node job told
+  pub refused : IfErr told (λ refusal. refusal ≡ NotAdmitted)
+  pub is : line ≡ line_text (Operator node) (Response (usage_reply told))
 
 pub record IsSessionsLine (node : ℕ) (line : List ℕ) : Type 0 where
   pub sessions : ℕ
@@ -72,10 +76,10 @@ pub record IsStreamsLine (node : ℕ) (line : List ℕ) : Type 0 where
   pub sessions : List ListedSession
   pub is : line ≡ streams_line node sessions
 
-abbrev pub IsLookText : ℕ → Look → List ℕ → Type 0
-IsLookText node look.Jobs line = IsJobsLine node line
-IsLookText node (look.Usage job) line = IsUsageLine node line
-IsLookText node look.Sessions line = IsSessionsLine node line
-IsLookText node look.Streams line = IsStreamsLine node line
-IsLookText node (look.Counts None) line = IsNodeCountsLine node line
-IsLookText node (look.Counts (Some job)) line = IsJobCountsLine node job.0 line
+abbrev pub IsLookText : (ℕ → List LiveJob → Type 0) → (ℕ → JobNo → Result Usage Refusal → Type 0) → ℕ → Look → List ℕ → Type 0
+IsLookText are_live is_usage node look.Jobs line = IsJobsLine are_live node line
+IsLookText are_live is_usage node (look.Usage job) line = IsUsageLine is_usage node job line
+IsLookText are_live is_usage node look.Sessions line = IsSessionsLine node line
+IsLookText are_live is_usage node look.Streams line = IsStreamsLine node line
+IsLookText are_live is_usage node (look.Counts None) line = IsNodeCountsLine node line
+IsLookText are_live is_usage node (look.Counts (Some job)) line = IsJobCountsLine node job.0 line

@@ -29,9 +29,13 @@ event_of_change (change.Admit job quota key) = event.Admit job quota key
 event_of_change (change.Requota job quota) = event.Requota job quota
 event_of_change (change.End job) = event.JobEnd job
 
--- the reply is that of a step of this very change, of which the receipt tells; without memory there was no step
-abbrev pub IsCarriedOut : {T : Type 0} → (Event → Reply (List ℕ) → T → Type 0) → Change → Reply (List ℕ) → Option T → Type 0
-IsCarriedOut receipt_of asked response receipt = MatchOption receipt (response ≡ reply.Refused refusal.NoMemory) (receipt_of (event_of_change asked) response)
+-- the receipt is of a step at the node of this number, which was answered so
+abbrev pub IsOrderedAt : {T : Type 0} → (Event → Reply (List ℕ) → T → Type 0) → (T → ℕ) → ℕ → Event → Reply (List ℕ) → T → Type 0
+IsOrderedAt receipt_of made_at node e response receipt = receipt_of e response receipt × (made_at receipt ≡ node)
+
+-- the reply is that of a step of this very change at this node, of which the receipt tells; without memory there was no step
+abbrev pub IsCarriedOut : {T : Type 0} → (ℕ → Event → Reply (List ℕ) → T → Type 0) → ℕ → Change → Reply (List ℕ) → Option T → Type 0
+IsCarriedOut ordered node asked response receipt = MatchOption receipt (response ≡ reply.Refused refusal.NoMemory) (ordered node (event_of_change asked) response)
 
 -- what was stepped for a change: it alone, if there is a receipt
 abbrev pub steps_for : {T : Type 0} → Change → Option T → List Event
@@ -54,9 +58,9 @@ abbrev pub order_answer_text : {T : Type 0} → Obeyed T → List ℕ
 order_answer_text o = line_text (Operator o.node) (Response o.reply)
 
 -- of lines that stand newest first: each spells its change, which was carried out
-abbrev pub AreObeyed : {T : Type 0} → (Event → Reply (List ℕ) → T → Type 0) → ℕ → List (Obeyed T) → Type 0
-AreObeyed receipt_of nodes [] = ⊤
-AreObeyed receipt_of nodes (o ∷ lines) = IsOrder nodes o.text (order.Change o.node o.change) × IsCarriedOut receipt_of o.change o.reply o.receipt × AreObeyed receipt_of nodes lines
+abbrev pub AreObeyed : {T : Type 0} → (ℕ → Event → Reply (List ℕ) → T → Type 0) → ℕ → List (Obeyed T) → Type 0
+AreObeyed ordered nodes [] = ⊤
+AreObeyed ordered nodes (o ∷ lines) = IsOrder nodes o.text (order.Change o.node o.change) × IsCarriedOut ordered o.node o.change o.reply o.receipt × AreObeyed ordered nodes lines
 
 -- what was stepped for them, in its order
 abbrev pub steps_of : {T : Type 0} → List (Obeyed T) → List Event
@@ -74,19 +78,19 @@ answers_of [] = []
 answers_of (o ∷ lines) = answers_of lines ++ order_answer_text o
 
 -- a change is carried out, and its answer written
-pub record Replies {T : Type 0} (receipt_of : Event → Reply (List ℕ) → T → Type 0) (node : ℕ) (asked : Change) (before after : List Event) (written_old written_new : Option (List ℕ)) : Type 0 where
+pub record Replies {T : Type 0} (ordered : ℕ → Event → Reply (List ℕ) → T → Type 0) (node : ℕ) (asked : Change) (before after : List Event) (written_old written_new : Option (List ℕ)) : Type 0 where
   pub reply : Reply (List ℕ)
   pub receipt : Option T
-  pub carried : IsCarriedOut receipt_of asked reply receipt
+  pub carried : IsCarriedOut ordered node asked reply receipt
   pub steps : after ≡ before ++ steps_for asked receipt
   pub written : Appends written_old written_new (line_text (Operator node) (Response reply))
 
 -- a line is carried out, and its answer written
-pub record CarriesOut {T : Type 0} (receipt_of : Event → Reply (List ℕ) → T → Type 0) (nodes : ℕ) (bytes : List ℕ) (before after : List Event) (written_old written_new : Option (List ℕ)) : Type 0 where
+pub record CarriesOut {T : Type 0} (ordered : ℕ → Event → Reply (List ℕ) → T → Type 0) (nodes : ℕ) (bytes : List ℕ) (before after : List Event) (written_old written_new : Option (List ℕ)) : Type 0 where
   pub obeyed : Obeyed T
   pub is_text : bytes ≡ with_line_feed obeyed.text
   pub spelled : IsOrder nodes obeyed.text (order.Change obeyed.node obeyed.change)
-  pub carried : IsCarriedOut receipt_of obeyed.change obeyed.reply obeyed.receipt
+  pub carried : IsCarriedOut ordered obeyed.node obeyed.change obeyed.reply obeyed.receipt
   pub steps : after ≡ before ++ steps_for obeyed.change obeyed.receipt
   pub written : Appends written_old written_new (order_answer_text obeyed)
 
@@ -95,9 +99,9 @@ abbrev pub close_line : List ℕ
 close_line = with_line_feed (codes "close")
 
 -- a line after which it goes on, or doesn't
-abbrev pub ServesLine : {T : Type 0} → (Event → Reply (List ℕ) → T → Type 0) → ℕ → List ℕ → List Event → List Event → Option (List ℕ) → Option (List ℕ) → Bool → Type 0
-ServesLine receipt_of nodes bytes before after written_old written_new true = CarriesOut receipt_of nodes bytes before after written_old written_new
-ServesLine receipt_of nodes bytes before after written_old written_new false = (bytes ≡ close_line) × (after ≡ before) × Keeps written_old written_new
+abbrev pub ServesLine : {T : Type 0} → (ℕ → Event → Reply (List ℕ) → T → Type 0) → ℕ → List ℕ → List Event → List Event → Option (List ℕ) → Option (List ℕ) → Bool → Type 0
+ServesLine ordered nodes bytes before after written_old written_new true = CarriesOut ordered nodes bytes before after written_old written_new
+ServesLine ordered nodes bytes before after written_old written_new false = (bytes ≡ close_line) × (after ≡ before) × Keeps written_old written_new
 
 -- an answer that isn't written, but perhaps a part if the output failed
 abbrev pub StopsReply : Option (List ℕ) → Option (List ℕ) → Fault → Type 0
@@ -145,12 +149,12 @@ StepsEnded asks before after (Ok u) = after ≡ before
 StepsEnded asks before after (Err fault) = StepsStopped asks before after fault
 
 -- the serving so far
-pub record Serving {T : Type 0} (receipt_of : Event → Reply (List ℕ) → T → Type 0) (nodes number : ℕ) (before after : List Event) (read_old read_new written_old written_new : Option (List ℕ)) : Type 0 where
+pub record Serving {T : Type 0} (ordered : ℕ → Event → Reply (List ℕ) → T → Type 0) (nodes number : ℕ) (before after : List Event) (read_old read_new written_old written_new : Option (List ℕ)) : Type 0 where
   -- newest first
   pub lines : List (Obeyed T)
   -- the number of the next line
   pub counted : suc (length lines) ≡ number
-  pub obeyed : AreObeyed receipt_of nodes lines
+  pub obeyed : AreObeyed ordered nodes lines
   pub steps : after ≡ before ++ steps_of lines
   pub consumed : Consumes read_old read_new (orders_of lines)
   pub written : Appends written_old written_new (answers_of lines)
@@ -178,12 +182,12 @@ IsWritten written_old written_new text (Err Folded) = ⊥
 IsWritten written_old written_new text (Err NoMemory) = Appends written_old written_new text
 
 -- the whole of it, at a cluster of so many nodes, which lines may name up to another number
-pub record ServedText {T : Type 0} (receipt_of : Event → Reply (List ℕ) → T → Type 0) (nodes count : ℕ) (before after : List Event) (read_old read_new written_old written_new : Option (List ℕ)) (result : Result LastLine Fault) : Type 0 where
+pub record ServedText {T : Type 0} (ordered : ℕ → Event → Reply (List ℕ) → T → Type 0) (nodes count : ℕ) (before after : List Event) (read_old read_new written_old written_new : Option (List ℕ)) (result : Result LastLine Fault) : Type 0 where
   -- newest first
   pub lines : List (Obeyed T)
   -- what was read of the line after them
   pub rest : List ℕ
-  pub obeyed : AreObeyed receipt_of nodes lines
+  pub obeyed : AreObeyed ordered nodes lines
   -- what was stepped is what they spell, and perhaps what the line after them spells, whose answer nobody got
   pub steps : StepsEnded (IsSpelled nodes rest) (before ++ steps_of lines) after result
   pub consumed : Consumes read_old read_new (orders_of lines ++ rest)

@@ -1,15 +1,16 @@
 //! A control connection: each line of it is answered by one line.
-ghost use Rattle.std.specs.Prelude.{◌≡◌, ℕ, List, true, false, length, IfOk, IfErr, OnErr, IfSome};
+ghost use Rattle.std.specs.Prelude.{◌≡◌, ℕ, List, true, false, vec_len, IfOk, IfErr, OnErr, IfSome};
 ghost use Rattle.std.specs.String.{string_bytes};
 ghost use Rattle.std.specs.Str.{IsUtf8};
 ghost use Rattle.schedule_text.specs.Fields.{Reads};
 ghost use Rattle.program_lines.specs.ControlLines.{IsControlLine};
 ghost use Rattle.operator_service.specs.Attending.{HasAttended, HasStepped, IsAnswer, IsAnswered, IsAskedFor, IsChangeLine, IsChangeOf, IsAnswerMade, IsNone, IsAnswerText, Replies, closing_line as closing_line_lem, no_order_line as no_order_line_lem};
 ghost use Rattle.operator_service.specs.Looks.{IsKickText, IsLookText};
-ghost use Rattle.operator_service.specs.Servings.{MayStep, StopsReply, event_of_change};
+ghost use Rattle.shared_nodes.specs.Looking.{AreLiveAt, IsUsageAt};
+ghost use Rattle.operator_service.specs.Servings.{IsOrderedAt, MayStep, StopsReply, event_of_change};
 
 use crate::looks::{kick_text, look_text};
-use crate::serving::{carry_out, node_at, report_line, write_out};
+use crate::serving::{carry_out, report_line, write_out};
 use memory_growth::{OutOfMemory, text_of, texts};
 use node_gate::{Actor, JournaledNode};
 use node_housekeeping::Report;
@@ -19,29 +20,38 @@ use program_lines::{
     Change, ControlLine, Fault, LineTaken, Look, Order, read_control_line, take_line,
 };
 use schedule_text::{Prefix, answer_line, is_skipped};
-use shared_nodes::SharedNode;
+use shared_nodes::{NodeList, SessionsShut, SharedNode};
 use std::alloc::Global;
 use std::io::{Read, Write};
 use std::str;
-use std::sync::{Arc, Wait};
+use std::sync::Wait;
 use std::time::Clock;
 
 /// The words that are orders, as a line that is none is answered.
 const ORDERS: &str =
     "admit NODE JOB WINDOW DEVICE KEY, quota NODE JOB WINDOW DEVICE, end NODE JOB, jobs NODE, usage NODE JOB, sessions NODE, streams NODE, counts NODE, counts NODE JOB, kick NODE JOB SESSION, close, close now";
 
+/// How the server was let close.
+#[derive(Clone, Copy)]
+pub struct Closed {
+    /// That the streams of all open sessions were shut down, if they were.
+    pub shut: Option<SessionsShut>,
+    /// What was counted, unless a fault ended the server.
+    pub report: Option<Report>,
+}
+
 /// What closes the server for a control connection.
 pub trait Closing {
-    ghost use Rattle.std.specs.Prelude.{Bool, Option};
+    ghost use Rattle.std.specs.Prelude.{◌≡◌, Bool, Option, is_some};
     ghost use Rattle.node_housekeeping.specs.declared.report.Report.{Report};
 
-    // how it was let close, the open sessions ended or not, and the report of that
+    // whether it was let close with the open sessions ended, and the report of that
     ghost closes: { Self → Bool → Option Report → Type 0 };
 
-    /// Lets the server close, and waits for its report; with the sessions that are open ended, or only waited for. `None` if there is
-    /// no report, since a fault ended the server.
-    fn close<R: Wait>(&self, rt: &R, now: bool) -> Option<Report>
-        ensures { closes self.now now result };
+    /// Lets the server close, and waits for its report; with the sessions that are open ended, or only waited for.
+    fn close<R: Wait>(&self, rt: &R, now: bool) -> Closed
+        ensures shut { is_some result.shut ≡ now }
+        ensures closes { closes self.now now result.report };
 }
 
 /// The answer to a line, with its line feed, and whether it is the last.
@@ -62,13 +72,13 @@ pub fn attend<K: JournaledNode, R: Wait + Clock, I: Read, O: Write, C: Closing>(
     rt: &R,
     actor: &mut Actor,
     alloc: Global,
-    nodes: &[Arc<SharedNode<K>>],
+    nodes: &NodeList<K>,
     count: u32,
     reader: &mut I,
     writer: &mut O,
     closing: &C,
 ) -> Result<(), Fault>
-    ensures { HasAttended (IsAnswer K.receipt_of (C.closes closing.now)) count (length nodes.now) actor.old actor.new (I.remaining reader.old) (I.remaining reader.new) (O.contents writer.old) (O.contents writer.new) result }
+    ensures { HasAttended (IsAnswer (IsOrderedAt K.receipt_of K.made_at) (AreLiveAt K.node_number K.shows_live) (IsUsageAt K.node_number K.shows_usage) (C.closes closing.now)) count (vec_len nodes.now.nodes) actor.old actor.new (I.remaining reader.old) (I.remaining reader.new) (O.contents writer.old) (O.contents writer.new) result }
 {
     let mut line = Vec::new(alloc);
     for number in 1..u64::MAX {
@@ -93,7 +103,7 @@ fn reply_to<K: JournaledNode, R: Wait + Clock, O: Write, C: Closing>(
     rt: &R,
     actor: &mut Actor,
     alloc: Global,
-    nodes: &[Arc<SharedNode<K>>],
+    nodes: &NodeList<K>,
     count: u32,
     number: u64,
     taken: LineTaken,
@@ -101,7 +111,7 @@ fn reply_to<K: JournaledNode, R: Wait + Clock, O: Write, C: Closing>(
     writer: &mut O,
     closing: &C,
 ) -> Result<bool, Fault>
-    ensures ok { IfOk result (λ is_last. (text : List ℕ) → IsAnswerText taken line.now text → Replies (IsAnswer K.receipt_of (C.closes closing.now)) count (length nodes.now) number text actor.old actor.new (O.contents writer.old) (O.contents writer.new) is_last) }
+    ensures ok { IfOk result (λ is_last. (text : List ℕ) → IsAnswerText taken line.now text → Replies (IsAnswer (IsOrderedAt K.receipt_of K.made_at) (AreLiveAt K.node_number K.shows_live) (IsUsageAt K.node_number K.shows_usage) (C.closes closing.now)) count (vec_len nodes.now.nodes) number text actor.old actor.new (O.contents writer.old) (O.contents writer.new) is_last) }
     ensures err { IfErr result (StopsReply (O.contents writer.old) (O.contents writer.new)) }
     ensures stopped { OnErr result ((text : List ℕ) → IsAnswerText taken line.now text → MayStep (IsAskedFor count text) actor.old actor.new) }
 {
@@ -121,14 +131,14 @@ fn answer_of<K: JournaledNode, R: Wait + Clock, C: Closing>(
     rt: &R,
     actor: &mut Actor,
     alloc: Global,
-    nodes: &[Arc<SharedNode<K>>],
+    nodes: &NodeList<K>,
     count: u32,
     number: u64,
     taken: LineTaken,
     line: &[u8],
     closing: &C,
 ) -> Result<Answer, OutOfMemory>
-    ensures answered { IfOk result (λ answer. (text : List ℕ) → IsAnswerText taken line.now text → IsAnswered (IsAnswer K.receipt_of (C.closes closing.now)) count (length nodes.now) number text actor.old actor.new answer) }
+    ensures answered { IfOk result (λ answer. (text : List ℕ) → IsAnswerText taken line.now text → IsAnswered (IsAnswer (IsOrderedAt K.receipt_of K.made_at) (AreLiveAt K.node_number K.shows_live) (IsUsageAt K.node_number K.shows_usage) (C.closes closing.now)) count (vec_len nodes.now.nodes) number text actor.old actor.new answer) }
     ensures stopped { OnErr result ((text : List ℕ) → IsAnswerText taken line.now text → MayStep (IsAskedFor count text) actor.old actor.new) }
 {
     match taken {
@@ -142,13 +152,13 @@ fn answer_to<K: JournaledNode, R: Wait + Clock, C: Closing>(
     rt: &R,
     actor: &mut Actor,
     alloc: Global,
-    nodes: &[Arc<SharedNode<K>>],
+    nodes: &NodeList<K>,
     count: u32,
     number: u64,
     text: &[u8],
     closing: &C,
 ) -> Result<Answer, OutOfMemory>
-    ensures answered { IfOk result (IsAnswered (IsAnswer K.receipt_of (C.closes closing.now)) count (length nodes.now) number text.now actor.old actor.new) }
+    ensures answered { IfOk result (IsAnswered (IsAnswer (IsOrderedAt K.receipt_of K.made_at) (AreLiveAt K.node_number K.shows_live) (IsUsageAt K.node_number K.shows_usage) (C.closes closing.now)) count (vec_len nodes.now.nodes) number text.now actor.old actor.new) }
     ensures stopped { OnErr result (MayStep (IsAskedFor count text.now) actor.old actor.new) }
 {
     if is_skipped(text) {
@@ -179,27 +189,27 @@ fn answer_asked<K: JournaledNode, R: Wait + Clock, C: Closing>(
     rt: &R,
     actor: &mut Actor,
     alloc: Global,
-    nodes: &[Arc<SharedNode<K>>],
+    nodes: &NodeList<K>,
     number: u64,
     asked: ControlLine,
     closing: &C,
 ) -> Result<Answer, OutOfMemory>
-    ensures made { IfOk result (IsAnswerMade (IsAnswer K.receipt_of (C.closes closing.now)) (length nodes.now) number asked actor.old actor.new) }
+    ensures made { IfOk result (IsAnswerMade (IsAnswer (IsOrderedAt K.receipt_of K.made_at) (AreLiveAt K.node_number K.shows_live) (IsUsageAt K.node_number K.shows_usage) (C.closes closing.now)) (vec_len nodes.now.nodes) number asked actor.old actor.new) }
     ensures stopped { OnErr result (MayStep (IsChangeOf asked) actor.old actor.new) }
 {
     match asked {
-        ControlLine::Order(Order::Close) => last_answer(alloc, closing.close(rt, false)),
-        ControlLine::CloseNow => last_answer(alloc, closing.close(rt, true)),
-        ControlLine::Order(Order::Change(node, change)) => match node_at(nodes, node) {
-            Some(shared) => change_answer(rt, actor, alloc, shared, node, change),
+        ControlLine::Order(Order::Close) => last_answer(alloc, closing.close(rt, false).report),
+        ControlLine::CloseNow => last_answer(alloc, closing.close(rt, true).report),
+        ControlLine::Order(Order::Change(node, change)) => match nodes.get(node) {
+            Some(shared) => change_answer(rt, actor, alloc, &**shared, node, change),
             None => no_order(alloc, number),
         },
-        ControlLine::Look(node, look) => match node_at(nodes, node) {
-            Some(shared) => look_answer(rt, alloc, shared, node, look),
+        ControlLine::Look(node, look) => match nodes.get(node) {
+            Some(shared) => look_answer(rt, alloc, &**shared, node, look),
             None => no_order(alloc, number),
         },
-        ControlLine::Kick { node, job, session } => match node_at(nodes, node) {
-            Some(shared) => kick_answer(rt, alloc, shared, node, job, session),
+        ControlLine::Kick { node, job, session } => match nodes.get(node) {
+            Some(shared) => kick_answer(rt, alloc, &**shared, node, job, session),
             None => no_order(alloc, number),
         },
     }
@@ -231,7 +241,8 @@ fn change_answer<K: JournaledNode, R: Wait>(
     node: u32,
     change: Change,
 ) -> Result<Answer, OutOfMemory>
-    ensures changed { IfOk result (λ answer. HasStepped (IsChangeLine K.receipt_of node change (string_bytes answer.line)) actor.old actor.new × (answer.is_last ≡ false)) }
+    requires { shared.now.number ≡ node }
+    ensures changed { IfOk result (λ answer. HasStepped (IsChangeLine (IsOrderedAt K.receipt_of K.made_at) node change (string_bytes answer.line)) actor.old actor.new × (answer.is_last ≡ false)) }
     ensures stopped { OnErr result (MayStep (λ e. e ≡ event_of_change change) actor.old actor.new) }
 {
     let (reply, _looked_for) = carry_out(rt, actor, shared, change);
@@ -249,7 +260,8 @@ fn look_answer<K: JournaledNode, R: Wait + Clock>(
     node: u32,
     look: Look,
 ) -> Result<Answer, OutOfMemory>
-    ensures { IfOk result (λ answer. IsLookText node look (string_bytes answer.line) × (answer.is_last ≡ false)) }
+    requires { shared.now.number ≡ node }
+    ensures { IfOk result (λ answer. IsLookText (AreLiveAt K.node_number K.shows_live) (IsUsageAt K.node_number K.shows_usage) node look (string_bytes answer.line) × (answer.is_last ≡ false)) }
 {
     Ok(Answer {
         line: look_text(rt, alloc, shared, node, look)?,

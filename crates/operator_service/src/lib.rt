@@ -6,5 +6,5 @@ mod counting;
 mod looks;
 mod serving;
 
-pub use attending::{Closing, attend};
+pub use attending::{Closed, Closing, attend};
 pub use serving::{LastLine, serve_text, write_report};

@@ -1,14 +1,15 @@
 //! What the operator is shown of a node and of its sessions, as lines.
 ghost use Rattle.std.specs.Prelude.{◌≡◌, IfOk};
 ghost use Rattle.std.specs.String.{string_bytes};
-ghost use Rattle.operator_service.specs.Looks.{IsKickText, IsLookText, IsUsageReply, job_text as job_text_lem, jobs_text as jobs_text_lem, jobs_line as jobs_line_lem, kicked_line as kicked_line_lem, no_session_line as no_session_line_lem, sessions_line as sessions_line_lem, stream_text as stream_text_lem, streams_text as streams_text_lem, streams_line as streams_line_lem};
+ghost use Rattle.operator_service.specs.Looks.{IsKickText, IsLookText, job_text as job_text_lem, jobs_text as jobs_text_lem, jobs_line as jobs_line_lem, kicked_line as kicked_line_lem, no_session_line as no_session_line_lem, sessions_line as sessions_line_lem, stream_text as stream_text_lem, streams_text as streams_text_lem, streams_line as streams_line_lem, usage_reply as usage_reply_lem};
+ghost use Rattle.shared_nodes.specs.Looking.{AreLiveAt, IsUsageAt};
 
 use crate::counting::{job_counts_text, node_counts_text};
 use bytes::Bytes;
 use memory_growth::{OutOfMemory, text_of, texts};
 use node_gate::{JournaledNode, LiveJob};
 use node_housekeeping::ListedSession;
-use obj_id::{JobNo, Reply};
+use obj_id::{JobNo, Refusal, Reply, Usage};
 use private_store::StepAnswer;
 use program_lines::Look;
 use schedule_text::{Prefix, answer_line};
@@ -25,12 +26,13 @@ pub(crate) fn look_text<K: JournaledNode, R: Wait + Clock>(
     node: u32,
     look: Look,
 ) -> Result<String, OutOfMemory>
-    ensures { IfOk result (λ line. IsLookText node look (string_bytes line)) }
+    requires { shared.now.number ≡ node }
+    ensures { IfOk result (λ line. IsLookText (AreLiveAt K.node_number K.shows_live) (IsUsageAt K.node_number K.shows_usage) node look (string_bytes line)) }
 {
     match look {
         Look::Jobs => jobs_line(alloc, node, &shared.live_jobs(rt)?),
         Look::Usage(job) => {
-            let response = StepAnswer::Response(usage_reply(rt, shared, job));
+            let response = StepAnswer::Response(usage_reply(shared.usage(rt, job)));
             answer_line(alloc, Prefix::Operator(node), &response)
         }
         Look::Sessions => sessions_line(alloc, node, shared.open_sessions(rt)),
@@ -41,14 +43,10 @@ pub(crate) fn look_text<K: JournaledNode, R: Wait + Clock>(
 }
 
 /// What a job uses of its quotas, or that it isn't live.
-fn usage_reply<K: JournaledNode, R: Wait>(
-    rt: &R,
-    shared: &SharedNode<K>,
-    job: JobNo,
-) -> Reply<Bytes>
-    ensures { IsUsageReply result }
+fn usage_reply(told: Result<Usage, Refusal>) -> Reply<Bytes>
+    ensures { result ≡ usage_reply_lem told }
 {
-    match shared.usage(rt, job) {
+    match told {
         Ok(usage) => Reply::Usage(usage),
         Err(refusal) => Reply::Refused(refusal),
     }

@@ -1,6 +1,5 @@
 //! Nodes that serve, as their operator has them on standard input.
-ghost use Rattle.std.specs.Prelude.{◌≡◌, ◌↔◌, ◌<◌, IfOk, OnOk, IfErr, OnErr, IfSome, IsSome, length, option_map, slice_get};
-ghost use Rattle.std.specs.Arc.{arc_value};
+ghost use Rattle.std.specs.Prelude.{◌≡◌, IfOk, OnOk, IfErr, OnErr, IfSome, vec_len};
 ghost use Rattle.std.specs.Io.KnownBytes.{Appends};
 ghost use Rattle.std.specs.Str.{IsUtf8};
 ghost use Rattle.private_store.specs.declared.schedules.StepAnswer.TheVariants.{Response};
@@ -11,7 +10,7 @@ ghost use Rattle.node_gate.specs.Actors.{ActsIf};
 ghost use Rattle.program_lines.specs.declared.fault.Fault.TheVariants.{Output};
 ghost use Rattle.program_lines.specs.Orders.{IsOrder};
 ghost use Rattle.std.specs.String.{string_bytes};
-ghost use Rattle.operator_service.specs.Servings.{report_line, event_of_change, IsCarriedOut, IsSpelled, MayStep, ServedText, ServesLine, StepsStopped, StopsOrder, Replies, StopsReply};
+ghost use Rattle.operator_service.specs.Servings.{report_line, event_of_change, IsCarriedOut, IsOrderedAt, IsSpelled, MayStep, ServedText, ServesLine, StepsStopped, StopsOrder, Replies, StopsReply};
 
 use bytes::Bytes;
 use memory_growth::{OutOfMemory, text_of};
@@ -21,11 +20,11 @@ use obj_id::Reply;
 use private_store::StepAnswer;
 use program_lines::{Change, Fault, Order, next_line, read_order};
 use schedule_text::{Prefix, answer_line};
-use shared_nodes::SharedNode;
+use shared_nodes::{NodeList, SharedNode};
 use std::alloc::Global;
 use std::io::{BufRead, Write};
 use std::str;
-use std::sync::{Arc, Wait};
+use std::sync::Wait;
 
 /// What the operator's lines ended with.
 #[derive(Clone, Copy, Debug, PartialEq, Eq)]
@@ -48,12 +47,12 @@ pub fn serve_text<K: JournaledNode, R: Wait, I: BufRead, O: Write>(
     rt: &R,
     actor: &mut Actor,
     alloc: Global,
-    nodes: &[Arc<SharedNode<K>>],
+    nodes: &NodeList<K>,
     count: u32,
     reader: &mut I,
     writer: &mut O,
 ) -> Result<LastLine, Fault>
-    ensures { ServedText K.receipt_of count (length nodes.now) actor.old actor.new (I.remaining reader.old) (I.remaining reader.new) (O.contents writer.old) (O.contents writer.new) result }
+    ensures { ServedText (IsOrderedAt K.receipt_of K.made_at) count (vec_len nodes.now.nodes) actor.old actor.new (I.remaining reader.old) (I.remaining reader.new) (O.contents writer.old) (O.contents writer.new) result }
 {
     let mut line = Vec::new(alloc);
     for number in 1..u64::MAX {
@@ -78,14 +77,14 @@ fn serve_line<K: JournaledNode, R: Wait, O: Write>(
     rt: &R,
     actor: &mut Actor,
     alloc: Global,
-    nodes: &[Arc<SharedNode<K>>],
+    nodes: &NodeList<K>,
     count: u32,
     number: u64,
     line: &[u8],
     writer: &mut O,
 ) -> Result<bool, Fault>
-    ensures ok { IfOk result (ServesLine K.receipt_of count line.now actor.old actor.new (O.contents writer.old) (O.contents writer.new)) }
-    ensures err { IfErr result (StopsOrder count (length nodes.now) number line.now (O.contents writer.old) (O.contents writer.new)) }
+    ensures ok { IfOk result (ServesLine (IsOrderedAt K.receipt_of K.made_at) count line.now actor.old actor.new (O.contents writer.old) (O.contents writer.new)) }
+    ensures err { IfErr result (StopsOrder count (vec_len nodes.now.nodes) number line.now (O.contents writer.old) (O.contents writer.new)) }
     ensures stopped { IfErr result (StepsStopped (IsSpelled count line.now) actor.old actor.new) }
 {
     let Some((b'\n', text)) = line.split_last() else {
@@ -95,9 +94,9 @@ fn serve_line<K: JournaledNode, R: Wait, O: Write>(
         Err(_) => Err(Fault::NoMemory),
         Ok(None) => Err(Fault::NotAStep(number)),
         Ok(Some(Order::Close)) => Ok(false),
-        Ok(Some(Order::Change(node, change))) => match node_at(nodes, node) {
+        Ok(Some(Order::Change(node, change))) => match nodes.get(node) {
             None => Err(Fault::NotAStep(number)),
-            Some(shared) => match answer_change(rt, actor, alloc, shared, node, change, writer) {
+            Some(shared) => match answer_change(rt, actor, alloc, &**shared, node, change, writer) {
                 Err(fault) => Err(fault),
                 Ok(()) => Ok(true),
             },
@@ -126,7 +125,8 @@ fn answer_change<K: JournaledNode, R: Wait, O: Write>(
     change: Change,
     writer: &mut O,
 ) -> Result<(), Fault>
-    ensures ok { OnOk result (Replies K.receipt_of node change actor.old actor.new (O.contents writer.old) (O.contents writer.new)) }
+    requires { shared.now.number ≡ node }
+    ensures ok { OnOk result (Replies (IsOrderedAt K.receipt_of K.made_at) node change actor.old actor.new (O.contents writer.old) (O.contents writer.new)) }
     ensures err { IfErr result (StopsReply (O.contents writer.old) (O.contents writer.new)) }
     ensures stopped { OnErr result (MayStep (λ e. e ≡ event_of_change change) actor.old actor.new) }
 {
@@ -142,28 +142,13 @@ pub(crate) fn carry_out<K: JournaledNode, R: Wait>(
     shared: &SharedNode<K>,
     change: Change,
 ) -> (Reply<Bytes>, Option<K::Receipt>)
-    ensures carried { IsCarriedOut K.receipt_of change result.0 result.1 }
-    ensures node { IfSome result.1 (λ r. K.made_at r ≡ shared.now.number) }
+    ensures carried { IsCarriedOut (IsOrderedAt K.receipt_of K.made_at) shared.now.number change result.0 result.1 }
     ensures acts { ActsIf result.1 (event_of_change change) actor.old actor.new }
 {
     match change {
         Change::Admit { job, quota, key } => shared.admit(rt, actor, job, quota, key),
         Change::Requota(job, quota) => shared.requota(rt, actor, job, quota),
         Change::End(job) => shared.end_job(rt, actor, job),
-    }
-}
-
-/// The node of this number, if there is one.
-pub(crate) fn node_at<K: JournaledNode>(
-    nodes: &[Arc<SharedNode<K>>],
-    number: u32,
-) -> Option<&SharedNode<K>>
-    ensures there { IsSome result ↔ (number < length nodes.now) }
-    ensures which { option_map (λ shared. shared.now) result ≡ option_map arc_value (slice_get nodes.now number) }
-{
-    match nodes.get(number as usize) {
-        Some(shared) => Some(&**shared),
-        None => None,
     }
 }
 

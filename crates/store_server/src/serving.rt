@@ -17,7 +17,7 @@ use server_host::{
     most_descriptors,
 };
 use session_threads::{Listening, listen};
-use shared_nodes::SharedNode;
+use shared_nodes::{NodeList, SharedNode};
 use spill_device::SpillFolder;
 use std::alloc::Global;
 use std::fs::Files;
@@ -277,14 +277,14 @@ where
     K::Gone: Send + 'static,
 {
     let count = serving.shape.nodes;
-    let nodes = nodes_of(host.alloc(), cluster)?;
+    let nodes = boxes::counted(host.alloc(), nodes_of(host.alloc(), cluster)?)?;
     let Some(path) = serving.control else {
         say_ready(host);
         return match serve_text(
             &rt,
             &mut cluster.actors().actor(),
             host.alloc(),
-            &nodes,
+            &*nodes,
             count,
             reader,
             writer,
@@ -313,13 +313,17 @@ fn say_ready(host: HostRuntime) {
 fn nodes_of<K: JournaledNode>(
     alloc: Global,
     cluster: &Cluster<K>,
-) -> Result<Vec<Arc<SharedNode<K>>>, OutOfMemory> {
-    let mut nodes = Vec::new(alloc);
+) -> Result<NodeList<K>, OutOfMemory> {
+    let mut nodes = NodeList::new(alloc);
     for number in 0..u32::MAX {
         let Some(node) = cluster.node(number) else {
             break;
         };
-        lists::push(&mut nodes, boxes::another(node)?)?;
+        // it always has: but of a cluster no clause says it
+        if node.number() as usize != nodes.count() {
+            break;
+        }
+        nodes.push(boxes::another(node)?)?;
     }
     Ok(nodes)
 }

@@ -1,5 +1,5 @@
-use Rattle.std.proofs.Common.{◌≡◌, length, subst}
-use Rattle.operator_service.specs.Servings.{CarriesOut, IsSpelled, ServesLine, StepsStopped, StopsOrder, close_line}
+use Rattle.std.proofs.Common.{◌≡◌, vec_len, subst}
+use Rattle.operator_service.specs.Servings.{CarriesOut, IsOrderedAt, IsSpelled, ServesLine, StepsStopped, StopsOrder, close_line}
 use Rattle.operator_service.proofs.Serves.{begun, reading_failed, input_ended, closed, line_stopped, line_more, too_many}
 use Rattle.operator_service.proofs.serving.serve_text.Goals as goal
 
@@ -16,7 +16,7 @@ pub returns-in-Err-serve_line : goal.returns-in-Err-serve_line
 returns-in-Err-serve_line g c =
     let w = g.O.Write.contents c.loop-number.writer in
     let w1 = g.O.Write.contents c.serve_line.new.writer in
-    let stops = subst (λ b. StopsOrder c.args.count (length c.args.nodes.now) c.loop-number.number b w w1 c.in-Err-serve_line.fault) c.deref.ensures.value c.in-Err-serve_line.ensures.err in
+    let stops = subst (λ b. StopsOrder c.args.count (vec_len c.args.nodes.now.nodes) c.loop-number.number b w w1 c.in-Err-serve_line.fault) c.deref.ensures.value c.in-Err-serve_line.ensures.err in
     let steps = subst (λ b. StepsStopped (IsSpelled c.args.count b) c.loop-number.actor c.serve_line.new.actor c.in-Err-serve_line.fault) c.deref.ensures.value c.in-Err-serve_line.ensures.stopped in
     line_stopped _ _ _ _ _ _ _ _ _ c.loop-number.invariant _ _ c.next_line.ensures.consumed _ c.in-Ok-true.ensures.whole _ _ c.in-Err-serve_line.fault stops steps
 
@@ -24,15 +24,15 @@ pub returns-in-Ok-false-serve_line : goal.returns-in-Ok-false-serve_line
 returns-in-Ok-false-serve_line g c =
     let w = g.O.Write.contents c.loop-number.writer in
     let w1 = g.O.Write.contents c.serve_line.new.writer in
-    let response = subst (λ go. ServesLine g.K.JournaledNode.receipt_of c.args.count c.deref.result.now c.loop-number.actor c.serve_line.new.actor w w1 go) c.in-Ok-false-serve_line.field-0-test c.in-Ok-false-serve_line.ensures.ok in
+    let response = subst (λ go. ServesLine (IsOrderedAt g.K.JournaledNode.receipt_of g.K.JournaledNode.made_at) c.args.count c.deref.result.now c.loop-number.actor c.serve_line.new.actor w w1 go) c.in-Ok-false-serve_line.field-0-test c.in-Ok-false-serve_line.ensures.ok in
     closed _ _ _ _ _ _ _ _ _ c.loop-number.invariant _ _ c.next_line.ensures.consumed _ _ w1 (subst (λ b. b ≡ close_line) c.deref.ensures.value response.0) response.1 response.2
 
 pub loop-number-preserved : goal.loop-number-preserved
 loop-number-preserved g c =
     let w = g.O.Write.contents c.loop-number.writer in
     let w1 = g.O.Write.contents c.serve_line.new.writer in
-    let response = subst (λ go. ServesLine g.K.JournaledNode.receipt_of c.args.count c.deref.result.now c.loop-number.actor c.serve_line.new.actor w w1 go) c.in-Ok-true-serve_line.field-0-test c.in-Ok-true-serve_line.ensures.ok in
-    line_more _ _ _ _ _ _ _ _ _ c.loop-number.invariant _ _ c.next_line.ensures.consumed _ w1 (subst (λ b. CarriesOut g.K.JournaledNode.receipt_of c.args.count b c.loop-number.actor c.serve_line.new.actor w w1) c.deref.ensures.value response)
+    let response = subst (λ go. ServesLine (IsOrderedAt g.K.JournaledNode.receipt_of g.K.JournaledNode.made_at) c.args.count c.deref.result.now c.loop-number.actor c.serve_line.new.actor w w1 go) c.in-Ok-true-serve_line.field-0-test c.in-Ok-true-serve_line.ensures.ok in
+    line_more _ _ _ _ _ _ _ _ _ c.loop-number.invariant _ _ c.next_line.ensures.consumed _ w1 (subst (λ b. CarriesOut (IsOrderedAt g.K.JournaledNode.receipt_of g.K.JournaledNode.made_at) c.args.count b c.loop-number.actor c.serve_line.new.actor w w1) c.deref.ensures.value response)
 
 pub returns : goal.returns
 returns g c = too_many _ _ _ _ _ _ _ _ _ c.loop-number.invariant _
