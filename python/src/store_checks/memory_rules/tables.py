@@ -58,9 +58,6 @@ MADE_MACROS = {"format", "vec", "write", "writeln"}
 # Calls of our own functions that have the name of one of the kit's, and calls of the kit that answer an error of their own: file, what
 # stands before the parenthesis, and what it is.
 OURS: Dict[str, Dict[str, str]] = {
-    "cluster_threads/src/cluster.rt": {
-        "all.push": "a list of nodes",
-    },
     "fast_sha256/src/schedule.rt": {
         "u32x4::from_slice": "the lanes of a vector",
         "u8x16::from_slice": "the lanes of a vector",
@@ -170,6 +167,9 @@ OURS: Dict[str, Dict[str, str]] = {
     },
     "world_core/src/runs.rt": {
         "trace.push": "a trace",
+    },
+    "store_server/src/serving.rt": {
+        "nodes.push": "a list of nodes",
     },
 }
 
