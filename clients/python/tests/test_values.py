@@ -169,8 +169,8 @@ class Arrays(unittest.TestCase):
         for rows in ([row, row], ([row], [row]), [[1.0, numpy.ma.masked], [2.0, 3.0]], collections.deque([row])):
             with self.assertRaisesRegex(TypeError, "(MaskedArray|MaskedConstant) .* mask"):
                 encode_array(rows)
-        for rows in ([[1, 2], [3, 4]], [numpy.arange(3), numpy.arange(3)], (1.5, 2.5), "text", [b"ab", b"cd"]):
-            self.same(decode_array(whole(encode_array(rows)), "it"), numpy.asarray(rows))
+        for plain in ([[1, 2], [3, 4]], [numpy.arange(3), numpy.arange(3)], (1.5, 2.5), "text", [b"ab", b"cd"]):
+            self.same(decode_array(whole(encode_array(plain)), "it"), numpy.asarray(plain))
 
     def test_rows_of_a_class_of_their_own_are_refused(self) -> None:
         """numpy makes a plain array of such a list, and what the class has beside the items is lost."""
