@@ -44,8 +44,11 @@ sys.exit(status)
 # runs the unit tests of a folder, and a test that is run so
 RUNS = f"import sys\nsys.path.insert(0, {str(ROOT / 'python')!r})\nfrom launcher import launch\nlaunch('store_checks.unit_tests')\n"
 FORKS = """
-import os, signal, unittest
+import os, signal, subprocess, sys, unittest
+STARTED = "import signal, sys; sys.exit(any(signal.getsignal(one) is signal.SIG_IGN for one in (signal.SIGHUP, signal.SIGQUIT)))"
 class Forked(unittest.TestCase):
+    def test_what_is_started(self):
+        self.assertEqual(subprocess.call([sys.executable, "-c", STARTED]), 0)
     def test_how_a_child_ends(self):
         child = os.fork()
         if not child:
@@ -181,12 +184,13 @@ class Counting(unittest.TestCase):
 
 
 class Running(unittest.TestCase):
-    def test_what_is_forked_off_ends_by_a_signal_at_once(self) -> None:
+    def test_signals_in_what_is_forked_off_and_started(self) -> None:
+        """As under nohup, and in the background."""
         with tempfile.TemporaryDirectory() as folder:
             Path(folder, "test_forked.py").write_text(FORKS, encoding="ascii")
-            words = [sys.executable, "-B", "-c", RUNS, folder]
+            words = ["sh", "-c", "trap '' HUP INT QUIT; exec \"$@\"", "sh", sys.executable, "-B", "-c", RUNS, folder]
             done = subprocess.run(words, capture_output=True, text=True, check=False, timeout=PATIENCE)
-        self.assertEqual((done.returncode, done.stdout), (0, "1 passed, 0 failed\n"), done.stderr)
+        self.assertEqual((done.returncode, done.stdout), (0, "2 passed, 0 failed\n"), done.stderr)
 
 
 class Frames(unittest.TestCase):
