@@ -41,8 +41,7 @@ sys.stdout.write(report)
 sys.stderr.write(failed)
 sys.exit(status)
 """
-# runs the unit tests of a folder, and a test that is run so
-RUNS = f"import sys\nsys.path.insert(0, {str(ROOT / 'python')!r})\nfrom launcher import launch\nlaunch('store_checks.unit_tests')\n"
+# unit tests that are run in a process of their own
 FORKS = """
 import os, signal, subprocess, sys, unittest
 STARTED = "import signal, sys; sys.exit(any(signal.getsignal(one) is signal.SIG_IGN for one in (signal.SIGHUP, signal.SIGQUIT)))"
@@ -188,8 +187,9 @@ class Running(unittest.TestCase):
         """As under nohup, and in the background."""
         with tempfile.TemporaryDirectory() as folder:
             Path(folder, "test_forked.py").write_text(FORKS, encoding="ascii")
-            words = ["sh", "-c", "trap '' HUP INT QUIT; exec \"$@\"", "sh", sys.executable, "-B", "-c", RUNS, folder]
-            done = subprocess.run(words, capture_output=True, text=True, check=False, timeout=PATIENCE)
+            words = ["sh", "-c", "trap '' HUP INT QUIT; exec \"$@\"", "sh", sys.executable, "-B", "-m", "store_checks.unit_tests", folder]
+            place = {**os.environ, "PYTHONPATH": str(ROOT / "python/src")}
+            done = subprocess.run(words, capture_output=True, text=True, check=False, timeout=PATIENCE, env=place)
         self.assertEqual((done.returncode, done.stdout), (0, "2 passed, 0 failed\n"), done.stderr)
 
 
