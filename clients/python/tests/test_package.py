@@ -178,10 +178,10 @@ class Installed(unittest.TestCase):
 def each_python(case: unittest.TestCase) -> List[str]:
     """The Pythons that are here. Which are missing is said, and if all are the test is left out."""
     folders = [*(str(path) for path in Path.home().glob(".pyenv/versions/*/bin")), os.environ.get("PATH", os.defpath)]
-    found = {version: shutil.which(f"python3.{version}", path=os.pathsep.join(folders)) for version in range(9, 14)}
+    found = {version: shutil.which(f"python3.{version}", path=os.pathsep.join(folders)) for version in range(9, 15)}
     usable = {version: path for version, path in found.items() if path and can_install(path)}
     for version in sorted(set(found) - set(usable)):
-        print(f"test_package: LEFT OUT: there is no Python 3.{version} with venv and pip 22.3")
+        print(f"left out: test_package: there is no Python 3.{version} with venv and pip 22.3")
     if not usable:
         case.skipTest("there is no Python with venv and pip 22.3")
     return list(usable.values())

@@ -4,6 +4,8 @@ from __future__ import annotations
 
 import array
 import collections
+import importlib
+import importlib.util
 import os
 import pickle
 import struct
@@ -169,8 +171,8 @@ class Arrays(unittest.TestCase):
         for rows in ([row, row], ([row], [row]), [[1.0, numpy.ma.masked], [2.0, 3.0]], collections.deque([row])):
             with self.assertRaisesRegex(TypeError, "(MaskedArray|MaskedConstant) .* mask"):
                 encode_array(rows)
-        for rows in ([[1, 2], [3, 4]], [numpy.arange(3), numpy.arange(3)], (1.5, 2.5), "text", [b"ab", b"cd"]):
-            self.same(decode_array(whole(encode_array(rows)), "it"), numpy.asarray(rows))
+        for plain in ([[1, 2], [3, 4]], [numpy.arange(3), numpy.arange(3)], (1.5, 2.5), "text", [b"ab", b"cd"]):
+            self.same(decode_array(whole(encode_array(plain)), "it"), numpy.asarray(plain))
 
     def test_rows_of_a_class_of_their_own_are_refused(self) -> None:
         """numpy makes a plain array of such a list, and what the class has beside the items is lost."""
@@ -276,6 +278,26 @@ class Stored(ServerOfAll):
         store.delete_value(id)
         store.delete_value(named)
         self.assertEqual(store.usage(), before)
+
+    @unittest.skipIf(importlib.util.find_spec("torch") is None or numpy is None, "torch isn't there")
+    def test_tensors_of_torch(self) -> None:
+        """Whole and in parts. One that isn't in memory, or that torch doesn't hand over, is refused in torch's own words."""
+        torch, store = importlib.import_module("torch"), self.connect(4)
+        for put in (torch.arange(1000.0), torch.arange(6000, dtype=torch.int32).reshape(20, 300).t(), torch.zeros(0), torch.arange(9)[::2]):
+            array, value = store.put_array(put), store.put_value({"it": put})
+            got = store.get_array(array)
+            self.assertTrue(isinstance(got, numpy.ndarray) and torch.equal(torch.tensor(got), put))
+            self.assertTrue(torch.equal(store.get_value(value)["it"], put))
+            store.delete_value(array)
+            store.delete_value(value)
+        shared = torch.arange(1000.0)
+        self.assertTrue(any(numpy.shares_memory(shared.numpy(), numpy.frombuffer(view, "u1")) for view in encode_array(shared).views))
+        for wrong, said in (
+            (torch.zeros(3, device="meta"), "Use Tensor.cpu"), (torch.zeros(3).to_sparse(), "Use Tensor.to_dense"),
+            (torch.ones(3, requires_grad=True), "Use tensor.detach"),
+        ):
+            with self.assertRaisesRegex((TypeError, RuntimeError), said):
+                store.put_array(wrong)
 
     def test_what_is_longer_than_an_object_goes_in_parts(self) -> None:
         data = os.urandom(3 * SMALL_WINDOW)

@@ -2,12 +2,23 @@
 
 use std::env;
 use std::error::Error;
+use std::process::ExitCode;
 use std::time::Duration;
 
 use store_client::{parse_key, Session};
 
-fn main() -> Result<(), Box<dyn Error>> {
-    let (path, job, key) = (env::var("STORE_SOCKET")?, env::var("STORE_JOB")?.parse()?, parse_key(&env::var("STORE_KEY")?)?);
+fn main() -> ExitCode {
+    match put_and_get() {
+        Ok(()) => ExitCode::SUCCESS,
+        Err(error) => {
+            eprintln!("put_get: {error}");
+            ExitCode::FAILURE
+        }
+    }
+}
+
+fn put_and_get() -> Result<(), Box<dyn Error>> {
+    let (path, job, key) = (given("STORE_SOCKET")?, given("STORE_JOB")?.parse()?, parse_key(&given("STORE_KEY")?)?);
     let store = Session::connect(path, job, &key, Some(Duration::from_secs(30)))?;
     let id = store.put(b"Hello", None)?;
     let held = store.get(id, None)?;
@@ -15,4 +26,8 @@ fn main() -> Result<(), Box<dyn Error>> {
     drop(held);
     store.delete(id)?;
     Ok(())
+}
+
+fn given(name: &str) -> Result<String, String> {
+    env::var(name).map_err(|error| format!("{name}: {error}"))
 }

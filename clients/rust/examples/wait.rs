@@ -3,6 +3,7 @@
 
 use std::env;
 use std::error::Error;
+use std::process::ExitCode;
 use std::thread;
 use std::time::Duration;
 
@@ -10,8 +11,18 @@ use store_client::{parse_key, ObjectId, Pool};
 
 const PATIENCE: Option<Duration> = Some(Duration::from_secs(30));
 
-fn main() -> Result<(), Box<dyn Error>> {
-    let (path, job, key) = (env::var("STORE_SOCKET")?, env::var("STORE_JOB")?.parse()?, parse_key(&env::var("STORE_KEY")?)?);
+fn main() -> ExitCode {
+    match produce_and_consume() {
+        Ok(()) => ExitCode::SUCCESS,
+        Err(error) => {
+            eprintln!("wait: {error}");
+            ExitCode::FAILURE
+        }
+    }
+}
+
+fn produce_and_consume() -> Result<(), Box<dyn Error>> {
+    let (path, job, key) = (given("STORE_SOCKET")?, given("STORE_JOB")?.parse()?, parse_key(&given("STORE_KEY")?)?);
     let pool = Pool::new(path, job, &key, PATIENCE, 2)?;
     let id = pool.session(None)?.new_id()?;
     let came = thread::scope(|scope| {
@@ -34,4 +45,8 @@ fn consume(pool: &Pool, id: ObjectId) -> Result<Vec<u8>, store_client::Error> {
     let store = pool.session(PATIENCE)?;
     let held = store.get(id, PATIENCE)?;
     Ok(held.to_vec())
+}
+
+fn given(name: &str) -> Result<String, String> {
+    env::var(name).map_err(|error| format!("{name}: {error}"))
 }

@@ -170,11 +170,13 @@ def told_by(load: str, side: Side, seconds: float, folder: str) -> Told:
     return told_of(load, side.word, side.size, clients, seconds)
 
 
-def told_of(load: str, word: str, size: int, clients: Sequence[Tuple[str, int]], seconds: float) -> Told:
+def told_of(
+    load: str, word: str, size: int, clients: Sequence[Tuple[str, int]], seconds: float, key_of: Callable[[int], bytes] = key
+) -> Told:
     """The same of clients, each with its socket and its job."""
     words = [word, str(size), f"{seconds:g}"]
     for path, job in clients:
-        words += [path, str(job), key(job).hex()]
+        words += [path, str(job), key_of(job).hex()]
     done = subprocess.run([load, *words], capture_output=True, text=True, check=False, timeout=seconds + 2 * PATIENCE)
     if done.returncode:
         said = done.stderr.strip() or f"load.c ended with {done.returncode}"

@@ -151,7 +151,7 @@ def run(part: Part) -> Came:
 
 def left_out(line: str) -> bool:
     """Whether a part says here that it didn't run something."""
-    return line.startswith(("not run:", "skipped", "left out"))
+    return line.startswith(("not run:", "skipped", "left out")) or ": LEFT OUT" in line
 
 
 def chosen(names: Sequence[str], after_gate: bool) -> Tuple[List[Part], Dict[str, str]]:

@@ -93,6 +93,14 @@ def shown_program(environment: Dict[str, str], folder: str) -> Tuple[int, int]:
     return as_due("the program of the page", came, ((0, "", ""), 0, (0, "Hello\n4 Absent, true\n", "")))
 
 
+def refused_example(name: str, environment: Dict[str, str], complaint: str) -> Tuple[int, int]:
+    """An example that has no server says why in a line, and its status is 1."""
+    status, said, complaints = run(["go", "run", f"./examples/{name}"], environment)
+    # after the time; go adds a line of its own
+    told = [line.split(" ", 2)[2].startswith(complaint) for line in complaints.splitlines()[:1]]
+    return as_due(f"the example {name} is refused ({complaint.rstrip(': ')})", (status, said, told), (1, "", [True]))
+
+
 def all_parts(server: Dict[str, str], folder: str) -> Tuple[int, int]:
     environment = environment_for(server, folder)
     counts = []
@@ -107,6 +115,8 @@ def all_parts(server: Dict[str, str], folder: str) -> Tuple[int, int]:
     for name, printed in EXAMPLES.items():
         came = run(["go", "run", f"./examples/{name}"], environment)
         counts.append(as_due(f"the example {name}", came, (0, printed, "")))
+        for variable, given, complaint in (("STORE_JOB", "", "STORE_JOB: "), ("STORE_KEY", "0" * 64, "1 NotAdmitted: ")):
+            counts.append(refused_example(name, {**environment, variable: given}, complaint))
     return sum(passed for passed, _ in counts), sum(failed for _, failed in counts)
 
 

@@ -28,7 +28,7 @@ from store_testing import ROOT
 from store_testing.looks import Looks, text_of
 
 # nothing in these is of the repository
-ASIDE = {".git", "out", "dist", "__pycache__", ".mypy_cache"}
+ASIDE = {".git", "out", "dist", "target", "__pycache__", ".mypy_cache", ".ruff_cache", ".pytest_cache"}
 TOP = ("bench", "clients", "crates", "docs", "examples", "operate", "python", "tests", ".ci")
 SUFFIXES = "antt|edit|expected|journal|md|program|py|rt|schedule|svg|toml|vectors"
 # words of a pattern, in place of which a page means any

@@ -59,6 +59,13 @@ def example(name: str, environment: Dict[str, str]) -> Tuple[int, int]:
     return tell(f"the example {name}", int(is_right), int(not is_right), said)
 
 
+def refused_example(name: str, environment: Dict[str, str], complaint: str) -> Tuple[int, int]:
+    """An example that has no server says why in a line, and its status is 1."""
+    status, said = cargo(["run", "--quiet", "--example", name], environment)
+    is_right = status == 1 and said.startswith(f"{name}: {complaint}") and said.count("\n") == 1
+    return tell(f"the example {name} is refused ({complaint.rstrip(': ')})", int(is_right), int(not is_right), said)
+
+
 def shown_program(environment: Dict[str, str], folder: str) -> Tuple[int, int]:
     """The first program of the page, with the socket of the server in the place of its own, in a crate as the page says."""
     text = (FOLDER / "README.md").read_text(encoding="utf-8")
@@ -80,6 +87,10 @@ def all_parts(server: Dict[str, str], folder: str) -> Tuple[int, int]:
     environment = {**server, "CARGO_TARGET_DIR": f"{folder}/target"}
     counts = [tested(name, words, environment) for name, words in PARTS]
     counts += [shown_program(environment, folder), *(example(name, environment) for name in EXAMPLES)]
+    for name in EXAMPLES:
+        unset = {key: value for key, value in environment.items() if key != "STORE_JOB"}
+        counts.append(refused_example(name, unset, "STORE_JOB: "))
+        counts.append(refused_example(name, {**environment, "STORE_KEY": "0" * 64}, "1 NotAdmitted: "))
     return sum(passed for passed, _ in counts), sum(failed for _, failed in counts)
 
 

@@ -695,7 +695,8 @@ def outputs_that_do_not_wait(words: Sequence[str], folder: str) -> None:
         program.await_ready()
         time.sleep(0.2)
         with os.fdopen(input_end[1], "w") as orders:
-            writer = threading.Thread(target=lambda: orders.write("end 0 1\n" * lines + "close\n"))
+            # from Python 3.14 on a buffer is longer than all of it
+            writer = threading.Thread(target=print, args=("end 0 1\n" * lines + "close",), kwargs={"file": orders, "flush": True})
             writer.start()
             time.sleep(1)
             with os.fdopen(output_end[0]) as answers:

@@ -29,8 +29,14 @@ def main() -> int:
     faulthandler.dump_traceback_later(PATIENCE_FOR_ALL, exit=True)
     # so that what was started goes when the tests are cut short
     signal.signal(signal.SIGTERM, signal.default_int_handler)
+    # what is forked off isn't to miss it: a handler isn't called before a wait for a lock has ended, if the signal came just before the wait
+    os.register_at_fork(after_in_child=lambda: signal.signal(signal.SIGTERM, signal.SIG_DFL))
     # what a shell runs in the background ignores Ctrl-C by itself, and so would the processes that are started here
     signal.signal(signal.SIGINT, signal.default_int_handler)
+    # nor have these to ignore the end of a terminal, which nohup has us ignore
+    for number in (signal.SIGHUP, signal.SIGQUIT):
+        if signal.getsignal(number) is signal.SIG_IGN:
+            signal.signal(number, lambda *_: None)
     sys.path.insert(0, str(folder))
     names = words.names or sorted(path.stem for path in folder.glob("test_*.py"))
     result = unittest.TextTestRunner().run(unittest.defaultTestLoader.loadTestsFromNames(names))

@@ -2,7 +2,7 @@
 
 from __future__ import annotations
 
-from typing import Any, Callable, Dict, List, NamedTuple, Optional, Set, Tuple
+from typing import Any, Callable, Dict, List, NamedTuple, Optional, Set, Tuple, Union
 
 from . import fetching
 from .ids import ObjectId
@@ -414,7 +414,7 @@ class PrivateStore:
         return "ok"
 
 
-def part_of(content: bytes, offset: int, count: int) -> str:
+def part_of(content: Union[bytes, bytearray], offset: int, count: int) -> str:
     refuse_if(offset + count > len(content), Refusal.OutOfBounds)
     return f"bytes {bytes(content[offset : offset + count]).hex() or '-'}"
 

@@ -5,7 +5,7 @@ from __future__ import annotations
 import enum
 import hashlib
 from dataclasses import dataclass, field
-from typing import Dict, List, Optional, Set
+from typing import Dict, List, Optional, Set, Union
 
 UNIT = 16
 LONGEST_OBJECT = 16 << 20
@@ -158,7 +158,7 @@ class Copy:
         self.offset = None
         self.content = bytearray()
 
-    def matches(self, content: bytes) -> bool:
+    def matches(self, content: Union[bytes, bytearray]) -> bool:
         """Whether these are the bytes that the copy's length and digest are of."""
         return len(content) == self.length and digest_of(content) == self.digest
 
@@ -171,7 +171,7 @@ def chunks(length: int) -> int:
     return -(-length // CHUNK)
 
 
-def digest_of(content: bytes) -> bytes:
+def digest_of(content: Union[bytes, bytearray]) -> bytes:
     return hashlib.sha256(content).digest()
 
 

@@ -4,6 +4,7 @@ from __future__ import annotations
 
 import asyncio
 import contextlib
+import errno
 import socket
 import socketserver
 import threading
@@ -69,7 +70,11 @@ class MetricsServer:
 
 
 def _listen(port: int) -> socket.socket:
-    listening = socket.socket(socket.AF_INET)
+    try:
+        listening = socket.socket(socket.AF_INET)
+    except OSError as error:
+        hint = ": the unit file wants RestrictAddressFamilies=AF_UNIX AF_INET" if error.errno == errno.EAFNOSUPPORT else ""
+        raise SocketFault(f"metrics {LOOPBACK}:{port}: {error.strerror}{hint}") from error
     listening.setsockopt(socket.SOL_SOCKET, socket.SO_REUSEADDR, 1)
     try:
         listening.bind((LOOPBACK, port))
@@ -86,9 +91,8 @@ class _Server(socketserver.ThreadingMixIn, socketserver.TCPServer):
     daemon_threads = True
 
     def __init__(self, listening: socket.socket, answer: Any, loop: asyncio.AbstractEventLoop) -> None:
-        super().__init__(("", 0), _Handler, bind_and_activate=False)
-        # which it made for itself
-        self.socket.close()
+        # a TCPServer would make a socket of the internet's, which the unit file refuses
+        socketserver.BaseServer.__init__(self, ("", 0), _Handler)
         self.socket = listening
         self.answer, self.loop = answer, loop
         self._room = threading.BoundedSemaphore(_MOST)

@@ -27,9 +27,13 @@ async def aside(work: Callable[[], T]) -> T:
     done: "asyncio.Future[T]" = loop.create_future()
 
     def settle(settled: Callable[[], None]) -> None:
+        def unless_done() -> None:
+            if not done.done():
+                settled()
+
         # who waited may have gone, and the loop too
         with contextlib.suppress(RuntimeError):
-            loop.call_soon_threadsafe(lambda: done.done() or settled())
+            loop.call_soon_threadsafe(unless_done)
 
     def run() -> None:
         try:

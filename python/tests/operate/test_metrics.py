@@ -14,12 +14,14 @@ import sys
 import threading
 import time
 import unittest
+from pathlib import Path
 from typing import Dict, List, Tuple
 
 from driving import DAEMON, KEY, PATIENCE, ROOT, Counting, Place, ctl, fill, until
 
 import store_client
 
+CONFINED = str(Path(__file__).with_name("confined.py"))
 SAMPLE = re.compile(r'(store_[a-z_]+)(?:\{([a-z]+="[A-Za-z0-9-]+"(?:,[a-z]+="[A-Za-z0-9-]+")*)\})? (-?[0-9]+(?:\.[0-9]+)?(?:e-[0-9]+)?)')
 
 
@@ -190,6 +192,20 @@ class Served(unittest.TestCase):
             port = free_port()
             place.start_ready(more=("--metrics", f"127.0.0.1:{port}"))
             self.assertEqual(got(http.client.HTTPConnection("127.0.0.1", port, timeout=PATIENCE), "/health"), (200, "ok\n"))
+
+    def test_unix_sockets_are_all_that_it_needs(self) -> None:
+        """The unit file allows no others; a port wants more, and says so."""
+        confined = (sys.executable, CONFINED)
+        with Place() as place:
+            place.write(1, (1,), metrics="metrics")
+            place.start_ready(confined)
+            self.assertEqual(got(OverSocket(str(place.path / "metrics")), "/health"), (200, "ok\n"))
+        with Place() as place:
+            port = free_port()
+            place.write(1, (1,), metrics=f"127.0.0.1:{port}")
+            self.assertEqual(place.start(confined).wait(PATIENCE), 1)
+            due = f"store-daemon: metrics 127.0.0.1:{port}: Address family not supported by protocol: the unit file wants "
+            self.assertEqual(place.log().splitlines()[-1], f"{due}RestrictAddressFamilies=AF_UNIX AF_INET")
 
     def test_another_address_is_refused_in_a_line(self) -> None:
         with Place() as place:

@@ -64,6 +64,16 @@ class SettingsToBeginWith(unittest.TestCase):
     def test_those_of_the_page_for_operators(self) -> None:
         self.read(block_with("[store]\n"))
 
+    def test_a_key_is_made_as_the_page_says(self) -> None:
+        (line,) = block_with("/dev/urandom").splitlines()
+        self.assertIn(f"\n{line}\n", (OPERATE / "store.ini").read_text())
+
+    def test_they_are_checked_as_the_page_says(self) -> None:
+        printed = block_with("1 node, 1 admission").splitlines()[1]
+        with Place() as place:
+            done = subprocess.run([sys.executable, DAEMON, "--check", str(place.settings)], capture_output=True, text=True, check=False)
+        self.assertEqual((done.returncode, done.stdout.replace(str(place.settings), "/etc/store/store.ini")), (0, f"{printed}\n"), done.stderr)
+
 
 class Orders(unittest.TestCase):
     """What the page for operators shows of storectl is what it prints."""

@@ -17,7 +17,7 @@ import unittest
 from pathlib import Path
 from typing import Iterator, Tuple
 
-from store_testing import ROOT
+from store_testing import PATIENCE, ROOT
 from store_testing.counting import SHOWN, tell
 from store_testing.frames import ask, exchange, frame, hello, key, numbers, read_frame, receive
 from store_testing.looks import Looks
@@ -40,6 +40,20 @@ else:
 sys.stdout.write(report)
 sys.stderr.write(failed)
 sys.exit(status)
+"""
+# unit tests that are run in a process of their own
+FORKS = """
+import os, signal, subprocess, sys, unittest
+STARTED = "import signal, sys; sys.exit(any(signal.getsignal(one) is signal.SIG_IGN for one in (signal.SIGHUP, signal.SIGQUIT)))"
+class Forked(unittest.TestCase):
+    def test_what_is_started(self):
+        self.assertEqual(subprocess.call([sys.executable, "-c", STARTED]), 0)
+    def test_how_a_child_ends(self):
+        child = os.fork()
+        if not child:
+            os._exit(signal.getsignal(signal.SIGTERM) is not signal.SIG_DFL)
+        self.assertEqual(os.waitpid(child, 0)[1], 0)
+        self.assertIs(signal.getsignal(signal.SIGTERM), signal.default_int_handler)
 """
 READY = "store: ready\n"
 RIGHT = "report 7 7 0 0 0\n"
@@ -166,6 +180,17 @@ class Counting(unittest.TestCase):
             self.assertEqual(tell("two", 1, 1, "".join(f"{number}\n" for number in range(SHOWN + 1))), (1, 1))
         shown = "".join(f"  {number}\n" for number in range(1, SHOWN + 1))
         self.assertEqual(printed.getvalue(), f"passed: one: 2 passed, 0 failed\nFAILED: two: 1 passed, 1 failed\n{shown}")
+
+
+class Running(unittest.TestCase):
+    def test_signals_in_what_is_forked_off_and_started(self) -> None:
+        """As under nohup, and in the background."""
+        with tempfile.TemporaryDirectory() as folder:
+            Path(folder, "test_forked.py").write_text(FORKS, encoding="ascii")
+            words = ["sh", "-c", "trap '' HUP INT QUIT; exec \"$@\"", "sh", sys.executable, "-B", "-m", "store_checks.unit_tests", folder]
+            place = {**os.environ, "PYTHONPATH": str(ROOT / "python/src")}
+            done = subprocess.run(words, capture_output=True, text=True, check=False, timeout=PATIENCE, env=place)
+        self.assertEqual((done.returncode, done.stdout), (0, "2 passed, 0 failed\n"), done.stderr)
 
 
 class Frames(unittest.TestCase):

@@ -22,11 +22,11 @@ func main() {
 func putAndGet(ctx context.Context) error {
 	job, err := strconv.ParseUint(os.Getenv("STORE_JOB"), 10, 32)
 	if err != nil {
-		return err
+		return fmt.Errorf("STORE_JOB: %w", err)
 	}
 	key, err := storeclient.ParseKey(os.Getenv("STORE_KEY"))
 	if err != nil {
-		return err
+		return fmt.Errorf("STORE_KEY: %w", err)
 	}
 	access := storeclient.Access{Path: os.Getenv("STORE_SOCKET"), Job: uint32(job), Key: key, Patience: time.Minute}
 	store, err := storeclient.Connect(ctx, access)

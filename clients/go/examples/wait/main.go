@@ -24,11 +24,11 @@ func main() {
 func produceAndConsume(ctx context.Context) error {
 	job, err := strconv.ParseUint(os.Getenv("STORE_JOB"), 10, 32)
 	if err != nil {
-		return err
+		return fmt.Errorf("STORE_JOB: %w", err)
 	}
 	key, err := storeclient.ParseKey(os.Getenv("STORE_KEY"))
 	if err != nil {
-		return err
+		return fmt.Errorf("STORE_KEY: %w", err)
 	}
 	pool, err := storeclient.NewPool(storeclient.Access{Path: os.Getenv("STORE_SOCKET"), Job: uint32(job), Key: key}, 2)
 	if err != nil {

@@ -3,6 +3,7 @@
 from __future__ import annotations
 
 import contextlib
+import inspect
 import os
 import threading
 import time
@@ -154,7 +155,7 @@ class Connection(ValueCalls):
             return self._go_through(steps, go_on(steps), end)
         except BaseException as error:
             # what comes between two of the steps they haven't heard of yet
-            if steps.gi_frame is not None:
+            if inspect.getgeneratorstate(steps) != inspect.GEN_CLOSED:
                 self._go_through(steps, fail(steps, error), end)
             raise
 

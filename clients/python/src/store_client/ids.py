@@ -5,7 +5,7 @@ from __future__ import annotations
 import re
 import struct
 from dataclasses import dataclass
-from typing import Any
+from typing import Any, Union
 
 from .checks import LAST_NUMBER, whole_number
 
@@ -68,7 +68,7 @@ class ObjectId:
             object.__setattr__(self, name, number)
 
     @classmethod
-    def from_bytes(cls, value: bytes) -> ObjectId:
+    def from_bytes(cls, value: Union[bytes, bytearray, memoryview]) -> ObjectId:
         """The object of 28 bytes."""
         if not isinstance(value, (bytes, bytearray, memoryview)):
             raise TypeError(f"an id has 28 bytes, not {type(value).__name__}")
