@@ -323,7 +323,7 @@ class Pause(unittest.TestCase):
             for now in (100.0, 100.01, 100.32, 101.0, 110.0):
                 lengths.append(round(pauses.length, 3))
             pauses.restart()
-            self.assertEqual((lengths, pauses.length), ([0.001, 0.001, 0.01, 0.031, 0.05], 0.001))
+            self.assertEqual((lengths, pauses.length), ([0.001, 0.001, 0.01, 0.031, 0.2], 0.001))
             self.assertAlmostEqual(steps.Pauses(steps.Deadline(0.0005)).next().seconds, 0.0005)
 
 

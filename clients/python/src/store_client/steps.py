@@ -101,7 +101,7 @@ class Pauses:
     """Pauses between tries, in seconds. Each is a small part of the time that was waited already: so what comes soon is seen soon, and who
     waits for long asks seldom."""
 
-    FIRST, LONGEST, PART = 0.001, 0.05, 32
+    FIRST, LONGEST, PART = 0.001, 0.2, 32
 
     def __init__(self, deadline: Deadline) -> None:
         self._deadline = deadline
