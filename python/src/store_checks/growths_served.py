@@ -27,7 +27,7 @@ from collections import Counter
 from pathlib import Path
 from typing import Dict, List, NamedTuple
 
-from store_testing.frames import enter, exchange, frame, hello, ident, numbers
+from store_testing.frames import exchange, frame, hello, ident, numbers
 from store_testing.program import program_or_end
 from store_testing.server import Server
 
