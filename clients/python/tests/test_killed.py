@@ -61,7 +61,7 @@ def keepers(path: str) -> List[int]:
 
 def files_of(path: str, job: int) -> str:
     """How the files of the keeper of a job at this socket begin."""
-    return f"{keeping._folder()}/{hashlib.sha256(f'{job} {path}'.encode()).hexdigest()[:16]}"
+    return f"{keeping.keepers_folder()}/{hashlib.sha256(f'{job} {path}'.encode()).hexdigest()[:16]}"
 
 
 class Killed(ServerOfAll):
@@ -308,7 +308,7 @@ class Killed(ServerOfAll):
 
     def test_without_a_keeper_all_goes_on(self) -> None:
         refused = mock.Mock(side_effect=PermissionError("no folder"))
-        with mock.patch.object(keeping, "_folder", refused), self.begin() as store:
+        with mock.patch.object(keeping, "keepers_folder", refused), self.begin() as store:
             for id in (None, None, self.object_id(1)):
                 self.assertTrue(store.contains(store.put(b"abcd", id)))
             self.assertEqual(store.get_value(store.put_value(bytes(LONG))), bytes(LONG))
@@ -323,10 +323,10 @@ class Killed(ServerOfAll):
 
     def test_a_folder_that_others_can_look_into_is_not_used(self) -> None:
         with tempfile.TemporaryDirectory() as place, mock.patch.object(tempfile, "gettempdir", lambda: place):
-            self.assertEqual(os.stat(keeping._folder()).st_mode & 0o777, 0o700)
-            os.chmod(keeping._folder(), 0o755)
+            self.assertEqual(os.stat(keeping.keepers_folder()).st_mode & 0o777, 0o700)
+            os.chmod(keeping.keepers_folder(), 0o755)
             with self.assertRaises(PermissionError):
-                keeping._folder()
+                keeping.keepers_folder()
 
     def test_a_put_tells_its_keeper_once(self) -> None:
         with self.begin() as store:

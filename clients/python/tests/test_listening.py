@@ -6,6 +6,7 @@ import asyncio
 import contextlib
 import os
 import signal
+import statistics
 import threading
 import time
 from typing import Any, Callable, Iterator, List, Optional
@@ -22,11 +23,21 @@ from store_testing.waiting import until
 class NoPauses(steps.Pauses):
     """None of them ends before the wait does, until something has come."""
 
-    FIRST = LONGEST = 0.0
+    FIRST = LONGEST = LONGEST_IF_TOLD = 0.0
 
     def restart(self) -> None:
         super().restart()
-        self.FIRST = self.LONGEST = 0.001 if self.FIRST else 2.0 * PATIENCE
+        self.FIRST = self.LONGEST = self.LONGEST_IF_TOLD = 0.001 if self.FIRST else 2.0 * PATIENCE
+
+
+class Kept(steps.Pauses):
+    """The last ones are kept."""
+
+    last: steps.Pauses
+
+    def __init__(self, deadline: steps.Deadline) -> None:
+        super().__init__(deadline)
+        Kept.last = self
 
 
 @contextlib.contextmanager
@@ -77,6 +88,69 @@ class Listening(WithServer):
     def test_a_get_hears_of_a_put(self) -> None:
         self.hears(lambda id: self.store.get(id, PATIENCE).release())
 
+    def test_it_is_heard_of_at_once(self) -> None:
+        """Within some tens of milliseconds: the median of several is below fifty."""
+        self.hears(lambda id: self.store.get(id, PATIENCE).release())
+        found: List[float] = []
+
+        def work(id: ObjectId) -> None:
+            self.store.get(id, PATIENCE).release()
+            found[-1] += time.monotonic()
+
+        for index in range(2, 11):
+            with looks_never():
+                thread = threading.Thread(target=work, args=(self.object_id(index),))
+                thread.start()
+                until(lambda: self.ear().streams and self.store._requests.board.waits, "somebody listens", PATIENCE)
+                self.producer.put(b"abcd", self.object_id(index))
+                found.append(-time.monotonic())
+                thread.join(2 * PATIENCE)
+        self.assertLess(statistics.median(found), 0.05)
+
+    def test_what_nobody_tells_of_is_looked_for(self) -> None:
+        """As what another client puts."""
+        with mock.patch.object(finding, "_LISTENS_AFTER", 0.0):
+            thread = threading.Thread(target=lambda: self.store.get(self.object_id(), 2 * PATIENCE).release())
+            thread.start()
+            until(lambda: self.is_listened_to() and self.ear().streams, "it listens", PATIENCE)
+            began = time.monotonic()
+            self.producer.create(self.object_id(), 4)
+            self.producer.write(self.object_id(), 0, b"abcd")
+            self.producer.seal(self.object_id())
+            thread.join(2 * PATIENCE)
+        self.assertLess(time.monotonic() - began, PATIENCE / 2)
+
+    def test_what_it_is_told_of(self) -> None:
+        """Not of grants: a wait for one looks as often as if it didn't listen."""
+        told = {}
+        for id in (self.object_id(), self.task.object(1, job=2)):
+            with mock.patch.object(finding, "_LISTENS_AFTER", 0.0), mock.patch.object(finding, "Pauses", Kept):
+                self.store.wait([id], timeout=0.1)
+                until(lambda: self.ear().streams, "it listens", PATIENCE)
+                self.store.wait([id], timeout=0.1)
+            told[id.job] = Kept.last.is_told
+        self.assertEqual(told, {1: True, 2: False})
+
+    def test_waits_that_have_ended_leave_nothing_open(self) -> None:
+        before = len(os.listdir("/proc/self/fd")), threading.active_count()
+        for index in (1, 2):
+            with self.server.connect() as store, looks_never(), self.assertRaises(Absent):
+                store.get(self.object_id(index), 0.3)
+        until(lambda: not self.ear().has_thread and threading.active_count() == before[1], "the thread's end", PATIENCE)
+        self.assertEqual((len(os.listdir("/proc/self/fd")), self.ear().streams, dict(self.store._requests.board.waits)), (before[0], {}, {}))
+
+    def test_a_long_wait_keeps_few_answers(self) -> None:
+        async def wait() -> List[int]:
+            async with await aio.connect(self.server.path, 1, key(1)) as store:
+                waiting = asyncio.ensure_future(store.wait([self.object_id()], timeout=0.5))
+                await asyncio.sleep(0.4)
+                kept = [len(search._gets) for search in store._requests.board.waits]
+                await waiting
+                return kept
+
+        (kept,) = asyncio.run(wait())
+        self.assertLessEqual(kept, 2)
+
     def test_a_wait_hears_of_a_put_among_others(self) -> None:
         self.hears(lambda id: self.store.wait([id, *(self.object_id(index) for index in range(2, 10))], timeout=PATIENCE))
 
@@ -115,6 +189,14 @@ class Listening(WithServer):
         self.assertLess(time.monotonic() - began, PATIENCE / 2)
         self.assertEqual(sorted(came), sorted(ids))
 
+    def test_the_first_put_of_a_process_is_heard_of(self) -> None:
+        """It may be over before the process is told that somebody listens."""
+        def put(data: bytes, id: ObjectId) -> None:
+            with mock.patch.object(keeping.Keeping, "_hears_of_listeners", lambda _: False):
+                self.connect_producer().put(data, id)
+
+        self.hears(lambda id: self.store.get(id, PATIENCE).release(), put)
+
     def test_a_put_tells_of_its_end_at_once_only_if_somebody_listens(self) -> None:
         told: List[bytes] = []
 
@@ -125,6 +207,8 @@ class Listening(WithServer):
             return told
 
         self.assertFalse(self.is_listened_to())
+        self.assertEqual(put(4), [keeping.BEGIN, keeping.END])
+        self.producer._requests.keeping._is_new_until = 0.0
         self.assertEqual(put(2), [keeping.BEGIN])
         self.hears(lambda id: self.store.get(id, PATIENCE).release())
         self.assertEqual(put(3), [keeping.BEGIN, keeping.END])
@@ -178,7 +262,7 @@ class Listening(WithServer):
             for thread in threads:
                 thread.start()
             until(self.is_listened_to, "somebody listens", PATIENCE)
-            until(lambda: all(store._requests.board in self.ear()._boards for store in stores), "all wait", PATIENCE)
+            until(lambda: len(self.store._requests.board.waits) == len(ids), "all wait", PATIENCE)
             self.assertEqual([thread.name for thread in threading.enumerate()].count("store_client listens"), 1)
             began = time.monotonic()
             for id in ids:

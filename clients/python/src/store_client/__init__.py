@@ -54,7 +54,7 @@ from .refusals import (
     TooMany,
 )
 
-__version__ = "0.7.1"
+__version__ = "0.7.2"
 
 __all__ = [
     "Absent",

@@ -20,6 +20,7 @@ from typing import TYPE_CHECKING, Any, Callable, List, Optional, Sequence, Tuple
 
 from . import finding, parts, putting
 from .aio_session import Session
+from .board import board_of
 from .calls import JobTask
 from .checks import LAST_NUMBER, Buffer, PathLike, flat, key_bytes, length_limit, seconds, socket_path, whole_number, writable
 from .connection import OPENING, NewIds
@@ -86,6 +87,7 @@ class Connection:
         self._timeout = timeout
         self._requests = Requests(job)
         self._requests.keeping = keeping
+        self._requests.board = board_of(keeping.path, job)
         self._ids = NewIds(job, keeping)
 
     async def close(self) -> None:

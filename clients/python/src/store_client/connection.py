@@ -10,6 +10,7 @@ import time
 import weakref
 from typing import Any, List, Optional, Sequence, TypeVar, Union
 
+from .board import board_of
 from .checks import LAST_NUMBER, PathLike, key_bytes, seconds, socket_path, whole_number
 from .epochs import read_epoch
 from .frames import Command
@@ -76,6 +77,7 @@ class Connection(ValueCalls):
         self._holds = 0
         self._dropped: List[ObjectId] = []
         self._requests.keeping = Keeping(self._path, self.job, self._key, keeper)
+        self._requests.board = board_of(self._path, self.job)
         self._ids = NewIds(self.job, self._requests.keeping)
         due = answers_due([], None, OPENING if self._timeout is None else self._timeout)
         self._stream = Stream(self._path, due)
@@ -210,7 +212,8 @@ class Connection(ValueCalls):
             self._is_exchanging = True
             dropped, self._dropped = self._dropped, []
             releases = [self._requests.release(id) for id in dropped]
-            sent = [*releases, *requests, *(last if self._holds == len(releases) else ())]
+            last = last if self._holds == len(releases) else ()
+            sent = [*releases, *requests, *last] if releases or last else requests
             answers = self._stream.exchange(sent, end)
             self._holds = holds_after(self._holds, sent, answers)
             return answers[len(releases) :]
@@ -254,11 +257,7 @@ class Connection(ValueCalls):
 def _rest(rest: Rest) -> None:
     if rest.bell is None:
         return time.sleep(rest.seconds)
-    woken = threading.Event()
-    rest.bell.wake = woken.set
-    if not rest.bell.is_rung:
-        woken.wait(rest.seconds)
-    rest.bell.is_rung = False
+    rest.bell.rest(rest.seconds)
 
 
 def _forget_all() -> None:

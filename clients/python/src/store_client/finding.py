@@ -13,7 +13,7 @@ a Create of it is `3 Exists`. From this come the rules:
   seconds, 0.2, and so on up to 2. If the time is over the transfer goes on by itself. Its copy is a secondary
   like others, which is evicted if room is needed.
 * **What is heard of is looked for at once.** After a tenth of a second the keeper of the host is listened to (listening.py), which tells of
-  puts that have ended. It tells of no others, such as those of other clients, and so the looks go on.
+  puts that have ended. It tells of no others, such as those of other clients, and so the looks go on, up to a second apart where they would be 0.2.
 * **A fetch that finds no room is deleted.** If a Get is answered Full or BadSize, and the copy is listed as one that is being
   fetched, the look that found it takes it away again. This is the only Delete of a look. It isn't sent if the list shows
   anything else, such as an object of this node on the device. To lose by it, other sessions would have to get the object room, fetch
@@ -36,14 +36,14 @@ import enum
 import time
 from typing import Any, Dict, List, Optional, Sequence, Tuple
 
-from .board import FAR, Bell, is_there
+from .board import Bell, is_there
 from .checks import seconds, whole_number
 from .frames import MOST_BYTES
 from .ids import ObjectId, expect_id
 from .items import State
-from .listening import listen
+from .listening import listens
 from .refusals import Absent, BadSize, Busy, Full, NotGranted, NotHeld, NotSealed, Pending, Refused, StoreError
-from .requests import Answer, Request, Requests, count_done
+from .requests import Answer, Repeated, Request, Requests, count_done
 from .steps import Ask, Deadline, Pauses, Steps, ask, ask_all, undoing
 
 # what is worth another look, if there is time
@@ -92,6 +92,8 @@ class Search:
         # the answers to its Gets and Releases, as they come
         self._gets: List[Answer] = []
         self._releases: List[Answer] = []
+        # a look at what is missing
+        self._both = Repeated(2 * [requests.get(id, heard=self._gets)])
 
     @property
     def is_over(self) -> bool:
@@ -107,6 +109,11 @@ class Search:
     def is_moving(self) -> bool:
         """Whether it is on its way."""
         return self._phase is _Phase.UNDER_WAY
+
+    @property
+    def is_told_of(self) -> bool:
+        """Whether the keeper tells when it has come, if this client puts it: it tells of no grant, and not of the end of a transfer."""
+        return self._phase is _Phase.MISSING and not self.is_foreign
 
     def is_due(self, names: Dict[bytes, int]) -> bool:
         """Whether it is worth a look, now that this is listed."""
@@ -135,19 +142,22 @@ class Search:
         """What is asked after all questions, if the session holds nothing."""
         return [self.release()] if self._asks_for_bytes and not self._keep else []
 
-    def questions(self) -> List[Request[Any]]:
+    def questions(self) -> Sequence[Request[Any]]:
         """What is asked now."""
         if self.is_foreign:
             return [self._requests.peek(self.id, 0, 0)]
+        if self._phase is _Phase.MISSING:
+            return self._both
         if self._phase is _Phase.UNDER_WAY and time.monotonic() < self._remind_at:
             return [self._requests.read(self.id, 0, 0)]
-        get = self._requests.get(self.id, heard=self._gets)
-        if self._asks_for_bytes:
-            return [get, self._requests.read(self.id, 0, self._likely)]
-        return [get, get] if self._phase is _Phase.MISSING else [get]
+        get = self._both[0]
+        return [get, self._requests.read(self.id, 0, self._likely)] if self._asks_for_bytes else [get]
 
     def hear(self, asked: Sequence[Request[Any]], answers: Sequence[Answer]) -> None:
         """Takes the answers to what was asked."""
+        if asked is self._both and answers[-1] is self.refusal:
+            # all is as it was
+            return
         if asked[0].name == "read":
             # a copy that is no longer being fetched is here, or being restored, or gone: a Get tells
             if not isinstance(answers[0], NotSealed):
@@ -161,6 +171,8 @@ class Search:
             self._phase, self.refusal = _Phase.OVER, None
             self.length = None if self.is_foreign else found[0]
             return
+        # of a long wait they would be many
+        self._gets[:] = [answer for answer in self._gets if not isinstance(answer, Refused)]
         for answer in answers:
             self._phase = self._phase_after(answer)
             self.refusal = answer
@@ -184,7 +196,7 @@ def look(requests: Requests, searches: Sequence[Search]) -> Steps[None]:
     while asked_of:
         asked = [search.questions() for search in asked_of]
         last = [request for search in asked_of for request in search.last_questions()]
-        answers = yield Ask([request for questions in asked for request in questions], last)
+        answers = yield Ask(asked[0] if len(asked) == 1 else [request for questions in asked for request in questions], last)
         for search, questions in zip(asked_of, asked):
             search.hear(questions, answers[: len(questions)])
             answers = answers[len(questions) :]
@@ -215,10 +227,11 @@ def find(requests: Requests, searches: Sequence[Search], count: int, deadline: D
 def _await_next_look(requests: Requests, searches: Sequence[Search], pauses: Pauses, bell: Bell) -> Steps[Sequence[Search]]:
     """Pauses. Which of the searches are worth a look then."""
     board = requests.board
-    if pauses.waited >= _LISTENS_AFTER:
-        listen(requests.keeping, board)
-    leads = board.is_shared and board.leads(bell, pauses.length)
-    yield pauses.next(FAR if board.is_shared and not leads else 1, bell)
+    hears = pauses.waited >= _LISTENS_AFTER and listens(requests.keeping)
+    pauses.is_told = hears and all(search.is_told_of for search in searches if not search.is_over)
+    is_shared = board.is_shared
+    leads = is_shared and board.leads(bell, pauses.length)
+    yield pauses.next_far(bell) if is_shared and not leads else pauses.next(bell)
     if bell.has_come:
         # at another node it may be a moment until that is known here
         bell.has_come = False
@@ -227,10 +240,10 @@ def _await_next_look(requests: Requests, searches: Sequence[Search], pauses: Pau
         return searches
     names = yield from ask(requests.names())
     board.tell(names)
-    bell.is_rung = False
+    bell.hush()
     due = [search for search in searches if search.is_due(names)]
     for search in due:
-        search.listed_until = time.monotonic() + FAR * pauses.length
+        search.listed_until = time.monotonic() + pauses.length_far
     return due
 
 

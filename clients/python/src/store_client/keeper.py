@@ -265,8 +265,9 @@ class Keeper:
                 time.sleep(_SHORT_REST if self._listening() else _REST)
             for number, _ in ready:
                 self._hear(number)
-            self._note()
+            # who waits needn't wait for the disk, too
             self._pass_on()
+            self._note()
             self._tell_that_somebody_listens()
             self._look_after_all()
             idle = 0 if ready or self._clients or self._gone else idle + 1

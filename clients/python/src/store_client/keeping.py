@@ -31,6 +31,8 @@ _LONGEST_PLACE = 60
 # how long another process that is starting the keeper is waited for, in seconds; how often this one tries; and the pause between. A start
 # takes 20 ms, and seconds on a machine that does much else
 _PATIENCE, _STARTS, _PAUSE = 5.0, 2, 0.01
+# so long after it was connected with the keeper a process may not know yet that somebody listens, in seconds
+_NEW = 5.0
 # so many ends of puts one message tells
 _MOST_ENDED = 255
 
@@ -55,6 +57,8 @@ class Keeping:
         self._socket: Optional[socket.socket] = None
         # whether the keeper has said that somebody listens to what is put
         self._is_listened_to = False
+        # until when that may be so and not be known
+        self._is_new_until = 0.0
         # whether there is a keeper that knows all of what follows
         self._is_known = False
         self._tasks: Set[bytes] = set()
@@ -93,11 +97,12 @@ class Keeping:
             self._tell(BEGIN + bytes([len(ended)]) + b"".join(ended) + whole + parts)
 
     def _end(self, whole: bytes, at_once: bool) -> None:
-        """A put of one object tells the keeper once, and so its end is told with what comes next, unless somebody listens."""
+        """A put of one object tells the keeper once, and so its end is told with what comes next, unless somebody listens or may."""
         with self._lock:
             self._begun.pop(whole, None)
             self._ended.append(whole)
-            if at_once or self._hears_of_listeners() or len(self._ended) == _MOST_ENDED:
+            is_new = time.monotonic() < self._is_new_until
+            if at_once or is_new or self._hears_of_listeners() or len(self._ended) == _MOST_ENDED:
                 ended, self._ended = self._ended, []
                 self._tell(END + b"".join(ended))
 
@@ -141,6 +146,7 @@ class Keeping:
     def _open(self) -> bool:
         with contextlib.suppress(OSError):
             self._socket, self._is_known, self._is_listened_to = connected(self.path, self.job), False, False
+            self._is_new_until = time.monotonic() + _NEW
         return self._socket is not None
 
     def _all_of_it(self) -> Iterator[bytes]:
@@ -185,10 +191,10 @@ def joined(path: str, job: int) -> socket.socket:
 def _name_of(path: str, job: int) -> str:
     """How the keeper's files begin. `OSError` if there can be no folder for them."""
     words = f"{job} {os.path.realpath(path)}".encode("utf-8", "surrogateescape")
-    return f"{_folder()}/{hashlib.sha256(words).hexdigest()[:16]}"
+    return f"{keepers_folder()}/{hashlib.sha256(words).hexdigest()[:16]}"
 
 
-def _folder() -> str:
+def keepers_folder() -> str:
     """The folder of this user's keepers, which nobody else can look into. `OSError`."""
     place = tempfile.gettempdir()
     if len(os.fsencode(place)) > _LONGEST_PLACE:

@@ -13,17 +13,17 @@ import select
 import socket
 import threading
 import time
-import weakref
 from typing import Dict, List, Sequence, Tuple
 
-from .board import Board
+from .board import board_of
 from .items import State
-from .keeping import FLAGS, HELLO, LISTEN, Keeping, connected, joined
+from .keeping import FLAGS, HELLO, LISTEN, Keeping, connected, joined, keepers_folder
 
 # the bytes of an id, and the most that the keeper tells at once
 _ID, _LONGEST_MESSAGE = 28, 65536
-# in seconds: the thread goes on so long after the last wait, and so often it looks for other nodes' keepers
-_LINGER, _PAUSE = 5.0, 1.0
+# in seconds: the thread goes on so long after the last wait; so often it looks whether keepers have come; and at least so often whether other
+# nodes have any
+_LINGER, _PAUSE, _LONG_PAUSE = 5.0, 2.0, 10.0
 _MOST_NODES = 8
 
 
@@ -33,19 +33,21 @@ class Ear:
     def __init__(self, path: str, job: int, key: bytes) -> None:
         self._path, self._job, self._key = path, job, key
         self._lock = threading.Lock()
-        self._boards: weakref.WeakSet[Board] = weakref.WeakSet()
+        self._board = board_of(path, job)
         self.has_thread = False
         # whether no keeper or no thread could be started, which isn't tried again and again
         self._is_deaf = False
         #: to the keepers, by the paths of their nodes' sockets
         self.streams: Dict[str, socket.socket] = {}
 
-    def listen(self, board: Board) -> None:
-        """Those who wait at the board are woken from now on."""
-        if self._is_deaf or (self.has_thread and board in self._boards):
-            return
+    def listens(self) -> bool:
+        """Those who wait are woken from now on, as soon as the keeper is there. Whether it is."""
+        if not self._is_deaf and not self.has_thread:
+            self._begin()
+        return self._path in self.streams
+
+    def _begin(self) -> None:
         with self._lock:
-            self._boards.add(board)
             if self.has_thread:
                 return
             try:
@@ -59,10 +61,11 @@ class Ear:
         try:
             # with the key the keeper can look after what an earlier one has noted
             self._add(self._path, connected(self._path, self._job), (HELLO + self._key, LISTEN))
+            folder = keepers_folder()
         except OSError:
             self._is_deaf = True
         else:
-            self._hear()
+            self._hear(folder)
         with self._lock:
             streams, self.streams = self.streams, {}
             self.has_thread = False
@@ -76,22 +79,29 @@ class Ear:
             for message in messages:
                 stream.send(message, FLAGS)
 
-    def _hear(self) -> None:
-        """Until the keeper of this node ends, or nobody waits any more."""
+    def _hear(self, folder: str) -> None:
+        """Until the keeper of this node ends, or nobody waits any more. The folder is that of all keepers."""
         end, join_at = time.monotonic() + _LINGER, 0.0
+        changed, poll = 0, self._poll()
         while self._path in self.streams and time.monotonic() < end:
-            if join_at <= time.monotonic():
-                join_at = time.monotonic() + _PAUSE
+            # a keeper that comes makes its socket in the folder of all, and may not listen yet
+            if changed != (changed := _last_change(folder)) or join_at <= time.monotonic():
+                join_at = time.monotonic() + _LONG_PAUSE
                 self._join_others()
-            poll = select.poll()
-            for stream in self.streams.values():
-                poll.register(stream, select.POLLIN)
+                poll = self._poll()
             ready = [number for number, _ in poll.poll(min(_LINGER, _PAUSE) * 1000)]
-            for path, stream in list(self.streams.items()):
-                if stream.fileno() in ready and not self._take(stream):
+            if ready:
+                for path in [path for path, stream in self.streams.items() if stream.fileno() in ready and not self._take(stream)]:
                     self.streams.pop(path).close()
-            if any(board.waits for board in list(self._boards)):
+                poll = self._poll()
+            if self._board.waits:
                 end = time.monotonic() + _LINGER
+
+    def _poll(self) -> select.poll:
+        poll = select.poll()
+        for stream in self.streams.values():
+            poll.register(stream, select.POLLIN)
+        return poll
 
     def _take(self, stream: socket.socket) -> bool:
         """Wakes those whose objects the keeper tells of. Whether it goes on."""
@@ -102,8 +112,7 @@ class Ear:
         except OSError:
             return False
         ended = dict.fromkeys((message[at : at + _ID] for at in range(0, len(message), _ID)), int(State.SEALED))
-        for board in list(self._boards):
-            board.tell(ended)
+        self._board.tell(ended)
         return bool(message)
 
     def _join_others(self) -> None:
@@ -112,6 +121,14 @@ class Ear:
             if path not in self.streams:
                 with contextlib.suppress(OSError):
                     self._add(path, joined(path, self._job), (LISTEN,))
+
+
+def _last_change(folder: str) -> int:
+    """When a file of the folder came or went last."""
+    try:
+        return os.stat(folder).st_mtime_ns
+    except OSError:
+        return 0
 
 
 def _other_nodes(path: str) -> List[str]:
@@ -129,14 +146,15 @@ _ears: Dict[Tuple[str, int], Ear] = {}
 
 def ear_of(keeping: Keeping) -> Ear:
     """That of the process, for the node and the job that this keeping is of."""
-    # it is made once, whichever thread is first
-    return _ears.setdefault((keeping.path, keeping.job), Ear(keeping.path, keeping.job, keeping.key))
+    name = keeping.path, keeping.job
+    # one is kept, whichever thread is first
+    return _ears.get(name) or _ears.setdefault(name, Ear(*name, keeping.key))
 
 
-def listen(keeping: Keeping, board: Board) -> None:
-    """Those who wait at the board are woken from now on when the keeper has heard of what they wait for, if there may be one."""
-    if keeping.is_wanted:
-        ear_of(keeping).listen(board)
+def listens(keeping: Keeping) -> bool:
+    """Those who wait are woken from now on when the keeper has heard of what they wait for, if there may be one. Whether it is listened to
+    already."""
+    return keeping.is_wanted and ear_of(keeping).listens()
 
 
 def _forget_all() -> None:

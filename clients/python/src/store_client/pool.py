@@ -8,7 +8,7 @@ import threading
 import weakref
 from typing import Any, List, Optional, Sequence, TypeVar
 
-from .board import Board
+from .board import board_of
 from .checks import LAST_NUMBER, PathLike, key_bytes, seconds, socket_path, whole_number
 from .connection import Connection, NewIds
 from .held import Holder
@@ -50,7 +50,7 @@ class Pool(ValueCalls):
         self._lock = threading.Lock()
         self._local = threading.local()
         self._members: weakref.WeakSet[_Member] = weakref.WeakSet()
-        self._requests.board = Board()
+        self._requests.board = board_of(self._words[0], self.job)
         self._ids = NewIds(self.job, self._requests.keeping)
         self._workers: Optional[concurrent.futures.ThreadPoolExecutor] = None
 

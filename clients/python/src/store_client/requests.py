@@ -18,8 +18,9 @@ from .refusals import BY_NUMBER, BadSize, ProtocolError, Refused
 
 T = TypeVar("T")
 
-# the commands' names, as a schedule has them, if they aren't the frames' in lower case
+# the commands' names, as a schedule has them
 _NAMES = {
+    **{command: command.name.lower() for command in Command},
     Command.GET_WAIT: "get",
     Command.CREATE_WAIT: "create",
     Command.GIVE_UP: "giveup",
@@ -51,7 +52,7 @@ class Request(Generic[T]):
     @property
     def name(self) -> str:
         """The command in the words of a schedule."""
-        return _NAMES.get(self.command) or self.command.name.lower()
+        return _NAMES[self.command]
 
     @property
     def waits(self) -> bool:
@@ -90,6 +91,23 @@ class Request(Generic[T]):
 
 
 Answer = Union[Any, Refused]
+
+
+class Repeated(List[Request[Any]]):
+    """Requests that are sent at once, again and again. If they are refused as they were before, the answers are the same objects."""
+
+    def __init__(self, requests: Sequence[Request[Any]]) -> None:
+        super().__init__(requests)
+        self.frames = b"".join(part for request in requests for part in request.parts)
+        #: the answers that were given last, and their frames, if all were refused
+        self.answers: List[Answer] = []
+        self.refusals = b""
+
+    def note(self, answers: List[Answer]) -> None:
+        """They were answered so."""
+        is_refused = all(isinstance(answer, Refused) for answer in answers)
+        self.answers = answers
+        self.refusals = b"".join(frames.frame(Reply.REFUSED, bytes([answer.number])) for answer in answers) if is_refused else b""
 
 
 def value_of(answer: Answer) -> Any:

@@ -101,10 +101,12 @@ class Pauses:
     """Pauses between tries, in seconds. Each is a small part of the time that was waited already: so what comes soon is seen soon, and who
     waits for long asks seldom."""
 
-    FIRST, LONGEST, PART = 0.001, 0.2, 32
+    FIRST, LONGEST, LONGEST_IF_TOLD, PART, FAR = 0.001, 0.2, 1.0, 32, 8
 
     def __init__(self, deadline: Deadline) -> None:
         self._deadline = deadline
+        #: whether most of what is waited for is told
+        self.is_told = False
         self.restart()
 
     def restart(self) -> None:
@@ -119,16 +121,25 @@ class Pauses:
     @property
     def length(self) -> float:
         """How long a pause is now."""
-        return min(self.LONGEST, max(self.FIRST, self.waited / self.PART))
+        return min(self.LONGEST_IF_TOLD if self.is_told else self.LONGEST, max(self.FIRST, self.waited / self.PART))
 
     @property
     def is_over(self) -> bool:
         """Whether there is no time left."""
         return self._deadline.is_over
 
-    def next(self, times: int = 1, bell: Optional[Bell] = None) -> Rest:
-        """The next one, so many times as long."""
-        return Rest(self._deadline.within(times * self.length), bell)
+    def next(self, bell: Optional[Bell] = None) -> Rest:
+        """The next one."""
+        return Rest(self._deadline.within(self.length), bell)
+
+    def next_far(self, bell: Bell) -> Rest:
+        """The next one, of who is told of most that comes."""
+        return Rest(self._deadline.within(self.length_far), bell)
+
+    @property
+    def length_far(self) -> float:
+        """How long such a pause is now."""
+        return self.FAR * min(self.LONGEST, self.length)
 
 
 def answers_due(requests: Sequence[Request[Any]], end: Optional[float], patience: Optional[float]) -> Optional[float]:

@@ -12,7 +12,7 @@ from typing import Any, Callable, List, Optional, Sequence
 
 from .frames import LONGEST_REPLY, Reply, head
 from .refusals import SERVER_GONE, ConnectionLost, ProtocolError, ServerSilent
-from .requests import Answer, Request
+from .requests import Answer, Repeated, Request
 
 # how many views one system call is given
 _MOST_VIEWS = 64
@@ -59,9 +59,31 @@ class Stream:
 
     def exchange(self, requests: Sequence[Request[Any]], end: Optional[float]) -> List[Answer]:
         """Sends the requests, and reads their answers meanwhile: a server that can't write an answer reads no further request."""
+        if isinstance(requests, Repeated) and requests.refusals:
+            return self._exchange_again(requests, end)
         unsent = [view for request in requests for view in request.parts]
-        answers: List[Answer] = []
         unsent.reverse()
+        answers = self._exchange(unsent, requests, end)
+        if isinstance(requests, Repeated):
+            requests.note(answers)
+        return answers
+
+    def _exchange_again(self, requests: Repeated, end: Optional[float]) -> List[Answer]:
+        """The same of what was refused the last time. That it is refused so again is known by the bytes, and nothing is made of them."""
+        unsent: List[Any] = [requests.frames]
+        self._socket.setblocking(False)
+        if self._send(unsent) and not unsent and self._are_refused_so(requests.refusals, end):
+            return requests.answers
+        answers = self._exchange(unsent, requests, end)
+        requests.note(answers)
+        return answers
+
+    def _are_refused_so(self, refusals: bytes, end: Optional[float]) -> bool:
+        return self._replies.are(refusals, lambda spaces: self._await_and_receive(spaces, end))
+
+    def _exchange(self, unsent: List[Any], requests: Sequence[Request[Any]], end: Optional[float]) -> List[Answer]:
+        """Sends what is unsent of the requests, the last view of the list first, and reads their answers."""
+        answers: List[Answer] = []
         self._socket.setblocking(False)
         while unsent and len(answers) < len(requests):
             sent = self._send(unsent)
@@ -175,6 +197,14 @@ class _Replies:
     def has_more(self) -> bool:
         """Whether something has come after the last answer."""
         return self._start < self._end
+
+    def are(self, expected: bytes, take: Receive) -> bool:
+        """Whether these come next, all at once. What comes otherwise is kept, to be taken apart. Nothing may have been read ahead."""
+        self._start, self._end = 0, take([self._ahead])
+        is_so = self._ahead[: self._end] == expected
+        if is_so:
+            self._end = 0
+        return is_so
 
     def receive(self, take: Receive, requests: Sequence[Request[Any]], answers: List[Answer]) -> bool:
         """Reads what has come, up to the last answer. Whether anything had."""
