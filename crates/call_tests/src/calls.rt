@@ -253,6 +253,7 @@ fn hold_and_leave<K: JournaledNode, R: Wait + Clock + Abort>(
     let reply = called_again(rt, node, number, id, true);
     holds!(rt; matches!(&reply, Reply::Got(20)));
     session.leave(JOB, number);
+    session.end();
     let reply = called_again(rt, node, number, id, false);
     holds!(rt; matches!(&reply, Reply::Refused(Refusal::NotHeld)));
 }

@@ -71,6 +71,7 @@ fn told_at<K: JournaledNode, R: Wait + Clock>(
     let mut reader = input;
     let mut session = Session::new(rt, actor(), node);
     let outcome = serve(alloc, &mut reader, &mut written, &mut session);
+    session.end();
     Ok(Served { outcome, written })
 }
 

@@ -38,6 +38,20 @@ fn gather_one<K: JournaledNode, R: Wait + Abort>(
     Ok(())
 }
 
+/// Gathers so many at node 0.
+fn gather<K: JournaledNode, R: Wait + Abort>(
+    rt: &R,
+    node: &SharedNode<K>,
+    other: &SharedNode<K>,
+    receipts: &mut ReceiptBuffer<K::Receipt>,
+) -> Result<(), OutOfMemory> {
+    for turn in 0..GATHERED {
+        let stepped = if is_denied(turn) { other } else { node };
+        gather_one(rt, stepped, node, receipts)?;
+    }
+    Ok(())
+}
+
 /// Many receipts are gathered at node 0, two of them of node 1: one that is looked for as room is made, and the last, which is looked for at the
 /// end.
 pub(crate) fn gather_many<K: JournaledNode, R: Wait + Abort>(
@@ -50,10 +64,7 @@ pub(crate) fn gather_many<K: JournaledNode, R: Wait + Abort>(
     admit(rt, node);
     admit(rt, other);
     let mut receipts = ReceiptBuffer::new(alloc);
-    for turn in 0..GATHERED {
-        let stepped = if is_denied(turn) { other } else { node };
-        gather_one(rt, stepped, node, &mut receipts)?;
-    }
-    node.audit_all(rt, &receipts);
-    Ok(())
+    let gathered = gather(rt, &**node, &**other, &mut receipts);
+    node.audit_all(rt, receipts);
+    gathered
 }

@@ -10,9 +10,10 @@ use cluster_history::{ClusterShape, HistoryName};
 use cluster_threads::Cluster;
 use memory_growth::OutOfMemory;
 use node_gate::JournaledNode;
-use node_housekeeping::{NoPause, Report};
+use node_housekeeping::NoPause;
 use node_journal::{Recorded, Unnamed};
 use obj_id::{Refusal, Reply};
+use shared_nodes::Totals;
 use std::alloc::Global;
 use std::io;
 use std::marker::Brand;
@@ -72,7 +73,7 @@ impl Trial {
     }
 
     /// What the report has to say once the cluster is closed. What Seal tells the directory is lost if memory runs out there.
-    fn check<R: Abort>(&self, rt: &R, report: &Report) {
+    fn check<R: Abort>(&self, rt: &R, report: &Totals) {
         let entries = report.entries;
         let receipts = (report.receipts, report.disagreeing);
         match self {
@@ -111,7 +112,7 @@ fn try_at<L: Ledger + HistoryName, S: ClusterShape, R: Threads + Wait + Clock + 
     let seats = unnamed.named::<L>();
     let cluster = Cluster::<Recorded<L, S>, _>::start(alloc, nodes, 1024, seats, NoPause)?;
     let carried_out = trial.carry_out(rt, alloc, &cluster);
-    let report = cluster.close(rt, Vec::new(alloc));
+    let report = cluster.close(rt, Vec::new(alloc)).totals();
     let as_due = carried_out?;
     holds!(rt; as_due || report.lost > 0);
     trial.check(rt, &report);

@@ -1,13 +1,14 @@
 //! The nodes of a process.
-ghost use Rattle.std.specs.Prelude.{◌≡◌, ◌↔◌, ◌≤◌, ◌<◌, vec_len, IfOk, IsSome};
+ghost use Rattle.std.specs.Prelude.{◌≡◌, ◌↔◌, ◌≤◌, ◌<◌, vec_len, IfOk, OnOk, IfSome, IsSome};
+ghost use Rattle.shared_nodes.specs.NodeLists.{AreNumbered};
 
 use crate::Working;
 use crate::receiving::receive;
-use memory_growth::{boxes, lists};
+use memory_growth::{OutOfMemory, boxes, lists};
 use node_gate::{ActorSource, JournaledNode, Posted, SeatedNode, nothing_beside};
-use node_housekeeping::{NoPause, Pause, Report, Waiting};
+use node_housekeeping::{NoPause, Pause, Waiting};
 use node_links::{Inbox, Outbox};
-use shared_nodes::SharedNode;
+use shared_nodes::{NodeList, Report, SharedNode};
 use std::alloc::Global;
 use std::sync::{Arc, Mutex, Wait};
 use std::thread::{JoinHandle, Threads};
@@ -19,7 +20,7 @@ const RECEIVERS: usize = 4;
 /// The nodes of a process, by number, with one directory and a way from each node to each other one.
 #[derive(Drop)]
 pub struct Cluster<K: JournaledNode, P = NoPause> {
-    nodes: Vec<Arc<SharedNode<K, P>>>,
+    nodes: Arc<NodeList<K, P>>,
     waiting: Arc<Waiting>,
     actors: ActorSource,
     // by node, while nobody receives from them
@@ -44,35 +45,19 @@ impl<K: JournaledNode, P: Pause> Cluster<K, P> {
         requires seats { (K.SeatedNode.parts seats ≡ nodes) × (K.SeatedNode.amount seats ≡ 0) }
         requires first { K.SeatedNode.next_number seats ≡ 0 }
         requires all { K.SeatedNode.all_parts ≡ nodes }
-        ensures { IfOk result (λ cluster. vec_len cluster.nodes ≡ nodes) }
+        ensures { IfOk result (λ cluster. vec_len cluster.nodes.value.nodes ≡ nodes) }
     {
         let mut seats = seats;
-        let mut stepped = Vec::new(alloc);
-        for number in 0..nodes {
-            let seat = K::split_seat(&mut seats);
-            lists::push(&mut stepped, K::seated(alloc, number, memory, seat))?;
-        }
+        let stepped = seat_all::<K>(alloc, nodes, memory, &mut seats)?;
         let directory = boxes::counted(alloc, Mutex::new(K::directory(alloc, seats)))?;
-        let mut all = Vec::new(alloc);
         let mut inboxes = Vec::new(alloc);
         for _ in 0..nodes {
             lists::push(&mut inboxes, Inbox::new(alloc, nodes.saturating_sub(1))?)?;
         }
         let waiting = boxes::counted(alloc, Waiting::new())?;
-        // the first one is taken out first
-        stepped.reverse();
-        for number in 0..nodes {
-            let Some(node) = stepped.pop() else {
-                unreachable!()
-            };
-            let outbox = Outbox::open(alloc, number as usize, &directory, &mut inboxes)?;
-            let woken = boxes::another(&waiting)?;
-            let paused = pause.clone()?;
-            let shared = SharedNode::new(alloc, node, outbox, woken, paused);
-            lists::push(&mut all, boxes::counted(alloc, shared)?)?;
-        }
+        let all = share_all(alloc, stepped, &directory, &mut inboxes, &waiting, &pause)?;
         Ok(Cluster {
-            nodes: all,
+            nodes: boxes::counted(alloc, all)?,
             waiting,
             actors: K::actors(),
             inboxes,
@@ -86,11 +71,11 @@ impl<K: JournaledNode, P: Pause> Cluster<K, P> {
     pub fn nothing_beside<R: Wait>(&self, rt: &R, other: &mut K::Share)
     where
         K: SeatedNode,
-        requires { vec_len self.now.nodes ≡ K.SeatedNode.all_parts }
+        requires { vec_len self.now.nodes.value.nodes ≡ K.SeatedNode.all_parts }
         ensures none { K.SeatedNode.parts other.old ≡ 0 }
         ensures same { (K.SeatedNode.parts other.new ≡ K.SeatedNode.parts other.old) × (K.SeatedNode.amount other.new ≡ K.SeatedNode.amount other.old) }
     {
-        nothing_beside(rt, &self.nodes, other);
+        nothing_beside(rt, self.nodes.as_slice(), other);
     }
 
     /// Lets each node receive what the others send it, in threads of its own. A cluster of one node has nothing to receive.
@@ -111,7 +96,7 @@ impl<K: JournaledNode, P: Pause> Cluster<K, P> {
         if inboxes.len() < 2 {
             return Ok(());
         }
-        for (number, inbox) in inboxes.into_iter().enumerate() {
+        for (number, inbox) in (0..u32::MAX).zip(inboxes) {
             self.receive_at(rt, number, inbox)?;
         }
         Ok(())
@@ -121,7 +106,7 @@ impl<K: JournaledNode, P: Pause> Cluster<K, P> {
     fn receive_at<R: Threads + Wait + Copy + Send + 'static>(
         &mut self,
         rt: R,
-        number: usize,
+        number: u32,
         inbox: Inbox<K::Posted>,
     ) -> io::Result<()>
     where
@@ -149,8 +134,10 @@ impl<K: JournaledNode, P: Pause> Cluster<K, P> {
     }
 
     /// Closes the links, and waits for what was accepted to be received. What is sent from then on is lost.
-    fn disconnect<R: Threads + Wait>(&mut self, rt: &R) {
-        for node in &self.nodes {
+    fn disconnect<R: Threads + Wait>(&mut self, rt: &R)
+        ensures { self.new.nodes ≡ self.old.nodes }
+    {
+        for node in self.nodes.as_slice() {
             node.close_ways(rt);
         }
         for thread in mem::replace(&mut self.receiving, Vec::new(self.alloc)) {
@@ -163,18 +150,26 @@ impl<K: JournaledNode, P: Pause> Cluster<K, P> {
         self.actors
     }
 
+    /// The nodes, by number.
+    pub fn nodes(&self) -> &Arc<NodeList<K, P>>
+        ensures { result.now ≡ self.now.nodes }
+    {
+        &self.nodes
+    }
+
     /// How many nodes there are.
     pub fn count(&self) -> usize
-        ensures { result ≡ vec_len self.now.nodes }
+        ensures { result ≡ vec_len self.now.nodes.value.nodes }
     {
-        self.nodes.len()
+        self.nodes.count()
     }
 
     /// The node of this number, if there is one.
     pub fn node(&self, number: u32) -> Option<&Arc<SharedNode<K, P>>>
-        ensures { IsSome result ↔ (number < vec_len self.now.nodes) }
+        ensures there { IsSome result ↔ (number < vec_len self.now.nodes.value.nodes) }
+        ensures which { IfSome result (λ node. node.now.value.number ≡ number) }
     {
-        self.nodes.get(number as usize)
+        self.nodes.get(number)
     }
 
     /// Shuts all nodes: who waits for another answer is answered Pending, and no listener takes a stream any more.
@@ -183,26 +178,63 @@ impl<K: JournaledNode, P: Pause> Cluster<K, P> {
     }
 
     /// Shuts all nodes, and waits for the open sessions, then for the links, and then for these workers: so what a session sent last
-    /// still arrives, and what an arrival leaves to be erased still is. At last it says what was counted.
-    pub fn close<R: Threads + Wait>(self, rt: &R, workers: Vec<Working<K, P>>) -> Report {
+    /// still arrives, and what an arrival leaves to be erased still is. At last it says what was counted, at each node once.
+    pub fn close<R: Threads + Wait>(self, rt: &R, workers: Vec<Working<K, P>>) -> Report
+        ensures { result.nodes ≡ vec_len self.nodes.value.nodes }
+    {
         let mut cluster = self;
         cluster.shut(rt);
-        for node in &cluster.nodes {
-            node.end_sessions(rt);
-        }
+        let ended = cluster.nodes.end_sessions(rt);
         cluster.disconnect(rt);
         for worker in workers {
             worker.end(rt);
         }
-        cluster.report(rt)
+        cluster.nodes.report(rt, &ended)
     }
+}
 
-    /// What was counted.
-    fn report<R: Wait>(&self, rt: &R) -> Report {
-        let mut report = Report::new();
-        for node in &self.nodes {
-            report.count(node.entries(rt), node.counted(rt));
-        }
-        report
+/// So many nodes, in the order of their numbers, each with so many bytes of memory and on one part of the name.
+#[tactic(auto, using(shared_nodes::proofs::ForCallers::pushed))]
+fn seat_all<K: SeatedNode>(
+    alloc: Global,
+    nodes: u32,
+    memory: u64,
+    seats: &mut K::Share,
+) -> Result<Vec<K>, OutOfMemory>
+    requires memory { K.may_have memory }
+    requires seats { (K.parts seats.old ≡ nodes) × (K.amount seats.old ≡ 0) }
+    requires first { K.next_number seats.old ≡ 0 }
+    requires all { K.all_parts ≡ nodes }
+    ensures count { IfOk result (λ stepped. vec_len stepped ≡ nodes) }
+    ensures numbered { IfOk result (λ stepped. AreNumbered stepped.items K.JournaledNode.node_number) }
+    ensures next { OnOk result (K.next_number seats.new ≡ nodes) }
+{
+    let mut stepped = Vec::new(alloc);
+    for number in 0..nodes {
+        let seat = K::split_seat(seats);
+        lists::push(&mut stepped, K::seated(alloc, number, memory, seat))?;
     }
+    Ok(stepped)
+}
+
+/// These nodes, each with its ways to the others and to the directory.
+fn share_all<K: JournaledNode, P: Pause>(
+    alloc: Global,
+    stepped: Vec<K>,
+    directory: &Arc<Mutex<<K::Posted as Posted>::Directory>>,
+    inboxes: &mut Vec<Inbox<K::Posted>>,
+    waiting: &Arc<Waiting>,
+    pause: &P,
+) -> io::Result<NodeList<K, P>>
+    requires { AreNumbered stepped.items K.node_number }
+    ensures { IfOk result (λ all. vec_len all.nodes ≡ vec_len stepped) }
+{
+    let mut all = NodeList::new(alloc);
+    for node in stepped {
+        let outbox = Outbox::open(alloc, all.count(), directory, inboxes)?;
+        let woken = boxes::another(waiting)?;
+        let shared = SharedNode::new(alloc, node, outbox, woken, pause.clone()?);
+        all.push(boxes::counted(alloc, shared)?)?;
+    }
+    Ok(all)
 }

@@ -43,5 +43,5 @@ fn receive_all<K: JournaledNode, P: Pause, R: Wait>(
         let lost = node.receive_one(rt, posted, &mut receipts);
         end_turn::<K, R>(rt, inbox, handing, lost, receipts.last());
     }
-    node.audit_all(rt, &receipts);
+    node.audit_all(rt, receipts);
 }

@@ -70,7 +70,7 @@ fn work_all<K: JournaledNode, P: Pause, R: Wait + Clock, D: SpillDevice + Drop>(
         go_on(rt, &node.upkeep().bell, done);
     }
     node.erase_keys(rt, &mut device);
-    node.audit_all(rt, &receipts);
+    node.audit_all(rt, receipts);
 }
 
 /// Asks for another round after one that came to something: more may wait. One that found no memory rests first.

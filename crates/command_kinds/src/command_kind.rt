@@ -1,6 +1,6 @@
 //! The kinds of commands, and what is known of a command by its kind.
 ghost use Rattle.std.specs.Prelude.{◌≡◌};
-ghost use Rattle.command_kinds.specs.Kinds.{awaited_kind_of, kind_of, traits_of};
+ghost use Rattle.command_kinds.specs.Kinds.{awaited_kind_of, kind_of, kind_word, traits_of};
 
 use crate::Outline;
 use obj_id::Command;
@@ -82,9 +82,39 @@ pub enum MostSent {
     EachCopyTwice,
 }
 
+/// Which part of a node carries a command out.
+#[derive(Clone, Copy, Debug, PartialEq, Eq)]
+pub enum Carrier {
+    /// The job's row, which may ask for works.
+    RowAndWorks,
+    /// The job's row, which asks for none.
+    Row,
+    /// The node, which looks at other jobs' rows too.
+    Node,
+    /// The node, which gives a grant or may end some.
+    Grants,
+}
+
+/// What is best made before a step.
+#[derive(Clone, Copy, Debug, PartialEq, Eq)]
+pub enum Prepares {
+    /// Nothing.
+    Nothing,
+    /// The digest of a copy's bytes.
+    Digest,
+    /// An extent for a copy that is new.
+    NewExtent,
+    /// An extent for a copy that is away, or on its way.
+    CopyExtent,
+}
+
 /// What is known of a kind of command.
 #[derive(Clone, Copy)]
 struct Traits {
+    // what carries it out
+    by: Carrier,
+    // what is best made before its step
+    prepares: Prepares,
     // it may take copies out of the job's window
     removes: bool,
     // it may change or remove a copy that isn't sealed
@@ -97,8 +127,10 @@ struct Traits {
     sends: MostSent,
 }
 
-/// Of a kind that does nothing of the sort.
+/// Of a kind that the row carries out, and that does nothing of the sort.
 const QUIET: Traits = Traits {
+    by: Carrier::Row,
+    prepares: Prepares::Nothing,
     removes: false,
     meets_seals: false,
     reaches_others: false,
@@ -159,6 +191,47 @@ impl CommandKind {
         self.traits().sends
     }
 
+    /// Which part of a node carries it out.
+    pub fn carrier(self) -> Carrier
+        ensures { result ≡ (traits_of self).by }
+    {
+        self.traits().by
+    }
+
+    /// What is best made before its step. For one that waits, what is for the command.
+    pub fn prepares(self) -> Prepares
+        ensures { result ≡ (traits_of self).prepares }
+    {
+        self.traits().prepares
+    }
+
+    /// Its word, in the lines of schedules and journals and in the counts that an operator is shown. Lines have no command that waits.
+    pub fn word(self) -> &'static str
+        ensures { result.now ≡ kind_word self }
+    {
+        match self {
+            CommandKind::Create => "create",
+            CommandKind::Write => "write",
+            CommandKind::Seal => "seal",
+            CommandKind::Get => "get",
+            CommandKind::Read => "read",
+            CommandKind::Release => "release",
+            CommandKind::Unpin => "unpin",
+            CommandKind::Borrow => "borrow",
+            CommandKind::GiveUp => "giveup",
+            CommandKind::Delete => "delete",
+            CommandKind::EndTask => "endtask",
+            CommandKind::Grant => "grant",
+            CommandKind::Withdraw => "withdraw",
+            CommandKind::Peek => "peek",
+            CommandKind::List => "list",
+            CommandKind::Usage => "usage",
+            CommandKind::Leave => "leave",
+            CommandKind::GetWait => "get-wait",
+            CommandKind::CreateWait => "create-wait",
+        }
+    }
+
     /// The table: a kind that is new has to be put somewhere.
     fn traits(self) -> Traits
         ensures { result ≡ traits_of self }
@@ -166,12 +239,16 @@ impl CommandKind {
         match self {
             // the directory is told of each copy that goes
             CommandKind::Create | CommandKind::CreateWait => Traits {
+                by: Carrier::RowAndWorks,
+                prepares: Prepares::NewExtent,
                 removes: true,
                 sends: MostSent::EachCopy,
                 ..QUIET
             },
             // and somebody is asked for the object
             CommandKind::Get | CommandKind::GetWait => Traits {
+                by: Carrier::RowAndWorks,
+                prepares: Prepares::CopyExtent,
                 removes: true,
                 sends: MostSent::EachCopyAndOne,
                 ..QUIET
@@ -181,11 +258,18 @@ impl CommandKind {
                 ..QUIET
             },
             CommandKind::Seal => Traits {
+                prepares: Prepares::Digest,
                 moved: Moved::Copies,
                 sends: MostSent::One,
                 ..QUIET
             },
-            CommandKind::Release | CommandKind::Withdraw | CommandKind::Leave => Traits {
+            CommandKind::Withdraw => Traits {
+                by: Carrier::Grants,
+                removes: true,
+                moved: Moved::Copies,
+                ..QUIET
+            },
+            CommandKind::Release | CommandKind::Leave => Traits {
                 removes: true,
                 moved: Moved::Copies,
                 ..QUIET
@@ -206,6 +290,7 @@ impl CommandKind {
             },
             // each copy may be doomed, and a borrow of each given up
             CommandKind::EndTask => Traits {
+                by: Carrier::Grants,
                 removes: true,
                 meets_seals: true,
                 moved: Moved::Fetches,
@@ -213,14 +298,15 @@ impl CommandKind {
                 ..QUIET
             },
             CommandKind::Grant => Traits {
+                by: Carrier::Grants,
                 reaches_others: true,
                 ..QUIET
             },
-            CommandKind::Read
-            | CommandKind::Borrow
-            | CommandKind::Peek
-            | CommandKind::List
-            | CommandKind::Usage => QUIET,
+            CommandKind::Peek | CommandKind::List => Traits {
+                by: Carrier::Node,
+                ..QUIET
+            },
+            CommandKind::Read | CommandKind::Borrow | CommandKind::Usage => QUIET,
         }
     }
 }

@@ -3,8 +3,10 @@
 
 mod command_kind;
 mod outline;
+mod payloads;
 mod preparation;
 
-pub use command_kind::{COMMAND_KINDS, CommandKind, KINDS, MostSent, Moved};
+pub use command_kind::{COMMAND_KINDS, Carrier, CommandKind, KINDS, MostSent, Moved, Prepares};
 pub use outline::{Outline, Subject};
+pub use payloads::without_payload;
 pub use preparation::Preparation;

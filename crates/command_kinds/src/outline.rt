@@ -1,7 +1,7 @@
 //! What a command names and carries.
 ghost use Rattle.std.specs.Prelude.{◌≡◌, None};
 ghost use Rattle.std.specs.Option.{option_copied};
-ghost use Rattle.command_kinds.specs.Kinds.{kind_of, payload_of, subject_of};
+ghost use Rattle.command_kinds.specs.Kinds.{kind_of, length_of, payload_of, subject_of};
 ghost use Rattle.command_kinds.specs.declared.outline.Subject.TheVariants as subject;
 
 use crate::CommandKind;
@@ -29,6 +29,8 @@ pub struct Outline<'c, P> {
     pub subject: Subject,
     /// What it has written.
     pub payload: Option<&'c P>,
+    /// How many bytes its copy is to have, if it is a Create.
+    pub length: Option<u32>,
 }
 
 impl<'c, P> Outline<'c, P> {
@@ -37,15 +39,26 @@ impl<'c, P> Outline<'c, P> {
         ensures kind { result.kind ≡ kind_of command.now }
         ensures subject { result.subject ≡ subject_of command.now }
         ensures payload { option_copied result.payload ≡ payload_of command.now }
+        ensures length { result.length ≡ length_of command.now }
     {
         match command {
-            Command::Create { id, .. } => Outline::own(CommandKind::Create, id),
+            Command::Create {
+                id,
+                length: len,
+                ..
+            } => Outline {
+                kind: CommandKind::Create,
+                subject: Subject::OwnObject(*id),
+                payload: None,
+                length: Some(*len),
+            },
             // it returns by itself: arms that go on together must keep the same references, and this one alone keeps one
             Command::Write { id, bytes, .. } => {
                 return Outline {
                     kind: CommandKind::Write,
                     subject: Subject::OwnObject(*id),
                     payload: Some(bytes),
+                    length: None,
                 };
             }
             Command::Seal(id) => Outline::own(CommandKind::Seal, id),
@@ -66,16 +79,18 @@ impl<'c, P> Outline<'c, P> {
         }
     }
 
-    /// Of a command without payload.
+    /// Of a command without payload, which makes no copy of a length.
     fn about(kind: CommandKind, subject: Subject) -> Outline<'c, P>
         ensures kind { result.kind ≡ kind }
         ensures subject { result.subject ≡ subject }
         ensures payload { option_copied result.payload ≡ None }
+        ensures length { result.length ≡ None }
     {
         Outline {
             kind,
             subject,
             payload: None,
+            length: None,
         }
     }
 
@@ -84,6 +99,7 @@ impl<'c, P> Outline<'c, P> {
         ensures kind { result.kind ≡ kind }
         ensures subject { result.subject ≡ subject.OwnObject id.now }
         ensures payload { option_copied result.payload ≡ None }
+        ensures length { result.length ≡ None }
     {
         Outline::about(kind, Subject::OwnObject(*id))
     }
@@ -93,6 +109,7 @@ impl<'c, P> Outline<'c, P> {
         ensures kind { result.kind ≡ kind }
         ensures subject { result.subject ≡ subject.AnyObject id.now }
         ensures payload { option_copied result.payload ≡ None }
+        ensures length { result.length ≡ None }
     {
         Outline::about(kind, Subject::AnyObject(*id))
     }

@@ -1,7 +1,8 @@
 //! What takes long and is best made before a command's step.
 ghost use Rattle.std.specs.Prelude.{◌≡◌};
-ghost use Rattle.command_kinds.specs.Kinds.{preparation_of};
+ghost use Rattle.command_kinds.specs.Kinds.{preparation_of, prepared};
 
+use crate::{Outline, Prepares, Subject};
 use obj_id::{Command, ObjectId};
 
 /// What a command's step may have use for, if the job's row is as it may be.
@@ -22,31 +23,25 @@ impl Preparation {
     pub fn of<P>(command: &Command<P>) -> Preparation
         ensures { result ≡ preparation_of command.now }
     {
-        match command {
-            Command::Create {
-                id,
-                length: len,
-                ..
-            } => Preparation::NewExtent {
-                id: *id,
-                length: *len,
+        let outline = Outline::of(command);
+        Preparation::by(outline.kind.prepares(), outline.subject, outline.length)
+    }
+
+    /// What a kind that prepares so has made for this, of which a copy may have so many bytes: for an own object alone.
+    fn by(prepares: Prepares, subject: Subject, length: Option<u32>) -> Preparation
+        ensures { result ≡ prepared prepares subject length }
+    {
+        match subject {
+            Subject::OwnObject(id) => match prepares {
+                Prepares::Nothing => Preparation::Nothing,
+                Prepares::Digest => Preparation::Digest(id),
+                Prepares::NewExtent => Preparation::NewExtent {
+                    id,
+                    length: length.unwrap_or(0),
+                },
+                Prepares::CopyExtent => Preparation::CopyExtent(id),
             },
-            Command::Seal(id) => Preparation::Digest(*id),
-            Command::Get(id) => Preparation::CopyExtent(*id),
-            Command::Write { .. }
-            | Command::Read { .. }
-            | Command::Release(_)
-            | Command::Unpin(..)
-            | Command::Borrow(..)
-            | Command::GiveUp(..)
-            | Command::Delete(_)
-            | Command::EndTask(_)
-            | Command::Grant(..)
-            | Command::Withdraw(..)
-            | Command::Peek { .. }
-            | Command::List
-            | Command::Usage
-            | Command::Leave => Preparation::Nothing,
+            Subject::AnyObject(_) | Subject::Task(_) | Subject::All => Preparation::Nothing,
         }
     }
 }

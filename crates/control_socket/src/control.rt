@@ -4,10 +4,9 @@ ghost use Rattle.std.specs.Arc.{arc_value};
 
 use memory_growth::{OutOfMemory, boxes, lists};
 use node_gate::JournaledNode;
-use node_housekeeping::Report;
 use operator_service::{Closed, Closing};
 use program_lines::Fault;
-use shared_nodes::{NodeList, SessionsShut};
+use shared_nodes::{NodeList, Report, SessionsShut};
 use std::alloc::Global;
 use std::net::Shutdown;
 use std::os::fd::AsRawFd;
@@ -354,30 +353,8 @@ impl<K: JournaledNode> Control<K> {
     /// waits for the report, and what was read of standard input is done. A connection that takes its answers too slowly is cut off.
     pub fn quiet<R: Wait + Clock>(&self, rt: &R) {
         self.course.shut(rt);
-        for node in self.nodes.as_slice() {
-            node.await_sessions(rt);
-        }
+        self.nodes.await_sessions(rt);
         self.course.quiet(rt);
-    }
-
-    /// Ends the sessions that are open once none begins any more: they answer what they were sent, and who takes no answer is cut off.
-    fn end_sessions<R: Wait, C: Clock>(&self, rt: &R, clock: &C) -> SessionsShut
-        ensures { result.nodes ≡ vec_len (arc_value self.now.nodes).nodes }
-    {
-        self.course.await_shut(rt);
-        let shut = self.nodes.shut_sessions(rt, Shutdown::Read);
-        for _ in 0..GRACE {
-            if self
-                .nodes
-                .as_slice()
-                .iter()
-                .all(|node| node.open_sessions(rt) == 0)
-            {
-                return shut;
-            }
-            thread::sleep(clock, Duration::from_millis(10));
-        }
-        self.nodes.shut_sessions(rt, Shutdown::Both)
     }
 }
 
@@ -389,22 +366,37 @@ pub struct Asking<'a, K: JournaledNode, C: Clock> {
     pub clock: &'a C,
 }
 
-impl<'a, K: JournaledNode, C: Clock> Closing for Asking<'a, K, C> {
-    ghost use Rattle.std.specs.Prelude.{⊤};
+impl<'a, N: JournaledNode, C: Clock> Asking<'a, N, C> {
+    /// Ends the sessions that are open at these nodes once none begins any more: they answer what they were sent, and who takes no answer is
+    /// cut off.
+    fn end_sessions<K: JournaledNode, R: Wait>(&self, rt: &R, nodes: &NodeList<K>) -> SessionsShut
+        ensures { result.nodes ≡ vec_len nodes.now.nodes }
+    {
+        self.control.course.await_shut(rt);
+        let shut = nodes.shut_sessions(rt, Shutdown::Read);
+        for _ in 0..GRACE {
+            if !nodes.have_sessions(rt) {
+                return shut;
+            }
+            thread::sleep(self.clock, Duration::from_millis(10));
+        }
+        nodes.shut_sessions(rt, Shutdown::Both)
+    }
+}
 
-    // threads end the server, and what they count no clause says
-    ghost closes = { λ asking now report. ⊤ };
-
-    fn close<R: Wait>(&self, rt: &R, now: bool) -> Closed {
+impl<'a, N: JournaledNode, C: Clock> Closing for Asking<'a, N, C> {
+    fn close<K: JournaledNode, R: Wait>(&self, rt: &R, nodes: &NodeList<K>, now: bool) -> Closed {
         self.control.course.stop(rt, None);
         let shut = if now {
-            Some(self.control.end_sessions(rt, self.clock))
+            Some(self.end_sessions(rt, nodes))
         } else {
             None
         };
+        let report = self.control.course.await_report(rt, self.stream);
         Closed {
             shut,
-            report: self.control.course.await_report(rt, self.stream),
+            // always of all: but of what lies under a lock a clause knows only what was looked at
+            report: report.filter(|report| report.nodes() == nodes.count() as u64),
         }
     }
 }

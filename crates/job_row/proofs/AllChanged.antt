@@ -7,7 +7,7 @@ use Rattle.private_store.specs.rules.Tables.{ById, at}
 use Rattle.private_store.specs.rules.Copies.{extent_of}
 use Rattle.store_facts.proofs.Tests.{some_value, none_some}
 use Rattle.job_row.specs.Entries.{all_changed}
-use Rattle.job_row.specs.CopyViews.{CopyView, after_leave}
+use Rattle.row_copy.specs.CopyViews.{CopyView, after_leave}
 use Rattle.job_row.specs.Row.{place_of, ArePlaced}
 use Rattle.job_row.proofs.Places.{same_places}
 

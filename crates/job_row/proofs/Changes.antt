@@ -1,6 +1,6 @@
 -- A change written through what a map of copies lends.
-use Rattle.std.proofs.Common.{◌≡◌, true, not, cond, List, [], ◌∷◌, Option, Some, None, refl, sym, ap, ◌∙◌}
-use Rattle.std.specs.Prelude.{false, OnOk, OnErr, Ok, Err}
+use Rattle.std.proofs.Common.{◌≡◌, not, cond, List, [], ◌∷◌, Option, Some, None, refl, sym, ap, ◌∙◌}
+use Rattle.std.specs.Prelude.{OnOk, OnErr, Ok, Err}
 use Rattle.std.specs.declared.result.Result.{Result}
 use Rattle.std.specs.Option.{option_map_or}
 use Rattle.std.specs.Map.{lookup, set_value}

@@ -11,7 +11,7 @@ use Rattle.store_facts.proofs.Filling.{below_none}
 use Rattle.store_facts.proofs.Tests.{and_left, none_some}
 use Rattle.private_store.specs.rules.Tables.{ById, at, with_entry, without_entry}
 use Rattle.job_row.specs.Entries.{changed}
-use Rattle.job_row.specs.CopyViews.{CopyView}
+use Rattle.row_copy.specs.CopyViews.{CopyView}
 use Rattle.job_row.specs.Row.{copies_of}
 use Rattle.job_row.proofs.Changes.{changed-found}
 

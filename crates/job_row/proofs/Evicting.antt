@@ -21,7 +21,7 @@ use Rattle.store_facts.proofs.Tests.{and_right, none_some, some_value, or_right}
 use Rattle.lru_evictor.specs.Orders.{without_id}
 use Rattle.job_row.specs.Entries.{changed}
 use Rattle.job_row.specs.Evicting.{has_secondary, evicted_one, all_evicted, removals, without_missing}
-use Rattle.job_row.specs.CopyViews.{CopyView, can_go_away, after_eviction}
+use Rattle.row_copy.specs.CopyViews.{CopyView, can_go_away, after_eviction}
 use Rattle.job_row.specs.Row.{copies_of}
 use Rattle.job_row.proofs.Changes.{changed-found, changed-absent}
 use Rattle.job_row.proofs.CopyTables.{at-first, at-rest, at-copies, copies-changed, copies-without}

@@ -18,7 +18,7 @@ use Rattle.lru_evictor.specs.declared.facts.EvictionInfo.{EvictionInfo}
 use Rattle.lru_evictor.specs.Facts.{info_of, nowhere, info_at}
 use Rattle.lru_evictor.specs.Orders.{order_ids, AllPass, OthersPass, same_bool, same_extent, same_info, info_in, may_lie, stood, begins_in, can_insert, info_with_resident}
 use Rattle.lru_evictor.proofs.ForCallers.{same_standing-equal}
-use Rattle.job_row.specs.CopyViews.{CopyView, after_eviction}
+use Rattle.row_copy.specs.CopyViews.{CopyView, after_eviction}
 use Rattle.job_row.specs.RowFacts.{row_facts_of}
 use Rattle.job_row.specs.Entries.{by_rising_id, changed, each_changed}
 use Rattle.job_row.specs.Evicting.{has_secondary, evicted_one, all_evicted}

@@ -2,8 +2,6 @@
 
 -- a table each entry of which was changed
 pub use Rattle.job_row.proofs.AllChanged.{found_all, from_all}
--- a copy that the directory was asked for
-pub use Rattle.job_row.proofs.AwaitedSources.{awaits_parts}
 -- a table with an entry changed
 pub use Rattle.job_row.proofs.Changes.{changed-absent, changed-found}
 -- a row's copies as its store's table has them
@@ -16,8 +14,6 @@ pub use Rattle.job_row.proofs.FreedPlaces.{found_left, left_placed, lost_placed}
 pub use Rattle.job_row.proofs.LendChecks.{lend-by}
 -- a sorted table has each id once
 pub use Rattle.job_row.proofs.Listed.{distinct_from_sorted}
--- which marks leave a copy where it lies
-pub use Rattle.job_row.proofs.MarkedPlaces.{same_copy, scoped-keeps}
 -- what is in a list
 pub use Rattle.job_row.proofs.Members.{first_in, later_in, nothing_in, one_of}
 -- where copies lie after a change

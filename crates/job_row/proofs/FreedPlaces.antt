@@ -15,14 +15,14 @@ use Rattle.store_facts.proofs.Rows.{at-drop, at-put}
 use Rattle.store_facts.proofs.Tests.{none_some, false_true}
 use Rattle.job_region.specs.Region.{without}
 use Rattle.job_row.specs.Entries.{changed}
-use Rattle.job_row.specs.CopyViews.{CopyView, after_failed_restore}
+use Rattle.row_copy.specs.CopyViews.{CopyView, after_failed_restore}
 use Rattle.job_row.specs.Row.{place_of, ArePlaced}
 use Rattle.lru_evictor.proofs.ForCallers.{goes}
 use Rattle.job_row.proofs.Changes.{changed-found, changed-absent}
 use Rattle.job_row.proofs.Places.{same_places}
 use Rattle.job_row.proofs.Replacing.{lookup-without, left_in}
 use Rattle.private_store.specs.declared.faults.FetchFault.{FetchFault}
-use Rattle.job_row.specs.Arriving.{after_failed_fetch}
+use Rattle.row_copy.specs.Arriving.{after_failed_fetch}
 
 module _ (placed : List (ℕ × List ℕ)) (es : ById CopyView) (h : ArePlaced placed (place_of es)) (id : ObjectId) where
   abbrev pub gone : List Extent

@@ -10,13 +10,15 @@ use Rattle.obj_id.specs.Ids.{id_eq}
 use Rattle.private_store.specs.rules.Tables.{ById, at}
 use Rattle.lru_evictor.specs.Facts.{info_at}
 use Rattle.job_row.specs.Entries.{by_rising_id, changed}
-use Rattle.job_row.specs.declared.copy.Held.{Held}
-use Rattle.job_row.specs.declared.copy.AfterChange.{AfterChange}
-use Rattle.job_row.specs.CopyViews.{CopyView, is_ready, after_hold}
-use Rattle.job_row.specs.Dropping.{is_over, is_over_at, after_change}
+use Rattle.job_row.specs.declared.standing.Held.{Held}
+use Rattle.job_row.specs.declared.standing.AfterChange.{AfterChange}
+use Rattle.row_copy.specs.CopyViews.{CopyView, is_ready, after_hold}
+use Rattle.row_copy.specs.Keeping.{is_over}
+use Rattle.job_row.specs.Dropping.{is_over_at, after_change}
 use Rattle.job_row.specs.Counted.{footprint_by}
 use Rattle.job_row.specs.InSync.{facts_in}
-use Rattle.job_row.specs.Holding.{IsHeld, IsUnready, IsHoldRefused, IsHeldAt, IsUnreadyAt, IsHoldRefusedAt}
+use Rattle.row_copy.specs.Holding.{IsUnready, IsHoldRefused}
+use Rattle.job_row.specs.Holding.{IsHeldWithInfo, IsHeldAt, IsUnreadyAt, IsHoldRefusedAt}
 use Rattle.job_row.proofs.Changes.{written, unwritten, checked_there, checked_absent, at-changed_here}
 use Rattle.job_row.proofs.FollowsCopies.{standing_found}
 
@@ -24,11 +26,11 @@ module _ (session : ℕ) (id : ObjectId) (es : List (ObjectId × CopyView)) (now
   there : at now id ≡ Some x
   there = checked_there (λ (o : Option CopyView). o) id es now x seen found
 
-  pub held_at : (r : Result (Option Held) Failure) → IfOk r (λ o. IfSome o (λ response. IsHeld x session response y)) → IfOk r (λ o. IfSome o (λ response. IsHeldAt now session id response (by_rising_id new)))
+  pub held_at : (r : Result (Option Held) Failure) → IfOk r (λ o. IfSome o (λ response. IsHeldWithInfo x session response y)) → IfOk r (λ o. IfSome o (λ response. IsHeldAt now session id response (by_rising_id new)))
   held_at (Ok (Some response)) h =
-      let copies = written (after_hold session) id es now seen new x y found h.copy set in
-      let after : at (by_rising_id new) id ≡ Some y = ap (λ t. at t id) copies ∙ at-changed_here (after_hold session) id now x there ∙ ap Some (sym h.copy) in
-      record { kept = x; found = there; ready = h.ready; passed = h.passed; length = h.length; eviction_info = h.eviction_info ∙ sym (standing_found (by_rising_id new) id y after); copies = copies }
+      let copies = written (after_hold session) id es now seen new x y found h.held.copy set in
+      let after : at (by_rising_id new) id ≡ Some y = ap (λ t. at t id) copies ∙ at-changed_here (after_hold session) id now x there ∙ ap Some (sym h.held.copy) in
+      record { kept = x; found = there; ready = h.held.ready; passed = h.held.passed; length = h.held.length; eviction_info = h.eviction_info ∙ sym (standing_found (by_rising_id new) id y after); copies = copies }
   held_at (Ok None) h = tt
   held_at (Err e) h = tt
 
@@ -42,8 +44,8 @@ module _ (session : ℕ) (id : ObjectId) (es : List (ObjectId × CopyView)) (now
   refused_at (Err e) h = record { kept = x; found = there; ready = h.ready; refused = h.refused; late = h.late; same = unwritten (after_hold session) id es now seen new x y found h.same set }
 
 -- a hold takes no bytes
-pub taken-held : (session : ℕ) (x y : CopyView) (r : Result (Option Held) Failure) → IfOk r (λ o. IfSome o (λ response. IsHeld x session response y)) → IfOk r (λ o. IfNone o (IsUnready x y)) → IfErr r (λ failure. IsHoldRefused x failure y) → footprint_by y ≡ footprint_by x
-taken-held session x y (Ok (Some response)) some none refused = ap footprint_by some.copy
+pub taken-held : (session : ℕ) (x y : CopyView) (r : Result (Option Held) Failure) → IfOk r (λ o. IfSome o (λ response. IsHeldWithInfo x session response y)) → IfOk r (λ o. IfNone o (IsUnready x y)) → IfErr r (λ failure. IsHoldRefused x failure y) → footprint_by y ≡ footprint_by x
+taken-held session x y (Ok (Some response)) some none refused = ap footprint_by some.held.copy
 taken-held session x y (Ok None) some none refused = ap footprint_by none.same
 taken-held session x y (Err e) some none refused = ap footprint_by refused.same
 

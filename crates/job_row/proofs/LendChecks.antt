@@ -7,7 +7,7 @@ use Rattle.private_store.specs.rules.Tables.{ById, at}
 use Rattle.private_store.specs.rules.Shape.{Copy}
 use Rattle.private_store.specs.rules.Commands.{bytes_checks}
 use Rattle.private_store.specs.rules.Shared.{first_refusal}
-use Rattle.job_row.specs.CopyViews.{CopyView}
+use Rattle.row_copy.specs.CopyViews.{CopyView}
 use Rattle.job_row.specs.Row.{copies_of}
 use Rattle.job_row.specs.Checks.{lend_check}
 use Rattle.job_row.proofs.CopyTables.{at-copies}

@@ -4,7 +4,6 @@ mod Places
 mod Rising
 mod Holding
 mod Indexed
-mod MarkedPlaces
 mod Totals
 mod Sums
 mod Removing
@@ -14,7 +13,6 @@ mod Shared
 mod Listed
 mod FollowsCopies
 mod AllChanged
-mod AwaitedSources
 mod FreedPlaces
 mod LendChecks
 mod Members

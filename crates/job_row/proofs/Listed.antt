@@ -20,8 +20,8 @@ use Rattle.private_store.specs.rules.Tables.{ById, at}
 use Rattle.store_facts.proofs.ObjectMaps.{at-lookup}
 use Rattle.store_facts.proofs.Tests.{true_false, and_left, and_right}
 use Rattle.job_row.specs.Entries.{by_rising_id}
-use Rattle.job_row.specs.CopyViews.{CopyView}
-use Rattle.job_row.specs.Usages.{own_item_of}
+use Rattle.row_copy.specs.CopyViews.{CopyView}
+use Rattle.row_copy.specs.Usages.{own_item_of}
 use Rattle.job_row.proofs.Rising.{rising-all}
 
 -- the items, each with its id

@@ -25,7 +25,7 @@ use Rattle.lru_evictor.specs.Orders.{without_id, last_used}
 use Rattle.lru_evictor.proofs.ForCallers.{goes, without-permuted}
 use Rattle.job_row.specs.Evicting.{all_evicted}
 use Rattle.job_row.specs.InSync.{LiesAlone}
-use Rattle.job_row.specs.CopyViews.{CopyView, after_eviction}
+use Rattle.row_copy.specs.CopyViews.{CopyView, after_eviction}
 use Rattle.job_row.specs.RowFacts.{row_facts_of}
 use Rattle.job_row.specs.Row.{place_of, ArePlaced}
 use Rattle.job_row.proofs.Evicting.{evicted_of, at-evicted}

@@ -11,12 +11,13 @@ use Rattle.store_facts.proofs.Rows.{at-drop}
 use Rattle.store_facts.proofs.Tests.{none_some}
 use Rattle.private_store.specs.rules.Tables.{ById, at, without_entry}
 use Rattle.private_store.specs.rules.Private.{key_of}
-use Rattle.job_row.specs.CopyViews.{CopyView}
+use Rattle.row_copy.specs.CopyViews.{CopyView}
 use Rattle.job_row.specs.Row.{Row}
 use Rattle.job_row.specs.RowFacts.{row_facts_of}
 use Rattle.job_row.specs.InSync.{facts_in}
 use Rattle.job_row.specs.Entries.{by_rising_id, changed}
-use Rattle.job_row.specs.Dropping.{dropped, is_over, is_over_at, over_copy, settled_copies, settled_row, keys_settled}
+use Rattle.job_row.specs.Dropping.{dropped, is_over_at, over_copy, settled_copies, settled_row, keys_settled}
+use Rattle.row_copy.specs.Keeping.{is_over}
 use Rattle.job_row.proofs.Changes.{written, found_rising, changed-absent, at-changed_here}
 
 pub row_kept : (row : Row) (id : ObjectId) → is_over_at row.copies id ≡ false → settled_row row id ≡ row

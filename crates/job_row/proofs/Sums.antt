@@ -14,8 +14,9 @@ use Rattle.private_store.specs.rules.Tables.{ById}
 use Rattle.store_facts.proofs.Tests.{some_value}
 use Rattle.job_row.specs.declared.footprint.Footprint.{Footprint}
 use Rattle.job_row.specs.Entries.{by_rising_id}
-use Rattle.job_row.specs.CopyViews.{CopyView}
-use Rattle.job_row.specs.Usages.{window_bytes, device_bytes, total}
+use Rattle.row_copy.specs.CopyViews.{CopyView}
+use Rattle.row_copy.specs.Usages.{window_bytes, device_bytes}
+use Rattle.job_row.specs.Usages.{total}
 use Rattle.job_row.specs.Counted.{capped, nothing, footprint_by, capped_sum, footprint_of, exchanged, CanExchange}
 use Rattle.job_row.proofs.Rising.{total-rising}
 

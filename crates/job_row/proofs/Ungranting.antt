@@ -10,7 +10,7 @@ use Rattle.private_store.specs.rules.Copies.{extent_of}
 use Rattle.store_facts.proofs.Tests.{none_some, some_value}
 use Rattle.job_row.specs.Entries.{by_rising_id}
 use Rattle.job_row.specs.EndingTasks.{copies_ungranted}
-use Rattle.job_row.specs.CopyViews.{CopyView, after_grants_ended}
+use Rattle.row_copy.specs.CopyViews.{CopyView, after_grants_ended}
 use Rattle.job_row.specs.Row.{copies_of, place_of, ArePlaced}
 use Rattle.job_row.proofs.Places.{same_places}
 use Rattle.job_row.proofs.Rising.{each-rising}

@@ -9,9 +9,9 @@ use Rattle.private_store.specs.rules.Extents.{rounded}
 use Rattle.obj_id.specs.declared.works.Extent.{Extent}
 use Rattle.store_facts.proofs.Tests.{both_left, both_right, true_false}
 use Rattle.job_row.specs.Evicting.{used_last}
-use Rattle.job_row.specs.CopyViews.{CopyView, waits_for_place, after_placing}
-use Rattle.job_row.specs.declared.copy.Awaited.{Awaited}
-use Rattle.job_row.specs.declared.copy.Awaited.TheVariants.{Chunks, Device}
+use Rattle.row_copy.specs.CopyViews.{CopyView, waits_for_place, after_placing}
+use Rattle.row_copy.specs.declared.marks.Awaited.{Awaited}
+use Rattle.row_copy.specs.declared.marks.Awaited.TheVariants.{Chunks, Device}
 use Rattle.job_row.specs.Row.{place_of}
 
 -- a copy that waits for a place of n bytes

@@ -1,32 +1,29 @@
 -- Why a command can't be carried out, in the order of its checks; its own job's object is meant.
-use Rattle.std.specs.Prelude.{ℕ, nat_lt, Bool, ◌||◌, length, if◌then◌else◌, List, ◌∷◌, Option, Some, None, Result, Ok, Err, ◌≡◌, false, not}
+use Rattle.std.specs.Prelude.{ℕ, nat_lt, Bool, ◌||◌, length, if◌then◌else◌, List, Option, Some, None, Result, Ok, Err, false}
 use Rattle.std.specs.Option.{option_map_or, option_and_then}
 use Rattle.obj_id.specs.declared.ids.ObjectId.{ObjectId}
 use Rattle.obj_id.specs.declared.commands.Command.{Command}
 use Rattle.obj_id.specs.declared.commands.Command.TheVariants as command
 use Rattle.obj_id.specs.declared.commands.CopyState.{CopyState}
 use Rattle.obj_id.specs.declared.refusals.Refusal.{Refusal}
-use Rattle.obj_id.specs.declared.refusals.Refusal.TheVariants.{BadSize, Gone, Absent, NotResident}
+use Rattle.obj_id.specs.declared.refusals.Refusal.TheVariants.{BadSize, Gone, Absent}
 use Rattle.obj_id.specs.declared.ids.TaskNo.{TaskNo}
 use Rattle.obj_id.specs.Ids.{same_task}
 use Rattle.private_store.specs.rules.Limits.{most_bytes}
 use Rattle.private_store.specs.rules.Tables.{ById, at}
 use Rattle.private_store.specs.rules.Extents.{is_size}
-use Rattle.private_store.specs.rules.Shape.{Copy, Fetch, Phase, sized}
-use Rattle.private_store.specs.rules.Commands.{create_checks, write_checks, seal_checks, hold_checks, fetch_checks, bytes_checks, read_checks, release_checks, unpin_checks, borrow_checks, give_up_checks, delete_checks, end_task_checks, is_sealed_primary}
+use Rattle.private_store.specs.rules.Shape.{Copy, Phase, sized}
+use Rattle.private_store.specs.rules.Commands.{create_checks, write_checks, seal_checks, fetch_checks, bytes_checks, read_checks, release_checks, unpin_checks, borrow_checks, give_up_checks, delete_checks, end_task_checks}
 use Rattle.private_store.specs.rules.Shared.{first_refusal}
 use Rattle.private_store.specs.declared.faults.Fault.{Fault}
 use Rattle.private_store.specs.laws.Invariants.{is_remembered}
-use Rattle.job_row.specs.CopyViews.{CopyView}
+use Rattle.row_copy.specs.CopyViews.{CopyView}
 use Rattle.job_row.specs.Row.{Row}
+use Rattle.row_copy.specs.Checks.{unless_doomed}
 
 -- by the checks of the id's copy
 abbrev pub check_at : {X : Type 0} → ById X → ObjectId → (X → List (Bool × Refusal)) → Option Refusal
 check_at copies id checks = elim (at copies id) [ None ↦ Some Absent | Some kept ↦ first_refusal (checks kept) ]
-
--- a doomed copy isn't seen
-abbrev pub unless_doomed : CopyView → List (Bool × Refusal) → List (Bool × Refusal)
-unless_doomed kept checks = (kept.copy.doomed, Absent) ∷ checks
 
 abbrev pub write_check : ById CopyView → ObjectId → ℕ → ℕ → Option Refusal
 write_check copies id offset n =
@@ -43,16 +40,8 @@ read_check copies session id offset n =
 abbrev pub lend_check : ById Copy → ℕ → ObjectId → Option Refusal
 lend_check copies session id = check_at copies id (λ copy. bytes_checks copy session)
 
--- of a copy that is there
-abbrev pub release_check_of : CopyView → ℕ → Option Refusal
-release_check_of kept session = first_refusal (release_checks kept.copy session)
-
 abbrev pub release_check : ById CopyView → ℕ → ObjectId → Option Refusal
 release_check copies session id = check_at copies id (λ kept. release_checks kept.copy session)
-
--- whether one more hold is too many
-abbrev pub hold_check_of : CopyView → Option Refusal
-hold_check_of kept = first_refusal (hold_checks kept.copy)
 
 -- whether another copy is too many, or no number is left for its fetch
 abbrev pub fetch_check : ById CopyView → ℕ → Option Refusal
@@ -62,10 +51,6 @@ fetch_check copies begun = first_refusal (fetch_checks (length copies) begun)
 
 abbrev pub unpin_check : ById CopyView → ObjectId → TaskNo → Option Refusal
 unpin_check copies id task = check_at copies id (λ kept. unless_doomed kept (unpin_checks kept.copy (same_task task id.task)))
-
--- of a copy that is there and isn't doomed
-abbrev pub borrow_check_of : CopyView → TaskNo → Option Refusal
-borrow_check_of kept task = first_refusal (borrow_checks kept.copy task)
 
 -- where neither task has ended
 abbrev pub borrow_check : ById CopyView → ObjectId → TaskNo → Option Refusal
@@ -117,15 +102,3 @@ can_pull window copy _ = false
 abbrev pub can_pull_at : Row → ObjectId → Bool
 can_pull_at row id =
     option_map_or (λ kept. option_map_or (λ fetch. can_pull row.window.quota kept.copy fetch.phase) kept.copy.fetch false) (at row.copies id) false
-
--- the copy is in a fetch, and that in this phase
-pub record IsInPhase (copy : Copy) (phase : Phase) : Type 0 where
-  pub fetch : Fetch
-  pub found : copy.fetch ≡ Some fetch
-  pub is : fetch.phase ≡ phase
-
--- of a copy that is there, where this is what the table of grants says
-abbrev pub grant_check_of : CopyView → Option Refusal → Option Refusal
-grant_check_of kept table =
-    if kept.copy.doomed then Some Absent else
-    (if not (is_sealed_primary kept.copy) then Some NotResident else table)

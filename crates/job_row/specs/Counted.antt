@@ -2,8 +2,8 @@
 use Rattle.std.specs.Prelude.{ℕ, ◌+◌, ◌-◌, ◌^◌, ◌<◌, ◌≤◌, min, sum_by}
 use Rattle.private_store.specs.rules.Tables.{ById}
 use Rattle.job_row.specs.declared.footprint.Footprint.{Footprint}
-use Rattle.job_row.specs.CopyViews.{CopyView}
-use Rattle.job_row.specs.Usages.{window_bytes, device_bytes}
+use Rattle.row_copy.specs.CopyViews.{CopyView}
+use Rattle.row_copy.specs.Usages.{window_bytes, device_bytes}
 
 -- a number, as far as 64 bits have room for it
 abbrev pub capped : ℕ → ℕ

@@ -1,5 +1,5 @@
--- A row without one of its copies, and a copy that nothing keeps any more.
-use Rattle.std.specs.Prelude.{ℕ, Bool, false, ◌&&◌, if◌then◌else◌, List, [], ◌∷◌, ◌++◌, Option, None, option_to_list}
+-- A row without one of its copies, and without one that nothing keeps any more.
+use Rattle.std.specs.Prelude.{ℕ, Bool, false, if◌then◌else◌, List, [], ◌∷◌, ◌++◌, Option, None, option_to_list}
 use Rattle.std.specs.Option.{option_map, option_map_or}
 use Rattle.obj_id.specs.declared.ids.ObjectId.{ObjectId}
 use Rattle.obj_id.specs.declared.works.DeviceKey.{DeviceKey}
@@ -8,10 +8,11 @@ use Rattle.private_store.specs.rules.Private.{key_of}
 use Rattle.job_region.specs.Region.{without}
 use Rattle.lru_evictor.specs.Facts.{info_of}
 use Rattle.lru_evictor.specs.Orders.{without_id}
-use Rattle.job_row.specs.declared.copy.AfterChange.{AfterChange}
+use Rattle.job_row.specs.declared.standing.AfterChange.{AfterChange}
 use Rattle.job_row.specs.Entries.{changed}
-use Rattle.job_row.specs.CopyViews.{CopyView, after_leave}
-use Rattle.job_row.specs.RowFacts.{is_idle_view, row_facts_of}
+use Rattle.row_copy.specs.CopyViews.{CopyView, after_leave}
+use Rattle.row_copy.specs.Keeping.{is_over}
+use Rattle.job_row.specs.RowFacts.{row_facts_of}
 use Rattle.job_row.specs.Row.{Row, place_of}
 
 -- the copy is removed, and its place is free
@@ -23,11 +24,7 @@ dropped row id =
       order = without_id id row.order;
     }
 
--- whether a copy is removed as soon as it is looked at: it is doomed, and nothing keeps it
-abbrev pub is_over : CopyView → Bool
-is_over kept = kept.copy.doomed && is_idle_view kept
-
--- whether the copy of an id is; not if there is none
+-- whether the copy of an id is to be removed as soon as it is looked at; not if there is none
 abbrev pub is_over_at : ById CopyView → ObjectId → Bool
 is_over_at copies id = option_map_or is_over (at copies id) false
 

@@ -12,7 +12,7 @@ use Rattle.private_store.specs.rules.Commands.{has_borrower}
 use Rattle.private_store.specs.rules.Private.{Post}
 use Rattle.job_row.specs.Dropping.{settled_row}
 use Rattle.job_row.specs.Ending.{key_at}
-use Rattle.job_row.specs.CopyViews.{CopyView, after_doom, after_give_up, after_grants_ended}
+use Rattle.row_copy.specs.CopyViews.{CopyView, after_doom, after_give_up, after_grants_ended}
 use Rattle.job_row.specs.Row.{Row}
 use Rattle.job_row.specs.Scope.{removal_notice_at, notice_posts, with_copy}
 

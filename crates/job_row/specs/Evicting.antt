@@ -10,12 +10,13 @@ use Rattle.obj_id.specs.declared.messages.DirectoryMessage.TheVariants.{RemoveLo
 use Rattle.obj_id.specs.Kinds.{is_primary}
 use Rattle.private_store.specs.rules.Tables.{ById, at, with_entry, without_entry, is_among}
 use Rattle.private_store.specs.rules.Extents.{rounded, first}
+use Rattle.private_store.specs.rules.Copies.{is_sealed}
 use Rattle.private_store.specs.rules.Private.{Post, to_directory}
 use Rattle.private_store.specs.rules.Step.{is_used}
 use Rattle.job_region.specs.Region.{put_in, without, extents_of}
 use Rattle.lru_evictor.specs.Facts.{gone_of}
 use Rattle.job_row.specs.Entries.{changed}
-use Rattle.job_row.specs.CopyViews.{CopyView, after_eviction, is_sealed_at}
+use Rattle.row_copy.specs.CopyViews.{CopyView, after_eviction}
 use Rattle.job_row.specs.RowFacts.{row_facts_of}
 use Rattle.job_row.specs.Row.{Row}
 use Rattle.job_row.specs.declared.placement.Placement.{Placement}
@@ -62,6 +63,10 @@ pub record IsPlacement (row : Row) (n : ℕ) (p : Placement) : Type 0 where
   pub gone : without p.gone.items row.window.placed ≡ placed_without row p.victims
   pub rising : IsNonDecreasingBy (λ (e : Extent). e.offset) p.gone.items
   pub first : first (extents_of (placed_without row p.victims)) row.window.quota n ≡ Some p.offset
+
+-- whether the object has a copy that is sealed
+abbrev pub is_sealed_at : ById CopyView → ObjectId → Bool
+is_sealed_at copies id = option_map_or (λ kept. is_sealed kept.copy.state) (at copies id) false
 
 -- these ids are of sealed copies, and no more than there are
 pub record MayGo (copies : ById CopyView) (victims : List ObjectId) : Type 0 where

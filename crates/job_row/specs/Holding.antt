@@ -9,35 +9,21 @@ use Rattle.obj_id.specs.declared.refusals.Failure.TheVariants.{Refused, Memory}
 use Rattle.private_store.specs.rules.Tables.{ById, at}
 use Rattle.lru_evictor.specs.Facts.{info_of, info_at}
 use Rattle.lru_evictor.specs.Orders.{touched}
-use Rattle.job_row.specs.declared.copy.Held.{Held}
-use Rattle.job_row.specs.Checks.{hold_check_of}
+use Rattle.job_row.specs.declared.standing.Held.{Held}
+use Rattle.row_copy.specs.Checks.{hold_check_of}
 use Rattle.job_row.specs.Entries.{changed}
 use Rattle.job_row.specs.InSync.{facts_in}
-use Rattle.job_row.specs.CopyViews.{CopyView, is_ready, after_hold}
+use Rattle.row_copy.specs.CopyViews.{CopyView, is_ready, after_hold}
+use Rattle.row_copy.specs.Holding.{IsHeld}
 use Rattle.job_row.specs.RowFacts.{row_facts_of}
 use Rattle.job_row.specs.Row.{Row}
 
 -- ---- of one copy
 
--- the copy is ready, and has one more hold: this is told of it
-pub record IsHeld (old : CopyView) (session : ℕ) (response : Held) (new : CopyView) : Type 0 where
-  pub ready : is_ready old.copy ≡ true
-  pub passed : hold_check_of old ≡ None
-  pub length : response.length ≡ old.copy.length
+-- the copy has one more hold, and this is told of it
+pub record IsHeldWithInfo (old : CopyView) (session : ℕ) (response : Held) (new : CopyView) : Type 0 where
+  pub held : IsHeld old session response.length new
   pub eviction_info : response.eviction_info ≡ info_of (row_facts_of new)
-  pub copy : new ≡ after_hold session old
-
--- it isn't ready
-pub record IsUnready (old new : CopyView) : Type 0 where
-  pub unready : is_ready old.copy ≡ false
-  pub same : new ≡ old
-
--- it is ready, and can't have one more
-pub record IsHoldRefused (old : CopyView) (failure : Failure) (new : CopyView) : Type 0 where
-  pub ready : is_ready old.copy ≡ true
-  pub refused : (r : Refusal) → failure ≡ Refused r → hold_check_of old ≡ Some r
-  pub late : (m : OutOfMemory) → failure ≡ Memory m → hold_check_of old ≡ None
-  pub same : new ≡ old
 
 -- ---- of the copies of a job, where the one of an id is meant
 

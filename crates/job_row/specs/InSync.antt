@@ -9,7 +9,7 @@ use Rattle.lru_evictor.specs.declared.facts.CopyFacts.{CopyFacts}
 use Rattle.lru_evictor.specs.declared.facts.EvictionInfo.{EvictionInfo}
 use Rattle.lru_evictor.specs.Facts.{info_at}
 use Rattle.lru_evictor.specs.Orders.{AllPass, same_info, may_lie}
-use Rattle.job_row.specs.CopyViews.{CopyView}
+use Rattle.row_copy.specs.CopyViews.{CopyView}
 use Rattle.job_row.specs.RowFacts.{row_facts_of}
 use Rattle.job_row.specs.Row.{place_of}
 

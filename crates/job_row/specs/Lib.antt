@@ -1,5 +1,4 @@
 pub mod Entries
-pub mod CopyViews
 pub mod Row
 pub mod Scope
 pub mod Checks
@@ -12,7 +11,6 @@ pub mod Holding
 pub mod Answering
 pub mod Quotas
 pub mod Arriving
-pub mod Marks
 pub mod Ending
 pub mod EndingTasks
 pub mod InSync

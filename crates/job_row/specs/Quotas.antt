@@ -8,7 +8,8 @@ use Rattle.private_store.specs.rules.Copies.{fits_quota}
 use Rattle.private_store.specs.rules.Shape.{Shape}
 use Rattle.job_region.specs.Region.{are_within}
 use Rattle.job_row.specs.Row.{Row}
-use Rattle.job_row.specs.Usages.{total, device_bytes}
+use Rattle.job_row.specs.Usages.{total}
+use Rattle.row_copy.specs.Usages.{device_bytes}
 
 -- whether what the row uses is within the quota
 abbrev pub fits : Row → Quota → Bool

@@ -9,7 +9,7 @@ use Rattle.private_store.specs.rules.Tables.{ById, at}
 use Rattle.private_store.specs.rules.Shape.{Copy}
 use Rattle.private_store.specs.rules.Copies.{extent_of}
 use Rattle.job_region.specs.Region.{Region, extents_of, IsAt}
-use Rattle.job_row.specs.CopyViews.{CopyView}
+use Rattle.row_copy.specs.CopyViews.{CopyView}
 
 pub record Row : Type 0 where
   pub job : ℕ

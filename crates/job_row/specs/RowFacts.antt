@@ -1,13 +1,10 @@
 -- What a plan for room reads of the copies that a row keeps.
-use Rattle.std.specs.Prelude.{Bool, not, ◌&&◌, is_some, is_none}
+use Rattle.std.specs.Prelude.{is_some}
 use Rattle.private_store.specs.rules.Extents.{rounded}
 use Rattle.private_store.specs.rules.Copies.{extent_of, is_held, may_evict, may_spill, may_drain}
 use Rattle.lru_evictor.specs.declared.facts.CopyFacts.{CopyFacts}
-use Rattle.job_row.specs.CopyViews.{CopyView}
-
--- neither held nor granted nor working
-abbrev pub is_idle_view : CopyView → Bool
-is_idle_view kept = not (is_held kept.copy) && not kept.granted && is_none kept.working
+use Rattle.row_copy.specs.CopyViews.{CopyView}
+use Rattle.row_copy.specs.Keeping.{is_idle_view}
 
 abbrev pub row_facts_of : CopyView → CopyFacts
 row_facts_of kept =

@@ -1,25 +1,19 @@
 -- A copy that goes out of scope: what the directory is sent of it.
-use Rattle.std.specs.Prelude.{ℕ, Bool, false, if◌then◌else◌, List, [], Option, Some, None}
+use Rattle.std.specs.Prelude.{ℕ, Bool, false, if◌then◌else◌, List, [], Option, None}
 use Rattle.std.specs.Option.{option_map_or, option_and_then}
 use Rattle.obj_id.specs.declared.ids.ObjectId.{ObjectId}
 use Rattle.obj_id.specs.declared.messages.DirectoryMessage.{DirectoryMessage}
-use Rattle.obj_id.specs.declared.messages.DirectoryMessage.TheVariants.{RemoveLocation, Free}
-use Rattle.obj_id.specs.Kinds.{is_primary}
 use Rattle.private_store.specs.rules.Marks.{marked}
 use Rattle.private_store.specs.rules.Marks as mark
-use Rattle.private_store.specs.rules.Copies.{in_scope, was_sealed}
+use Rattle.private_store.specs.rules.Copies.{in_scope}
 use Rattle.private_store.specs.rules.Private.{Post, to_directory}
 use Rattle.private_store.specs.rules.Tables.{ById, at}
 use Rattle.job_row.specs.Entries.{changed}
-use Rattle.job_row.specs.CopyViews.{CopyView}
+use Rattle.row_copy.specs.CopyViews.{CopyView}
 use Rattle.job_row.specs.Row.{Row}
+use Rattle.row_copy.specs.Scope.{removal_notice}
 
--- what the directory is sent of a copy once it is doomed: nothing, unless it was sealed
-abbrev pub removal_notice : ℕ → ObjectId → CopyView → Option DirectoryMessage
-removal_notice node id kept =
-    if was_sealed kept.copy.state then Some (if is_primary kept.copy.kind then Free id else RemoveLocation id node) else None
-
--- the same of the copy of the id, where it is doomed or isn't
+-- what the directory is sent of the copy of the id, where it is doomed or isn't
 abbrev pub removal_notice_at : ℕ → ById CopyView → ObjectId → Bool → Option DirectoryMessage
 removal_notice_at node copies id dooms = if dooms then option_and_then (removal_notice node id) (at copies id) else None
 

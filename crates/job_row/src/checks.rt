@@ -1,121 +1,17 @@
 //! Why a command can't be carried out.
 ghost use Rattle.std.specs.Prelude.{◌≡◌, not, true, Some, None, IfOk, IfErr, IsOk};
-ghost use Rattle.job_row.specs.Checks.{unless_doomed, write_check as write_check_lem, read_check as read_check_lem, lend_check as lend_check_lem, fetch_check as fetch_check_lem, create_check as create_check_lem, end_task_check as end_task_check_lem, unpin_check as unpin_check_lem, give_up_check as give_up_check_lem, delete_check as delete_check_lem, visible_state as visible_state_lem, fault_at, grant_check_of};
+ghost use Rattle.job_row.specs.Checks.{write_check as write_check_lem, read_check as read_check_lem, lend_check as lend_check_lem, fetch_check as fetch_check_lem, create_check as create_check_lem, end_task_check as end_task_check_lem, unpin_check as unpin_check_lem, give_up_check as give_up_check_lem, delete_check as delete_check_lem, visible_state as visible_state_lem, fault_at};
 ghost use Rattle.job_row.specs.EndingTasks.{stays_at};
-ghost use Rattle.private_store.specs.rules.Commands.{write_checks, seal_checks, bytes_checks, read_checks, unpin_checks, give_up_checks, delete_checks};
-ghost use Rattle.private_store.specs.rules.Shared.{first_refusal as first_refusal_lem};
 ghost use Rattle.private_store.specs.rules.Tables.{at};
 ghost use Rattle.job_row.specs.Row.{copies_of};
 ghost use Rattle.job_row.specs.Scope.{removal_notice_at, stays_unpinned};
 
 use crate::copies::Copies;
-use crate::copy::RowCopy;
 use crate::row::JobRow;
 use obj_id::limits::{MOST_BYTES, MOST_COPIES, MOST_ENDED_TASKS};
 use obj_id::{CopyState, DirectoryMessage, ObjectId, Refusal, TaskNo};
 use private_store::Fault;
-
-/// What the first check that holds refuses.
-fn first_refusal(checks: &[(bool, Refusal)]) -> Option<Refusal>
-    ensures { result ≡ first_refusal_lem checks.now }
-{
-    let check = checks.iter().find(|check| check.0)?;
-    Some(check.1)
-}
-
-impl RowCopy {
-    /// Why `len` bytes can't be written from the offset on: `Absent`, `AlreadySealed`, `OutOfBounds`.
-    fn write_check(&self, offset: u32, len: u32) -> Option<Refusal>
-        ensures { result ≡ first_refusal_lem (unless_doomed self.now (write_checks self.now.copy offset len)) }
-    {
-        let written = !matches!(self.state(), CopyState::Created);
-        let end = u64::from(offset) + u64::from(len);
-        first_refusal(&[
-            (self.doomed(), Refusal::Absent),
-            (written, Refusal::AlreadySealed),
-            (u64::from(self.length()) < end, Refusal::OutOfBounds),
-        ])
-    }
-
-    /// Why it can't be sealed: `Absent`, `AlreadySealed`.
-    pub fn seal_check(&self) -> Option<Refusal>
-        ensures { result ≡ first_refusal_lem (unless_doomed self.now (seal_checks self.now.copy)) }
-    {
-        let written = !matches!(self.state(), CopyState::Created);
-        first_refusal(&[
-            (self.doomed(), Refusal::Absent),
-            (written, Refusal::AlreadySealed),
-        ])
-    }
-
-    /// Why its owner task can't unpin it, if that task asks or another: `Absent`, `NotOwner`, `NotHeld`.
-    fn unpin_check(&self, owner: bool) -> Option<Refusal>
-        ensures { result ≡ first_refusal_lem (unless_doomed self.now (unpin_checks self.now.copy owner)) }
-    {
-        if self.doomed() {
-            return Some(Refusal::Absent);
-        }
-        self.pins().unpin_check(owner)
-    }
-
-    /// Why the task can't give it up: `Absent`, `NotOwner`.
-    fn give_up_check(&self, task: TaskNo) -> Option<Refusal>
-        ensures { result ≡ first_refusal_lem (unless_doomed self.now (give_up_checks self.now.copy task)) }
-    {
-        if self.doomed() {
-            return Some(Refusal::Absent);
-        }
-        self.pins().give_up_check(task)
-    }
-
-    /// Why it can't be deleted: `Absent`, `Granted`.
-    fn delete_check(&self) -> Option<Refusal>
-        ensures { result ≡ first_refusal_lem (unless_doomed self.now (delete_checks self.now.granted)) }
-    {
-        first_refusal(&[
-            (self.doomed(), Refusal::Absent),
-            (self.is_granted(), Refusal::Granted),
-        ])
-    }
-
-    /// Why it can't be granted, if this is what the table of grants says: `Absent`, `NotResident` unless it is a
-    /// sealed primary, or that.
-    pub fn grant_check(&self, table: Option<Refusal>) -> Option<Refusal>
-        ensures { result ≡ grant_check_of self.now table }
-    {
-        if self.doomed() {
-            return Some(Refusal::Absent);
-        }
-        if !self.kind().is_primary() || !matches!(self.state(), CopyState::Sealed) {
-            return Some(Refusal::NotResident);
-        }
-        table
-    }
-
-    /// Why the session isn't lent its bytes: `NotSealed`, `NotHeld`.
-    fn lend_check(&self, session: u32) -> Option<Refusal>
-        ensures { result ≡ first_refusal_lem (bytes_checks self.now.copy session) }
-    {
-        let unsealed = matches!(self.state(), CopyState::Created | CopyState::Fetching);
-        first_refusal(&[
-            (unsealed, Refusal::NotSealed),
-            (self.holds_of(session) == 0, Refusal::NotHeld),
-        ])
-    }
-
-    /// Why the session can't read `len` bytes from the offset on: `NotSealed`, `NotHeld`, `OutOfBounds`.
-    fn read_check(&self, session: u32, offset: u32, len: u32) -> Option<Refusal>
-        ensures { result ≡ first_refusal_lem (read_checks self.now.copy session offset len) }
-    {
-        if let Some(refusal) = self.lend_check(session) {
-            return Some(refusal);
-        }
-        if u64::from(self.length()) < u64::from(offset) + u64::from(len) {
-            return Some(Refusal::OutOfBounds);
-        }
-        None
-    }
-}
+use row_copy::first_refusal;
 
 impl Copies {
     /// Why `len` bytes can't be written into the copy: `BadSize`, `Absent`, `AlreadySealed`,

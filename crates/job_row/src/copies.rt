@@ -3,8 +3,8 @@ ghost use Rattle.std.specs.Option.{option_copied, option_map_or};
 ghost use Rattle.std.specs.Borrow.{MutBor};
 ghost use Rattle.private_store.specs.rules.Tables.{ById, at, with_entry, without_entry};
 ghost use Rattle.job_row.specs.Entries.{changed, all_changed, each_changed};
-ghost use Rattle.job_row.specs.CopyViews.{after_release, after_leave, spill_begun_if, after_borrow, CopyView};
-ghost use Rattle.job_row.specs.Marks.{marked_by, CanTake};
+ghost use Rattle.row_copy.specs.CopyViews.{after_release, after_leave, spill_begun_if, after_borrow, CopyView};
+ghost use Rattle.row_copy.specs.Marks.{marked_by, CanTake};
 ghost use Rattle.private_store.specs.rules.Marks.{without_borrower};
 ghost use Rattle.private_store.specs.rules.Copies.{in_scope};
 ghost use Rattle.job_row.specs.Evicting.{has_secondary, evicted_one, all_evicted};
@@ -19,15 +19,15 @@ ghost use Rattle.job_row.specs.Holding.{IsHeldAt, IsUnreadyAt, IsHoldRefusedAt};
 ghost use Rattle.std.specs.Prelude.{◌≡◌, ◌<◌, ◌^◌, [], false, Some, None, OnOk, OnErr, IsOk, IsErrOf, IfOk, IfErr, IfSome, IfNone, map, length, is_some, IsTrue};
 ghost use Rattle.std.specs.FinMap.{is_sorted};
 ghost use Rattle.obj_id.specs.Ids.{id_cmp};
-ghost use Rattle.job_row.specs.Usages.{own_item_of, total, window_bytes as window_bytes_lem, device_bytes as device_bytes_lem, doomed_one};
+ghost use Rattle.row_copy.specs.Usages.{own_item_of, window_bytes as window_bytes_lem, device_bytes as device_bytes_lem, doomed_one};
+ghost use Rattle.job_row.specs.Usages.{total};
 ghost use Rattle.job_row.specs.InSync.{facts_in, InSync, NoneIsGone, KeepPlaces};
 ghost use Rattle.lru_evictor.specs.Facts.{info_at};
 ghost use Rattle.lru_evictor.specs.Orders.{order_ids};
-ghost use Rattle.job_row.specs.Arriving.{after_located, asks, fills, lacks_only};
+ghost use Rattle.row_copy.specs.Arriving.{after_located, asks, fills, lacks_only};
 
-use crate::copy::{AfterChange, ChunkFit, Held, RowCopy, Settled};
 use crate::footprint::{Footprint, to_u64};
-use crate::marks::Mark;
+use crate::standing::{AfterChange, Held, Settled, after_change, borrow, facts, hold, release};
 use indexmap::IndexMap;
 use lru_evictor::{CopyFacts, CopyLookup, EvictionInfo, UseOrder};
 use memory_growth::{OutOfMemory, lists, tables};
@@ -35,8 +35,18 @@ use obj_id::{
     ChunkIndex, DirectoryMessage, Failure, FetchNo, ItemList, Location, NodeNo, ObjectId, OwnItem,
     Refusal, TaskNo,
 };
+use row_copy::{Mark, RowCopy};
 use std::alloc::Global;
 use std::marker::Model;
+
+/// What a chunk that came is to a copy.
+#[derive(Clone, Copy, Drop)]
+pub struct ChunkFit {
+    /// Whether it fills a gap.
+    pub fills: bool,
+    /// Whether no other chunk is missing.
+    pub last: bool,
+}
 
 /// The copies of a job. A contract sees them by rising id.
 #[derive(Drop)]
@@ -50,7 +60,7 @@ pub struct Copies {
 impl Model for Copies {
     ghost use Rattle.private_store.specs.rules.Tables.{ById};
     ghost use Rattle.job_row.specs.Entries.{by_rising_id};
-    ghost use Rattle.job_row.specs.CopyViews.{CopyView};
+    ghost use Rattle.row_copy.specs.CopyViews.{CopyView};
     ghost use Rattle.std.specs.Prelude.{◌≡◌};
     ghost use Rattle.job_row.specs.Counted.{footprint_of};
 
@@ -70,7 +80,7 @@ impl CopyLookup for Copies {
 
     fn facts(&self, id: &ObjectId) -> Option<CopyFacts> {
         let copy = self.get(id)?;
-        Some(copy.facts())
+        Some(facts(copy))
     }
 }
 
@@ -138,7 +148,7 @@ impl Copies {
         let Some(copy) = self.get(id) else {
             return EvictionInfo::nowhere();
         };
-        copy.facts().eviction_info()
+        facts(copy).eviction_info()
     }
 
     /// After changes of any of them, where none is gone, and each lies where it lay, or nowhere any more: the order of use
@@ -217,7 +227,7 @@ impl Copies {
         let before = Footprint::by(copy);
         change(copy);
         let after = Footprint::by(copy);
-        let response = copy.after_change();
+        let response = after_change(copy);
         self.taken = self.taken.exchanged(before, after);
         response
     }
@@ -254,7 +264,7 @@ impl Copies {
         let before = Footprint::by(copy);
         copy.apply(mark);
         let after = Footprint::by(copy);
-        let response = copy.after_change();
+        let response = after_change(copy);
         self.taken = self.taken.exchanged(before, after);
         if !response.over {
             return Settled {
@@ -329,7 +339,7 @@ impl Copies {
         let Some(copy) = self.by_id.get_mut(id) else {
             return Ok(None);
         };
-        copy.hold(session)
+        hold(copy, session)
     }
 
     /// One hold of the session on the copy less, and what the copy is then. `Absent`, `NotHeld` if it has none; a refusal
@@ -345,7 +355,7 @@ impl Copies {
         let Some(copy) = self.by_id.get_mut(id) else {
             return Err(Refusal::Absent);
         };
-        copy.release(session)
+        release(copy, session)
     }
 
     /// No hold of the session on any copy. Takes a walk over them, and no memory.
@@ -425,7 +435,7 @@ impl Copies {
         if copy.doomed() {
             return Err(Failure::Refused(Refusal::Absent));
         }
-        copy.borrow(task)
+        borrow(copy, task)
     }
 
     /// No grant stands any more of the copies of the task's objects. Takes a walk over the copies, and no memory.

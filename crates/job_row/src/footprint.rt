@@ -3,7 +3,7 @@ ghost use Rattle.std.specs.Prelude.{◌≡◌};
 ghost use Rattle.std.specs.Option.{option_copied, option_map_or};
 ghost use Rattle.job_row.specs.Counted.{capped, nothing as nothing_lem, footprint_by, exchanged as exchanged_lem, CanExchange};
 
-use crate::copy::RowCopy;
+use row_copy::RowCopy;
 
 /// What copies take together, in bytes; each counts at most `u64::MAX`.
 #[derive(Clone, Copy)]

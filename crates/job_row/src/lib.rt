@@ -3,20 +3,19 @@
 
 mod checks;
 mod copies;
-mod copy;
-mod copy_sizes;
 mod footprint;
 mod lent;
-mod marks;
 mod placement;
 mod prepared;
 mod row;
+mod row_bytes;
+mod row_steps;
+mod standing;
 mod syncing;
 
-pub use copies::Copies;
-pub use copy::{AfterChange, Awaited, ChunkFit, Held, RowCopy, Settled};
+pub use copies::{ChunkFit, Copies};
 pub use lent::Lent;
-pub use marks::Mark;
 pub use placement::Placement;
 pub use prepared::Prepared;
 pub use row::JobRow;
+pub use standing::{AfterChange, Held, Settled};

@@ -4,7 +4,7 @@ ghost use Rattle.obj_id.specs.declared.ids.ObjectId.{ObjectId};
 ghost use Rattle.private_store.specs.rules.Tables.{ById};
 ghost use Rattle.lru_evictor.specs.Orders.{order_ids};
 ghost use Rattle.job_row.specs.Evicting.{all_evicted, without_missing};
-ghost use Rattle.job_row.specs.CopyViews.{CopyView};
+ghost use Rattle.row_copy.specs.CopyViews.{CopyView};
 ghost use Rattle.job_row.specs.InSync.{InSync, InSyncExcept, SameExceptThese, KeepPlaces, LiesAlone};
 
 use crate::copies::Copies;

@@ -1,30 +1,26 @@
 -- A command that carries no bytes, in a journal.
-use Rattle.std.proofs.Common.{◌≡◌, ℕ, List, Option, refl}
+use Rattle.std.proofs.Common.{◌≡◌, ℕ, List, Option, refl, sym, subst}
 use Rattle.obj_id.specs.declared.commands.Command.{Command}
+use Rattle.command_kinds.specs.declared.command_kind.CommandKind.{CommandKind}
+use Rattle.command_kinds.specs.declared.command_kind.CommandKind.TheVariants as kinds
 use Rattle.schedule_text.specs.declared.words.Word.{Word}
-use Rattle.schedule_text.specs.declared.words.Word.TheVariants.{Create, Copy, Write, Seal, Get, Read, Release, Unpin, Borrow, GiveUp, Delete, EndTask, Grant, Withdraw, Peek, List as ListWord, Usage, Leave}
+use Rattle.schedule_text.specs.declared.words.Word.TheVariants.{Of, Copy}
 use Rattle.schedule_text.specs.Fields.{Reads}
 use Rattle.schedule_text.specs.Reading.{IsPlainCommand}
 use Rattle.journal_text.specs.Calls.{IsCommandWithoutPayloadOf}
 
 -- every word but `write` is read as in a schedule
-pub Reads-command_of_fields : (job : ℕ) (word : Word) (fields : List (List ℕ)) (read : Option (Command ℕ)) → (word ≡ Write → ⊥)
+of_kind : (job : ℕ) (kind : CommandKind) (fields : List (List ℕ)) (read : Option (Command ℕ)) → (kind ≡ kinds.Write → ⊥)
+    → Reads read (IsPlainCommand job (Of kind) fields) → Reads read (IsCommandWithoutPayloadOf job (Of kind) fields)
+of_kind job kinds.Write fields read other reads = absurd (other refl)
+of_kind job _ fields read other reads = reads
+
+pub Reads-command_of_fields : (job : ℕ) (word : Word) (kind : CommandKind) (fields : List (List ℕ)) (read : Option (Command ℕ)) → word ≡ Of kind → (kind ≡ kinds.Write → ⊥)
+    → Reads read (IsPlainCommand job (Of kind) fields) → Reads read (IsCommandWithoutPayloadOf job word fields)
+Reads-command_of_fields job word kind fields read is other reads =
+    subst (λ w. Reads read (IsCommandWithoutPayloadOf job w fields)) (sym is) (of_kind job kind fields read other reads)
+
+pub Reads-command_of_fields-copy : (job : ℕ) (word : Word) (fields : List (List ℕ)) (read : Option (Command ℕ)) → word ≡ Copy
     → Reads read (IsPlainCommand job word fields) → Reads read (IsCommandWithoutPayloadOf job word fields)
-Reads-command_of_fields job Write fields read other reads = absurd (other refl)
-Reads-command_of_fields job Create fields read other reads = reads
-Reads-command_of_fields job Copy fields read other reads = reads
-Reads-command_of_fields job Seal fields read other reads = reads
-Reads-command_of_fields job Get fields read other reads = reads
-Reads-command_of_fields job Read fields read other reads = reads
-Reads-command_of_fields job Release fields read other reads = reads
-Reads-command_of_fields job Unpin fields read other reads = reads
-Reads-command_of_fields job Borrow fields read other reads = reads
-Reads-command_of_fields job GiveUp fields read other reads = reads
-Reads-command_of_fields job Delete fields read other reads = reads
-Reads-command_of_fields job EndTask fields read other reads = reads
-Reads-command_of_fields job Grant fields read other reads = reads
-Reads-command_of_fields job Withdraw fields read other reads = reads
-Reads-command_of_fields job Peek fields read other reads = reads
-Reads-command_of_fields job ListWord fields read other reads = reads
-Reads-command_of_fields job Usage fields read other reads = reads
-Reads-command_of_fields job Leave fields read other reads = reads
+Reads-command_of_fields-copy job word fields read is reads =
+    subst (λ w. Reads read (IsCommandWithoutPayloadOf job w fields)) (sym is) (subst (λ w. Reads read (IsPlainCommand job w fields)) is reads)

@@ -10,6 +10,7 @@ use Rattle.private_store.specs.declared.inputs.ChunkVerdict.{ChunkVerdict}
 use Rattle.private_store.specs.declared.inputs.ChunkVerdict.TheVariants as chunk
 use Rattle.private_store.specs.declared.inputs.WorkVerdict.{WorkVerdict}
 use Rattle.private_store.specs.declared.inputs.WorkVerdict.TheVariants as work
+use Rattle.command_kinds.specs.declared.command_kind.CommandKind.TheVariants as kinds
 use Rattle.schedule_text.specs.declared.words.Word.TheVariants as word
 use Rattle.journal_text.specs.declared.entry.LineInput.{LineInput}
 use Rattle.journal_text.specs.declared.entry.LineInput.TheVariants as input
@@ -29,24 +30,24 @@ use Rattle.journal_text.proofs.PlainFields.{AllFields, AllFields-plain, AllPlain
 
 module _ (job : ℕ) where
   pub IsCommandWithoutPayload-written : (c : Command ℕ) → FitsCommand c → IsCommandWithoutPayload job (command_fields job c) c
-  IsCommandWithoutPayload-written (command.Create id Primary n) h = record { word = word.Create; named = refl; spelled = record { part = (id, n); spelled = (object job id h.0, number n h.1); made = refl } }
+  IsCommandWithoutPayload-written (command.Create id Primary n) h = record { word = word.Of kinds.Create; named = refl; spelled = record { part = (id, n); spelled = (object job id h.0, number n h.1); made = refl } }
   IsCommandWithoutPayload-written (command.Create id Secondary n) h = record { word = word.Copy; named = refl; spelled = record { part = (id, n); spelled = (object job id h.0, number n h.1); made = refl } }
-  IsCommandWithoutPayload-written (command.Write id offset count) h = record { word = word.Write; named = refl; spelled = record { part = ((id, offset), count); spelled = ((object job id h.0, number offset h.1), record { fits = h.2; spelled = refl }); made = refl } }
-  IsCommandWithoutPayload-written (command.Seal id) h = record { word = word.Seal; named = refl; spelled = record { part = id; spelled = object job id h; made = refl } }
-  IsCommandWithoutPayload-written (command.Get id) h = record { word = word.Get; named = refl; spelled = record { part = id; spelled = object job id h; made = refl } }
-  IsCommandWithoutPayload-written (command.Read id offset count) h = record { word = word.Read; named = refl; spelled = record { part = ((id, offset), count); spelled = ((object job id h.0, number offset h.1), number count h.2); made = refl } }
-  IsCommandWithoutPayload-written (command.Release id) h = record { word = word.Release; named = refl; spelled = record { part = id; spelled = object job id h; made = refl } }
-  IsCommandWithoutPayload-written (command.Unpin id task) h = record { word = word.Unpin; named = refl; spelled = record { part = (id, task); spelled = (object job id h.0, task_field task h.1); made = refl } }
-  IsCommandWithoutPayload-written (command.Borrow id task) h = record { word = word.Borrow; named = refl; spelled = record { part = (id, task); spelled = (object job id h.0, task_field task h.1); made = refl } }
-  IsCommandWithoutPayload-written (command.GiveUp id task) h = record { word = word.GiveUp; named = refl; spelled = record { part = (id, task); spelled = (object job id h.0, task_field task h.1); made = refl } }
-  IsCommandWithoutPayload-written (command.Delete id) h = record { word = word.Delete; named = refl; spelled = record { part = id; spelled = object job id h; made = refl } }
-  IsCommandWithoutPayload-written (command.EndTask task) h = record { word = word.EndTask; named = refl; spelled = record { part = task; spelled = task_field task h; made = refl } }
-  IsCommandWithoutPayload-written (command.Grant id target) h = record { word = word.Grant; named = refl; spelled = record { part = (id, target); spelled = (object job id h.0, number target.0 h.1); made = refl } }
-  IsCommandWithoutPayload-written (command.Withdraw id target) h = record { word = word.Withdraw; named = refl; spelled = record { part = (id, target); spelled = (object job id h.0, number target.0 h.1); made = refl } }
-  IsCommandWithoutPayload-written (command.Peek id offset count) h = record { word = word.Peek; named = refl; spelled = record { part = ((id, offset), count); spelled = ((object job id h.0, number offset h.1), number count h.2); made = refl } }
-  IsCommandWithoutPayload-written command.List h = record { word = word.List; named = refl; spelled = record { none = refl; made = refl } }
-  IsCommandWithoutPayload-written command.Usage h = record { word = word.Usage; named = refl; spelled = record { none = refl; made = refl } }
-  IsCommandWithoutPayload-written command.Leave h = record { word = word.Leave; named = refl; spelled = record { none = refl; made = refl } }
+  IsCommandWithoutPayload-written (command.Write id offset count) h = record { word = word.Of kinds.Write; named = refl; spelled = record { part = ((id, offset), count); spelled = ((object job id h.0, number offset h.1), record { fits = h.2; spelled = refl }); made = refl } }
+  IsCommandWithoutPayload-written (command.Seal id) h = record { word = word.Of kinds.Seal; named = refl; spelled = record { part = id; spelled = object job id h; made = refl } }
+  IsCommandWithoutPayload-written (command.Get id) h = record { word = word.Of kinds.Get; named = refl; spelled = record { part = id; spelled = object job id h; made = refl } }
+  IsCommandWithoutPayload-written (command.Read id offset count) h = record { word = word.Of kinds.Read; named = refl; spelled = record { part = ((id, offset), count); spelled = ((object job id h.0, number offset h.1), number count h.2); made = refl } }
+  IsCommandWithoutPayload-written (command.Release id) h = record { word = word.Of kinds.Release; named = refl; spelled = record { part = id; spelled = object job id h; made = refl } }
+  IsCommandWithoutPayload-written (command.Unpin id task) h = record { word = word.Of kinds.Unpin; named = refl; spelled = record { part = (id, task); spelled = (object job id h.0, task_field task h.1); made = refl } }
+  IsCommandWithoutPayload-written (command.Borrow id task) h = record { word = word.Of kinds.Borrow; named = refl; spelled = record { part = (id, task); spelled = (object job id h.0, task_field task h.1); made = refl } }
+  IsCommandWithoutPayload-written (command.GiveUp id task) h = record { word = word.Of kinds.GiveUp; named = refl; spelled = record { part = (id, task); spelled = (object job id h.0, task_field task h.1); made = refl } }
+  IsCommandWithoutPayload-written (command.Delete id) h = record { word = word.Of kinds.Delete; named = refl; spelled = record { part = id; spelled = object job id h; made = refl } }
+  IsCommandWithoutPayload-written (command.EndTask task) h = record { word = word.Of kinds.EndTask; named = refl; spelled = record { part = task; spelled = task_field task h; made = refl } }
+  IsCommandWithoutPayload-written (command.Grant id target) h = record { word = word.Of kinds.Grant; named = refl; spelled = record { part = (id, target); spelled = (object job id h.0, number target.0 h.1); made = refl } }
+  IsCommandWithoutPayload-written (command.Withdraw id target) h = record { word = word.Of kinds.Withdraw; named = refl; spelled = record { part = (id, target); spelled = (object job id h.0, number target.0 h.1); made = refl } }
+  IsCommandWithoutPayload-written (command.Peek id offset count) h = record { word = word.Of kinds.Peek; named = refl; spelled = record { part = ((id, offset), count); spelled = ((object job id h.0, number offset h.1), number count h.2); made = refl } }
+  IsCommandWithoutPayload-written command.List h = record { word = word.Of kinds.List; named = refl; spelled = record { none = refl; made = refl } }
+  IsCommandWithoutPayload-written command.Usage h = record { word = word.Of kinds.Usage; named = refl; spelled = record { none = refl; made = refl } }
+  IsCommandWithoutPayload-written command.Leave h = record { word = word.Of kinds.Leave; named = refl; spelled = record { none = refl; made = refl } }
 
   AllPlain-command : (c : Command ℕ) → FitsCommand c → AllPlain (command_fields job c)
   AllPlain-command (command.Create id Primary n) h = (refl, (Plain-id_text job id h.0, (plain32 n h.1, tt)))

@@ -3,6 +3,7 @@ use Rattle.std.specs.Prelude.{◌≡◌, ℕ, List, [], ◌∷◌, codes}
 use Rattle.obj_id.specs.declared.ids.ObjectId.{ObjectId}
 use Rattle.obj_id.specs.declared.commands.Command.{Command}
 use Rattle.obj_id.specs.declared.commands.Command.TheVariants as command
+use Rattle.command_kinds.specs.declared.command_kind.CommandKind.TheVariants as kinds
 use Rattle.schedule_text.specs.declared.words.Word.{Word}
 use Rattle.schedule_text.specs.declared.words.Word.TheVariants as word
 use Rattle.schedule_text.specs.Fields.{IsFieldMade, IsTarget}
@@ -17,7 +18,7 @@ IsIdCount job _ x = ⊥
 
 -- the command that a word and the fields after it spell, for the job that speaks
 abbrev pub IsCommandWithoutPayloadOf : ℕ → Word → List (List ℕ) → Command ℕ → Type 0
-IsCommandWithoutPayloadOf job word.Write fields c = IsFieldMade (IsIdCount job fields) (λ x. command.Write x.0.0 x.0.1 x.1) c
+IsCommandWithoutPayloadOf job (word.Of kinds.Write) fields c = IsFieldMade (IsIdCount job fields) (λ x. command.Write x.0.0 x.0.1 x.1) c
 IsCommandWithoutPayloadOf job word fields c = IsPlainCommand job word fields c
 
 -- the same, with the word's field

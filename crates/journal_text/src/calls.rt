@@ -4,6 +4,7 @@ ghost use Rattle.schedule_text.specs.Fields.{Reads};
 ghost use Rattle.journal_text.specs.Calls.{IsCommandWithoutPayload, IsCommandWithoutPayloadOf, IsCallText, IsIdCount};
 
 use crate::fields::{count, session};
+use command_kinds::CommandKind;
 use obj_id::{Command, JobNo, ObjectId};
 use schedule_text::commands::command_without_payload;
 use schedule_text::fields::target;
@@ -34,15 +35,18 @@ fn command_of(word: Word, fields: &[&str], job: JobNo) -> Option<Command<u64>>
     ensures { Reads result (IsCommandWithoutPayloadOf job.0 word (map (λ field. field.now) fields.now)) }
 {
     match word {
-        Word::Write => {
-            let ((id, offset), count) = id_count(fields, job)?;
-            Some(Command::Write {
-                id,
-                offset,
-                bytes: count,
-            })
-        }
-        _ => command_without_payload(word, fields, job),
+        Word::Copy => command_without_payload(word, fields, job),
+        Word::Of(kind) => match kind {
+            CommandKind::Write => {
+                let ((id, offset), count) = id_count(fields, job)?;
+                Some(Command::Write {
+                    id,
+                    offset,
+                    bytes: count,
+                })
+            }
+            _ => command_without_payload(word, fields, job),
+        },
     }
 }
 

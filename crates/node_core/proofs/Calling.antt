@@ -36,17 +36,11 @@ module _ (node job : ℕ) (row : Row) (beside : SharedTables) (session : ℕ) (c
   not_granted (command.Get id) other = stays node row beside contents h (input.Call session (command.Get id)) (reply.Refused NotGranted) (foreign_is id (command.Get id) _ other refl) refl refl refl
   not_granted (command.Read id offset n) other = stays node row beside contents h (input.Call session (command.Read id offset n)) (reply.Refused NotGranted) (foreign_is id (command.Read id offset n) _ other refl) refl refl refl
   not_granted (command.Release id) other = stays node row beside contents h (input.Call session (command.Release id)) (reply.Refused NotGranted) (foreign_is id (command.Release id) _ other refl) refl refl refl
-  not_granted command.List other = absurd cc
-  not_granted command.Usage other = absurd cc
-  not_granted command.Leave other = absurd cc
   not_granted (command.Unpin id task) other = stays node row beside contents h (input.Call session (command.Unpin id task)) (reply.Refused NotGranted) (foreign_is id (command.Unpin id task) _ other refl) refl refl refl
   not_granted (command.Borrow id task) other = stays node row beside contents h (input.Call session (command.Borrow id task)) (reply.Refused NotGranted) (foreign_is id (command.Borrow id task) _ other refl) refl refl refl
   not_granted (command.GiveUp id task) other = stays node row beside contents h (input.Call session (command.GiveUp id task)) (reply.Refused NotGranted) (foreign_is id (command.GiveUp id task) _ other refl) refl refl refl
   not_granted (command.Delete id) other = stays node row beside contents h (input.Call session (command.Delete id)) (reply.Refused NotGranted) (foreign_is id (command.Delete id) _ other refl) refl refl refl
-  not_granted (command.EndTask task) other = absurd cc
-  not_granted (command.Grant id target) other = absurd cc
-  not_granted (command.Withdraw id target) other = absurd cc
-  not_granted (command.Peek id offset n) other = absurd cc
+  not_granted _ other = absurd cc
 
 -- a command that asks for no work waits for no room
 pub plain_waits_not : (node : ℕ) (row : Row) (line : WorkLine) (c : Command (List ℕ)) → is_plain c ≡ true → IsRoomDue node row line c

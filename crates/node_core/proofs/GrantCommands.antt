@@ -34,7 +34,7 @@ use Rattle.node_table.proofs.ForCallers.{unless_refused, called, grant_refused, 
 use Rattle.node_core.specs.Granting.{grant_refusal, TakesGrant, TakesWithdraw}
 use Rattle.node_core.proofs.Granted.{IsSealedCopy}
 use Rattle.node_table.specs.Beside.{SharedTables, beside_of, shape_of}
-use Rattle.job_row.specs.Checks.{grant_check_of}
+use Rattle.row_copy.specs.Checks.{grant_check_of}
 
 -- ---- what a Grant that passed its checks says
 

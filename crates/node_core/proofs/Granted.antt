@@ -27,7 +27,7 @@ use Rattle.grants.specs.Private.{as_given}
 use Rattle.grants.specs.Table.{AreGrants, is_first}
 use Rattle.grants.proofs.ForCallers.{first_stands}
 use Rattle.node_table.specs.Granting.{kept_bytes, row_bytes}
-use Rattle.job_row.specs.CopyViews.{CopyView}
+use Rattle.row_copy.specs.CopyViews.{CopyView}
 use Rattle.job_row.specs.Row.{Row}
 use Rattle.node_table.specs.Shown.{seen, IsShown, RowGiven, RowStep}
 use Rattle.job_row.proofs.ForCallers.{at-copies_found, at-copies_none}

@@ -146,23 +146,10 @@ small old new (event.Finish job number a) given few steps v shows = refl
 
 -- of what moves no grant nobody is notified
 pub none_told : (grants : List StandingGrant) (e : Event) (response : Reply (List ℕ)) → moves_grants e ≡ false → AreTakers grants e response []
-none_told grants (event.Call job session (command.Create id kind n)) reply.Ok last = refl
-none_told grants (event.Call job session (command.Write id offset bytes)) reply.Ok last = refl
-none_told grants (event.Call job session (command.Seal id)) reply.Ok last = refl
-none_told grants (event.Call job session (command.Get id)) reply.Ok last = refl
-none_told grants (event.Call job session (command.Read id offset n)) reply.Ok last = refl
-none_told grants (event.Call job session (command.Release id)) reply.Ok last = refl
-none_told grants (event.Call job session (command.Unpin id task)) reply.Ok last = refl
-none_told grants (event.Call job session (command.Borrow id task)) reply.Ok last = refl
-none_told grants (event.Call job session (command.GiveUp id task)) reply.Ok last = refl
-none_told grants (event.Call job session (command.Delete id)) reply.Ok last = refl
-none_told grants (event.Call job session command.List) reply.Ok last = refl
-none_told grants (event.Call job session command.Usage) reply.Ok last = refl
-none_told grants (event.Call job session command.Leave) reply.Ok last = refl
 none_told grants (event.Call job session (command.EndTask task)) reply.Ok last = absurd cc
 none_told grants (event.Call job session (command.Grant id target)) reply.Ok last = absurd cc
 none_told grants (event.Call job session (command.Withdraw id target)) reply.Ok last = absurd cc
-none_told grants (event.Call job session (command.Peek id offset n)) reply.Ok last = refl
+none_told grants (event.Call job session _) reply.Ok last = refl
 none_told grants (event.Admit job quota key) reply.Ok last = refl
 none_told grants (event.Requota job quota) reply.Ok last = refl
 none_told grants (event.JobEnd job) reply.Ok last = absurd cc

@@ -4,7 +4,9 @@ use Rattle.std.specs.Option.{option_map_or}
 use Rattle.obj_id.specs.declared.ids.ObjectId.{ObjectId}
 use Rattle.obj_id.specs.declared.commands.Command.{Command}
 use Rattle.obj_id.specs.declared.commands.Command.TheVariants as command
-use Rattle.command_kinds.specs.Kinds.{subject_of}
+use Rattle.command_kinds.specs.Kinds.{kind_of, subject_of, traits_of}
+use Rattle.command_kinds.specs.declared.command_kind.Carrier.{Carrier}
+use Rattle.command_kinds.specs.declared.command_kind.Carrier.TheVariants as by
 use Rattle.command_kinds.specs.declared.outline.Subject.{Subject}
 use Rattle.command_kinds.specs.declared.outline.Subject.TheVariants as subject
 use Rattle.private_store.specs.declared.inputs.Input.TheVariants as input
@@ -15,7 +17,8 @@ use Rattle.private_store.specs.rules.Grants.{StandingGrant}
 use Rattle.spill_work.specs.Line.{WorkLine}
 use Rattle.job_row.specs.Row.{Row}
 use Rattle.node_table.specs.Shown.{IsShown, RowGiven, RowStep}
-use Rattle.job_row.specs.Usages.{total, doomed_one}
+use Rattle.job_row.specs.Usages.{total}
+use Rattle.row_copy.specs.Usages.{doomed_one}
 use Rattle.node_core.specs.Hosted.{Hosted, row_at}
 use Rattle.node_table.specs.Beside.{beside_of}
 
@@ -30,27 +33,25 @@ is_own_subject job subject.All = true
 abbrev pub is_own : ℕ → Command (List ℕ) → Bool
 is_own job c = is_own_subject job (subject_of c)
 
+abbrev pub is_row : Carrier → Bool
+is_row by.RowAndWorks = true
+is_row by.Row = true
+is_row by.Node = false
+is_row by.Grants = false
+
 -- the commands that a row carries out, with the line of works
 abbrev pub is_of_row : Command (List ℕ) → Bool
-is_of_row (command.Create id kind n) = true
-is_of_row (command.Write id offset bytes) = true
-is_of_row (command.Seal id) = true
-is_of_row (command.Get id) = true
-is_of_row (command.Read id offset n) = true
-is_of_row (command.Release id) = true
-is_of_row (command.Unpin id task) = true
-is_of_row (command.Borrow id task) = true
-is_of_row (command.GiveUp id task) = true
-is_of_row (command.Delete id) = true
-is_of_row command.Usage = true
-is_of_row command.Leave = true
-is_of_row _ = false
+is_of_row c = is_row (traits_of (kind_of c)).by
+
+abbrev pub is_row_alone : Carrier → Bool
+is_row_alone by.RowAndWorks = false
+is_row_alone by.Row = true
+is_row_alone by.Node = false
+is_row_alone by.Grants = false
 
 -- those of them that ask for no work
 abbrev pub is_plain : Command (List ℕ) → Bool
-is_plain (command.Create id kind n) = false
-is_plain (command.Get id) = false
-is_plain c = is_of_row c
+is_plain c = is_row_alone (traits_of (kind_of c)).by
 
 -- the job's row and works take the command's step, whatever grants stand and contents it shows
 abbrev pub CallStep : ℕ → ℕ → Row → WorkLine → ℕ → Command (List ℕ) → RowGiven → Row → WorkLine → Type 0

@@ -10,23 +10,10 @@ use Rattle.node_core.specs.declared.grant_move.GrantMove.TheVariants as grant_mo
 
 -- what a command of a session moves of grants, if it is accepted
 abbrev pub grant_move_by : JobNo → ℕ → Command (List ℕ) → Option GrantMove
-grant_move_by job session (command.Create id kind n) = None
-grant_move_by job session (command.Write id offset bytes) = None
-grant_move_by job session (command.Seal id) = None
-grant_move_by job session (command.Get id) = None
-grant_move_by job session (command.Read id offset n) = None
-grant_move_by job session (command.Release id) = None
-grant_move_by job session (command.Unpin id task) = None
-grant_move_by job session (command.Borrow id task) = None
-grant_move_by job session (command.GiveUp id task) = None
-grant_move_by job session (command.Delete id) = None
 grant_move_by job session (command.EndTask task) = Some (grant_move.EndTask job session task)
 grant_move_by job session (command.Grant id target) = Some (grant_move.Grant job session id target)
 grant_move_by job session (command.Withdraw id target) = Some (grant_move.Withdraw job session id target)
-grant_move_by job session (command.Peek id offset n) = None
-grant_move_by job session command.List = None
-grant_move_by job session command.Usage = None
-grant_move_by job session command.Leave = None
+grant_move_by job session _ = None
 
 -- what an event moves of them
 abbrev pub grant_move_of : Event → Option GrantMove

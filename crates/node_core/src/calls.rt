@@ -5,12 +5,12 @@ ghost use Rattle.spill_work.specs.Line.{same_work_job, IsSameFor};
 ghost use Rattle.node_table.specs.Asked.{HasAsked};
 ghost use Rattle.node_table.specs.Outcomes.{row_given_of};
 ghost use Rattle.node_table.specs.Shown.{only};
-ghost use Rattle.node_core.specs.Calls.{is_of_row, is_plain, is_own as is_own_lem, is_own_subject as is_own_subject_lem, takes_no_memory, CallStep};
+ghost use Rattle.node_core.specs.Calls.{is_of_row as is_of_row_lem, is_plain as is_plain_lem, is_own as is_own_lem, is_own_subject as is_own_subject_lem, takes_no_memory, CallStep};
 ghost use Rattle.node_core.specs.Foreseen.{most_by_command};
 ghost use Rattle.node_core.specs.MemoryLast.{IsMemoryLastOnRow, IsRoomDue, IsUnrefused};
 
 use bytes::Bytes;
-use command_kinds::{Outline, Subject};
+use command_kinds::{Carrier, CommandKind, Outline, Subject};
 use job_row::JobRow;
 use memory_growth::OutOfMemory;
 use node_table::RowOutcome;
@@ -32,7 +32,7 @@ pub(crate) fn carry_out(
     session: u32,
     command: &Command<Bytes>,
 ) -> Result<RowOutcome, OutOfMemory>
-    requires { is_of_row command.now ≡ true }
+    requires { is_of_row_lem command.now ≡ true }
     ensures ok { IfOk result (λ o. CallStep node job.0 row.old works.old session command.now (row_given_of o) row.new works.new) }
     ensures bounded { IfOk result (λ o. length o.messages ≤ most_by_command (Some row.old) command.now) }
     ensures unsent { IfOk result (λ o. is_ok room ≡ false → o.messages ≡ []) }
@@ -47,6 +47,9 @@ pub(crate) fn carry_out(
     if !is_own(job, command) {
         return Ok(RowOutcome::only(alloc, Reply::Refused(Refusal::NotGranted)));
     }
+    if is_plain(command) {
+        return carry_out_without_work(alloc, room, node, row, works, session, command);
+    }
     match command {
         Command::Create {
             id,
@@ -54,18 +57,6 @@ pub(crate) fn carry_out(
             length: len,
         } => node_table::create(row, alloc, room, node, works, id, *kind, *len),
         Command::Get(id) => node_table::get(row, alloc, room, node, works, session, id),
-        Command::Write { .. }
-        | Command::Seal(_)
-        | Command::Read { .. }
-        | Command::Release(_)
-        | Command::Unpin(..)
-        | Command::Borrow(..)
-        | Command::GiveUp(..)
-        | Command::Delete(_)
-        | Command::Usage
-        | Command::Leave => {
-            carry_out_without_work(alloc, room, node, row, works, session, command)
-        }
         _ => unreachable!(),
     }
 }
@@ -80,7 +71,7 @@ fn carry_out_without_work(
     session: u32,
     command: &Command<Bytes>,
 ) -> Result<RowOutcome, OutOfMemory>
-    requires { is_plain command.now ≡ true }
+    requires { is_plain_lem command.now ≡ true }
     ensures ok { IfOk result (λ o. (job : ℕ) → is_own_lem job command.now ≡ true → CallStep node job row.old works.now session command.now (row_given_of o) row.new works.now) }
     ensures bounded { IfOk result (λ o. length o.messages ≤ most_by_command (Some row.old) command.now) }
     ensures unsent { IfOk result (λ o. is_ok room ≡ false → o.messages ≡ []) }
@@ -109,6 +100,26 @@ fn carry_out_without_work(
         Command::Usage => Ok(RowOutcome::only(alloc, node_table::tell_usage(row, works))),
         Command::Leave => Ok(node_table::leave(row, alloc, session)?),
         _ => unreachable!(),
+    }
+}
+
+/// Whether a row carries the command out, with the line of works.
+pub(crate) fn is_of_row(command: &Command<Bytes>) -> bool
+    ensures { result ≡ is_of_row_lem command.now }
+{
+    match CommandKind::of(command).carrier() {
+        Carrier::RowAndWorks | Carrier::Row => true,
+        Carrier::Node | Carrier::Grants => false,
+    }
+}
+
+/// Whether a row carries it out, and asks for no work.
+fn is_plain(command: &Command<Bytes>) -> bool
+    ensures { result ≡ is_plain_lem command.now }
+{
+    match CommandKind::of(command).carrier() {
+        Carrier::Row => true,
+        Carrier::RowAndWorks | Carrier::Node | Carrier::Grants => false,
     }
 }
 

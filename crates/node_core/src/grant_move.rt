@@ -1,8 +1,11 @@
 //! What gives a grant, or may end some.
-ghost use Rattle.std.specs.Prelude.{◌≡◌};
+ghost use Rattle.std.specs.Prelude.{◌≡◌, Some};
+ghost use Rattle.command_kinds.specs.Kinds.{kind_of, traits_of};
+ghost use Rattle.command_kinds.specs.declared.command_kind.Carrier.TheVariants as by;
 ghost use Rattle.node_core.specs.GrantMoves.{grant_move_by, grant_move_of};
 
 use bytes::Bytes;
+use command_kinds::{Carrier, CommandKind};
 use obj_id::{Command, JobNo, ObjectId, TaskNo};
 use private_store::Event;
 
@@ -48,42 +51,41 @@ impl GrantMove {
             Event::Admit { .. } | Event::Requota(..) | Event::Take | Event::Finish { .. } => None,
         }
     }
+
     /// The same of a session's command.
     fn by_call(job: JobNo, session: u32, command: &Command<Bytes>) -> Option<GrantMove>
         ensures { result ≡ grant_move_by job session command.now }
     {
+        match CommandKind::of(command).carrier() {
+            Carrier::RowAndWorks | Carrier::Row | Carrier::Node => None,
+            Carrier::Grants => Some(GrantMove::by_granting(job, session, command)),
+        }
+    }
+
+    /// The same of one that gives a grant or may end some.
+    fn by_granting(job: JobNo, session: u32, command: &Command<Bytes>) -> GrantMove
+        requires { (traits_of (kind_of command.now)).by ≡ by.Grants }
+        ensures { grant_move_by job session command.now ≡ Some result }
+    {
         match command {
-            Command::EndTask(task) => Some(GrantMove::EndTask {
+            Command::EndTask(task) => GrantMove::EndTask {
                 job,
                 session,
                 task: *task,
-            }),
-            Command::Grant(id, target) => Some(GrantMove::Grant {
+            },
+            Command::Grant(id, target) => GrantMove::Grant {
                 job,
                 session,
                 id: *id,
                 target: *target,
-            }),
-            Command::Withdraw(id, target) => Some(GrantMove::Withdraw {
+            },
+            Command::Withdraw(id, target) => GrantMove::Withdraw {
                 job,
                 session,
                 id: *id,
                 target: *target,
-            }),
-            Command::Create { .. }
-            | Command::Write { .. }
-            | Command::Seal(_)
-            | Command::Get(_)
-            | Command::Read { .. }
-            | Command::Release(_)
-            | Command::Unpin(..)
-            | Command::Borrow(..)
-            | Command::GiveUp(..)
-            | Command::Delete(_)
-            | Command::Peek { .. }
-            | Command::List
-            | Command::Usage
-            | Command::Leave => None,
+            },
+            _ => unreachable!(),
         }
     }
 }

@@ -321,6 +321,9 @@ impl Node {
         ensures without_memory { takes_no_memory (row_at self.old job) command.now ≡ true → IsOk result }
         ensures err { OnErr result (self.new ≡ self.old) }
     {
+        if calls::is_of_row(command) {
+            return self.call_row(job, session, command, room);
+        }
         match command {
             Command::List => self.list(job, session),
             Command::Peek {
@@ -328,20 +331,8 @@ impl Node {
                 offset,
                 count: len,
             } => self.peek(job, session, id, *offset, *len),
-            Command::Create { .. }
-            | Command::Write { .. }
-            | Command::Seal(_)
-            | Command::Get(_)
-            | Command::Read { .. }
-            | Command::Release(_)
-            | Command::Unpin(..)
-            | Command::Borrow(..)
-            | Command::GiveUp(..)
-            | Command::Delete(_)
-            | Command::Usage
-            | Command::Leave => self.call_row(job, session, command, room),
-            // each is a GrantMove
-            Command::EndTask(_) | Command::Grant(..) | Command::Withdraw(..) => unreachable!(),
+            // each other is a GrantMove
+            _ => unreachable!(),
         }
     }
 

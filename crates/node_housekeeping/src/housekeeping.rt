@@ -1,4 +1,5 @@
 //! What a node's steps leave to be done, beside the node itself.
+ghost use Rattle.std.specs.Prelude.{◌≡◌};
 ghost use Rattle.node_housekeeping.specs.DeviceCalls.{IsErasedIf};
 
 use crate::device_calls::erase_all;
@@ -9,7 +10,7 @@ use crate::seals::Seals;
 use crate::tally::{Tallies, Tally};
 use crate::upkeep::Upkeep;
 use crate::waiting::{Waiting, WakeScope};
-use crate::waiting_keys::WaitingKeys;
+use crate::waiting_keys::{LeftToErase, WaitingKeys};
 use crate::work_done::WorkDone;
 use obj_id::{DeviceKey, JobNo};
 use spill_device::SpillDevice;
@@ -70,13 +71,17 @@ impl<P: Pause, E: Drop, N: Drop> Housekeeping<P, E, N> {
         has_work: bool,
         job: JobNo,
         wake_scope: WakeScope,
-    ) {
-        let (has_keys, unerased) = self.keys.add(rt, erase, keys);
-        self.tallies.unerased(rt, unerased);
-        if has_keys || has_work {
+    ) -> LeftToErase<E>
+        ensures of { result.of.value ≡ erase }
+        ensures keys { result.keys.value ≡ keys }
+    {
+        let left = self.keys.add(rt, erase, keys);
+        self.tallies.unerased(rt, left.lost);
+        if left.wait || has_work {
             self.upkeep.bell.ask(rt);
         }
         self.upkeep.waiting.note(rt, job, wake_scope);
+        left
     }
 
     /// Erases what was written for a work, if that is no more.

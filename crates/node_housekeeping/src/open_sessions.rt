@@ -1,4 +1,6 @@
 //! The sessions of a node that are open.
+ghost use Rattle.std.specs.Prelude.{◌≡◌};
+
 use crate::marked_sessions::MarkedSessions;
 use std::sync::{Condvar, Mutex, Wait};
 
@@ -8,6 +10,22 @@ pub struct OpenSessions {
     // those that haven't ended
     open: Mutex<usize>,
     ended: Condvar,
+}
+
+/// How many sessions of a node were open when they were counted. Only `OpenSessions::count` makes one.
+#[derive(Clone, Copy)]
+pub struct CountedSessions {
+    node: u32,
+    sessions: usize,
+}
+
+impl CountedSessions {
+    /// How many they were.
+    pub fn sessions(&self) -> usize
+        ensures { result ≡ self.now.sessions }
+    {
+        self.sessions
+    }
 }
 
 impl OpenSessions {
@@ -38,9 +56,14 @@ impl OpenSessions {
         self.ended.notify_all();
     }
 
-    /// How many are open.
-    pub fn count<R: Wait>(&self, rt: &R) -> usize {
-        *self.open.lock(rt)
+    /// Counts those that are open, at the node of this number.
+    pub fn count<R: Wait>(&self, rt: &R, node: u32) -> CountedSessions
+        ensures { result.node ≡ node }
+    {
+        CountedSessions {
+            node,
+            sessions: *self.open.lock(rt),
+        }
     }
 
     /// Waits for the open sessions to end.

@@ -1,4 +1,6 @@
 //! The stream of an open session, and what is noted of it.
+ghost use Rattle.std.specs.Prelude.{◌≡◌};
+
 use obj_id::JobNo;
 use std::os::unix::net::UnixStream;
 use std::sync::atomic::{AtomicU32, AtomicU64, Ordering};
@@ -29,7 +31,9 @@ pub struct OpenStream {
 
 impl OpenStream {
     /// A stream that was opened at this time, and of which no Hello was taken.
-    pub(crate) fn new(stream: UnixStream, opened: Option<Instant>) -> OpenStream {
+    pub(crate) fn new(stream: UnixStream, opened: Option<Instant>) -> OpenStream
+        ensures { result.stream ≡ stream }
+    {
         OpenStream {
             stream,
             opened,
@@ -40,7 +44,9 @@ impl OpenStream {
     }
 
     /// The stream itself.
-    pub fn stream(&self) -> &UnixStream {
+    pub fn stream(&self) -> &UnixStream
+        ensures { result.now ≡ self.now.stream }
+    {
         &self.stream
     }
 

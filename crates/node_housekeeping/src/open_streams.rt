@@ -1,4 +1,6 @@
 //! The streams of a node's open sessions.
+ghost use Rattle.std.specs.Prelude.{◌≡◌, IfOk};
+
 use crate::open_stream::{ListedSession, OpenStream};
 use memory_growth::{OutOfMemory, boxes, lists};
 use obj_id::JobNo;
@@ -60,16 +62,24 @@ impl OpenStreams {
         rt: &R,
         alloc: Global,
         stream: UnixStream,
-    ) -> Result<Arc<OpenStream>, OutOfMemory> {
+    ) -> Result<Arc<OpenStream>, OutOfMemory>
+        ensures { IfOk result (λ made. made.value.stream ≡ stream) }
+    {
         let opened = Instant::now(rt).ok();
-        let stream = boxes::counted(alloc, OpenStream::new(stream, opened))?;
-        let shared = boxes::another(&stream)?;
+        let made = boxes::counted(alloc, OpenStream::new(stream, opened))?;
+        self.keep(rt, &made)?;
+        Ok(made)
+    }
+
+    /// Gives it a place among the others, and shuts it down if they are.
+    fn keep<R: Wait>(&self, rt: &R, made: &Arc<OpenStream>) -> Result<(), OutOfMemory> {
+        let shared = boxes::another(made)?;
         let mut streams = self.streams.lock(rt);
         lists::push(&mut streams.open, shared)?;
         if let Some(how) = streams.shut {
-            let _ = stream.stream().shutdown(how);
+            let _ = made.stream().shutdown(how);
         }
-        Ok(stream)
+        Ok(())
     }
 
     /// A stream is no longer served.

@@ -12,9 +12,9 @@ use Rattle.store_facts.proofs.Ids.{id_eq_equiv, same_id-id_eq}
 use Rattle.private_store.specs.rules.Tables.{ById, at}
 use Rattle.private_store.specs.rules.Shape.{Copy}
 use Rattle.store_facts.proofs.ObjectMaps.{at-lookup}
-use Rattle.job_row.specs.CopyViews.{CopyView}
+use Rattle.row_copy.specs.CopyViews.{CopyView}
 use Rattle.job_row.specs.Row.{copies_of}
-use Rattle.job_row.specs.Usages.{own_item_of}
+use Rattle.row_copy.specs.Usages.{own_item_of}
 use Rattle.job_row.proofs.ForCallers.{distinct_from_sorted}
 
 -- the copy of this id, if there is one

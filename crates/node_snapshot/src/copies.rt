@@ -2,14 +2,15 @@
 ghost use Rattle.std.specs.Prelude.{◌≡◌, IfOk, option_map};
 ghost use Rattle.std.specs.Option.{option_copied};
 ghost use Rattle.plain_store.specs.Parts.{plain_phase_of};
-ghost use Rattle.job_row.specs.CopyViews.{store_fetch_of};
+ghost use Rattle.row_copy.specs.CopyViews.{store_fetch_of};
 ghost use Rattle.job_row.specs.Row.{copies_of};
 
 use fetch_core::{FetchIn, Stage};
-use job_row::{Copies, RowCopy};
+use job_row::Copies;
 use memory_growth::{OutOfMemory, lists};
 use obj_id::ObjectId;
 use plain_store::{FetchPhase, PlainCopy, PlainFetch, copies_by_id};
+use row_copy::RowCopy;
 use std::alloc::Global;
 use std::collections::BTreeMap;
 

@@ -9,7 +9,7 @@ pub fn sweep_after<K: JournaledNode, E>(
     kept: &mut K,
     job: JobNo,
     reached_others: bool,
-    stepped: &Result<Stepped<K::Receipt, K::Mail>, E>,
+    stepped: &Result<Stepped<K::Receipt, K::Mail, K::Erase>, E>,
 )
     ensures { K.sweeps kept.old kept.new }
 {
@@ -22,7 +22,7 @@ pub fn sweep_after<K: JournaledNode, E>(
 }
 
 /// Whether the step's job isn't live.
-fn is_of_nobody<T, M, E>(stepped: &Result<Stepped<T, M>, E>) -> bool {
+fn is_of_nobody<T, M, G, E>(stepped: &Result<Stepped<T, M, G>, E>) -> bool {
     match stepped {
         Ok(stepped) => matches!(&stepped.reply, Reply::Refused(Refusal::NotAdmitted)),
         Err(_) => false,

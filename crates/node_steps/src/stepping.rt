@@ -1,5 +1,5 @@
 //! The steps of a node that is locked, with what follows at once.
-ghost use Rattle.std.specs.Prelude.{◌≡◌, ◌⊎◌, ◌<◌, ◌++◌, ◌∷◌, [], true, false, Some, IfOk, IfErr, OnErr, IfSome, IfNone, IsErrOf, ◌↔◌};
+ghost use Rattle.std.specs.Prelude.{◌≡◌, ◌⊎◌, ◌<◌, ◌++◌, ◌∷◌, [], true, false, Some, IfOk, IfErr, OnErr, IfSome, IfNone, IsErrOf, ◌↔◌, length};
 ghost use Rattle.obj_id.specs.declared.commands.Command.TheVariants as command;
 ghost use Rattle.obj_id.specs.declared.refusals.Refusal.TheVariants.{NoMemory, Stale};
 ghost use Rattle.private_store.specs.declared.schedules.Event.TheVariants as event;
@@ -11,17 +11,18 @@ use crate::auditing::audit_one;
 use bytes::Bytes;
 use memory_growth::OutOfMemory;
 use node_gate::{Actor, JournaledNode, Made, leave_entered, leave_of};
-use node_housekeeping::{Housekeeping, Pause, wake_scope_of};
+use node_housekeeping::{Housekeeping, LeftToErase, Pause, wake_scope_of};
 use obj_id::{Command, JobNo, Refusal, Reply};
 use private_store::Event;
 use std::sync::Wait;
 
-/// The answer of a step that was made, with its receipt, and what it sends.
+/// The answer of a step that was made, with its receipt, and what it sends. What it gave out to be erased is left to be.
 #[derive(Drop)]
-pub struct Stepped<T, M> {
+pub struct Stepped<T, M, E> {
     pub reply: Reply<Bytes>,
     pub receipt: T,
     pub mail: M,
+    pub left: LeftToErase<E>,
 }
 
 /// A session's command, after the step of an earlier receipt, if one is shown. The error is out of memory.
@@ -34,7 +35,7 @@ pub fn step_call<K: JournaledNode, R: Wait, P: Pause>(
     job: JobNo,
     session: u32,
     command: Command<Bytes>,
-) -> Result<Stepped<K::Receipt, K::Mail>, OutOfMemory>
+) -> Result<Stepped<K::Receipt, K::Mail, K::Erase>, OutOfMemory>
     ensures acts { IfOk result (λ s. actor.new ≡ actor.old ++ event.Call job session command ∷ []) }
     ensures still { OnErr result (actor.new ≡ actor.old) }
     ensures called { IfOk result (λ s. IsNext K.called_by K.rises earlier.now (event.Call job session command) s.reply s.receipt) }
@@ -62,7 +63,7 @@ pub fn step_call_after<K: JournaledNode, R: Wait, P: Pause>(
     job: JobNo,
     session: u32,
     command: Command<Bytes>,
-) -> Result<Stepped<K::Receipt, K::Mail>, Refusal>
+) -> Result<Stepped<K::Receipt, K::Mail, K::Erase>, Refusal>
     ensures acts { IfOk result (λ s. actor.new ≡ actor.old ++ event.Call job session command ∷ []) }
     ensures still { OnErr result (actor.new ≡ actor.old) }
     ensures called { IfOk result (λ s. IsNext K.called_by K.rises (Some receipt.now) (event.Call job session command) s.reply s.receipt) }
@@ -92,7 +93,7 @@ pub fn step_event<K: JournaledNode, R: Wait, P: Pause>(
     actor: &mut Actor,
     earlier: &Option<K::Receipt>,
     event: &Event,
-) -> Result<Stepped<K::Receipt, K::Mail>, OutOfMemory>
+) -> Result<Stepped<K::Receipt, K::Mail, K::Erase>, OutOfMemory>
     ensures acts { IfOk result (λ s. actor.new ≡ actor.old ++ event.now ∷ []) }
     ensures still { OnErr result (actor.new ≡ actor.old) }
     ensures stepped { IfOk result (λ s. K.receipt_of event.now s.reply s.receipt) }
@@ -115,7 +116,7 @@ pub fn step_order<K: JournaledNode, R: Wait, P: Pause>(
     housekeeping: &Housekeeping<P, K::Erase, K::Entered>,
     actor: &mut Actor,
     event: &Event,
-) -> Result<Stepped<K::Receipt, K::Mail>, OutOfMemory>
+) -> Result<Stepped<K::Receipt, K::Mail, K::Erase>, OutOfMemory>
     ensures acts { IfOk result (λ s. actor.new ≡ actor.old ++ event.now ∷ []) }
     ensures still { OnErr result (actor.new ≡ actor.old) }
     ensures stepped { IfOk result (λ s. K.receipt_of event.now s.reply s.receipt) }
@@ -136,7 +137,7 @@ pub fn step_end<K: JournaledNode, R: Wait, P: Pause>(
     housekeeping: &Housekeeping<P, K::Erase, K::Entered>,
     actor: &mut Actor,
     job: JobNo,
-) -> Result<Stepped<K::Receipt, K::Mail>, OutOfMemory>
+) -> Result<Stepped<K::Receipt, K::Mail, K::Erase>, OutOfMemory>
     ensures acts { IfOk result (λ s. actor.new ≡ actor.old ++ event.JobEnd job ∷ []) }
     ensures still { OnErr result (actor.new ≡ actor.old) }
     ensures stepped { IfOk result (λ s. K.receipt_of (event.JobEnd job) s.reply s.receipt) }
@@ -153,7 +154,11 @@ pub fn step_end<K: JournaledNode, R: Wait, P: Pause>(
 
 /// Folds the journal of a job, after the step of its end, unless that was refused. If there is no memory for the fold nothing changes,
 /// and a later one makes up for it.
-fn fold_ended<K: JournaledNode>(kept: &mut K, job: JobNo, ended: &Stepped<K::Receipt, K::Mail>)
+fn fold_ended<K: JournaledNode>(
+    kept: &mut K,
+    job: JobNo,
+    ended: &Stepped<K::Receipt, K::Mail, K::Erase>,
+)
     requires { K.receipt_of (event.JobEnd job) ended.now.reply ended.now.receipt }
     ensures folds { (kept.new ≡ kept.old) ⊎ K.folds job kept.old kept.new }
     ensures number { K.node_number kept.new ≡ K.node_number kept.old }
@@ -169,7 +174,7 @@ pub fn step_take<K: JournaledNode, R: Wait, P: Pause>(
     kept: &mut K,
     housekeeping: &Housekeeping<P, K::Erase, K::Entered>,
     actor: &mut Actor,
-) -> Option<Result<Stepped<K::Receipt, K::Mail>, OutOfMemory>>
+) -> Option<Result<Stepped<K::Receipt, K::Mail, K::Erase>, OutOfMemory>>
     ensures acts { IfSome result (λ r. IfOk r (λ s. actor.new ≡ actor.old ++ event.Take ∷ [])) }
     ensures still { IfSome result (λ r. OnErr r (actor.new ≡ actor.old)) }
     ensures rests { IfNone result (actor.new ≡ actor.old) }
@@ -215,7 +220,7 @@ pub fn step_arrival<K: JournaledNode, R: Wait, P: Pause>(
     kept: &mut K,
     housekeeping: &Housekeeping<P, K::Erase, K::Entered>,
     posted: K::Posted,
-) -> Result<Stepped<K::Receipt, K::Mail>, Refusal>
+) -> Result<Stepped<K::Receipt, K::Mail, K::Erase>, Refusal>
     ensures once { IfOk result (λ s. K.arrives posted s.reply (K.posts s.mail) s.receipt kept.old kept.new) }
     ensures node { IfOk result (λ s. K.made_at s.receipt ≡ K.node_number kept.old) }
     ensures arrived { IfOk result (λ s. K.arrived posted s.receipt) }
@@ -255,10 +260,12 @@ fn finish_step<K: JournaledNode, R: Wait, P: Pause>(
     kept: &K,
     housekeeping: &Housekeeping<P, K::Erase, K::Entered>,
     made: Made<K::Receipt, K::Mail, K::Erase>,
-) -> Stepped<K::Receipt, K::Mail>
+) -> Stepped<K::Receipt, K::Mail, K::Erase>
     ensures reply { result.reply ≡ made.reply }
     ensures mail { result.mail ≡ made.mail }
     ensures receipt { result.receipt ≡ made.receipt }
+    ensures left { result.left.of.value ≡ made.erase }
+    ensures keys { result.left.keys.value ≡ length (K.keys made.erase) }
 {
     let Made {
         reply,
@@ -268,7 +275,7 @@ fn finish_step<K: JournaledNode, R: Wait, P: Pause>(
     } = made;
     let wake_scope = wake_scope_of(K::input(&receipt), &reply);
     let keys = K::keys(&erase).len() as u64;
-    housekeeping.after_step(
+    let left = housekeeping.after_step(
         rt,
         erase,
         keys,
@@ -280,5 +287,6 @@ fn finish_step<K: JournaledNode, R: Wait, P: Pause>(
         reply,
         receipt,
         mail,
+        left,
     }
 }

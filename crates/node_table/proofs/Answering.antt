@@ -54,14 +54,16 @@ use Rattle.lru_evictor.proofs.ForCallers.{reordered-unused}
 use Rattle.spill_work.specs.declared.queue.IoRequest.{IoRequest}
 use Rattle.spill_work.specs.Line.{WorkLine, shown, used_by, Finishes}
 use Rattle.obj_id.specs.Works.{is_write}
-use Rattle.job_row.specs.Answering.{is_in_work, has_bytes, view_read_verdict, work_verdict_of, written_row, refilled, lost_row, read_row}
+use Rattle.row_copy.specs.Answering.{is_in_work, has_bytes, view_read_verdict, work_verdict_of}
+use Rattle.job_row.specs.Answering.{written_row, refilled, lost_row, read_row}
 use Rattle.object_state.specs.Laws.{has_failed}
-use Rattle.job_row.specs.Dropping.{dropped, is_over, settled_row, keys_settled}
+use Rattle.job_row.specs.Dropping.{dropped, settled_row, keys_settled}
+use Rattle.row_copy.specs.Keeping.{is_over}
 use Rattle.job_row.specs.Entries.{changed}
-use Rattle.job_row.specs.CopyViews.{CopyView, after_write, after_restore, after_failed_restore}
+use Rattle.row_copy.specs.CopyViews.{CopyView, after_write, after_restore, after_failed_restore}
 use Rattle.job_row.specs.Row.{Row, copies_of, place_of, ArePlaced}
 use Rattle.node_table.specs.Shown.{seen, work_on, IsShown, RowGiven, only, RowStep}
-use Rattle.job_row.specs.Usages.{is_spilling}
+use Rattle.row_copy.specs.Usages.{is_spilling}
 use Rattle.node_table.proofs.ByChecks.{needing-by}
 use Rattle.job_row.proofs.ForCallers.{changed-found, at-copies_found, at-copies_none, copies-changed, bytes-written, bytes-other, long_at, written_placed, changed_placed, at_most_rounded, found_left, lost_placed}
 use Rattle.node_table.proofs.Changing.{From, from_changed, there_with, keys_with, bytes_stay}

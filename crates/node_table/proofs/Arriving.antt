@@ -39,13 +39,14 @@ use Rattle.store_facts.proofs.Tests.{none_some, some_value, true_false, false_tr
 use Rattle.job_region.specs.Region.{region_bytes_at as placed_bytes}
 use Rattle.lru_evictor.specs.Orders.{AreThere}
 use Rattle.lru_evictor.proofs.ForCallers.{reordered-unused}
-use Rattle.job_row.specs.Arriving.{awaits_source, in_phase, after_located, after_source}
+use Rattle.row_copy.specs.Arriving.{awaits_source, in_phase, after_located, after_source}
 use Rattle.job_row.specs.Entries.{changed}
-use Rattle.job_row.specs.CopyViews.{CopyView}
+use Rattle.row_copy.specs.CopyViews.{CopyView}
 use Rattle.job_row.specs.Row.{Row, copies_of}
 use Rattle.job_row.specs.Scope.{with_copy}
 use Rattle.node_table.specs.Shown.{seen, work_on, IsShown, RowGiven, only, RowStep}
-use Rattle.job_row.proofs.ForCallers.{changed-found, changed-absent, at-copies_none, at-copies_found, copies-changed, sorted-copies, awaits_parts}
+use Rattle.job_row.proofs.ForCallers.{changed-found, changed-absent, at-copies_none, at-copies_found, copies-changed, sorted-copies}
+use Rattle.row_copy.proofs.ForCallers.{awaits_parts}
 use Rattle.node_table.proofs.Changing.{there_with}
 use Rattle.node_table.proofs.Stepping.{TakesChange, moved, change, stays, same_bytes, bytes_now, digests_now, received_stays}
 use Rattle.node_table.specs.Beside.{SharedTables, shape_of}

@@ -31,12 +31,13 @@ use Rattle.lru_evictor.specs.Orders.{AreThere}
 use Rattle.lru_evictor.proofs.ForCallers.{reordered-unused}
 use Rattle.spill_work.specs.Line.{WorkLine, numbered_works, in_flight, used_by, room_for, AsksAll}
 use Rattle.job_row.specs.Entries.{changed, each_changed}
-use Rattle.job_row.specs.CopyViews.{CopyView, can_spill, after_spill_begun, spill_begun_if}
+use Rattle.row_copy.specs.CopyViews.{CopyView, can_spill, after_spill_begun, spill_begun_if}
 use Rattle.job_row.specs.Row.{Row, copies_of}
 use Rattle.node_table.specs.RoomPlans.{AsksWrites}
 use Rattle.node_table.specs.Shown.{seen, work_on, IsShown, only, RowStep}
 use Rattle.node_table.proofs.ByChecks.{sending-is}
-use Rattle.job_row.proofs.ForCallers.{changed-found, changed-absent, sorted-copies, at-copies_found, copies-changed, same_copy}
+use Rattle.job_row.proofs.ForCallers.{changed-found, changed-absent, sorted-copies, at-copies_found, copies-changed}
+use Rattle.row_copy.proofs.ForCallers.{same_copy}
 use Rattle.node_table.specs.MadeRooms.{BringsNothing, TellsRoom}
 use Rattle.node_table.proofs.Rooms.{room_is, each_among}
 use Rattle.node_table.proofs.Described.{working-on}

@@ -18,7 +18,7 @@ use Rattle.private_store.specs.rules.Commands.{write_checks, seal_checks, read_c
 use Rattle.private_store.specs.rules.Shared.{first_refusal}
 use Rattle.private_store.specs.rules.Step.{step, owned, commanded}
 use Rattle.store_facts.proofs.Checks.{checked-nil, checked-false}
-use Rattle.job_row.specs.CopyViews.{CopyView}
+use Rattle.row_copy.specs.CopyViews.{CopyView}
 use Rattle.job_row.specs.Row.{Row}
 use Rattle.job_row.specs.Checks.{write_check, seal_check, read_check}
 use Rattle.job_row.proofs.ForCallers.{at-copies}

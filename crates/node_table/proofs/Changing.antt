@@ -19,7 +19,7 @@ use Rattle.store_facts.proofs.Tests.{some_value, true_T}
 use Rattle.job_region.specs.Region.{region_bytes_at as placed_bytes}
 use Rattle.lru_evictor.specs.Orders.{AreThere}
 use Rattle.job_row.specs.Entries.{changed}
-use Rattle.job_row.specs.CopyViews.{CopyView}
+use Rattle.row_copy.specs.CopyViews.{CopyView}
 use Rattle.job_row.specs.Row.{Row, copies_of}
 use Rattle.node_table.specs.Shown.{seen, work_on, IsShown}
 use Rattle.job_row.proofs.ForCallers.{changed-found, copies-changed}

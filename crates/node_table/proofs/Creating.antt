@@ -29,7 +29,7 @@ use Rattle.private_store.specs.rules.Contents.{Contents, judge}
 use Rattle.private_store.specs.rules.Step.{step}
 use Rattle.store_facts.proofs.Tests.{none_here, some_value, none_some, true_false}
 use Rattle.job_region.specs.Region.{extents_of}
-use Rattle.job_row.specs.CopyViews.{CopyView, new_copy_view}
+use Rattle.row_copy.specs.CopyViews.{CopyView, new_copy_view}
 use Rattle.job_row.specs.Row.{Row, copies_of, place_of, ArePlaced}
 use Rattle.job_row.specs.Checks.{create_check}
 use Rattle.job_row.specs.Evicting.{placed_without, replaced, removals}

@@ -23,7 +23,7 @@ use Rattle.job_region.specs.Region.{extents_of, IsAt}
 use Rattle.lru_evictor.specs.declared.facts.DeviceRoom.{DeviceRoom}
 use Rattle.lru_evictor.specs.Facts.{Looked}
 use Rattle.lru_evictor.specs.Plans.{IsDescribed, extents_in, facts_of as store_facts}
-use Rattle.job_row.specs.CopyViews.{CopyView}
+use Rattle.row_copy.specs.CopyViews.{CopyView}
 use Rattle.job_row.specs.Row.{Row, copies_of, place_of, ArePlaced}
 use Rattle.node_table.specs.Shown.{IsShown, work_on}
 use Rattle.job_row.specs.InSync.{facts_in}

@@ -22,7 +22,7 @@ use Rattle.store_facts.proofs.KeptLists.{any-filter}
 use Rattle.store_facts.proofs.Rows.{at-drop, at-put}
 use Rattle.store_facts.proofs.Tests.{none_some, some_value, true_false, true_T, and_left, and_right, both, both_left, both_right}
 use Rattle.lru_evictor.specs.Orders.{AreThere, without_id}
-use Rattle.job_row.specs.CopyViews.{CopyView}
+use Rattle.row_copy.specs.CopyViews.{CopyView}
 use Rattle.job_row.specs.Row.{Row, copies_of, place_of, ArePlaced}
 use Rattle.node_table.specs.Shown.{IsShown, RowGiven}
 use Rattle.job_row.specs.Dropping.{dropped}

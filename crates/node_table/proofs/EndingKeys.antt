@@ -11,7 +11,7 @@ use Rattle.private_store.specs.rules.Change.{keys_gone}
 use Rattle.private_store.specs.rules.Private.{key_of}
 use Rattle.store_facts.proofs.Tests.{and_right}
 use Rattle.job_row.specs.Ending.{keys_backed}
-use Rattle.job_row.specs.CopyViews.{CopyView}
+use Rattle.row_copy.specs.CopyViews.{CopyView}
 use Rattle.job_row.specs.Row.{Row, copies_of}
 use Rattle.job_row.proofs.ForCallers.{at-first, at-rest}
 

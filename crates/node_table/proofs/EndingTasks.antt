@@ -39,9 +39,10 @@ use Rattle.lru_evictor.proofs.ForCallers.{reordered-unused}
 use Rattle.job_row.specs.Checks.{end_task_check}
 use Rattle.job_row.specs.Dropping.{settled_row}
 use Rattle.job_row.specs.EndingTasks.{task_row, doomed_row, doom_posts, given_up_row, give_up_posts, posts_of_each, keys_of_copies, gone_keys, gone_key}
-use Rattle.job_row.specs.CopyViews.{CopyView, after_doom, after_give_up, after_grants_ended}
+use Rattle.row_copy.specs.CopyViews.{CopyView, after_doom, after_give_up, after_grants_ended}
 use Rattle.job_row.specs.Row.{Row, copies_of, place_of, ArePlaced}
-use Rattle.job_row.specs.Scope.{removal_notice, removal_notice_at, notice_posts, with_copy}
+use Rattle.row_copy.specs.Scope.{removal_notice}
+use Rattle.job_row.specs.Scope.{removal_notice_at, notice_posts, with_copy}
 use Rattle.node_table.specs.Shown.{seen, IsShown, RowGiven, only, RowStep}
 use Rattle.node_table.proofs.ByChecks.{called, by-checks, unless_refused, sending-is}
 use Rattle.job_row.proofs.ForCallers.{at-first, at-rest, at-copies, at-copies_found, at-copies_none, sorted-copies, same_part, copies-ended, from_ended, ended_placed}

@@ -19,7 +19,7 @@ use Rattle.private_store.specs.rules.Step.{step}
 use Rattle.private_store.specs.laws.Invariants.{is_remembered, is_restoring}
 use Rattle.lru_evictor.proofs.ForCallers.{reordered-unused}
 use Rattle.job_row.specs.Entries.{changed}
-use Rattle.job_row.specs.CopyViews.{CopyView, after_fault_reported}
+use Rattle.row_copy.specs.CopyViews.{CopyView, after_fault_reported}
 use Rattle.job_row.specs.Row.{Row, copies_of}
 use Rattle.node_table.specs.Shown.{seen, IsShown, only, RowStep}
 use Rattle.job_row.proofs.ForCallers.{at-copies_found, copies-changed}

@@ -38,7 +38,7 @@ use Rattle.store_facts.proofs.Tests.{some_value, none_some, true_false, false_tr
 use Rattle.job_region.specs.Region.{region_bytes_at as placed_bytes}
 use Rattle.lru_evictor.specs.Orders.{AreThere, last_used}
 use Rattle.lru_evictor.proofs.ForCallers.{reordered-used}
-use Rattle.job_row.specs.CopyViews.{CopyView, fetched_copy_view}
+use Rattle.row_copy.specs.CopyViews.{CopyView, fetched_copy_view}
 use Rattle.job_row.specs.Row.{Row, copies_of, place_of, ArePlaced}
 use Rattle.job_row.specs.Dropping.{dropped}
 use Rattle.job_row.specs.Checks.{fetch_check}

@@ -41,8 +41,9 @@ use Rattle.store_facts.proofs.Rows.{at-put, at-put_here}
 use Rattle.store_facts.proofs.Tests.{some_value, true_false, false_true, both_left, both_right}
 use Rattle.job_region.specs.Region.{without, region_bytes_at as placed_bytes}
 use Rattle.fetch_core.specs.Fetching.{fills_one, fetch_chunk_taken, missing_of}
-use Rattle.job_row.specs.Arriving.{fetch_of_length, fills, lacks_only, after_chunk, after_last_chunk, unfetched_row, row_written}
-use Rattle.job_row.specs.CopyViews.{CopyView, store_fetch_of as fetch_kept}
+use Rattle.row_copy.specs.Arriving.{fetch_of_length, fills, lacks_only, after_chunk, after_last_chunk}
+use Rattle.job_row.specs.Arriving.{unfetched_row, row_written}
+use Rattle.row_copy.specs.CopyViews.{CopyView, store_fetch_of as fetch_kept}
 use Rattle.job_row.specs.Row.{Row, copies_of, place_of, ArePlaced}
 use Rattle.job_row.specs.Scope.{with_copy}
 use Rattle.node_table.specs.Shown.{seen, IsShown, RowGiven, only, RowStep}

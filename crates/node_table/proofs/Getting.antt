@@ -29,9 +29,10 @@ use Rattle.store_facts.proofs.Tests.{some_value, true_false, both_left, both_rig
 use Rattle.lru_evictor.specs.Orders.{AreThere, last_used, touched}
 use Rattle.lru_evictor.proofs.ForCallers.{reordered-used}
 use Rattle.job_row.specs.Entries.{changed}
-use Rattle.job_row.specs.CopyViews.{CopyView, after_hold, is_ready}
+use Rattle.row_copy.specs.CopyViews.{CopyView, after_hold, is_ready}
 use Rattle.job_row.specs.Row.{Row, copies_of}
-use Rattle.job_row.specs.Checks.{hold_check_of, visible_state}
+use Rattle.row_copy.specs.Checks.{hold_check_of}
+use Rattle.job_row.specs.Checks.{visible_state}
 use Rattle.job_row.specs.Holding.{IsRowHeld, IsHoldRefusedAt}
 use Rattle.node_table.specs.Shown.{seen, IsShown, only, RowStep}
 use Rattle.node_table.proofs.ByChecks.{unless_refused, by-checks, called, own}

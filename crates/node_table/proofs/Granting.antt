@@ -34,9 +34,10 @@ use Rattle.grants.specs.Private.{as_given, HasGrants, RefusesAlike}
 use Rattle.grants.proofs.ForCallers.{numbers_equal, filter_swap, is_to, any_given, left_given, refuses_alike, grants_alike, taken_sorted, taken_is}
 use Rattle.lru_evictor.proofs.ForCallers.{reordered-unused}
 use Rattle.spill_work.specs.Line.{WorkLine}
-use Rattle.job_row.specs.Dropping.{is_over, settled_row, keys_settled}
+use Rattle.row_copy.specs.Keeping.{is_over}
+use Rattle.job_row.specs.Dropping.{settled_row, keys_settled}
 use Rattle.node_table.specs.Granting.{row_grant_check, grants_made}
-use Rattle.job_row.specs.CopyViews.{CopyView, with_granted}
+use Rattle.row_copy.specs.CopyViews.{CopyView, with_granted}
 use Rattle.node_table.specs.Notes.{beside_rest}
 use Rattle.job_row.specs.Row.{Row, copies_of, place_of, ArePlaced}
 use Rattle.job_row.specs.Scope.{with_copy}
@@ -52,7 +53,7 @@ use Rattle.node_table.proofs.Passed.{past, there}
 use Rattle.node_table.proofs.Settling.{BringsNothing, moved_settles}
 use Rattle.node_table.proofs.Stepping.{TakesChange, moved, change, received_stays, stays}
 use Rattle.node_table.specs.Beside.{SharedTables, beside_of, shape_of}
-use Rattle.job_row.specs.Checks.{grant_check_of}
+use Rattle.row_copy.specs.Checks.{grant_check_of}
 
 -- an entry put where it stands already
 with-same : {X : Type 0} (es : ById X) (id : ObjectId) (x : X) → T (is_sorted id_cmp es) → at es id ≡ Some x → with_entry es id x ≡ es

@@ -16,7 +16,7 @@ use Rattle.spill_work.specs.declared.queue.IoRequest.{IoRequest}
 use Rattle.spill_work.specs.Line.{shown}
 use Rattle.obj_id.specs.Works.{is_write}
 use Rattle.node_table.specs.Handed.{row_work_given, row_work_of}
-use Rattle.job_row.specs.CopyViews.{CopyView}
+use Rattle.row_copy.specs.CopyViews.{CopyView}
 use Rattle.job_row.specs.Row.{Row}
 use Rattle.node_table.specs.Shown.{seen, IsShown}
 use Rattle.node_table.proofs.Answering.{copy_at_work, place_at_work}

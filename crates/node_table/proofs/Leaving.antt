@@ -35,10 +35,11 @@ use Rattle.job_region.specs.Region.{region_bytes_at as placed_bytes}
 use Rattle.lru_evictor.specs.Orders.{AreThere}
 use Rattle.lru_evictor.proofs.ForCallers.{reordered-unused}
 use Rattle.job_row.specs.Entries.{changed, all_changed}
-use Rattle.job_row.specs.CopyViews.{CopyView, after_leave}
+use Rattle.row_copy.specs.CopyViews.{CopyView, after_leave}
 use Rattle.job_row.specs.Row.{Row, copies_of}
 use Rattle.node_table.specs.Shown.{seen, IsShown, only, RowStep}
-use Rattle.job_row.specs.Usages.{total, doomed_one}
+use Rattle.job_row.specs.Usages.{total}
+use Rattle.row_copy.specs.Usages.{doomed_one}
 use Rattle.node_table.proofs.ByChecks.{called}
 use Rattle.node_table.proofs.Settling.{settled-stays}
 use Rattle.node_table.proofs.Stepping.{TakesChange, moved, same_bytes, received_stays}

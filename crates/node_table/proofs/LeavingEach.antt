@@ -26,11 +26,12 @@ use Rattle.store_facts.proofs.Filling.{below_none}
 use Rattle.store_facts.proofs.Rows.{at-put, at-put_here, at-drop}
 use Rattle.store_facts.proofs.Tests.{T_true, and_left, and_right, none_some, some_value}
 use Rattle.lru_evictor.proofs.ForCallers.{reordered-unused}
-use Rattle.job_row.specs.CopyViews.{CopyView, after_leave}
+use Rattle.row_copy.specs.CopyViews.{CopyView, after_leave}
 use Rattle.job_row.specs.Row.{Row, copies_of, place_of, ArePlaced}
-use Rattle.job_row.specs.Dropping.{dropped, is_over, settled_row, keys_settled, unheld_row, left_row, keys_left}
+use Rattle.job_row.specs.Dropping.{dropped, settled_row, keys_settled, unheld_row, left_row, keys_left}
+use Rattle.row_copy.specs.Keeping.{is_over}
 use Rattle.node_table.specs.Shown.{seen, IsShown, RowGiven, only, RowStep}
-use Rattle.job_row.specs.Usages.{own_item_of}
+use Rattle.row_copy.specs.Usages.{own_item_of}
 use Rattle.node_table.proofs.ByChecks.{called}
 use Rattle.job_row.proofs.ForCallers.{changed-found, at-first, at-rest, at-copies, at-copies_found, at-copies_none, sorted-copies}
 use Rattle.node_table.proofs.Stepping.{TakesChange, moved, same_bytes, received_stays}

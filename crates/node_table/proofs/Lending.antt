@@ -14,7 +14,7 @@ use Rattle.private_store.specs.rules.Contents.{Contents, bytes_at}
 use Rattle.private_store.specs.laws.Invariants.{are_held}
 use Rattle.store_facts.proofs.Tests.{some_value}
 use Rattle.job_region.specs.Region.{region_bytes_at as placed_bytes}
-use Rattle.job_row.specs.CopyViews.{CopyView}
+use Rattle.row_copy.specs.CopyViews.{CopyView}
 use Rattle.job_row.specs.Row.{Row, copies_of}
 use Rattle.job_row.specs.Checks.{lend_check}
 use Rattle.node_table.specs.Shown.{IsShown, IsLent}

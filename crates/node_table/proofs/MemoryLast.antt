@@ -36,15 +36,16 @@ use Rattle.store_facts.proofs.Checks.{checked-false, checked-nil}
 use Rattle.store_facts.proofs.Rows.{at-put_here}
 use Rattle.store_facts.proofs.Tests.{both_left, both_right, not_true, or_left, or_right, true_false}
 use Rattle.spill_work.specs.Line.{WorkLine, in_flight, used_by}
-use Rattle.job_row.specs.CopyViews.{CopyView}
+use Rattle.row_copy.specs.CopyViews.{CopyView}
 use Rattle.job_row.specs.Row.{Row}
-use Rattle.job_row.specs.Checks.{create_check, seal_check, unpin_check, row_borrow_check, give_up_check, delete_check, end_task_check, read_check, fetch_check, hold_check_of}
+use Rattle.job_row.specs.Checks.{create_check, seal_check, unpin_check, row_borrow_check, give_up_check, delete_check, end_task_check, read_check, fetch_check}
+use Rattle.row_copy.specs.Checks.{hold_check_of}
 use Rattle.job_row.specs.Holding.{IsHoldRefusedAt}
 use Rattle.node_table.specs.MemoryLast.{is_more, work_has_begun, may_grow, IsDueMore}
 use Rattle.node_table.specs.MadeRooms.{IsPlannedFor}
 use Rattle.node_table.specs.RoomPlans.{planned_by, refuses, makes_place}
 use Rattle.node_table.specs.Shown.{seen, IsShown}
-use Rattle.job_row.specs.Usages.{own_item_of}
+use Rattle.row_copy.specs.Usages.{own_item_of}
 use Rattle.node_table.specs.declared.room.RoomPlan.{RoomPlan}
 use Rattle.node_table.proofs.ByChecks.{unless_refused, by-checks, called, own, read-by, seal-by, seal_done, sending-is}
 use Rattle.job_row.proofs.ForCallers.{at-copies_found}

@@ -26,7 +26,7 @@ use Rattle.grants.specs.Private.{as_given, with_taken, HasGrants, HasRest, RestA
 use Rattle.grants.proofs.ForCallers.{numbers_equal, ends_alike, rest_alike, filter_both, made_for, has_grants, taken_sorted, taken_shown, taken_is}
 use Rattle.lru_evictor.proofs.ForCallers.{reordered-unused}
 use Rattle.spill_work.specs.Line.{WorkLine}
-use Rattle.job_row.specs.CopyViews.{CopyView}
+use Rattle.row_copy.specs.CopyViews.{CopyView}
 use Rattle.node_table.specs.Notes.{IsSeen, end_of_grant, ends_to, beside_rest, received_shape, received_view}
 use Rattle.job_row.specs.Row.{Row, copies_of}
 use Rattle.node_table.specs.Shown.{seen, IsShown, only, RowStep}

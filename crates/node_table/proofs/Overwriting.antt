@@ -12,7 +12,7 @@ use Rattle.private_store.specs.rules.Contents.{Contents, bytes_at, overwritten}
 use Rattle.store_facts.proofs.Tests.{true_false}
 use Rattle.job_region.specs.Region.{region_bytes_at as placed_bytes}
 use Rattle.job_region.proofs.ForCallers.{part_over_within}
-use Rattle.job_row.specs.CopyViews.{CopyView}
+use Rattle.row_copy.specs.CopyViews.{CopyView}
 use Rattle.job_row.specs.Row.{Row, place_of, ArePlaced}
 use Rattle.node_table.specs.Shown.{IsShown}
 use Rattle.node_table.proofs.Passed.{place_found}

@@ -18,9 +18,10 @@ use Rattle.private_store.specs.rules.Commands.{holds_of, is_unsealed, write_chec
 use Rattle.private_store.specs.rules.Shared.{first_refusal}
 use Rattle.store_facts.proofs.Checks.{Fails}
 use Rattle.store_facts.proofs.Tests.{true_false}
-use Rattle.job_row.specs.CopyViews.{CopyView}
+use Rattle.row_copy.specs.CopyViews.{CopyView}
 use Rattle.job_row.specs.Row.{place_of}
-use Rattle.job_row.specs.Checks.{check_at, unless_doomed, write_check, seal_check, read_check}
+use Rattle.job_row.specs.Checks.{check_at, write_check, seal_check, read_check}
+use Rattle.row_copy.specs.Checks.{unless_doomed}
 
 -- a check that passed: the first test failed, and the rest passed
 pub past : (b : Bool) (r : Refusal) (rest : Option Refusal) → cond b (Some r) rest ≡ None → (b ≡ false) × (rest ≡ None)

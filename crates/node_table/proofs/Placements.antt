@@ -7,7 +7,7 @@ use Rattle.private_store.specs.rules.Extents.{first}
 use Rattle.private_store.specs.rules.Tables.{ById}
 use Rattle.job_region.specs.Region.{Region, extents_of, place_for, without}
 use Rattle.job_row.specs.Evicting.{IsPlacement, placed_without}
-use Rattle.job_row.specs.CopyViews.{CopyView}
+use Rattle.row_copy.specs.CopyViews.{CopyView}
 use Rattle.job_row.specs.Row.{Row}
 use Rattle.job_row.specs.declared.placement.Placement.{Placement}
 use Rattle.node_table.proofs.Planning.{none_go}

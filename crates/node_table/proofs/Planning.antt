@@ -29,17 +29,17 @@ use Rattle.lru_evictor.specs.Orders.{order_ids}
 use Rattle.lru_evictor.specs.Plans.{IsDescribed, IsOfCopies}
 use Rattle.lru_evictor.proofs.ForCallers.{offset-described}
 use Rattle.spill_work.specs.Line.{WorkLine, works_of, in_flight, used_by}
-use Rattle.job_row.specs.CopyViews.{CopyView}
+use Rattle.row_copy.specs.CopyViews.{CopyView}
 use Rattle.job_row.specs.Row.{Row, place_of, ArePlaced}
 use Rattle.node_table.specs.Shown.{IsShown}
-use Rattle.job_row.specs.InSync.{InSync}
+use Rattle.job_row.specs.InSync.{InSync, AreListed}
 use Rattle.lru_evictor.specs.declared.facts.Plan.{Plan as Kind}
 use Rattle.lru_evictor.specs.declared.facts.Plan.TheVariants as kind
 use Rattle.lru_evictor.specs.Plans.{plan_kind_of, listed}
-use Rattle.job_row.specs.InSync.{AreListed}
 use Rattle.node_table.specs.RoomPlans.{IsPlanned, MakesPlace, by_kind, plan_by, planned_by, place_as_it_is}
 use Rattle.job_row.specs.RowFacts.{row_facts_of}
-use Rattle.job_row.specs.Usages.{total, device_bytes}
+use Rattle.job_row.specs.Usages.{total}
+use Rattle.row_copy.specs.Usages.{device_bytes}
 use Rattle.node_table.proofs.Telling.{device_is}
 use Rattle.node_table.specs.declared.room.RoomPlan.{RoomPlan}
 use Rattle.node_table.specs.declared.room.RoomPlan.TheVariants.{Fits, Evict, Ask, TellFailedSpill, Refuse}

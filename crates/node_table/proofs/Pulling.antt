@@ -38,8 +38,8 @@ use Rattle.private_store.specs.rules.Copies.{extent_of, is_sealed, was_sealed}
 use Rattle.private_store.specs.rules.Extents.{rounded, first, is_size}
 use Rattle.private_store.specs.rules.Limits.{longest_object}
 use Rattle.store_facts.proofs.Tests.{both, both_left, both_right, true_false, none_some}
-use Rattle.job_row.specs.Evicting.{has_secondary, all_evicted, removals, placed_without, replaced}
-use Rattle.job_row.specs.CopyViews.{CopyView, is_unasked, is_sealed_at, waits_for_place, with_chunks, after_pull}
+use Rattle.job_row.specs.Evicting.{has_secondary, all_evicted, removals, placed_without, replaced, is_sealed_at}
+use Rattle.row_copy.specs.CopyViews.{CopyView, is_unasked, waits_for_place, with_chunks, after_pull}
 use Rattle.job_row.specs.Row.{Row, copies_of, place_of, ArePlaced}
 use Rattle.node_table.specs.Beside.{SharedTables, shape_of}
 

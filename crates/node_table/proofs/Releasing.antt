@@ -16,7 +16,7 @@ use Rattle.private_store.specs.rules.Change.{refused, done, erasing, settled}
 use Rattle.private_store.specs.rules.Commands.{release_checks, release, holds_of}
 use Rattle.private_store.specs.rules.Contents.{Contents}
 use Rattle.private_store.specs.rules.Shared.{first_refusal}
-use Rattle.job_row.specs.CopyViews.{CopyView, after_release}
+use Rattle.row_copy.specs.CopyViews.{CopyView, after_release}
 use Rattle.job_row.specs.Row.{Row, place_of, ArePlaced}
 use Rattle.job_row.specs.Dropping.{settled_row, keys_settled}
 use Rattle.job_row.specs.Checks.{release_check}

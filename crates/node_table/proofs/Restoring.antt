@@ -35,7 +35,7 @@ use Rattle.spill_work.specs.Line.{WorkLine, AsksWork, ask_check, used_by, works_
 use Rattle.node_table.specs.Asked.{HasAsked}
 use Rattle.job_region.specs.Region.{extents_of}
 use Rattle.job_row.specs.Evicting.{placed_without, replaced, removals}
-use Rattle.job_row.specs.CopyViews.{CopyView, after_restore_begun}
+use Rattle.row_copy.specs.CopyViews.{CopyView, after_restore_begun}
 use Rattle.node_table.specs.MadeRooms.{BringsNothing}
 use Rattle.node_table.specs.RoomPlans.{MakesPlace}
 use Rattle.job_row.specs.Row.{Row, place_of, ArePlaced}

@@ -45,11 +45,12 @@ use Rattle.lru_evictor.specs.Orders.{AreThere}
 use Rattle.lru_evictor.specs.declared.facts.DeviceRoom.{DeviceRoom}
 use Rattle.lru_evictor.proofs.ForCallers.{offset-described, reordered-unused}
 use Rattle.job_row.specs.Entries.{changed}
-use Rattle.job_row.specs.Evicting.{has_secondary, evicted_one, all_evicted, removals, placed_without, MayGo, replaced}
-use Rattle.job_row.specs.CopyViews.{CopyView, after_eviction, is_sealed_at}
+use Rattle.job_row.specs.Evicting.{has_secondary, evicted_one, all_evicted, removals, placed_without, MayGo, replaced, is_sealed_at}
+use Rattle.row_copy.specs.CopyViews.{CopyView, after_eviction}
 use Rattle.node_table.specs.MadeRooms.{BringsNothing, TellsRoom}
 use Rattle.node_table.specs.RoomPlans.{MakesPlace}
-use Rattle.job_row.specs.RowFacts.{row_facts_of, is_idle_view}
+use Rattle.job_row.specs.RowFacts.{row_facts_of}
+use Rattle.row_copy.specs.Keeping.{is_idle_view}
 use Rattle.job_row.specs.Row.{Row, copies_of, place_of, ArePlaced}
 use Rattle.node_table.specs.Shown.{seen, work_on, IsShown, RowGiven, only, RowStep}
 use Rattle.node_table.proofs.ByChecks.{sending-is}

@@ -32,18 +32,21 @@ use Rattle.private_store.specs.rules.Shared.{first_refusal}
 use Rattle.store_facts.proofs.Checks.{checked-nil}
 use Rattle.store_facts.proofs.Rows.{at-put, at-put_here}
 use Rattle.store_facts.proofs.Tests.{T_true}
-use Rattle.job_row.specs.Checks.{unless_doomed, unpin_check, borrow_check, row_borrow_check, give_up_check, delete_check}
+use Rattle.row_copy.specs.Checks.{unless_doomed}
+use Rattle.job_row.specs.Checks.{unpin_check, borrow_check, row_borrow_check, give_up_check, delete_check}
 use Rattle.job_row.specs.Dropping.{settled_row, keys_settled}
-use Rattle.job_row.specs.CopyViews.{CopyView, view_in_scope, after_doom, after_unpin, after_borrow, after_give_up}
+use Rattle.row_copy.specs.CopyViews.{CopyView, view_in_scope, after_doom, after_unpin, after_borrow, after_give_up}
 use Rattle.job_row.specs.Row.{Row, place_of, ArePlaced}
-use Rattle.job_row.specs.Scope.{removal_notice, removal_notice_at, notice_posts, with_copy}
+use Rattle.row_copy.specs.Scope.{removal_notice}
+use Rattle.job_row.specs.Scope.{removal_notice_at, notice_posts, with_copy}
 use Rattle.node_table.specs.Shown.{seen, IsShown, only, RowStep}
 use Rattle.node_table.proofs.ByChecks.{unless_refused, by-checks, first-check, in_sight, called, own, sending-is}
-use Rattle.job_row.proofs.ForCallers.{at-copies_found, scoped-keeps}
+use Rattle.job_row.proofs.ForCallers.{at-copies_found}
+use Rattle.row_copy.proofs.ForCallers.{scoped-keeps}
 use Rattle.node_table.proofs.Passed.{past, there_all}
 use Rattle.node_table.proofs.Settling.{IsMinor, BringsNothing, settled-stays, stays_so, settles}
 use Rattle.node_table.proofs.Stepping.{change, stays}
-use Rattle.job_row.specs.RowFacts.{is_idle_view}
+use Rattle.row_copy.specs.Keeping.{is_idle_view}
 use Rattle.node_table.specs.Beside.{SharedTables, shape_of}
 
 -- ---- what the changes leave as it was

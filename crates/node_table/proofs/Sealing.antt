@@ -28,7 +28,7 @@ use Rattle.store_facts.proofs.Rows.{at-put, at-put_here}
 use Rattle.job_region.specs.Region.{region_bytes_at as placed_bytes}
 use Rattle.lru_evictor.proofs.ForCallers.{reordered-unused}
 use Rattle.job_row.specs.Entries.{changed}
-use Rattle.job_row.specs.CopyViews.{CopyView, after_seal}
+use Rattle.row_copy.specs.CopyViews.{CopyView, after_seal}
 use Rattle.job_row.specs.Row.{Row, copies_of}
 use Rattle.job_row.specs.Checks.{seal_check}
 use Rattle.node_table.specs.Shown.{seen, IsShown, RowGiven, only, RowStep}

@@ -40,7 +40,7 @@ use Rattle.store_facts.proofs.ErasedKeys.{keys_none, all_found}
 use Rattle.store_facts.proofs.StepsKept.{view_keeps}
 use Rattle.store_facts.proofs.Tests.{true_false, both_left, both_right}
 use Rattle.job_region.specs.Region.{region_bytes_at as placed_bytes}
-use Rattle.job_row.specs.CopyViews.{CopyView, was_sealed_with}
+use Rattle.row_copy.specs.CopyViews.{CopyView, was_sealed_with}
 use Rattle.job_row.specs.Row.{Row, copies_of}
 use Rattle.node_table.specs.Serving.{answer_by, row_pull_answer, chunks_to}
 use Rattle.node_table.specs.Shown.{seen, IsShown, RowGiven, only, RowStep}

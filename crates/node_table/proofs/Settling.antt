@@ -15,9 +15,10 @@ use Rattle.private_store.specs.rules.Private.{Post, key_of, posts_of, view_after
 use Rattle.store_facts.proofs.Rows.{at-put_here}
 use Rattle.store_facts.proofs.Tests.{T_true}
 use Rattle.lru_evictor.proofs.ForCallers.{reordered-unused}
-use Rattle.job_row.specs.CopyViews.{CopyView}
+use Rattle.row_copy.specs.CopyViews.{CopyView}
 use Rattle.job_row.specs.Row.{Row, copies_of, place_of, ArePlaced}
-use Rattle.job_row.specs.Dropping.{dropped, is_over, settled_row, keys_settled}
+use Rattle.job_row.specs.Dropping.{dropped, settled_row, keys_settled}
+use Rattle.row_copy.specs.Keeping.{is_over}
 use Rattle.job_row.specs.Scope.{with_copy}
 use Rattle.node_table.specs.Shown.{seen, IsShown, RowGiven, RowStep}
 use Rattle.job_row.proofs.ForCallers.{changed-found, at-copies_found, copies-changed}

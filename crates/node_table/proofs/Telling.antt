@@ -29,10 +29,11 @@ use Rattle.private_store.specs.laws.Invariants.{is_placed}
 use Rattle.store_facts.proofs.Tests.{and_right, both_left, both_right, T_true, or_false}
 use Rattle.spill_work.specs.Line.{WorkLine}
 use Rattle.obj_id.specs.Works.{is_write}
-use Rattle.job_row.specs.CopyViews.{CopyView}
+use Rattle.row_copy.specs.CopyViews.{CopyView}
 use Rattle.job_row.specs.Row.{Row, copies_of}
 use Rattle.node_table.specs.Shown.{work_on, IsShown, only, RowStep}
-use Rattle.job_row.specs.Usages.{own_item_of, is_spilling, window_bytes, device_bytes, total}
+use Rattle.row_copy.specs.Usages.{own_item_of, is_spilling, window_bytes, device_bytes}
+use Rattle.job_row.specs.Usages.{total}
 use Rattle.node_table.proofs.ByChecks.{called}
 use Rattle.job_row.proofs.ForCallers.{at-first, at-rest, sorted-copies, at-copies_found}
 use Rattle.node_table.proofs.Stepping.{stays}

@@ -30,9 +30,10 @@ use Rattle.store_facts.proofs.Filling.{filled}
 use Rattle.store_facts.proofs.Tests.{none_some, true_false, false_true, both_left, both_right}
 use Rattle.job_region.specs.Region.{without, region_bytes_at as placed_bytes}
 use Rattle.fetch_core.specs.Fetching.{is_pulled_from}
-use Rattle.job_row.specs.Arriving.{in_phase, fetch_of_length, asks, after_failed_fetch, unfetched_row}
+use Rattle.row_copy.specs.Arriving.{in_phase, fetch_of_length, asks, after_failed_fetch}
+use Rattle.job_row.specs.Arriving.{unfetched_row}
 use Rattle.job_row.specs.Entries.{changed}
-use Rattle.job_row.specs.CopyViews.{CopyView}
+use Rattle.row_copy.specs.CopyViews.{CopyView}
 use Rattle.job_row.specs.Row.{Row, place_of, ArePlaced}
 use Rattle.node_table.specs.Shown.{seen, IsShown, only, RowStep}
 use Rattle.node_table.proofs.Arriving.{numbers_turn, IsOf, fetch_is, fetch_case, is_on_way, live_is, ignored, arrived}

@@ -19,8 +19,9 @@ use Rattle.private_store.specs.rules.Step.{reordered}
 use Rattle.store_facts.proofs.Filling.{filled}
 use Rattle.job_region.specs.Region.{region_bytes_at as placed_bytes}
 use Rattle.lru_evictor.specs.Orders.{AreThere}
-use Rattle.job_row.specs.Dropping.{dropped, is_over, settled_row}
-use Rattle.job_row.specs.CopyViews.{CopyView}
+use Rattle.job_row.specs.Dropping.{dropped, settled_row}
+use Rattle.row_copy.specs.Keeping.{is_over}
+use Rattle.row_copy.specs.CopyViews.{CopyView}
 use Rattle.job_row.specs.Row.{Row, copies_of, place_of, ArePlaced}
 use Rattle.job_row.specs.Scope.{with_copy}
 use Rattle.node_table.specs.Shown.{work_on, IsShown, only}

@@ -22,7 +22,7 @@ use Rattle.store_facts.proofs.Rows.{at-put}
 use Rattle.private_store.specs.rules.Private.{key_of}
 use Rattle.job_region.specs.Region.{region_bytes_at as placed_bytes}
 use Rattle.lru_evictor.proofs.ForCallers.{reordered-unused}
-use Rattle.job_row.specs.CopyViews.{CopyView}
+use Rattle.row_copy.specs.CopyViews.{CopyView}
 use Rattle.job_row.specs.Row.{Row, copies_of, place_of, ArePlaced}
 use Rattle.job_row.specs.Checks.{write_check, read_check}
 use Rattle.node_table.specs.Shown.{IsShown, only, RowStep}

@@ -5,7 +5,7 @@ use Rattle.obj_id.specs.declared.works.WorkKind.TheVariants.{Write, Read}
 use Rattle.private_store.specs.rules.Contents.{write_verdict}
 use Rattle.object_state.specs.Laws.{has_failed}
 use Rattle.spill_work.specs.declared.queue.IoRequest.{IoRequest}
-use Rattle.job_row.specs.CopyViews.{CopyView}
+use Rattle.row_copy.specs.CopyViews.{CopyView}
 use Rattle.job_row.specs.Row.{Row}
 use Rattle.job_row.specs.Answering.{written_row, read_row}
 

@@ -14,9 +14,9 @@ use Rattle.private_store.specs.rules.Grants.{StandingGrant, with_grant}
 use Rattle.private_store.specs.laws.Invariants.{is_remembered}
 use Rattle.grants.specs.Table.{shows, is_no_grantee}
 use Rattle.job_region.specs.Region.{region_bytes_at as placed_bytes}
-use Rattle.job_row.specs.CopyViews.{CopyView}
+use Rattle.row_copy.specs.CopyViews.{CopyView}
 use Rattle.job_row.specs.Row.{Row}
-use Rattle.job_row.specs.Checks.{grant_check_of}
+use Rattle.row_copy.specs.Checks.{grant_check_of}
 
 -- why the job's own object can't be granted
 abbrev pub row_grant_check : Row → ObjectId → ℕ → Option Refusal → Option Refusal

@@ -3,7 +3,8 @@ use Rattle.std.specs.Prelude.{length}
 use Rattle.obj_id.specs.declared.commands.Usage.{Usage}
 use Rattle.spill_work.specs.Line.{WorkLine, in_flight}
 use Rattle.job_row.specs.Row.{Row}
-use Rattle.job_row.specs.Usages.{window_bytes, device_bytes, total}
+use Rattle.row_copy.specs.Usages.{window_bytes, device_bytes}
+use Rattle.job_row.specs.Usages.{total}
 
 -- the quotas, and what is used of them
 abbrev pub used : Row → WorkLine → Usage

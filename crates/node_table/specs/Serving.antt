@@ -6,7 +6,7 @@ use Rattle.obj_id.specs.declared.commands.CopyState.TheVariants.{Sealed, Restori
 use Rattle.obj_id.specs.declared.messages.Digest.{Digest}
 use Rattle.private_store.specs.declared.faults.Fault.{Fault}
 use Rattle.private_store.specs.rules.Private.{Post, to_peer, chunks_asked}
-use Rattle.job_row.specs.CopyViews.{CopyView, was_sealed_with}
+use Rattle.row_copy.specs.CopyViews.{CopyView, was_sealed_with}
 use Rattle.node_table.specs.declared.pulls.PullAnswer.{PullAnswer}
 use Rattle.node_table.specs.declared.pulls.PullAnswer.TheVariants.{NotHere, Chunks, Nothing, Restore}
 

@@ -16,7 +16,7 @@ use Rattle.private_store.specs.rules.Private.{Post, view_step}
 use Rattle.private_store.specs.laws.Invariants.{IsViewKept, has_grant}
 use Rattle.job_region.specs.Region.{region_bytes_at as placed_bytes}
 use Rattle.lru_evictor.specs.Orders.{AreThere}
-use Rattle.job_row.specs.CopyViews.{CopyView}
+use Rattle.row_copy.specs.CopyViews.{CopyView}
 use Rattle.job_row.specs.Checks.{lend_check}
 use Rattle.job_row.specs.Row.{Row, copies_of}
 use Rattle.node_table.specs.Beside.{SharedTables, received_bytes, shape_of}

@@ -8,7 +8,7 @@ ghost use Rattle.private_store.specs.declared.inputs.Input.TheVariants as input;
 ghost use Rattle.private_store.specs.rules.Contents.{Contents, digest_of};
 ghost use Rattle.job_region.specs.Region.{region_bytes_at as placed_bytes};
 ghost use Rattle.job_row.specs.Checks.{lend_check, read_check as read_check_lem, seal_check as seal_check_lem};
-ghost use Rattle.job_row.specs.CopyViews.{CopyView};
+ghost use Rattle.row_copy.specs.CopyViews.{CopyView};
 ghost use Rattle.node_table.specs.Outcomes.{row_given_of};
 ghost use Rattle.job_row.specs.Row.{copies_of};
 ghost use Rattle.node_table.specs.Shown.{IsShown, IsLent, RowStep, only};
@@ -16,9 +16,10 @@ ghost use Rattle.node_table.specs.Beside.{SharedTables};
 
 use crate::outcome::{Erase, RowOutcome};
 use bytes::Bytes;
-use job_row::{JobRow, Mark};
+use job_row::JobRow;
 use memory_growth::OutOfMemory;
 use obj_id::{DirectoryMessage, Endpoint, Location, Message, ObjectId, Refusal, Reply};
+use row_copy::Mark;
 use std::alloc::Global;
 
 /// Write: the bytes are replaced from the offset on, while the copy is being written. `BadSize` for

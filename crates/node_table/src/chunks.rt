@@ -10,21 +10,23 @@ ghost use Rattle.private_store.specs.rules.Tables.{at};
 ghost use Rattle.private_store.specs.rules.Copies.{extent_of};
 ghost use Rattle.private_store.specs.rules.Contents.{Contents, has_digest, chunk_verdict};
 ghost use Rattle.job_region.specs.Region.{region_bytes_at as placed_bytes, IsAt};
-ghost use Rattle.job_row.specs.Arriving.{fills, lacks_only, row_written};
-ghost use Rattle.job_row.specs.CopyViews.{CopyView};
+ghost use Rattle.row_copy.specs.Arriving.{fills, lacks_only};
+ghost use Rattle.job_row.specs.Arriving.{row_written};
+ghost use Rattle.row_copy.specs.CopyViews.{CopyView};
 ghost use Rattle.node_table.specs.Outcomes.{row_given_of};
 ghost use Rattle.node_table.specs.Shown.{seen, IsShown, RowStep};
 ghost use Rattle.node_table.specs.Beside.{SharedTables};
 
 use crate::outcome::{Erase, RowOutcome};
 use hashed_bytes::digest_by;
-use job_row::{JobRow, Mark};
+use job_row::JobRow;
 use memory_growth::OutOfMemory;
 use obj_id::limits::CHUNK_SIZE;
 use obj_id::{
     ChunkIndex, Digest, DirectoryMessage, Extent, FetchNo, Location, NodeNo, ObjectId, Reply,
 };
 use private_store::{ChunkVerdict, FetchFault};
+use row_copy::Mark;
 use std::alloc::Global;
 
 /// What a chunk gave, and what it was to the fetch that it names.

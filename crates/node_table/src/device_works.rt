@@ -14,26 +14,28 @@ ghost use Rattle.private_store.specs.rules.Contents.{Contents, work_verdict, wri
 ghost use Rattle.private_store.specs.rules.Grants.{StandingGrant};
 ghost use Rattle.spill_work.specs.Line.{same_work_job, is_at, IsSameFor, shown, finish_check};
 ghost use Rattle.obj_id.specs.Works.{is_write};
-ghost use Rattle.job_row.specs.Answering.{is_in_work, work_verdict_of, view_read_verdict, written_row, read_row};
+ghost use Rattle.row_copy.specs.Answering.{is_in_work, work_verdict_of, view_read_verdict};
+ghost use Rattle.job_row.specs.Answering.{written_row, read_row};
 ghost use Rattle.object_state.specs.Laws.{has_failed};
 ghost use Rattle.job_region.specs.Region.{region_bytes_at as placed_bytes};
 ghost use Rattle.node_table.specs.Handed.{row_work_of};
-ghost use Rattle.job_row.specs.CopyViews.{CopyView};
+ghost use Rattle.row_copy.specs.CopyViews.{CopyView};
 ghost use Rattle.node_table.specs.Outcomes.{row_given_of};
 ghost use Rattle.job_row.specs.Row.{place_of, ArePlaced};
 ghost use Rattle.node_table.specs.Shown.{seen, only, IsShown, RowStep};
-ghost use Rattle.job_row.specs.Usages.{is_spilling};
+ghost use Rattle.row_copy.specs.Usages.{is_spilling};
 ghost use Rattle.node_table.specs.Beside.{SharedTables, beside_of};
 ghost use Rattle.node_table.specs.EndedWorks.{ended_row};
 
 use crate::outcome::RowOutcome;
 use bytes::Bytes;
-use job_row::{JobRow, RowCopy};
+use job_row::JobRow;
 use memory_growth::OutOfMemory;
 use obj_id::{
     CopyState, DeviceAnswer, DeviceKey, ItemList, ObjectId, Refusal, Reply, Work, WorkKind,
 };
 use private_store::{Fault, WorkVerdict};
+use row_copy::RowCopy;
 use spill_work::{IoRequest, Works};
 use std::alloc::Global;
 

@@ -19,9 +19,10 @@ ghost use Rattle.node_table.specs.Beside.{beside_of};
 use crate::get_command::refuse;
 use crate::outcome::RowOutcome;
 use crate::restore::restore;
-use job_row::{JobRow, Mark};
+use job_row::JobRow;
 use memory_growth::OutOfMemory;
 use obj_id::ObjectId;
+use row_copy::Mark;
 use spill_work::Works;
 use std::alloc::Global;
 

@@ -14,7 +14,7 @@ ghost use Rattle.obj_id.specs.declared.messages.DirectoryMessage.TheVariants.{Lo
 ghost use Rattle.private_store.specs.rules.Grants.{StandingGrant};
 ghost use Rattle.spill_work.specs.Line.{WorkLine, same_work_job, IsSameFor};
 ghost use Rattle.node_table.specs.Asked.{HasAsked};
-ghost use Rattle.job_row.specs.CopyViews.{is_ready};
+ghost use Rattle.row_copy.specs.CopyViews.{is_ready};
 ghost use Rattle.node_table.specs.MemoryLast.{IsDueMore};
 ghost use Rattle.node_table.specs.Outcomes.{row_given_of};
 ghost use Rattle.node_table.specs.Shown.{IsShown, RowStep, only};

@@ -18,8 +18,9 @@ ghost use Rattle.node_table.specs.Shown.{IsShown, RowStep};
 ghost use Rattle.node_table.specs.Beside.{beside_of};
 
 use crate::outcome::RowOutcome;
-use job_row::{JobRow, Lent, Mark};
+use job_row::{JobRow, Lent};
 use obj_id::{ItemList, JobNo, ObjectId, Refusal, Reply};
+use row_copy::Mark;
 use std::alloc::Global;
 
 /// Why the job's own object can't be granted to the target, if this is what the table of grants says: `BadId`,

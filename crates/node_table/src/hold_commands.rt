@@ -5,14 +5,16 @@ ghost use Rattle.private_store.specs.declared.inputs.Input.TheVariants as input;
 ghost use Rattle.private_store.specs.rules.Contents.{Contents};
 ghost use Rattle.job_row.specs.Dropping.{left_row, keys_left};
 ghost use Rattle.node_table.specs.Outcomes.{row_given_of};
-ghost use Rattle.job_row.specs.Usages.{total, doomed_one};
+ghost use Rattle.job_row.specs.Usages.{total};
+ghost use Rattle.row_copy.specs.Usages.{doomed_one};
 ghost use Rattle.node_table.specs.Shown.{IsShown, RowStep};
 ghost use Rattle.node_table.specs.Beside.{SharedTables};
 
 use crate::outcome::{Erase, RowOutcome};
-use job_row::{JobRow, Mark};
+use job_row::JobRow;
 use memory_growth::{OutOfMemory, lists};
 use obj_id::{DeviceKey, ItemList, ObjectId, OwnItem, Reply};
+use row_copy::Mark;
 use std::alloc::Global;
 
 /// Release: one hold of the session on the copy less, which is removed if it is doomed and nothing else keeps it.

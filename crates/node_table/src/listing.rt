@@ -11,9 +11,10 @@ ghost use Rattle.node_table.specs.Beside.{SharedTables, beside_of, shape_of};
 ghost use Rattle.node_table.specs.RowUsage.{used};
 
 use bytes::Bytes;
-use job_row::{JobRow, RowCopy};
+use job_row::JobRow;
 use memory_growth::OutOfMemory;
 use obj_id::{GrantedItem, ItemList, ObjectId, OwnItem, Reply, Usage};
+use row_copy::RowCopy;
 use spill_work::Works;
 use std::alloc::Global;
 

@@ -10,9 +10,10 @@ ghost use Rattle.node_table.specs.Shown.{IsShown, RowStep};
 ghost use Rattle.node_table.specs.Beside.{SharedTables};
 
 use crate::outcome::RowOutcome;
-use job_row::{JobRow, Mark};
+use job_row::JobRow;
 use memory_growth::OutOfMemory;
 use obj_id::{Failure, ObjectId, Refusal, Reply, TaskNo};
+use row_copy::Mark;
 use std::alloc::Global;
 
 /// Unpin: the owner task keeps its primary no longer, which is doomed unless a task borrows it. `Absent`, `NotOwner`

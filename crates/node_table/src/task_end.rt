@@ -16,11 +16,12 @@ ghost use Rattle.node_table.specs.Beside.{SharedTables, beside_after};
 use crate::ending::device_key;
 use crate::hold_commands::push_key;
 use crate::outcome::{Erase, RowOutcome};
-use job_row::{JobRow, Mark};
+use job_row::JobRow;
 use memory_growth::{OutOfMemory, lists};
 use obj_id::{
     DeviceKey, DirectoryMessage, Endpoint, ItemList, Message, ObjectId, OwnItem, Reply, TaskNo,
 };
+use row_copy::Mark;
 use std::alloc::Global;
 
 /// EndTask: the task is remembered, the grants of its own objects end, its copies are doomed, and its borrows given

@@ -1,4 +1,5 @@
 mod Attends
+mod ClosedServers
 mod Handled
 mod Serves
 mod Shown

@@ -1,5 +1,5 @@
 -- The lines of a control connection, and their answers.
-use Rattle.std.specs.Prelude.{◌≡◌, ℕ, suc, ◌<◌, ◌⊎◌, Bool, true, false, List, [], ◌∷◌, ◌++◌, length, Option, Some, None, Result, Ok, Err, codes, decimal, ⊤}
+use Rattle.std.specs.Prelude.{◌≡◌, ℕ, suc, ◌<◌, ◌⊎◌, Bool, true, false, List, [], ◌∷◌, ◌++◌, length, Option, Some, None, IfSome, MatchOption, Result, Ok, Err, codes, decimal, ⊤}
 use Rattle.std.specs.Io.KnownBytes.{Appends, Consumes, IsAtEnd}
 use Rattle.std.specs.Str.{IsUtf8}
 use Rattle.std.specs.String.{string_bytes}
@@ -12,7 +12,8 @@ use Rattle.private_store.specs.declared.schedules.StepAnswer.TheVariants.{Respon
 use Rattle.schedule_text.specs.declared.prefixes.Prefix.TheVariants.{Operator}
 use Rattle.schedule_text.specs.Printing.{line_text}
 use Rattle.schedule_text.specs.Reading.{is_skipped}
-use Rattle.node_housekeeping.specs.declared.report.Report.{Report}
+use Rattle.shared_nodes.specs.declared.report.Report.{Report}
+use Rattle.operator_service.specs.declared.attending.Closed.{Closed}
 use Rattle.private_store.specs.declared.schedules.Event.{Event}
 use Rattle.program_lines.specs.declared.operator.Change.{Change}
 use Rattle.operator_service.specs.declared.attending.TheConstants.{ORDERS}
@@ -50,18 +51,23 @@ abbrev pub closing_line : Option Report → List ℕ
 closing_line (Some report) = report_line report
 closing_line None = with_line_feed (codes "not done: a fault ends the server")
 
-pub record IsClosingLine (closes : Option Report → Type 0) (line : List ℕ) : Type 0 where
-  pub report : Option Report
-  pub closed : closes report
-  pub is : line ≡ closing_line report
+-- the server of so many nodes was let close: the sessions of all of them were shut down if that was asked for, and what was counted, was at each of them
+pub record IsClosed (nodes : ℕ) (now : Bool) (closed : Closed) : Type 0 where
+  pub shut : MatchOption closed.shut (now ≡ false) (λ shut. (now ≡ true) × (shut.nodes ≡ nodes))
+  pub counted : IfSome closed.report (λ report. report.nodes ≡ nodes)
+
+pub record IsClosingLine (nodes : ℕ) (now : Bool) (line : List ℕ) : Type 0 where
+  pub closed : Closed
+  pub is_closed : IsClosed nodes now closed
+  pub is : line ≡ closing_line closed.report
 
 -- what is shown is shown by the node that was asked for, and the server is let close as it was asked for: `close now` ends the open sessions. Only a change is stepped
-abbrev pub IsAnswer : {T : Type 0} → (ℕ → Event → Reply (List ℕ) → T → Type 0) → (ℕ → List LiveJob → Type 0) → (ℕ → JobNo → Result Usage Refusal → Type 0) → (Bool → Option Report → Type 0) → ControlLine → List ℕ → List Event → Type 0
-IsAnswer ordered are_live is_usage closes (asked.Order (order.Change node c)) line events = IsChangeLine ordered node c line events
-IsAnswer ordered are_live is_usage closes (asked.Order order.Close) line events = IsClosingLine (closes false) line × (events ≡ [])
-IsAnswer ordered are_live is_usage closes asked.CloseNow line events = IsClosingLine (closes true) line × (events ≡ [])
-IsAnswer ordered are_live is_usage closes (asked.Look node what) line events = IsLookText are_live is_usage node what line × (events ≡ [])
-IsAnswer ordered are_live is_usage closes (asked.Kick node job session) line events = IsKickText node job.0 session line × (events ≡ [])
+abbrev pub IsAnswer : {T : Type 0} → (ℕ → Event → Reply (List ℕ) → T → Type 0) → (ℕ → List LiveJob → Type 0) → (ℕ → JobNo → Result Usage Refusal → Type 0) → ℕ → ControlLine → List ℕ → List Event → Type 0
+IsAnswer ordered are_live is_usage nodes (asked.Order (order.Change node c)) line events = IsChangeLine ordered node c line events
+IsAnswer ordered are_live is_usage nodes (asked.Order order.Close) line events = IsClosingLine nodes false line × (events ≡ [])
+IsAnswer ordered are_live is_usage nodes asked.CloseNow line events = IsClosingLine nodes true line × (events ≡ [])
+IsAnswer ordered are_live is_usage nodes (asked.Look node what) line events = IsLookText are_live is_usage node what line × (events ≡ [])
+IsAnswer ordered are_live is_usage nodes (asked.Kick node job session) line events = IsKickText node job.0 session line × (events ≡ [])
 
 -- the event is the change that is asked for
 pub record IsChangeOf (what : ControlLine) (e : Event) : Type 0 where

@@ -7,36 +7,13 @@ use Rattle.private_store.specs.declared.schedules.StepAnswer.TheVariants.{Respon
 use Rattle.schedule_text.specs.declared.prefixes.Prefix.TheVariants.{Operator}
 use Rattle.schedule_text.specs.Lines.{with_line_feed}
 use Rattle.schedule_text.specs.Printing.{line_text}
-use Rattle.command_kinds.specs.declared.command_kind.CommandKind.{CommandKind}
-use Rattle.command_kinds.specs.declared.command_kind.CommandKind.TheVariants as kind
+use Rattle.command_kinds.specs.Kinds.{kind_word}
 use Rattle.node_housekeeping.specs.declared.counts.NodeCounts.{NodeCounts}
 use Rattle.node_housekeeping.specs.declared.job_counts.Count.{Count}
 use Rattle.node_housekeeping.specs.declared.job_counts.CountName.{CountName}
 use Rattle.node_housekeeping.specs.declared.job_counts.CountName.TheVariants as name
 use Rattle.node_housekeeping.specs.declared.job_counts.JobEvent.{JobEvent}
 use Rattle.node_housekeeping.specs.declared.job_counts.JobEvent.TheVariants as event
-
--- a kind of command by the word that a schedule's line has for it
-abbrev pub kind_word : CommandKind → List ℕ
-kind_word kind.Create = codes "create"
-kind_word kind.Write = codes "write"
-kind_word kind.Seal = codes "seal"
-kind_word kind.Get = codes "get"
-kind_word kind.Read = codes "read"
-kind_word kind.Release = codes "release"
-kind_word kind.Unpin = codes "unpin"
-kind_word kind.Borrow = codes "borrow"
-kind_word kind.GiveUp = codes "giveup"
-kind_word kind.Delete = codes "delete"
-kind_word kind.EndTask = codes "endtask"
-kind_word kind.Grant = codes "grant"
-kind_word kind.Withdraw = codes "withdraw"
-kind_word kind.Peek = codes "peek"
-kind_word kind.List = codes "list"
-kind_word kind.Usage = codes "usage"
-kind_word kind.Leave = codes "leave"
-kind_word kind.GetWait = codes "get-wait"
-kind_word kind.CreateWait = codes "create-wait"
 
 abbrev pub event_word : JobEvent → List ℕ
 event_word event.BytesIn = codes "bytes-in"

@@ -10,6 +10,7 @@ use Rattle.private_store.specs.declared.schedules.StepAnswer.TheVariants.{Respon
 use Rattle.schedule_text.specs.declared.prefixes.Prefix.TheVariants.{Operator}
 use Rattle.schedule_text.specs.Printing.{line_text}
 use Rattle.node_gate.specs.declared.journaled.LiveJob.{LiveJob}
+use Rattle.node_housekeeping.specs.declared.open_sessions.CountedSessions.{CountedSessions}
 use Rattle.node_housekeeping.specs.declared.open_stream.ListedSession.{ListedSession}
 use Rattle.program_lines.specs.declared.control_lines.Look.{Look}
 use Rattle.program_lines.specs.declared.control_lines.Look.TheVariants as look
@@ -69,8 +70,9 @@ pub record IsUsageLine (is_usage : ℕ → JobNo → Result Usage Refusal → Ty
   pub is : line ≡ line_text (Operator node) (Response (usage_reply told))
 
 pub record IsSessionsLine (node : ℕ) (line : List ℕ) : Type 0 where
-  pub sessions : ℕ
-  pub is : line ≡ sessions_line node sessions
+  pub counted : CountedSessions
+  pub at : counted.node ≡ node
+  pub is : line ≡ sessions_line node counted.sessions
 
 pub record IsStreamsLine (node : ℕ) (line : List ℕ) : Type 0 where
   pub sessions : List ListedSession

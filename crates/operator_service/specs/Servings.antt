@@ -11,7 +11,7 @@ use Rattle.private_store.specs.declared.schedules.Event.TheVariants as event
 use Rattle.private_store.specs.declared.schedules.StepAnswer.TheVariants.{Response}
 use Rattle.schedule_text.specs.declared.prefixes.Prefix.TheVariants.{Operator}
 use Rattle.schedule_text.specs.Printing.{line_text}
-use Rattle.node_housekeeping.specs.declared.report.Report.{Report}
+use Rattle.shared_nodes.specs.declared.report.Report.{Report}
 use Rattle.program_lines.specs.declared.fault.Fault.{Fault}
 use Rattle.program_lines.specs.declared.fault.Fault.TheVariants.{NotAStep, Input, Output, Socket, Folded, NoMemory}
 use Rattle.program_lines.specs.declared.operator.Change.{Change}
@@ -197,4 +197,4 @@ pub record ServedText {T : Type 0} (ordered : ℕ → Event → Reply (List ℕ)
 -- the line of a report
 abbrev pub report_line : Report → List ℕ
 report_line r =
-    with_line_feed (codes "report " ++ decimal r.entries ++ codes " " ++ decimal r.receipts ++ codes " " ++ decimal r.disagreeing ++ codes " " ++ decimal r.lost ++ codes " " ++ decimal r.erase_failures)
+    with_line_feed (codes "report " ++ decimal r.totals.entries ++ codes " " ++ decimal r.totals.receipts ++ codes " " ++ decimal r.totals.disagreeing ++ codes " " ++ decimal r.totals.lost ++ codes " " ++ decimal r.totals.erase_failures)

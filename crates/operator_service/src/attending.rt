@@ -13,14 +13,13 @@ use crate::looks::{kick_text, look_text};
 use crate::serving::{carry_out, report_line, write_out};
 use memory_growth::{OutOfMemory, text_of, texts};
 use node_gate::{Actor, JournaledNode};
-use node_housekeeping::Report;
 use obj_id::JobNo;
 use private_store::StepAnswer;
 use program_lines::{
     Change, ControlLine, Fault, LineTaken, Look, Order, read_control_line, take_line,
 };
 use schedule_text::{Prefix, answer_line, is_skipped};
-use shared_nodes::{NodeList, SessionsShut, SharedNode};
+use shared_nodes::{NodeList, Report, SessionsShut, SharedNode};
 use std::alloc::Global;
 use std::io::{Read, Write};
 use std::str;
@@ -32,7 +31,7 @@ const ORDERS: &str =
     "admit NODE JOB WINDOW DEVICE KEY, quota NODE JOB WINDOW DEVICE, end NODE JOB, jobs NODE, usage NODE JOB, sessions NODE, streams NODE, counts NODE, counts NODE JOB, kick NODE JOB SESSION, close, close now";
 
 /// How the server was let close.
-#[derive(Clone, Copy)]
+#[derive(Drop)]
 pub struct Closed {
     /// That the streams of all open sessions were shut down, if they were.
     pub shut: Option<SessionsShut>,
@@ -42,16 +41,11 @@ pub struct Closed {
 
 /// What closes the server for a control connection.
 pub trait Closing {
-    ghost use Rattle.std.specs.Prelude.{◌≡◌, Bool, Option, is_some};
-    ghost use Rattle.node_housekeeping.specs.declared.report.Report.{Report};
+    ghost use Rattle.operator_service.specs.Attending.{IsClosed};
 
-    // whether it was let close with the open sessions ended, and the report of that
-    ghost closes: { Self → Bool → Option Report → Type 0 };
-
-    /// Lets the server close, and waits for its report; with the sessions that are open ended, or only waited for.
-    fn close<R: Wait>(&self, rt: &R, now: bool) -> Closed
-        ensures shut { is_some result.shut ≡ now }
-        ensures closes { closes self.now now result.report };
+    /// Lets the server of these nodes close, and waits for its report; with the sessions that are open ended, or only waited for.
+    fn close<K: JournaledNode, R: Wait>(&self, rt: &R, nodes: &NodeList<K>, now: bool) -> Closed
+        ensures { IsClosed (vec_len nodes.now.nodes) now result };
 }
 
 /// The answer to a line, with its line feed, and whether it is the last.
@@ -78,7 +72,7 @@ pub fn attend<K: JournaledNode, R: Wait + Clock, I: Read, O: Write, C: Closing>(
     writer: &mut O,
     closing: &C,
 ) -> Result<(), Fault>
-    ensures { HasAttended (IsAnswer (IsOrderedAt K.receipt_of K.made_at) (AreLiveAt K.node_number K.shows_live) (IsUsageAt K.node_number K.shows_usage) (C.closes closing.now)) count (vec_len nodes.now.nodes) actor.old actor.new (I.remaining reader.old) (I.remaining reader.new) (O.contents writer.old) (O.contents writer.new) result }
+    ensures { HasAttended (IsAnswer (IsOrderedAt K.receipt_of K.made_at) (AreLiveAt K.node_number K.shows_live) (IsUsageAt K.node_number K.shows_usage) (vec_len nodes.now.nodes)) count (vec_len nodes.now.nodes) actor.old actor.new (I.remaining reader.old) (I.remaining reader.new) (O.contents writer.old) (O.contents writer.new) result }
 {
     let mut line = Vec::new(alloc);
     for number in 1..u64::MAX {
@@ -111,7 +105,7 @@ fn reply_to<K: JournaledNode, R: Wait + Clock, O: Write, C: Closing>(
     writer: &mut O,
     closing: &C,
 ) -> Result<bool, Fault>
-    ensures ok { IfOk result (λ is_last. (text : List ℕ) → IsAnswerText taken line.now text → Replies (IsAnswer (IsOrderedAt K.receipt_of K.made_at) (AreLiveAt K.node_number K.shows_live) (IsUsageAt K.node_number K.shows_usage) (C.closes closing.now)) count (vec_len nodes.now.nodes) number text actor.old actor.new (O.contents writer.old) (O.contents writer.new) is_last) }
+    ensures ok { IfOk result (λ is_last. (text : List ℕ) → IsAnswerText taken line.now text → Replies (IsAnswer (IsOrderedAt K.receipt_of K.made_at) (AreLiveAt K.node_number K.shows_live) (IsUsageAt K.node_number K.shows_usage) (vec_len nodes.now.nodes)) count (vec_len nodes.now.nodes) number text actor.old actor.new (O.contents writer.old) (O.contents writer.new) is_last) }
     ensures err { IfErr result (StopsReply (O.contents writer.old) (O.contents writer.new)) }
     ensures stopped { OnErr result ((text : List ℕ) → IsAnswerText taken line.now text → MayStep (IsAskedFor count text) actor.old actor.new) }
 {
@@ -138,7 +132,7 @@ fn answer_of<K: JournaledNode, R: Wait + Clock, C: Closing>(
     line: &[u8],
     closing: &C,
 ) -> Result<Answer, OutOfMemory>
-    ensures answered { IfOk result (λ answer. (text : List ℕ) → IsAnswerText taken line.now text → IsAnswered (IsAnswer (IsOrderedAt K.receipt_of K.made_at) (AreLiveAt K.node_number K.shows_live) (IsUsageAt K.node_number K.shows_usage) (C.closes closing.now)) count (vec_len nodes.now.nodes) number text actor.old actor.new answer) }
+    ensures answered { IfOk result (λ answer. (text : List ℕ) → IsAnswerText taken line.now text → IsAnswered (IsAnswer (IsOrderedAt K.receipt_of K.made_at) (AreLiveAt K.node_number K.shows_live) (IsUsageAt K.node_number K.shows_usage) (vec_len nodes.now.nodes)) count (vec_len nodes.now.nodes) number text actor.old actor.new answer) }
     ensures stopped { OnErr result ((text : List ℕ) → IsAnswerText taken line.now text → MayStep (IsAskedFor count text) actor.old actor.new) }
 {
     match taken {
@@ -158,7 +152,7 @@ fn answer_to<K: JournaledNode, R: Wait + Clock, C: Closing>(
     text: &[u8],
     closing: &C,
 ) -> Result<Answer, OutOfMemory>
-    ensures answered { IfOk result (IsAnswered (IsAnswer (IsOrderedAt K.receipt_of K.made_at) (AreLiveAt K.node_number K.shows_live) (IsUsageAt K.node_number K.shows_usage) (C.closes closing.now)) count (vec_len nodes.now.nodes) number text.now actor.old actor.new) }
+    ensures answered { IfOk result (IsAnswered (IsAnswer (IsOrderedAt K.receipt_of K.made_at) (AreLiveAt K.node_number K.shows_live) (IsUsageAt K.node_number K.shows_usage) (vec_len nodes.now.nodes)) count (vec_len nodes.now.nodes) number text.now actor.old actor.new) }
     ensures stopped { OnErr result (MayStep (IsAskedFor count text.now) actor.old actor.new) }
 {
     if is_skipped(text) {
@@ -194,12 +188,12 @@ fn answer_asked<K: JournaledNode, R: Wait + Clock, C: Closing>(
     asked: ControlLine,
     closing: &C,
 ) -> Result<Answer, OutOfMemory>
-    ensures made { IfOk result (IsAnswerMade (IsAnswer (IsOrderedAt K.receipt_of K.made_at) (AreLiveAt K.node_number K.shows_live) (IsUsageAt K.node_number K.shows_usage) (C.closes closing.now)) (vec_len nodes.now.nodes) number asked actor.old actor.new) }
+    ensures made { IfOk result (IsAnswerMade (IsAnswer (IsOrderedAt K.receipt_of K.made_at) (AreLiveAt K.node_number K.shows_live) (IsUsageAt K.node_number K.shows_usage) (vec_len nodes.now.nodes)) (vec_len nodes.now.nodes) number asked actor.old actor.new) }
     ensures stopped { OnErr result (MayStep (IsChangeOf asked) actor.old actor.new) }
 {
     match asked {
-        ControlLine::Order(Order::Close) => last_answer(alloc, closing.close(rt, false).report),
-        ControlLine::CloseNow => last_answer(alloc, closing.close(rt, true).report),
+        ControlLine::Order(Order::Close) => last_answer(alloc, &closing.close(rt, nodes, false)),
+        ControlLine::CloseNow => last_answer(alloc, &closing.close(rt, nodes, true)),
         ControlLine::Order(Order::Change(node, change)) => match nodes.get(node) {
             Some(shared) => change_answer(rt, actor, alloc, &**shared, node, change),
             None => no_order(alloc, number),
@@ -287,11 +281,11 @@ fn kick_answer<K: JournaledNode, R: Wait>(
 }
 
 /// The answer to what let the server close.
-fn last_answer(alloc: Global, report: Option<Report>) -> Result<Answer, OutOfMemory>
-    ensures { IfOk result (λ answer. (string_bytes answer.line ≡ closing_line_lem report) × (answer.is_last ≡ true)) }
+fn last_answer(alloc: Global, closed: &Closed) -> Result<Answer, OutOfMemory>
+    ensures { IfOk result (λ answer. (string_bytes answer.line ≡ closing_line_lem closed.now.report) × (answer.is_last ≡ true)) }
 {
     Ok(Answer {
-        line: closing_line(alloc, report)?,
+        line: closing_line(alloc, closed.report)?,
         is_last: true,
     })
 }

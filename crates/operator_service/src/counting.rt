@@ -1,9 +1,8 @@
 //! What was counted of a node and of its jobs, as lines.
 ghost use Rattle.std.specs.Prelude.{◌≡◌, IfOk};
 ghost use Rattle.std.specs.String.{string_bytes};
-ghost use Rattle.operator_service.specs.Counts.{IsJobCountsLine, IsNodeCountsLine, count_text as count_text_lem, counts_text as counts_text_lem, event_word as event_word_lem, folds_text as folds_text_lem, job_counts_line as job_counts_line_lem, kind_word as kind_word_lem, lock_text as lock_text_lem, name_text as name_text_lem, node_counts_line as node_counts_line_lem, own_text as own_text_lem, sessions_text as sessions_text_lem};
+ghost use Rattle.operator_service.specs.Counts.{IsJobCountsLine, IsNodeCountsLine, count_text as count_text_lem, counts_text as counts_text_lem, event_word as event_word_lem, folds_text as folds_text_lem, job_counts_line as job_counts_line_lem, lock_text as lock_text_lem, name_text as name_text_lem, node_counts_line as node_counts_line_lem, own_text as own_text_lem, sessions_text as sessions_text_lem};
 
-use command_kinds::CommandKind;
 use memory_growth::{OutOfMemory, text_of, texts};
 use node_gate::JournaledNode;
 use node_housekeeping::{Count, CountName, JobEvent, NodeCounts};
@@ -131,7 +130,7 @@ fn name_text(alloc: Global, name: CountName) -> Result<String, OutOfMemory>
     ensures { IfOk result (λ text. string_bytes text ≡ name_text_lem name) }
 {
     match name {
-        CountName::Command(kind) => texts::from_str(alloc, kind_word(kind)),
+        CountName::Command(kind) => texts::from_str(alloc, kind.word()),
         CountName::Refused(refusal) => refusal_text(alloc, refusal),
         CountName::Event(event) => texts::from_str(alloc, event_word(event)),
     }
@@ -143,33 +142,6 @@ fn refusal_text(alloc: Global, refusal: Refusal) -> Result<String, OutOfMemory>
 {
     let number = refusal.number();
     text_of!(in alloc; "refused.{number}")
-}
-
-/// The word of a kind of command.
-fn kind_word(kind: CommandKind) -> &'static str
-    ensures { result.now ≡ kind_word_lem kind }
-{
-    match kind {
-        CommandKind::Create => "create",
-        CommandKind::Write => "write",
-        CommandKind::Seal => "seal",
-        CommandKind::Get => "get",
-        CommandKind::Read => "read",
-        CommandKind::Release => "release",
-        CommandKind::Unpin => "unpin",
-        CommandKind::Borrow => "borrow",
-        CommandKind::GiveUp => "giveup",
-        CommandKind::Delete => "delete",
-        CommandKind::EndTask => "endtask",
-        CommandKind::Grant => "grant",
-        CommandKind::Withdraw => "withdraw",
-        CommandKind::Peek => "peek",
-        CommandKind::List => "list",
-        CommandKind::Usage => "usage",
-        CommandKind::Leave => "leave",
-        CommandKind::GetWait => "get-wait",
-        CommandKind::CreateWait => "create-wait",
-    }
 }
 
 /// The word of what else is counted.

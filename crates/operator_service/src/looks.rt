@@ -35,7 +35,7 @@ pub(crate) fn look_text<K: JournaledNode, R: Wait + Clock>(
             let response = StepAnswer::Response(usage_reply(shared.usage(rt, job)));
             answer_line(alloc, Prefix::Operator(node), &response)
         }
-        Look::Sessions => sessions_line(alloc, node, shared.open_sessions(rt)),
+        Look::Sessions => sessions_line(alloc, node, shared.open_sessions(rt).sessions()),
         Look::Streams => streams_line(alloc, node, &shared.listed_sessions(rt)?),
         Look::Counts(None) => node_counts_text(alloc, shared, node),
         Look::Counts(Some(job)) => job_counts_text(rt, alloc, shared, node, job),

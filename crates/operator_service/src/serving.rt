@@ -15,12 +15,11 @@ ghost use Rattle.operator_service.specs.Servings.{report_line, event_of_change, 
 use bytes::Bytes;
 use memory_growth::{OutOfMemory, text_of};
 use node_gate::{Actor, JournaledNode};
-use node_housekeeping::Report;
 use obj_id::Reply;
 use private_store::StepAnswer;
 use program_lines::{Change, Fault, Order, next_line, read_order};
 use schedule_text::{Prefix, answer_line};
-use shared_nodes::{NodeList, SharedNode};
+use shared_nodes::{NodeList, Report, SharedNode, Totals};
 use std::alloc::Global;
 use std::io::{BufRead, Write};
 use std::str;
@@ -197,12 +196,12 @@ pub fn write_report<O: Write>(alloc: Global, report: &Report, writer: &mut O) ->
 pub(crate) fn report_line(alloc: Global, report: &Report) -> Result<String, OutOfMemory>
     ensures { IfOk result (λ line. string_bytes line ≡ report_line report.now) }
 {
-    let Report {
+    let Totals {
         entries,
         receipts,
         disagreeing,
         lost,
         erase_failures,
-    } = *report;
+    } = report.totals();
     text_of!(in alloc; "report {entries} {receipts} {disagreeing} {lost} {erase_failures}\n")
 }

@@ -72,7 +72,7 @@ pub fn read_task<'a>(alloc: Global, words: &'a [String]) -> Result<Task<'a>, Err
 fn store_command<'a>(alloc: Global) -> Result<Command<'a>, Error> {
     let command = Command::new(alloc, "store")
         .bin_name("store")?
-        .version("0.6.1")
+        .version("0.6.2")
         .about("The shared, immutable object store of a node, used by many jobs at once")
         .subcommand(run_command(alloc)?)?
         .subcommand(serve_command(alloc)?)?

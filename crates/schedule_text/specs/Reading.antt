@@ -14,6 +14,7 @@ use Rattle.private_store.specs.declared.schedules.Step.TheVariants as «step»
 use Rattle.schedule_text.specs.declared.line.Line.{Line}
 use Rattle.schedule_text.specs.declared.line.Line.TheVariants as line
 use Rattle.schedule_text.specs.declared.line.FinishWord.{FinishWord}
+use Rattle.command_kinds.specs.declared.command_kind.CommandKind.TheVariants as kinds
 use Rattle.schedule_text.specs.declared.words.Word.{Word}
 use Rattle.schedule_text.specs.declared.words.Word.TheVariants as word
 use Rattle.schedule_text.specs.declared.words.Verb.{Verb}
@@ -25,30 +26,32 @@ use Rattle.schedule_text.specs.Words.{word_text, verb_text, outcome_text}
 
 -- ---- commands
 
--- the command that a word and the fields after it spell, for the job that speaks, unless it carries bytes
+-- the command that a word and the fields after it spell, for the job that speaks, unless it carries bytes; no line has one that waits
 abbrev pub IsPlainCommand : {P : Type 0} → ℕ → Word → List (List ℕ) → Command P → Type 0
-IsPlainCommand job word.Create fields c = IsFieldMade (IsIdNumber job fields) (λ x. command.Create x.0 Primary x.1) c
+IsPlainCommand job (word.Of kinds.Create) fields c = IsFieldMade (IsIdNumber job fields) (λ x. command.Create x.0 Primary x.1) c
 IsPlainCommand job word.Copy fields c = IsFieldMade (IsIdNumber job fields) (λ x. command.Create x.0 Secondary x.1) c
-IsPlainCommand job word.Write fields c = ⊥
-IsPlainCommand job word.Seal fields c = IsFieldMade (IsId1 job fields) (λ x. command.Seal x) c
-IsPlainCommand job word.Get fields c = IsFieldMade (IsId1 job fields) (λ x. command.Get x) c
-IsPlainCommand job word.Read fields c = IsFieldMade (IsIdSpan job fields) (λ x. command.Read x.0.0 x.0.1 x.1) c
-IsPlainCommand job word.Release fields c = IsFieldMade (IsId1 job fields) (λ x. command.Release x) c
-IsPlainCommand job word.Unpin fields c = IsFieldMade (IsIdTask job fields) (λ x. command.Unpin x.0 x.1) c
-IsPlainCommand job word.Borrow fields c = IsFieldMade (IsIdTask job fields) (λ x. command.Borrow x.0 x.1) c
-IsPlainCommand job word.GiveUp fields c = IsFieldMade (IsIdTask job fields) (λ x. command.GiveUp x.0 x.1) c
-IsPlainCommand job word.Delete fields c = IsFieldMade (IsId1 job fields) (λ x. command.Delete x) c
-IsPlainCommand job word.EndTask fields c = IsFieldMade (IsTask1 fields) (λ x. command.EndTask x) c
-IsPlainCommand job word.Grant fields c = IsFieldMade (IsIdJob job fields) (λ x. command.Grant x.0 x.1) c
-IsPlainCommand job word.Withdraw fields c = IsFieldMade (IsIdJob job fields) (λ x. command.Withdraw x.0 x.1) c
-IsPlainCommand job word.Peek fields c = IsFieldMade (IsIdSpan job fields) (λ x. command.Peek x.0.0 x.0.1 x.1) c
-IsPlainCommand job word.List fields c = IsAlone fields command.List c
-IsPlainCommand job word.Usage fields c = IsAlone fields command.Usage c
-IsPlainCommand job word.Leave fields c = IsAlone fields command.Leave c
+IsPlainCommand job (word.Of kinds.Write) fields c = ⊥
+IsPlainCommand job (word.Of kinds.Seal) fields c = IsFieldMade (IsId1 job fields) (λ x. command.Seal x) c
+IsPlainCommand job (word.Of kinds.Get) fields c = IsFieldMade (IsId1 job fields) (λ x. command.Get x) c
+IsPlainCommand job (word.Of kinds.Read) fields c = IsFieldMade (IsIdSpan job fields) (λ x. command.Read x.0.0 x.0.1 x.1) c
+IsPlainCommand job (word.Of kinds.Release) fields c = IsFieldMade (IsId1 job fields) (λ x. command.Release x) c
+IsPlainCommand job (word.Of kinds.Unpin) fields c = IsFieldMade (IsIdTask job fields) (λ x. command.Unpin x.0 x.1) c
+IsPlainCommand job (word.Of kinds.Borrow) fields c = IsFieldMade (IsIdTask job fields) (λ x. command.Borrow x.0 x.1) c
+IsPlainCommand job (word.Of kinds.GiveUp) fields c = IsFieldMade (IsIdTask job fields) (λ x. command.GiveUp x.0 x.1) c
+IsPlainCommand job (word.Of kinds.Delete) fields c = IsFieldMade (IsId1 job fields) (λ x. command.Delete x) c
+IsPlainCommand job (word.Of kinds.EndTask) fields c = IsFieldMade (IsTask1 fields) (λ x. command.EndTask x) c
+IsPlainCommand job (word.Of kinds.Grant) fields c = IsFieldMade (IsIdJob job fields) (λ x. command.Grant x.0 x.1) c
+IsPlainCommand job (word.Of kinds.Withdraw) fields c = IsFieldMade (IsIdJob job fields) (λ x. command.Withdraw x.0 x.1) c
+IsPlainCommand job (word.Of kinds.Peek) fields c = IsFieldMade (IsIdSpan job fields) (λ x. command.Peek x.0.0 x.0.1 x.1) c
+IsPlainCommand job (word.Of kinds.List) fields c = IsAlone fields command.List c
+IsPlainCommand job (word.Of kinds.Usage) fields c = IsAlone fields command.Usage c
+IsPlainCommand job (word.Of kinds.Leave) fields c = IsAlone fields command.Leave c
+IsPlainCommand job (word.Of kinds.GetWait) fields c = ⊥
+IsPlainCommand job (word.Of kinds.CreateWait) fields c = ⊥
 
 -- and also if it carries bytes
 abbrev pub IsCommand : ℕ → Word → List (List ℕ) → Command (List ℕ) → Type 0
-IsCommand job word.Write fields c = IsFieldMade (IsIdBytes job fields) (λ x. command.Write x.0.0 x.0.1 x.1) c
+IsCommand job (word.Of kinds.Write) fields c = IsFieldMade (IsIdBytes job fields) (λ x. command.Write x.0.0 x.0.1 x.1) c
 IsCommand job word fields c = IsPlainCommand job word fields c
 
 -- the same, with the word's field

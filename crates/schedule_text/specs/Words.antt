@@ -1,7 +1,10 @@
 -- The words of the schedule.
 use Rattle.std.specs.Prelude.{ℕ, List, [], ◌∷◌, codes}
+use Rattle.command_kinds.specs.declared.command_kind.CommandKind.{CommandKind}
+use Rattle.command_kinds.specs.declared.command_kind.CommandKind.TheVariants as kinds
+use Rattle.command_kinds.specs.Kinds.{kind_word}
 use Rattle.schedule_text.specs.declared.words.Word.{Word}
-use Rattle.schedule_text.specs.declared.words.Word.TheVariants.{Create, Copy, Write, Seal, Get, Read, Release, Unpin, Borrow, GiveUp, Delete, EndTask, Grant, Withdraw, Peek, List as ListWord, Usage, Leave}
+use Rattle.schedule_text.specs.declared.words.Word.TheVariants.{Of, Copy}
 use Rattle.schedule_text.specs.declared.words.Verb.{Verb}
 use Rattle.schedule_text.specs.declared.words.Verb.TheVariants.{Admit, Quota, End, Cmd, Take, Finish, Deliver}
 use Rattle.schedule_text.specs.declared.line.FinishWord.{FinishWord}
@@ -9,24 +12,8 @@ use Rattle.schedule_text.specs.declared.line.FinishWord.TheVariants as outcome
 
 -- what a command begins with
 abbrev pub word_text : Word → List ℕ
-word_text Create = codes "create"
+word_text (Of kind) = kind_word kind
 word_text Copy = codes "copy"
-word_text Write = codes "write"
-word_text Seal = codes "seal"
-word_text Get = codes "get"
-word_text Read = codes "read"
-word_text Release = codes "release"
-word_text Unpin = codes "unpin"
-word_text Borrow = codes "borrow"
-word_text GiveUp = codes "giveup"
-word_text Delete = codes "delete"
-word_text EndTask = codes "endtask"
-word_text Grant = codes "grant"
-word_text Withdraw = codes "withdraw"
-word_text Peek = codes "peek"
-word_text ListWord = codes "list"
-word_text Usage = codes "usage"
-word_text Leave = codes "leave"
 
 -- what a line begins with
 abbrev pub verb_text : Verb → List ℕ
@@ -43,8 +30,28 @@ outcome_text outcome.Ok = codes "ok"
 outcome_text outcome.Fail = codes "fail"
 outcome_text outcome.Damage = codes "damage"
 
-abbrev pub all_words : List Word
-all_words = Create ∷ Copy ∷ Write ∷ Seal ∷ Get ∷ Read ∷ Release ∷ Unpin ∷ Borrow ∷ GiveUp ∷ Delete ∷ EndTask ∷ Grant ∷ Withdraw ∷ Peek ∷ ListWord ∷ Usage ∷ Leave ∷ []
+abbrev pub all_kinds : List CommandKind
+all_kinds =
+    kinds.Create
+    ∷ kinds.Write
+    ∷ kinds.Seal
+    ∷ kinds.Get
+    ∷ kinds.Read
+    ∷ kinds.Release
+    ∷ kinds.Unpin
+    ∷ kinds.Borrow
+    ∷ kinds.GiveUp
+    ∷ kinds.Delete
+    ∷ kinds.EndTask
+    ∷ kinds.Grant
+    ∷ kinds.Withdraw
+    ∷ kinds.Peek
+    ∷ kinds.List
+    ∷ kinds.Usage
+    ∷ kinds.Leave
+    ∷ kinds.GetWait
+    ∷ kinds.CreateWait
+    ∷ []
 
 abbrev pub all_verbs : List Verb
 all_verbs = Admit ∷ Quota ∷ End ∷ Cmd ∷ Take ∷ Finish ∷ Deliver ∷ []

@@ -6,6 +6,7 @@ ghost use Rattle.schedule_text.specs.Reading.{IsCommand, IsCommandText, IsPlainC
 use crate::fields::{alone, id, id_bytes, id_job, id_number, id_span, id_task, one_task};
 use crate::words::Word;
 use bytes::Bytes;
+use command_kinds::CommandKind;
 use memory_growth::OutOfMemory;
 use obj_id::{Command, JobNo, Kind};
 use std::alloc::Global;
@@ -37,17 +38,20 @@ fn command_of(
         (IsCommand job.0 word (map (λ field. field.now) fields.now))) }
 {
     match word {
-        Word::Write => Ok(id_bytes(alloc, fields, job)?.map(|((id, offset), bytes)| Command::Write {
-            id,
-            offset,
-            bytes,
-        })),
-        _ => Ok(command_without_payload(word, fields, job)),
+        Word::Copy => Ok(command_without_payload(word, fields, job)),
+        Word::Of(kind) => match kind {
+            CommandKind::Write => Ok(id_bytes(alloc, fields, job)?.map(|(
+                (id, offset),
+                bytes,
+            )| Command::Write { id, offset, bytes })),
+            _ => Ok(command_without_payload(word, fields, job)),
+        },
     }
 }
 
 /// The command that a word and the fields after it spell, if the job speaks, unless it carries
-/// bytes: `None` at `write`, whose last field is spelled differently in different texts.
+/// bytes: `None` at `write`, whose last field is spelled differently in different texts, and at a
+/// kind that waits, which no line has.
 pub fn command_without_payload<P: Drop>(
     word: Word,
     fields: &[&str],
@@ -56,7 +60,7 @@ pub fn command_without_payload<P: Drop>(
     ensures { Reads result (IsPlainCommand job.0 word (map (λ field. field.now) fields.now)) }
 {
     match word {
-        Word::Create => {
+        Word::Of(CommandKind::Create) => {
             let (id, length) = id_number(fields, job)?;
             Some(Command::Create {
                 id,
@@ -72,42 +76,42 @@ pub fn command_without_payload<P: Drop>(
                 length,
             })
         }
-        Word::Write => None,
-        Word::Seal => Some(Command::Seal(id(fields, job)?)),
-        Word::Get => Some(Command::Get(id(fields, job)?)),
-        Word::Read => {
+        Word::Of(CommandKind::Write | CommandKind::GetWait | CommandKind::CreateWait) => None,
+        Word::Of(CommandKind::Seal) => Some(Command::Seal(id(fields, job)?)),
+        Word::Of(CommandKind::Get) => Some(Command::Get(id(fields, job)?)),
+        Word::Of(CommandKind::Read) => {
             let ((id, offset), count) = id_span(fields, job)?;
             Some(Command::Read { id, offset, count })
         }
-        Word::Release => Some(Command::Release(id(fields, job)?)),
-        Word::Unpin => {
+        Word::Of(CommandKind::Release) => Some(Command::Release(id(fields, job)?)),
+        Word::Of(CommandKind::Unpin) => {
             let (id, task) = id_task(fields, job)?;
             Some(Command::Unpin(id, task))
         }
-        Word::Borrow => {
+        Word::Of(CommandKind::Borrow) => {
             let (id, task) = id_task(fields, job)?;
             Some(Command::Borrow(id, task))
         }
-        Word::GiveUp => {
+        Word::Of(CommandKind::GiveUp) => {
             let (id, task) = id_task(fields, job)?;
             Some(Command::GiveUp(id, task))
         }
-        Word::Delete => Some(Command::Delete(id(fields, job)?)),
-        Word::EndTask => Some(Command::EndTask(one_task(fields)?)),
-        Word::Grant => {
+        Word::Of(CommandKind::Delete) => Some(Command::Delete(id(fields, job)?)),
+        Word::Of(CommandKind::EndTask) => Some(Command::EndTask(one_task(fields)?)),
+        Word::Of(CommandKind::Grant) => {
             let (id, target) = id_job(fields, job)?;
             Some(Command::Grant(id, target))
         }
-        Word::Withdraw => {
+        Word::Of(CommandKind::Withdraw) => {
             let (id, target) = id_job(fields, job)?;
             Some(Command::Withdraw(id, target))
         }
-        Word::Peek => {
+        Word::Of(CommandKind::Peek) => {
             let ((id, offset), count) = id_span(fields, job)?;
             Some(Command::Peek { id, offset, count })
         }
-        Word::List => alone(fields, Command::List),
-        Word::Usage => alone(fields, Command::Usage),
-        Word::Leave => alone(fields, Command::Leave),
+        Word::Of(CommandKind::List) => alone(fields, Command::List),
+        Word::Of(CommandKind::Usage) => alone(fields, Command::Usage),
+        Word::Of(CommandKind::Leave) => alone(fields, Command::Leave),
     }
 }

@@ -1,9 +1,11 @@
 //! The words of the schedule.
 ghost use Rattle.std.specs.Prelude.{◌≡◌};
+ghost use Rattle.command_kinds.specs.Kinds.{kind_word};
 ghost use Rattle.schedule_text.specs.Fields.{Reads};
 ghost use Rattle.schedule_text.specs.Words.{outcome_text, verb_text, word_text};
 
 use crate::line::FinishWord;
+use command_kinds::{CommandKind, KINDS};
 
 /// What a line begins with.
 #[derive(Clone, Copy, Debug, PartialEq, Eq)]
@@ -20,24 +22,10 @@ pub(crate) enum Verb {
 /// What a command begins with.
 #[derive(Clone, Copy, Debug, PartialEq, Eq)]
 pub enum Word {
-    Create,
+    /// The word of its kind; of a Create, that of a primary copy.
+    Of(CommandKind),
+    /// The word of a Create of a secondary copy.
     Copy,
-    Write,
-    Seal,
-    Get,
-    Read,
-    Release,
-    Unpin,
-    Borrow,
-    GiveUp,
-    Delete,
-    EndTask,
-    Grant,
-    Withdraw,
-    Peek,
-    List,
-    Usage,
-    Leave,
 }
 
 const VERBS: [Verb; 7] = [
@@ -48,27 +36,6 @@ const VERBS: [Verb; 7] = [
     Verb::Take,
     Verb::Finish,
     Verb::Deliver,
-];
-
-const WORDS: [Word; 18] = [
-    Word::Create,
-    Word::Copy,
-    Word::Write,
-    Word::Seal,
-    Word::Get,
-    Word::Read,
-    Word::Release,
-    Word::Unpin,
-    Word::Borrow,
-    Word::GiveUp,
-    Word::Delete,
-    Word::EndTask,
-    Word::Grant,
-    Word::Withdraw,
-    Word::Peek,
-    Word::List,
-    Word::Usage,
-    Word::Leave,
 ];
 
 impl Verb {
@@ -95,38 +62,22 @@ impl Verb {
 }
 
 impl Word {
-    /// The word as a line has it.
-    pub fn text(self) -> &'static str
-        ensures { result.now ≡ word_text self }
-    {
-        match self {
-            Word::Create => "create",
-            Word::Copy => "copy",
-            Word::Write => "write",
-            Word::Seal => "seal",
-            Word::Get => "get",
-            Word::Read => "read",
-            Word::Release => "release",
-            Word::Unpin => "unpin",
-            Word::Borrow => "borrow",
-            Word::GiveUp => "giveup",
-            Word::Delete => "delete",
-            Word::EndTask => "endtask",
-            Word::Grant => "grant",
-            Word::Withdraw => "withdraw",
-            Word::Peek => "peek",
-            Word::List => "list",
-            Word::Usage => "usage",
-            Word::Leave => "leave",
-        }
-    }
-
     /// The word that the field is.
     pub fn read(field: &str) -> Option<Word>
         ensures { Reads result (λ word. word_text word ≡ field.now) }
     {
-        WORDS.iter().find(|word| word.text() == field).copied()
+        match field {
+            "copy" => Some(Word::Copy),
+            _ => Some(Word::Of(kind_named(field)?)),
+        }
     }
+}
+
+/// The kind of command whose word the field is.
+fn kind_named(field: &str) -> Option<CommandKind>
+    ensures { Reads result (λ kind. kind_word kind ≡ field.now) }
+{
+    KINDS.iter().find(|kind| kind.word() == field).copied()
 }
 
 /// The outcome that the field is.

@@ -144,9 +144,9 @@ fn serve_stream<K: JournaledNode, P: Pause, R: Wait + Clock>(
     requires { actor ≡ [] }
 {
     // without memory for its place among the open ones it is closed
-    if let Ok(stream) = node.upkeep().streams.open(rt, alloc, stream) {
-        serve_open(rt, alloc, actor, node, &*stream);
-        node.upkeep().streams.close(rt, stream.stream());
+    if let Ok(open) = node.upkeep().streams.open(rt, alloc, stream) {
+        serve_open(rt, alloc, actor, node, &*open);
+        node.upkeep().streams.close(rt, open.stream());
     }
     node.upkeep().sessions.end(rt);
 }
@@ -172,5 +172,5 @@ fn serve_open<K: JournaledNode, P: Pause, R: Wait + Clock>(
             node.upkeep().counts.note_malformed();
         }
     }
-    session.check();
+    session.end();
 }

@@ -14,8 +14,7 @@ use shared_nodes::{ReceiptBuffer, SharedNode, out_of_memory};
 use std::sync::{Arc, Wait};
 use std::time::Clock;
 
-/// A session at a node, with the receipts of its steps that weren't looked for yet.
-#[derive(Drop)]
+/// A session at a node, with the receipts of its steps that weren't looked for yet. It can't be let go: `end` takes it.
 pub struct Session<'a, K: JournaledNode, R: Wait + Clock, P = NoPause> {
     rt: &'a R,
     node: &'a SharedNode<K, P>,
@@ -59,10 +58,9 @@ impl<'a, K: JournaledNode, R: Wait + Clock, P: Pause> Session<'a, K, R, P> {
         requires { actor ≡ [] }
         ensures { result.actor ≡ [] }
     {
-        Session {
-            client: Some(client),
-            ..Session::new(rt, actor, node)
-        }
+        let mut session = Session::new(rt, actor, node);
+        session.client = Some(client);
+        session
     }
 
     /// Asks for the job's counts, if they weren't there yet: a session may enter before its job's admission has begun them.
@@ -123,9 +121,19 @@ impl<'a, K: JournaledNode, R: Wait + Clock, P: Pause> Session<'a, K, R, P> {
         }
     }
 
-    /// Looks for the entries of the receipts that are left, and counts those that aren't there: at the end of the session.
-    pub(crate) fn check(&self) {
-        self.node.audit_all(self.rt, &self.receipts);
+    /// Looks for the entries of the receipts that are left, and counts those that aren't there.
+    pub fn end(self) {
+        let Session {
+            rt,
+            node,
+            receipts,
+            actor: _actor,
+            entered: _entered,
+            marked: _marked,
+            client: _client,
+            counts: _counts,
+        } = self;
+        node.audit_all(rt, receipts);
     }
 }
 

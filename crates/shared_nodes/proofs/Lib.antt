@@ -1,4 +1,5 @@
 mod Answering
+pub mod ForCallers
 mod KeysErased
 mod Numbered
 mod Trying

@@ -70,10 +70,4 @@ impl<K: JournaledNode, P: Pause> SharedNode<K, P> {
             }
         }
     }
-
-    /// Waits for the open sessions to end, and leaves those that are marked then.
-    pub fn end_sessions<R: Wait>(&self, rt: &R) {
-        self.housekeeping.upkeep.sessions.wait_for_all(rt);
-        self.leave_marked(rt);
-    }
 }

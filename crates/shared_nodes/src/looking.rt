@@ -6,9 +6,8 @@ ghost use Rattle.shared_nodes.specs.Looking.{AreLiveAt, IsUsageAt};
 use crate::SharedNode;
 use memory_growth::OutOfMemory;
 use node_gate::{JournaledNode, LiveJob};
-use node_housekeeping::{Count, ListedSession, NodeCounts, Pause};
+use node_housekeeping::{Count, CountedSessions, ListedSession, NodeCounts, Pause};
 use obj_id::{JobNo, Refusal, Usage};
-use std::net::Shutdown;
 use std::sync::Wait;
 use std::time::Clock;
 
@@ -29,8 +28,10 @@ impl<K: JournaledNode, P: Pause> SharedNode<K, P> {
     }
 
     /// How many sessions are open.
-    pub fn open_sessions<R: Wait>(&self, rt: &R) -> usize {
-        self.housekeeping.upkeep.sessions.count(rt)
+    pub fn open_sessions<R: Wait>(&self, rt: &R) -> CountedSessions
+        ensures { result.node ≡ self.now.number }
+    {
+        self.housekeeping.upkeep.sessions.count(rt, self.number())
     }
 
     /// The open sessions whose Hello was taken, in any order. The error is out of memory.
@@ -70,11 +71,5 @@ impl<K: JournaledNode, P: Pause> SharedNode<K, P> {
     /// Waits for the open sessions to end.
     pub fn await_sessions<R: Wait>(&self, rt: &R) {
         self.housekeeping.upkeep.sessions.wait_for_all(rt);
-    }
-
-    /// Shuts down the streams of all open sessions, and of those that are opened later. Of one that is shut down for reading, what was
-    /// sent before is still answered, and then its session ends.
-    pub(crate) fn shut_sessions<R: Wait>(&self, rt: &R, how: Shutdown) {
-        self.housekeeping.upkeep.streams.shut(rt, how);
     }
 }

@@ -4,6 +4,7 @@ ghost use Rattle.std.specs.Arc.{arc_value};
 ghost use Rattle.shared_nodes.specs.NodeLists.{AreNumbered};
 
 use crate::SharedNode;
+use crate::report::{Report, SessionsEnded, SessionsShut};
 use memory_growth::{OutOfMemory, lists};
 use node_gate::JournaledNode;
 use node_housekeeping::{NoPause, Pause};
@@ -16,12 +17,6 @@ use std::sync::{Arc, Wait};
 pub struct NodeList<K: JournaledNode, P = NoPause> {
     nodes: Vec<Arc<SharedNode<K, P>>>,
     ghost numbered: { AreNumbered nodes.items (λ shared. (arc_value shared).number) },
-}
-
-/// That the streams of all sessions of so many nodes were shut down, which only a list of nodes says.
-#[derive(Clone, Copy)]
-pub struct SessionsShut {
-    nodes: usize,
 }
 
 impl<K: JournaledNode, P: Pause> NodeList<K, P> {
@@ -73,11 +68,47 @@ impl<K: JournaledNode, P: Pause> NodeList<K, P> {
     pub fn shut_sessions<R: Wait>(&self, rt: &R, how: Shutdown) -> SessionsShut
         ensures { result.nodes ≡ vec_len self.now.nodes }
     {
+        let mut shut = SessionsShut::none();
         for node in &self.nodes {
-            node.shut_sessions(rt, how);
+            shut = node.shut_sessions(rt, how, shut);
         }
-        SessionsShut {
-            nodes: self.nodes.len(),
+        shut
+    }
+
+    /// Whether a session of any node is open.
+    pub fn have_sessions<R: Wait>(&self, rt: &R) -> bool {
+        self.nodes
+            .iter()
+            .any(|node| node.open_sessions(rt).sessions() > 0)
+    }
+
+    /// Waits for the open sessions of all nodes to end.
+    pub fn await_sessions<R: Wait>(&self, rt: &R) {
+        for node in &self.nodes {
+            node.await_sessions(rt);
         }
+    }
+
+    /// Waits for the open sessions of all nodes to end, and leaves those that are marked then.
+    pub fn end_sessions<R: Wait>(&self, rt: &R) -> SessionsEnded
+        ensures { result.nodes ≡ vec_len self.now.nodes }
+    {
+        let mut ended = SessionsEnded::none();
+        for node in &self.nodes {
+            ended = node.end_sessions(rt, ended);
+        }
+        ended
+    }
+
+    /// What was counted at all nodes, whose sessions have ended.
+    pub fn report<R: Wait>(&self, rt: &R, ended: &SessionsEnded) -> Report
+        requires { ended.now.nodes ≡ vec_len self.now.nodes }
+        ensures { result.nodes ≡ vec_len self.now.nodes }
+    {
+        let mut report = Report::none();
+        for node in &self.nodes {
+            report = node.report(rt, ended, report);
+        }
+        report
     }
 }

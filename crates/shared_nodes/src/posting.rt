@@ -50,25 +50,4 @@ impl<K: JournaledNode, P: Pause> SharedNode<K, P> {
             Delivery::Answered(located) => self.arrive_located(rt, located),
         }
     }
-
-    /// A message of a link arrives, and its receipt is gathered; or it is counted as lost, as it is without room for the receipt.
-    pub fn receive_one<R: Wait>(
-        &self,
-        rt: &R,
-        posted: K::Posted,
-        receipts: &mut ReceiptBuffer<K::Receipt>,
-    ) -> Option<CountedLost>
-        ensures { MatchOption result (IsSomeAnd receipts.new.last (K.arrived posted)) (λ counted. counted.messages ≡ 1) }
-    {
-        if self.make_room(rt, receipts).is_err() {
-            return Some(self.housekeeping.tallies.lost(rt, 1));
-        }
-        match self.arrive(rt, posted) {
-            Ok(receipt) => {
-                receipts.add(receipt);
-                None
-            }
-            Err(_) => Some(self.housekeeping.tallies.lost(rt, 1)),
-        }
-    }
 }

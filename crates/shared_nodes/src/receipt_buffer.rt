@@ -15,8 +15,8 @@ use std::sync::Wait;
 /// than others look whether it is before they sleep.
 pub const MOST_RECEIPTS: usize = 16;
 
-/// The receipts of one actor at one node that weren't looked for yet: a session's, a worker's or those of a link's end.
-#[derive(Drop)]
+/// The receipts of one actor at one node that weren't looked for yet: a session's, a worker's or those of a link's end. It can't be let go:
+/// `SharedNode::audit_all` takes it.
 pub struct ReceiptBuffer<T> {
     // all but the last, oldest first
     earlier: Vec<T>,
@@ -94,17 +94,20 @@ impl<K: JournaledNode, P: Pause> SharedNode<K, P> {
         )
     }
 
-    /// Looks for all that are there: what their actor does at its end. The last is looked for apart, if there is one.
+    /// Looks for all that are there, at the end of their actor. The last is looked for apart, if there is one.
     pub fn audit_all<R: Wait>(
         &self,
         rt: &R,
-        receipts: &ReceiptBuffer<K::Receipt>,
+        receipts: ReceiptBuffer<K::Receipt>,
     ) -> (LookedFor, Option<LookedFor>)
-        ensures earlier { AreLookedFor K.misses K.node_number self.now.number receipts.now.earlier.items result.0 }
-        ensures last { MatchOption receipts.now.last (result.1 ≡ None) (λ last. IsSomeAnd result.1 (AreLookedFor K.misses K.node_number self.now.number (last ∷ []))) }
+        ensures earlier { AreLookedFor K.misses K.node_number self.now.number receipts.earlier.items result.0 }
+        ensures last { MatchOption receipts.last (result.1 ≡ None) (λ last. IsSomeAnd result.1 (AreLookedFor K.misses K.node_number self.now.number (last ∷ []))) }
     {
-        let earlier = self.audit_earlier(rt, receipts);
-        let last = receipts.last.as_ref().map(|last| self.check(rt, last));
-        (earlier, last)
+        let found = self.audit_earlier(rt, &receipts);
+        let ReceiptBuffer {
+            earlier: _earlier,
+            last,
+        } = receipts;
+        (found, last.as_ref().map(|last| self.check(rt, last)))
     }
 }

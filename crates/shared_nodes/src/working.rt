@@ -1,19 +1,25 @@
 //! The rounds of a worker, which carries out the device works of a node.
-ghost use Rattle.std.specs.Prelude.{◌≡◌, ◌⊎◌, ◌++◌, ◌∷◌, [], List, Option, None, IsSomeAnd, option_map};
+ghost use Rattle.std.specs.Prelude.{◌≡◌, ◌⊎◌, ◌++◌, ◌∷◌, [], List, Option, None, IfSome, IsSomeAnd, MatchOption, option_map};
 ghost use Rattle.shared_nodes.specs.Gathering.{receipts_in_order};
 ghost use Rattle.obj_id.specs.declared.commands.Reply.TheVariants as reply;
 ghost use Rattle.private_store.specs.declared.schedules.Event.TheVariants as event;
-ghost use Rattle.shared_nodes.specs.Rounds.{EndsRound, HasTakenWork, HasWorked, IsRound, done_after as done_after_lem};
+ghost use Rattle.shared_nodes.specs.Rounds.{EndsRound, HasAskedForWork, HasTakenWork, HasWorked, IsHandedIn, IsRound, done_after as done_after_lem};
 ghost use Rattle.node_housekeeping.specs.declared.work_done.WorkDone.TheVariants.{Nothing, NoMemory};
 ghost use Rattle.private_store.specs.declared.schedules.Event.{Event};
+ghost use Rattle.obj_id.specs.declared.refusals.Refusal.TheVariants as refusal;
+ghost use Rattle.node_gate.specs.Actors.{ActsIf};
 
 use crate::SharedNode;
 use crate::pending::PendingFinish;
+use crate::preparing::prepare_finish;
 use crate::receipt_buffer::ReceiptBuffer;
+use crate::refusing::out_of_memory;
 use bytes::Bytes;
 use node_gate::{Actor, JournaledNode};
-use node_housekeeping::{Pause, WorkDone, call_device};
+use node_housekeeping::{Pause, Sender, WorkDone, call_device};
+use node_steps::{step_event, step_take};
 use obj_id::{Refusal, Reply, Work};
+use private_store::Event;
 use spill_device::SpillDevice;
 use std::sync::Wait;
 
@@ -32,7 +38,7 @@ impl<K: JournaledNode, P: Pause> SharedNode<K, P> {
     {
         let mut receipts = ReceiptBuffer::new(self.housekeeping.upkeep.alloc);
         let done = self.round(rt, actor, device, kept, &mut receipts);
-        self.audit_all(rt, &receipts);
+        self.audit_all(rt, receipts);
         done
     }
 
@@ -123,6 +129,80 @@ impl<K: JournaledNode, P: Pause> SharedNode<K, P> {
         }
         self.housekeeping.erase_stale(rt, device, written, done);
         done
+    }
+
+    /// An event of a worker, with the receipt of its entry.
+    pub(crate) fn operate<R: Wait>(
+        &self,
+        rt: &R,
+        actor: &mut Actor,
+        event: &Event,
+    ) -> (Reply<Bytes>, Option<K::Receipt>)
+        ensures acts { ActsIf result.1 (event.now) actor.old actor.new }
+        ensures receipt { MatchOption result.1 (result.0 ≡ reply.Refused refusal.NoMemory) (λ r. K.receipt_of event.now result.0 r) }
+        ensures node { IfSome result.1 (λ r. K.made_at r ≡ self.now.number) }
+    {
+        let (job, prepared) = prepare_finish::<K>(self.housekeeping.upkeep.alloc, event);
+        let mut kept = self.lock(rt);
+        let before = kept.prepare(job, prepared);
+        let stepped = step_event(rt, &mut *kept, &self.housekeeping, actor, &None, event);
+        let rest = kept.prepare(job, before);
+        drop(kept);
+        drop(rest);
+        self.answer(rt, Sender::Other, stepped)
+    }
+
+    /// An event of a worker, whose receipt is gathered, if there is one.
+    pub(crate) fn operate_gathering<R: Wait>(
+        &self,
+        rt: &R,
+        actor: &mut Actor,
+        event: &Event,
+        receipts: &mut ReceiptBuffer<K::Receipt>,
+    ) -> Reply<Bytes>
+        ensures { IsHandedIn K.receipt_of event.now result receipts.old.last (receipts_in_order receipts.new.earlier.items receipts.new.last) actor.old actor.new }
+    {
+        if let Err(error) = self.make_room(rt, receipts) {
+            return out_of_memory(error);
+        }
+        let (reply, receipt) = self.operate(rt, actor, event);
+        if let Some(receipt) = receipt {
+            receipts.add(receipt);
+        }
+        reply
+    }
+
+    /// A worker takes a work, if one waits that nobody has taken. The receipt is gathered.
+    pub(crate) fn take_gathering<R: Wait>(
+        &self,
+        rt: &R,
+        actor: &mut Actor,
+        receipts: &mut ReceiptBuffer<K::Receipt>,
+    ) -> Reply<Bytes>
+        ensures { HasAskedForWork K.receipt_of result receipts.new.last actor.old actor.new }
+    {
+        if let Err(error) = self.make_room(rt, receipts) {
+            return out_of_memory(error);
+        }
+        let (reply, receipt) = self.take(rt, actor);
+        if let Some(receipt) = receipt {
+            receipts.add(receipt);
+        }
+        reply
+    }
+
+    /// A worker takes a work, if one waits that nobody has taken: otherwise, and without memory, there is no receipt.
+    fn take<R: Wait>(&self, rt: &R, actor: &mut Actor) -> (Reply<Bytes>, Option<K::Receipt>)
+        ensures acts { ActsIf result.1 event.Take actor.old actor.new }
+        ensures receipt { MatchOption result.1 ((result.0 ≡ reply.NoWork) ⊎ (result.0 ≡ reply.Refused refusal.NoMemory)) (λ r. K.receipt_of event.Take result.0 r) }
+    {
+        let mut kept = self.lock(rt);
+        let stepped = step_take(rt, &mut *kept, &self.housekeeping, actor);
+        drop(kept);
+        match stepped {
+            None => (Reply::NoWork, None),
+            Some(stepped) => self.answer(rt, Sender::Other, stepped),
+        }
     }
 }
 

@@ -5,9 +5,9 @@ ghost use Rattle.world_core.specs.Worlds.{is_shape};
 use cluster_history::{ClusterShape, HistoryName};
 use cluster_threads::{Cluster, Working, work};
 use control_socket::{Connecting, connect_control, take_input};
-use memory_growth::{MOST_ROOM, OutOfMemory, boxes, lists, text_of};
+use memory_growth::{MOST_ROOM, boxes, lists, text_of};
 use node_gate::{ActorSource, JournaledNode, Posted};
-use node_housekeeping::{NoPause, Report};
+use node_housekeeping::NoPause;
 use node_journal::{Recorded, Unnamed};
 use operator_service::{serve_text, write_report};
 use program_lines::Fault;
@@ -17,7 +17,7 @@ use server_host::{
     most_descriptors,
 };
 use session_threads::{Listening, listen};
-use shared_nodes::{NodeList, SharedNode};
+use shared_nodes::{Report, SharedNode};
 use spill_device::SpillFolder;
 use std::alloc::Global;
 use std::fs::Files;
@@ -277,14 +277,13 @@ where
     K::Gone: Send + 'static,
 {
     let count = serving.shape.nodes;
-    let nodes = boxes::counted(host.alloc(), nodes_of(host.alloc(), cluster)?)?;
     let Some(path) = serving.control else {
         say_ready(host);
         return match serve_text(
             &rt,
             &mut cluster.actors().actor(),
             host.alloc(),
-            &*nodes,
+            &**cluster.nodes(),
             count,
             reader,
             writer,
@@ -293,6 +292,7 @@ where
             Err(fault) => Err(ServeFault::Fault(fault)),
         };
     };
+    let nodes = boxes::another(cluster.nodes())?;
     let connecting = connect_control(rt, host.alloc(), cluster.actors(), nodes, count, path)?;
     let control = boxes::another(&connecting.control)?;
     served.control = Some(connecting);
@@ -307,25 +307,6 @@ where
 /// Says that all sockets listen. Who reads no standard error is served all the same.
 fn say_ready(host: HostRuntime) {
     let _ = host.eprintln("store: ready");
-}
-
-/// The nodes of the cluster, by number.
-fn nodes_of<K: JournaledNode>(
-    alloc: Global,
-    cluster: &Cluster<K>,
-) -> Result<NodeList<K>, OutOfMemory> {
-    let mut nodes = NodeList::new(alloc);
-    for number in 0..u32::MAX {
-        let Some(node) = cluster.node(number) else {
-            break;
-        };
-        // it always has: but of a cluster no clause says it
-        if node.number() as usize != nodes.count() {
-            break;
-        }
-        nodes.push(boxes::another(node)?)?;
-    }
-    Ok(nodes)
 }
 
 /// Starts the workers and opens the sockets of all nodes.

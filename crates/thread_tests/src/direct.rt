@@ -7,9 +7,8 @@ use assertions::{holds, same};
 use bytes::Bytes;
 use memory_growth::OutOfMemory;
 use node_gate::JournaledNode;
-use node_housekeeping::Report;
 use obj_id::{Command, JobNo, Quota, Reply};
-use shared_nodes::SharedNode;
+use shared_nodes::{SharedNode, Totals};
 use std::alloc::Global;
 use std::process::Abort;
 use std::sync::Wait;
@@ -67,8 +66,8 @@ fn uses_all_of(reply: &Reply<Bytes>) -> bool {
 }
 
 /// A report of so many entries and receipts, of which nothing went wrong.
-fn good_report(entries: u64, receipts: u64) -> Report {
-    Report {
+fn good_report(entries: u64, receipts: u64) -> Totals {
+    Totals {
         entries,
         receipts,
         disagreeing: 0,

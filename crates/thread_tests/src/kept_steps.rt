@@ -10,11 +10,11 @@ use cluster_history::{ClusterShape, HistoryName};
 use cluster_threads::Cluster;
 use memory_growth::boxes;
 use node_gate::{JournaledNode, Posted};
-use node_housekeeping::{Pause, Report};
+use node_housekeeping::Pause;
 use node_journal::{Recorded, Unnamed};
 use obj_id::{Command, JobNo, Quota, Reply};
 use private_store::Event;
-use shared_nodes::SharedNode;
+use shared_nodes::{SharedNode, Totals};
 use std::alloc::Global;
 use std::marker::Brand;
 use std::process::Abort;
@@ -117,7 +117,7 @@ fn try_at<
     gate: &Arc<Gate>,
     pause: KeptCommands,
     unnamed: Unnamed<S>,
-) -> io::Result<Report>
+) -> io::Result<Totals>
     requires nodes { 2 ≡ S.nodes }
     requires memory { 1024 ≡ S.memory }
     requires name { (unnamed.blank.name ≡ L.name) × (unnamed.blank.parts ≡ L.parts) }
@@ -127,7 +127,7 @@ fn try_at<
     let seats = unnamed.named::<L>();
     let cluster = Cluster::<Recorded<L, S>, _>::start(alloc, 2, 1024, seats, pause)?;
     let stepped = step_beside(rt, &cluster, gate);
-    let report = cluster.close(&rt, Vec::new(alloc));
+    let report = cluster.close(&rt, Vec::new(alloc)).totals();
     stepped?;
     Ok(report)
 }
@@ -136,7 +136,7 @@ fn try_at<
 fn try_shaped<
     S: ClusterShape + Send + Sync + 'static,
     R: Threads + Wait + Abort + Copy + Send + 'static,
->(rt: R, alloc: Global) -> io::Result<Report>
+>(rt: R, alloc: Global) -> io::Result<Totals>
     requires nodes { 2 ≡ S.nodes }
     requires memory { 1024 ≡ S.memory }
 {
@@ -151,7 +151,7 @@ fn try_shaped<
 fn try_out<R: Threads + Wait + Abort + Copy + Send + 'static>(
     rt: R,
     alloc: Global,
-) -> io::Result<Report> {
+) -> io::Result<Totals> {
     try_shaped::<Brand, R>(rt, alloc)
 }
 

@@ -55,6 +55,8 @@ pub(crate) fn two_sessions<K: JournaledNode, R: Wait + Clock + Abort>(
     let mut holding = Session::new(rt, actor(), node);
     let mut ending = Session::new(rt, actor(), node);
     hold_beside(rt, &mut holding, &mut ending);
+    holding.end();
+    ending.end();
     Ok(())
 }
 
@@ -62,6 +64,6 @@ pub(crate) fn two_sessions<K: JournaledNode, R: Wait + Clock + Abort>(
 fn a_hold_stands_when_another_session_ends(rt: HostRuntime) -> Result<(), Fail> {
     let report = try_out(rt, rt.alloc(), &Trial::TwoSessions)?;
     // the admission, three of a direct caller, and of the sessions three and two Leaves
-    same!(rt; (report.entries, report.receipts, report.disagreeing), (9, 1, 0));
+    same!(rt; (report.entries, report.receipts, report.disagreeing), (9, 6, 0));
     Ok(())
 }

@@ -10,8 +10,9 @@ use crate::sessions::two_sessions;
 use cluster_history::{ClusterShape, HistoryName};
 use cluster_threads::Cluster;
 use node_gate::{JournaledNode, Posted};
-use node_housekeeping::{NoPause, Report};
+use node_housekeeping::NoPause;
 use node_journal::{Recorded, Unnamed};
+use shared_nodes::Totals;
 use std::alloc::Global;
 use std::io;
 use std::marker::Brand;
@@ -94,7 +95,7 @@ fn try_at<
     L: Ledger + HistoryName + Send + Sync + 'static,
     S: ClusterShape + Send + Sync + 'static,
     R: Threads + Wait + Clock + Abort + Copy + Send + 'static,
->(rt: R, alloc: Global, trial: &Trial, nodes: u32, unnamed: Unnamed<S>) -> io::Result<Report>
+>(rt: R, alloc: Global, trial: &Trial, nodes: u32, unnamed: Unnamed<S>) -> io::Result<Totals>
     requires nodes { nodes ≡ S.nodes }
     requires memory { 1024 ≡ S.memory }
     requires name { (unnamed.blank.name ≡ L.name) × (unnamed.blank.parts ≡ L.parts) }
@@ -104,7 +105,7 @@ fn try_at<
     let seats = unnamed.named::<L>();
     let mut cluster = Cluster::<Recorded<L, S>, _>::start(alloc, nodes, 1024, seats, NoPause)?;
     let carried_out = carry_out(rt, alloc, trial, &mut cluster);
-    let report = cluster.close(&rt, Vec::new(alloc));
+    let report = cluster.close(&rt, Vec::new(alloc)).totals();
     carried_out?;
     Ok(report)
 }
@@ -113,7 +114,7 @@ fn try_at<
 fn try_shaped<
     S: ClusterShape + Send + Sync + 'static,
     R: Threads + Wait + Clock + Abort + Copy + Send + 'static,
->(rt: R, alloc: Global, trial: &Trial, nodes: u32) -> io::Result<Report>
+>(rt: R, alloc: Global, trial: &Trial, nodes: u32) -> io::Result<Totals>
     requires nodes { nodes ≡ S.nodes }
     requires memory { 1024 ≡ S.memory }
 {
@@ -125,7 +126,7 @@ pub(crate) fn try_out<R: Threads + Wait + Clock + Abort + Copy + Send + 'static>
     rt: R,
     alloc: Global,
     trial: &Trial,
-) -> io::Result<Report> {
+) -> io::Result<Totals> {
     let nodes = trial.nodes();
     try_shaped::<Brand, R>(rt, alloc, trial, nodes)
 }

@@ -14,11 +14,11 @@ use Rattle.private_store.specs.declared.frames.Item.{Item}
 use Rattle.private_store.specs.declared.frames.Item.TheVariants as item
 use Rattle.private_store.specs.rules.Frames.{empty_body, be4, command_body, hello, id_at, is_create, is_id, item_body, item_of, kind_byte, kind_of, number_at, task_at, with_id}
 use Rattle.wire_frames.specs.Items.{AreBytes, IsCommandBytes, IsItemBytes, is_bad_id}
-use Rattle.wire_frames.specs.Kinds.{byte_of, end_task_item, fits_kind, object_byte, read_about, read_of, said}
+use Rattle.wire_frames.specs.Kinds.{byte_of, end_task_item, fits_kind, command_byte, read_about, read_command, read_of, said}
 use Rattle.wire_frames.specs.declared.kinds.FrameKind.{FrameKind}
 use Rattle.wire_frames.specs.declared.kinds.FrameKind.TheVariants as frame
-use Rattle.wire_frames.specs.declared.kinds.ObjectKind.{ObjectKind}
-use Rattle.wire_frames.specs.declared.kinds.ObjectKind.TheVariants as object
+use Rattle.command_kinds.specs.declared.command_kind.CommandKind.{CommandKind}
+use Rattle.command_kinds.specs.declared.command_kind.CommandKind.TheVariants as kinds
 use Rattle.wire_frames.proofs.KindTables.{all_kinds, byte_at, find-past, item_of-byte_of}
 
 -- ---- parts of bytes
@@ -76,9 +76,6 @@ with_range body h e =
 
 with_bytes : (body : List ℕ) → AreBytes body → 32 ≤ length body → (id_bytes (id_at body) ++ be4 (number_at body 28)) ++ drop 32 body ≡ body
 with_bytes body h long = ap (λ front. front ++ drop 32 body) (front_of_two body h long) ∙ take-append-drop 32 body
-
-one_more : (n : ℕ) → 1 + n ≡ suc n
-one_more n = omega arith
 
 one_of_two : (k : ℕ) → nat_le k 1 ≡ true → kind_byte (kind_of k) ≡ k
 one_of_two zero h = refl
@@ -146,43 +143,51 @@ ranged_well : (body : List ℕ) → AreBytes body → (length body == 36) ≡ tr
     → IsId (id_at body) × (number_at body 28 < 2 ^ 32) × (number_at body 32 < 2 ^ 32)
 ranged_well body h f is = let e = sized body 36 f in (id_well body h (omega arith) is, number_small body 28 h, number_small body 32 h)
 
-said_well : (kind : ObjectKind) (body : List ℕ) → AreBytes body → fits_kind kind body ≡ true → is_id (id_at body) ≡ true → IsItemBytes (said kind (id_at body) body)
-said_well object.Create body h f is = copy_well body h f is
-said_well object.Write body h f is =
+said_well : (kind : CommandKind) (body : List ℕ) → AreBytes body → fits_kind kind body ≡ true → is_id (id_at body) ≡ true → IsItemBytes (said kind (id_at body) body)
+said_well kinds.Create body h f is = copy_well body h f is
+said_well kinds.Write body h f is =
     let long : 32 ≤ length body = leb-true 32 (length body) f in
     (id_well body h (omega arith) is, number_small body 28 h)
-said_well object.Seal body h f is = alone_well body h f is
-said_well object.Get body h f is = alone_well body h f is
-said_well object.Read body h f is = ranged_well body h f is
-said_well object.Release body h f is = alone_well body h f is
-said_well object.Unpin body h f is = tasked_well body h f is
-said_well object.Borrow body h f is = tasked_well body h f is
-said_well object.GiveUp body h f is = tasked_well body h f is
-said_well object.Delete body h f is = alone_well body h f is
-said_well object.Grant body h f is = numbered_well body h f is
-said_well object.Withdraw body h f is = numbered_well body h f is
-said_well object.Peek body h f is = ranged_well body h f is
-said_well object.GetWait body h f is = alone_well body h f is
-said_well object.CreateWait body h f is = copy_well body h f is
+said_well kinds.Seal body h f is = alone_well body h f is
+said_well kinds.Get body h f is = alone_well body h f is
+said_well kinds.Read body h f is = ranged_well body h f is
+said_well kinds.Release body h f is = alone_well body h f is
+said_well kinds.Unpin body h f is = tasked_well body h f is
+said_well kinds.Borrow body h f is = tasked_well body h f is
+said_well kinds.GiveUp body h f is = tasked_well body h f is
+said_well kinds.Delete body h f is = alone_well body h f is
+said_well kinds.EndTask body h f is = absurd (true≢false (sym f))
+said_well kinds.Grant body h f is = numbered_well body h f is
+said_well kinds.Withdraw body h f is = numbered_well body h f is
+said_well kinds.Peek body h f is = ranged_well body h f is
+said_well kinds.List body h f is = absurd (true≢false (sym f))
+said_well kinds.Usage body h f is = absurd (true≢false (sym f))
+said_well kinds.Leave body h f is = absurd (true≢false (sym f))
+said_well kinds.GetWait body h f is = alone_well body h f is
+said_well kinds.CreateWait body h f is = copy_well body h f is
 
 -- what is said is spelled as it was read
-said_spelled : (kind : ObjectKind) (body : List ℕ) → AreBytes body → fits_kind kind body ≡ true
-    → item_body (said kind (id_at body) body) ≡ Some (object_byte kind ∷ body)
-said_spelled object.Create body h f = ap (λ b. Some (0x02 ∷ b)) (with_copy body h f)
-said_spelled object.Write body h f = ap (λ b. Some (0x03 ∷ b)) (with_bytes body h (leb-true 32 (length body) f))
-said_spelled object.Seal body h f = ap (λ b. Some (0x04 ∷ b)) (alone body h (sized body 28 f))
-said_spelled object.Get body h f = ap (λ b. Some (0x05 ∷ b)) (alone body h (sized body 28 f))
-said_spelled object.Read body h f = ap (λ b. Some (0x06 ∷ b)) (with_range body h (sized body 36 f))
-said_spelled object.Release body h f = ap (λ b. Some (0x07 ∷ b)) (alone body h (sized body 28 f))
-said_spelled object.Unpin body h f = ap (λ b. Some (0x08 ∷ b)) (with_task body h (sized body 48 f))
-said_spelled object.Borrow body h f = ap (λ b. Some (0x09 ∷ b)) (with_task body h (sized body 48 f))
-said_spelled object.GiveUp body h f = ap (λ b. Some (0x0a ∷ b)) (with_task body h (sized body 48 f))
-said_spelled object.Delete body h f = ap (λ b. Some (0x0b ∷ b)) (alone body h (sized body 28 f))
-said_spelled object.Grant body h f = ap (λ b. Some (0x0d ∷ b)) (with_number body h (sized body 32 f))
-said_spelled object.Withdraw body h f = ap (λ b. Some (0x0e ∷ b)) (with_number body h (sized body 32 f))
-said_spelled object.Peek body h f = ap (λ b. Some (0x0f ∷ b)) (with_range body h (sized body 36 f))
-said_spelled object.GetWait body h f = ap (λ b. Some (0x13 ∷ b)) (alone body h (sized body 28 f))
-said_spelled object.CreateWait body h f = ap (λ b. Some (0x14 ∷ b)) (with_copy body h f)
+said_spelled : (kind : CommandKind) (body : List ℕ) → AreBytes body → fits_kind kind body ≡ true
+    → item_body (said kind (id_at body) body) ≡ Some (command_byte kind ∷ body)
+said_spelled kinds.Create body h f = ap (λ b. Some (0x02 ∷ b)) (with_copy body h f)
+said_spelled kinds.Write body h f = ap (λ b. Some (0x03 ∷ b)) (with_bytes body h (leb-true 32 (length body) f))
+said_spelled kinds.Seal body h f = ap (λ b. Some (0x04 ∷ b)) (alone body h (sized body 28 f))
+said_spelled kinds.Get body h f = ap (λ b. Some (0x05 ∷ b)) (alone body h (sized body 28 f))
+said_spelled kinds.Read body h f = ap (λ b. Some (0x06 ∷ b)) (with_range body h (sized body 36 f))
+said_spelled kinds.Release body h f = ap (λ b. Some (0x07 ∷ b)) (alone body h (sized body 28 f))
+said_spelled kinds.Unpin body h f = ap (λ b. Some (0x08 ∷ b)) (with_task body h (sized body 48 f))
+said_spelled kinds.Borrow body h f = ap (λ b. Some (0x09 ∷ b)) (with_task body h (sized body 48 f))
+said_spelled kinds.GiveUp body h f = ap (λ b. Some (0x0a ∷ b)) (with_task body h (sized body 48 f))
+said_spelled kinds.Delete body h f = ap (λ b. Some (0x0b ∷ b)) (alone body h (sized body 28 f))
+said_spelled kinds.EndTask body h f = absurd (true≢false (sym f))
+said_spelled kinds.Grant body h f = ap (λ b. Some (0x0d ∷ b)) (with_number body h (sized body 32 f))
+said_spelled kinds.Withdraw body h f = ap (λ b. Some (0x0e ∷ b)) (with_number body h (sized body 32 f))
+said_spelled kinds.Peek body h f = ap (λ b. Some (0x0f ∷ b)) (with_range body h (sized body 36 f))
+said_spelled kinds.List body h f = absurd (true≢false (sym f))
+said_spelled kinds.Usage body h f = absurd (true≢false (sym f))
+said_spelled kinds.Leave body h f = absurd (true≢false (sym f))
+said_spelled kinds.GetWait body h f = ap (λ b. Some (0x13 ∷ b)) (alone body h (sized body 28 f))
+said_spelled kinds.CreateWait body h f = ap (λ b. Some (0x14 ∷ b)) (with_copy body h f)
 
 -- ---- each kind
 
@@ -231,22 +236,26 @@ end_task_spelled body x h e =
       well = task_well body 0 h (omega arith);
     })
 
-about_spelled : (kind : ObjectKind) (body : List ℕ) (x : Item) → AreBytes body → read_about kind body ≡ Some x → is_bad_id x ≡ false
-    → IsSpelled (object_byte kind) body x
+about_spelled : (kind : CommandKind) (body : List ℕ) (x : Item) → AreBytes body → read_about kind body ≡ Some x → is_bad_id x ≡ false
+    → IsSpelled (command_byte kind) body x
 about_spelled kind body x h e ok =
     let said_here = said kind (id_at body) body in
     let p = some_if (fits_kind kind body) (with_id body said_here) x e in
     let same = not_bad (is_id (id_at body)) said_here x p.1 ok in
-    subst (IsSpelled (object_byte kind) body) same.1 (record { spelled = said_spelled kind body h p.0; well = said_well kind body h p.0 same.0 })
+    subst (IsSpelled (command_byte kind) body) same.1 (record { spelled = said_spelled kind body h p.0; well = said_well kind body h p.0 same.0 })
+
+command_spelled : (kind : CommandKind) (body : List ℕ) (x : Item) → AreBytes body → read_command kind body ≡ Some x → is_bad_id x ≡ false
+    → IsSpelled (command_byte kind) body x
+command_spelled kinds.EndTask body x h e ok = end_task_spelled body x h e
+command_spelled kinds.List body x h e ok = empty_body_spelled command.List 0x10 body x refl tt e
+command_spelled kinds.Usage body x h e ok = empty_body_spelled command.Usage 0x11 body x refl tt e
+command_spelled kinds.Leave body x h e ok = empty_body_spelled command.Leave 0x12 body x refl tt e
+command_spelled kind body x h e ok = about_spelled kind body x h e ok
 
 kind_spelled : (kind : FrameKind) (body : List ℕ) (x : Item) → AreBytes body → read_of kind body ≡ Some x → is_bad_id x ≡ false
     → IsSpelled (byte_of kind) body x
 kind_spelled frame.Hello body x h e ok = hello_spelled body x h e
-kind_spelled frame.EndTask body x h e ok = end_task_spelled body x h e
-kind_spelled frame.List body x h e ok = empty_body_spelled command.List 0x10 body x refl tt e
-kind_spelled frame.Usage body x h e ok = empty_body_spelled command.Usage 0x11 body x refl tt e
-kind_spelled frame.Leave body x h e ok = empty_body_spelled command.Leave 0x12 body x refl tt e
-kind_spelled (frame.About kind) body x h e ok = about_spelled kind body x h e ok
+kind_spelled (frame.Of kind) body x h e ok = command_spelled kind body x h e ok
 
 -- ---- each byte
 
@@ -259,18 +268,23 @@ known_spelled kind byte body x is h e ok =
 none_some : (o : Option Item) (x : Item) {B : Type 0} → o ≡ None → o ≡ Some x → B
 none_some o x none some = absurd (cc)
 
-byte_spelled : (byte : ℕ) (is_kind : Bool) (body : List ℕ) (x : Item) → nat_lt byte 20 ≡ is_kind → AreBytes body → item_of (suc byte) body ≡ Some x
-    → is_bad_id x ≡ false → IsSpelled (suc byte) body x
+byte_spelled : (byte : ℕ) (is_kind : Bool) (body : List ℕ) (x : Item) → nat_lt byte 19 ≡ is_kind → AreBytes body → item_of (2 + byte) body ≡ Some x
+    → is_bad_id x ≡ false → IsSpelled (2 + byte) body x
 byte_spelled byte true body x t h e ok =
-    let less : byte < 20 = ltb-true byte 20 t in
-    let there = slice_get-get_or all_kinds byte frame.Hello less in
-    let is : byte_of (get_or all_kinds byte frame.Hello) ≡ 1 + byte = subst (λ o. IfSome o (λ k. byte_of k ≡ 1 + byte)) there (byte_at byte) in
-    known_spelled (get_or all_kinds byte frame.Hello) (suc byte) body x (is ∙ one_more byte) h e ok
+    let less : byte < 19 = ltb-true byte 19 t in
+    let there = slice_get-get_or all_kinds byte kinds.Create less in
+    let is : command_byte (get_or all_kinds byte kinds.Create) ≡ 2 + byte = subst (λ o. IfSome o (λ k. command_byte k ≡ 2 + byte)) there (byte_at byte) in
+    known_spelled (frame.Of (get_or all_kinds byte kinds.Create)) (2 + byte) body x is h e ok
 byte_spelled byte false body x t h e ok =
-    none_some (item_of (suc byte) body) x (ap (λ o. option_and_then (λ read. read body) o) (find-past (suc byte) (omega (arith, ltb-false byte 20 t)))) e
+    none_some (item_of (2 + byte) body) x (ap (λ o. option_and_then (λ read. read body) o) (find-past (2 + byte) (omega (arith, ltb-false byte 19 t)))) e
+
+two_more : (n : ℕ) → 2 + n ≡ suc (suc n)
+two_more n = omega arith
 
 -- an item has the frame that it is read from, unless it is BadId
 pub IsSpelled-item_of : (byte : ℕ) (body : List ℕ) (x : Item) → AreBytes body → item_of byte body ≡ Some x → is_bad_id x ≡ false
     → IsSpelled byte body x
 IsSpelled-item_of zero body x h e ok = none_some (item_of 0 body) x refl e
-IsSpelled-item_of (suc byte) body x h e ok = byte_spelled byte (nat_lt byte 20) body x refl h e ok
+IsSpelled-item_of (suc zero) body x h e ok = known_spelled frame.Hello 1 body x refl h e ok
+IsSpelled-item_of (suc (suc byte)) body x h e ok =
+    subst (λ b. item_of b body ≡ Some x → IsSpelled b body x) (two_more byte) (λ read. byte_spelled byte (nat_lt byte 19) body x refl h read ok) e

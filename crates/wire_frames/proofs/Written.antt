@@ -19,7 +19,6 @@ use Rattle.obj_id.specs.declared.commands.Command.TheVariants as command
 use Rattle.wire_frames.specs.Items.{HasFrame, IsAwaited, IsCommandBytes}
 use Rattle.wire_frames.specs.Heads.{after_items}
 use Rattle.wire_frames.specs.declared.kinds.FrameKind.TheVariants as frame
-use Rattle.wire_frames.specs.declared.kinds.ObjectKind.TheVariants as object
 use Rattle.wire_frames.proofs.KindTables.{item_of-byte_of}
 use Rattle.std.proofs.lemmas.Bool.{and_parts, le-leb, leb-true}
 use Rattle.wire_frames.proofs.Streams.{stream_of-head}
@@ -27,7 +26,8 @@ use Rattle.obj_id.specs.declared.works.JobKey.{JobKey}
 use Rattle.private_store.specs.declared.frames.Awaited.{Awaited}
 use Rattle.private_store.specs.declared.frames.Awaited.TheVariants as awaited
 use Rattle.wire_frames.specs.Kinds.{fits_kind, read_about, said}
-use Rattle.wire_frames.specs.declared.kinds.ObjectKind.{ObjectKind}
+use Rattle.command_kinds.specs.declared.command_kind.CommandKind.{CommandKind}
+use Rattle.command_kinds.specs.declared.command_kind.CommandKind.TheVariants as kinds
 
 -- ---- parts of bytes
 
@@ -74,7 +74,7 @@ is_id-IsId id is = rw (positive id.job.0 is.job_positive, positive id.index is.i
 
 -- ---- bodies that begin with an id
 
-read_about-written : (kind : ObjectKind) (id : ObjectId) (rest : List ℕ) → IsId id → fits_kind kind (id_bytes id ++ rest) ≡ true
+read_about-written : (kind : CommandKind) (id : ObjectId) (rest : List ℕ) → IsId id → fits_kind kind (id_bytes id ++ rest) ≡ true
     → read_about kind (id_bytes id ++ rest) ≡ Some (said kind id (id_bytes id ++ rest))
 read_about-written kind id rest is fit =
     let body = id_bytes id ++ rest in
@@ -87,7 +87,7 @@ is_of_length : (bytes : List ℕ) (n : ℕ) → length bytes ≡ n → (length b
 is_of_length bytes n e = grind (arith, nat_tests)
 
 -- an id alone
-alone : (kind : ObjectKind) (id : ObjectId) → IsId id → fits_kind kind (id_bytes id) ≡ true → read_about kind (id_bytes id) ≡ Some (said kind id (id_bytes id))
+alone : (kind : CommandKind) (id : ObjectId) → IsId id → fits_kind kind (id_bytes id) ≡ true → read_about kind (id_bytes id) ≡ Some (said kind id (id_bytes id))
 alone kind id is fit =
     let nil = append-nil (id_bytes id) in
     subst (λ b. read_about kind b ≡ Some (said kind id b)) nil (read_about-written kind id [] is (ap (fits_kind kind) nil ∙ fit))
@@ -122,7 +122,7 @@ front_of_two id offset is = omega (arith, length-id_bytes id is, length-append (
 first_of_two : (id : ObjectId) (offset : ℕ) (rest : List ℕ) → IsId id → offset < 2 ^ 32 → number_at (two id offset rest) 28 ≡ offset
 first_of_two id offset rest is small = subst (λ b. number_at b 28 ≡ offset) (two_parts id offset rest) (number_after id offset rest is small)
 
-read_about-two : (kind : ObjectKind) (id : ObjectId) (offset : ℕ) (rest : List ℕ) → IsId id → fits_kind kind (two id offset rest) ≡ true
+read_about-two : (kind : CommandKind) (id : ObjectId) (offset : ℕ) (rest : List ℕ) → IsId id → fits_kind kind (two id offset rest) ≡ true
     → read_about kind (two id offset rest) ≡ Some (said kind id (two id offset rest))
 read_about-two kind id offset rest is fit =
     let parts = two_parts id offset rest in
@@ -172,47 +172,47 @@ kind_read id kind n is = ap kind_of (kind_after id kind n is) ∙ kind_of-kind_b
 -- the body of a command is read as that command
 pub item_of-command_body : (c : Command (List ℕ)) → IsCommandBytes c → item_of (slice_index (command_body c) 0) (drop 1 (command_body c)) ≡ Some (item.Command c)
 item_of-command_body (command.Create id kind n) is =
-    item_of-byte_of (frame.About object.Create) (create_body id kind n)
-    ∙ read_about-written object.Create id (kind_byte kind ∷ be4 n) is.0 (create_fits id kind n is.0)
+    item_of-byte_of (frame.Of kinds.Create) (create_body id kind n)
+    ∙ read_about-written kinds.Create id (kind_byte kind ∷ be4 n) is.0 (create_fits id kind n is.0)
     ∙ (λ i. Some (item.Command (command.Create id (kind_read id kind n is.0 i) (length_after id kind n is.0 is.1 i))))
 item_of-command_body (command.Write id offset bytes) is =
-    read_about-two object.Write id offset bytes is.0 (write_fits id offset bytes is.0)
+    read_about-two kinds.Write id offset bytes is.0 (write_fits id offset bytes is.0)
     ∙ (λ i. Some (item.Command (command.Write id (first_of_two id offset bytes is.0 is.1 i) (bytes_after id offset bytes is.0 i))))
-item_of-command_body (command.Seal id) is = alone object.Seal id is (alone_fits id is)
-item_of-command_body (command.Get id) is = alone object.Get id is (alone_fits id is)
+item_of-command_body (command.Seal id) is = alone kinds.Seal id is (alone_fits id is)
+item_of-command_body (command.Get id) is = alone kinds.Get id is (alone_fits id is)
 item_of-command_body (command.Read id offset n) is =
-    read_about-two object.Read id offset (be4 n) is.0 (range_fits id offset n is.0)
+    read_about-two kinds.Read id offset (be4 n) is.0 (range_fits id offset n is.0)
     ∙ (λ i. Some (item.Command (command.Read id (first_of_two id offset (be4 n) is.0 is.1 i) (second_of_two id offset n is.0 is.2 i))))
-item_of-command_body (command.Release id) is = alone object.Release id is (alone_fits id is)
+item_of-command_body (command.Release id) is = alone kinds.Release id is (alone_fits id is)
 item_of-command_body (command.Unpin id task) is =
-    read_about-written object.Unpin id task.0 is.0 (task_fits id task is.0 is.1) ∙ ap (λ t. Some (item.Command (command.Unpin id t))) (task_after id task is.0 is.1)
+    read_about-written kinds.Unpin id task.0 is.0 (task_fits id task is.0 is.1) ∙ ap (λ t. Some (item.Command (command.Unpin id t))) (task_after id task is.0 is.1)
 item_of-command_body (command.Borrow id task) is =
-    read_about-written object.Borrow id task.0 is.0 (task_fits id task is.0 is.1) ∙ ap (λ t. Some (item.Command (command.Borrow id t))) (task_after id task is.0 is.1)
+    read_about-written kinds.Borrow id task.0 is.0 (task_fits id task is.0 is.1) ∙ ap (λ t. Some (item.Command (command.Borrow id t))) (task_after id task is.0 is.1)
 item_of-command_body (command.GiveUp id task) is =
-    read_about-written object.GiveUp id task.0 is.0 (task_fits id task is.0 is.1) ∙ ap (λ t. Some (item.Command (command.GiveUp id t))) (task_after id task is.0 is.1)
-item_of-command_body (command.Delete id) is = alone object.Delete id is (alone_fits id is)
+    read_about-written kinds.GiveUp id task.0 is.0 (task_fits id task is.0 is.1) ∙ ap (λ t. Some (item.Command (command.GiveUp id t))) (task_after id task is.0 is.1)
+item_of-command_body (command.Delete id) is = alone kinds.Delete id is (alone_fits id is)
 item_of-command_body (command.EndTask task) is =
     let body : task_at task.0 0 ≡ task = ap (λ b. task_at b 0) (sym (append-nil task.0)) ∙ task_back [] task [] 0 refl is in
     ap (λ b. if b then Some (item.Command (command.EndTask (task_at task.0 0))) else None) (is_of_length task.0 20 is.task_length)
     ∙ ap (λ t. Some (item.Command (command.EndTask t))) body
 item_of-command_body (command.Grant id target) is =
-    read_about-written object.Grant id (be4 target.0) is.0 (number_fits id target.0 is.0)
+    read_about-written kinds.Grant id (be4 target.0) is.0 (number_fits id target.0 is.0)
     ∙ ap (λ n. Some (item.Command (command.Grant id (record { 0 = n })))) (number_after id target.0 [] is.0 is.1)
 item_of-command_body (command.Withdraw id target) is =
-    read_about-written object.Withdraw id (be4 target.0) is.0 (number_fits id target.0 is.0)
+    read_about-written kinds.Withdraw id (be4 target.0) is.0 (number_fits id target.0 is.0)
     ∙ ap (λ n. Some (item.Command (command.Withdraw id (record { 0 = n })))) (number_after id target.0 [] is.0 is.1)
 item_of-command_body (command.Peek id offset n) is =
-    read_about-two object.Peek id offset (be4 n) is.0 (range_fits id offset n is.0)
+    read_about-two kinds.Peek id offset (be4 n) is.0 (range_fits id offset n is.0)
     ∙ (λ i. Some (item.Command (command.Peek id (first_of_two id offset (be4 n) is.0 is.1 i) (second_of_two id offset n is.0 is.2 i))))
 item_of-command_body command.List is = refl
 item_of-command_body command.Usage is = refl
 item_of-command_body command.Leave is = refl
 
 item_of-awaited_body : (c : Awaited) → IsAwaited c → item_of (slice_index (awaited_body c) 0) (drop 1 (awaited_body c)) ≡ Some (item.Wait c)
-item_of-awaited_body (awaited.Get id) is = alone object.GetWait id is (alone_fits id is)
+item_of-awaited_body (awaited.Get id) is = alone kinds.GetWait id is (alone_fits id is)
 item_of-awaited_body (awaited.Create id kind n) is =
-    item_of-byte_of (frame.About object.CreateWait) (create_body id kind n)
-    ∙ read_about-written object.CreateWait id (kind_byte kind ∷ be4 n) is.0 (create_fits id kind n is.0)
+    item_of-byte_of (frame.Of kinds.CreateWait) (create_body id kind n)
+    ∙ read_about-written kinds.CreateWait id (kind_byte kind ∷ be4 n) is.0 (create_fits id kind n is.0)
     ∙ (λ i. Some (item.Wait (awaited.Create id (kind_read id kind n is.0 i) (length_after id kind n is.0 is.1 i))))
 
 item_of-hello : (job : JobNo) (key : JobKey) → job.0 < 2 ^ 32 → length key.0 ≡ 32 → item_of 0x01 (be4 job.0 ++ key.0) ≡ Some (item.Hello job key)

@@ -1,11 +1,12 @@
 //! What the bodies of frames say.
 ghost use Rattle.std.specs.Prelude.{◌≡◌, ◌+◌, ◌≤◌, Some, None, IsTrue, if◌then◌else◌, IfOk, IfSome, length, slice_index};
 ghost use Rattle.private_store.specs.rules.Frames.{empty_body as bare_lem, hello as hello_lem, id_at as id_at_lem, is_id, kind_of, number_at as number_at_lem, task_at as task_at_lem};
-ghost use Rattle.wire_frames.specs.Kinds.{end_task_item as end_task_lem, fits_kind as fits_lem, read_about, read_of, said as said_lem};
+ghost use Rattle.wire_frames.specs.Kinds.{end_task_item as end_task_lem, fits_kind as fits_lem, read_about, read_command as read_command_lem, read_of, said as said_lem};
 ghost use Rattle.wire_frames.specs.Filled.{HasPayload, filled_item, option_filled};
 
-use crate::kinds::{FrameKind, ObjectKind};
+use crate::kinds::FrameKind;
 use bytes::Bytes;
+use command_kinds::CommandKind;
 use memory_growth::{OutOfMemory, shared};
 use obj_id::{Command, JobKey, JobNo, Kind, ObjectId, TaskNo};
 use private_store::{Awaited, Item};
@@ -65,13 +66,37 @@ pub(crate) fn read_body(kind: FrameKind, body: &[u8]) -> Option<FrameBody>
     ensures reads { option_filled result body.now ≡ read_of kind body.now }
     ensures payload { IfSome result (λ said. HasPayload said body.now) }
 {
+    match kind {
+        FrameKind::Hello => Some(FrameBody::Item(hello(body)?)),
+        FrameKind::Of(kind) => read_command(kind, body),
+    }
+}
+
+/// The same of a kind of command.
+fn read_command(kind: CommandKind, body: &[u8]) -> Option<FrameBody>
+    ensures reads { option_filled result body.now ≡ read_command_lem kind body.now }
+    ensures payload { IfSome result (λ said. HasPayload said body.now) }
+{
     let item = match kind {
-        FrameKind::Hello => hello(body),
-        FrameKind::EndTask => end_task(body),
-        FrameKind::List => empty_body(Command::List, body),
-        FrameKind::Usage => empty_body(Command::Usage, body),
-        FrameKind::Leave => empty_body(Command::Leave, body),
-        FrameKind::About(kind) => return about(kind, body),
+        CommandKind::EndTask => end_task(body),
+        CommandKind::List => empty_body(Command::List, body),
+        CommandKind::Usage => empty_body(Command::Usage, body),
+        CommandKind::Leave => empty_body(Command::Leave, body),
+        CommandKind::Create
+        | CommandKind::Write
+        | CommandKind::Seal
+        | CommandKind::Get
+        | CommandKind::Read
+        | CommandKind::Release
+        | CommandKind::Unpin
+        | CommandKind::Borrow
+        | CommandKind::GiveUp
+        | CommandKind::Delete
+        | CommandKind::Grant
+        | CommandKind::Withdraw
+        | CommandKind::Peek
+        | CommandKind::GetWait
+        | CommandKind::CreateWait => return about(kind, body),
     };
     Some(FrameBody::Item(item?))
 }
@@ -110,7 +135,7 @@ fn empty_body(command: Command<Bytes>, body: &[u8]) -> Option<Item>
 }
 
 /// An object's id, and what its kind has after it.
-fn about(kind: ObjectKind, body: &[u8]) -> Option<FrameBody>
+fn about(kind: CommandKind, body: &[u8]) -> Option<FrameBody>
     ensures reads { option_filled result body.now ≡ read_about kind body.now }
     ensures payload { IfSome result (λ said. HasPayload said body.now) }
 {
@@ -123,32 +148,34 @@ fn about(kind: ObjectKind, body: &[u8]) -> Option<FrameBody>
     }
 }
 
-/// Whether a body has the form of its kind: the right length, and a copy kind that there is.
-fn fits(kind: ObjectKind, body: &[u8]) -> bool
+/// Whether a body begins with an object's id and has the form of its kind: the right length, and a copy kind that there is.
+fn fits(kind: CommandKind, body: &[u8]) -> bool
     ensures { result ≡ fits_lem kind body.now }
 {
     match kind {
-        ObjectKind::Create | ObjectKind::CreateWait => body.len() == 33 && body[28] <= 1,
-        ObjectKind::Write => body.len() >= 32,
-        ObjectKind::Seal
-        | ObjectKind::Get
-        | ObjectKind::Release
-        | ObjectKind::Delete
-        | ObjectKind::GetWait => body.len() == 28,
-        ObjectKind::Grant | ObjectKind::Withdraw => body.len() == 32,
-        ObjectKind::Read | ObjectKind::Peek => body.len() == 36,
-        ObjectKind::Unpin | ObjectKind::Borrow | ObjectKind::GiveUp => body.len() == 48,
+        CommandKind::Create | CommandKind::CreateWait => body.len() == 33 && body[28] <= 1,
+        CommandKind::Write => body.len() >= 32,
+        CommandKind::Seal
+        | CommandKind::Get
+        | CommandKind::Release
+        | CommandKind::Delete
+        | CommandKind::GetWait => body.len() == 28,
+        CommandKind::Grant | CommandKind::Withdraw => body.len() == 32,
+        CommandKind::Read | CommandKind::Peek => body.len() == 36,
+        CommandKind::Unpin | CommandKind::Borrow | CommandKind::GiveUp => body.len() == 48,
+        // they name no object
+        CommandKind::EndTask | CommandKind::List | CommandKind::Usage | CommandKind::Leave => false,
     }
 }
 
 /// What a body that has the form of its kind says of its object.
-fn about_object(kind: ObjectKind, id: ObjectId, body: &[u8]) -> FrameBody
+fn about_object(kind: CommandKind, id: ObjectId, body: &[u8]) -> FrameBody
     requires { IsTrue (fits_lem kind body.now) }
     ensures reads { filled_item result body.now ≡ said_lem kind id body.now }
     ensures payload { HasPayload result body.now }
 {
     match kind {
-        ObjectKind::Create => {
+        CommandKind::Create => {
             let kind = kind_at(body);
             FrameBody::Item(Item::Command(Command::Create {
                 id,
@@ -156,10 +183,10 @@ fn about_object(kind: ObjectKind, id: ObjectId, body: &[u8]) -> FrameBody
                 length: number_at(body, 29),
             }))
         }
-        ObjectKind::Write => FrameBody::Write(id, number_at(body, 28)),
-        ObjectKind::Seal => FrameBody::Item(Item::Command(Command::Seal(id))),
-        ObjectKind::Get => FrameBody::Item(Item::Command(Command::Get(id))),
-        ObjectKind::Read => {
+        CommandKind::Write => FrameBody::Write(id, number_at(body, 28)),
+        CommandKind::Seal => FrameBody::Item(Item::Command(Command::Seal(id))),
+        CommandKind::Get => FrameBody::Item(Item::Command(Command::Get(id))),
+        CommandKind::Read => {
             let offset = number_at(body, 28);
             FrameBody::Item(Item::Command(Command::Read {
                 id,
@@ -167,23 +194,23 @@ fn about_object(kind: ObjectKind, id: ObjectId, body: &[u8]) -> FrameBody
                 count: number_at(body, 32),
             }))
         }
-        ObjectKind::Release => FrameBody::Item(Item::Command(Command::Release(id))),
-        ObjectKind::Unpin => FrameBody::Item(Item::Command(Command::Unpin(id, task_at(body, 28)))),
-        ObjectKind::Borrow => FrameBody::Item(Item::Command(Command::Borrow(
+        CommandKind::Release => FrameBody::Item(Item::Command(Command::Release(id))),
+        CommandKind::Unpin => FrameBody::Item(Item::Command(Command::Unpin(id, task_at(body, 28)))),
+        CommandKind::Borrow => FrameBody::Item(Item::Command(Command::Borrow(
             id,
             task_at(body, 28),
         ))),
-        ObjectKind::GiveUp => FrameBody::Item(Item::Command(Command::GiveUp(
+        CommandKind::GiveUp => FrameBody::Item(Item::Command(Command::GiveUp(
             id,
             task_at(body, 28),
         ))),
-        ObjectKind::Delete => FrameBody::Item(Item::Command(Command::Delete(id))),
-        ObjectKind::Grant => FrameBody::Item(Item::Command(Command::Grant(id, target_at(body)))),
-        ObjectKind::Withdraw => FrameBody::Item(Item::Command(Command::Withdraw(
+        CommandKind::Delete => FrameBody::Item(Item::Command(Command::Delete(id))),
+        CommandKind::Grant => FrameBody::Item(Item::Command(Command::Grant(id, target_at(body)))),
+        CommandKind::Withdraw => FrameBody::Item(Item::Command(Command::Withdraw(
             id,
             target_at(body),
         ))),
-        ObjectKind::Peek => {
+        CommandKind::Peek => {
             let offset = number_at(body, 28);
             FrameBody::Item(Item::Command(Command::Peek {
                 id,
@@ -191,14 +218,17 @@ fn about_object(kind: ObjectKind, id: ObjectId, body: &[u8]) -> FrameBody
                 count: number_at(body, 32),
             }))
         }
-        ObjectKind::GetWait => FrameBody::Item(Item::Wait(Awaited::Get(id))),
-        ObjectKind::CreateWait => {
+        CommandKind::GetWait => FrameBody::Item(Item::Wait(Awaited::Get(id))),
+        CommandKind::CreateWait => {
             let kind = kind_at(body);
             FrameBody::Item(Item::Wait(Awaited::Create {
                 id,
                 kind,
                 length: number_at(body, 29),
             }))
+        }
+        CommandKind::EndTask | CommandKind::List | CommandKind::Usage | CommandKind::Leave => {
+            unreachable!()
         }
     }
 }

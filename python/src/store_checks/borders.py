@@ -29,6 +29,8 @@ FACTS, LAWS, IDS = "store_facts", "store_laws", "obj_id"
 DOORS = {"ForCallers", "Crossing"}
 # of one line, as rt fmt leaves it
 IMPORT = re.compile(r"^\s*(?P<passes>pub )?(?:ghost )?use Rattle\.(?P<crate>\w+)\.proofs\.(?P<module>[\w+.]*[\w+])(?:\.\{(?P<names>[^}]*)\})?")
+# what the tactic of a function is told to use
+USED = re.compile(r"\b(\w+)::proofs::(\w+)::([\w'-]+)")
 NAMED = re.compile(rf"\bRattle\.({FACTS}|{LAWS})\.|\b({FACTS}|{LAWS})::")
 CITED = re.compile(r"\bRattle\.(\w+)\.proofs\b")
 # what isn't followed by a crate and a file of its specs or proofs
@@ -89,12 +91,15 @@ def code_of(line: str) -> str:
 
 
 def cites(path: pathlib.Path, text: str, crates: Set[str]) -> Iterator[Cite]:
-    """The imports of proofs of crates of this repository."""
+    """The imports of proofs of crates of this repository, and what tactics are told to use of them."""
     for number, line in enumerate(text.splitlines(), 1):
         found = IMPORT.match(line) if ".proofs" in line else None
         if found and found["crate"] in crates:
             names = tuple(name.split(" as ")[0].strip() for name in (found["names"] or "").split(",") if name.strip())
             yield Cite(path, number, bool(found["passes"]), found["crate"], found["module"], names)
+        for crate, module, name in USED.findall(line) if "using(" in line else ():
+            if crate in crates:
+                yield Cite(path, number, False, crate, module, (name,))
 
 
 def is_door(cite: Cite) -> bool:

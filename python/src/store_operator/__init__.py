@@ -1,3 +1,3 @@
 """What `store-daemon` and `storectl` are made of: a supervisor of `store serve`, and the orders that it takes."""
 
-__version__ = "0.6.1"
+__version__ = "0.6.2"

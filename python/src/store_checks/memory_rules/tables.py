@@ -63,10 +63,14 @@ OURS: Dict[str, Dict[str, str]] = {
         "u8x16::from_slice": "the lanes of a vector",
     },
     "job_row/src/row.rt": {
-        "self.copies.insert": "the copies of a job",
-        "self.put_bytes": "bytes into a window",
-        "self.window.replace": "a window",
         "self.window.resize": "a window",
+    },
+    "job_row/src/row_bytes.rt": {
+        "self.put_bytes": "bytes into a window",
+    },
+    "job_row/src/row_steps.rt": {
+        "self.copies.insert": "the copies of a job",
+        "self.window.replace": "a window",
     },
     "job_tests/src/windows.rt": {
         "window.resize": "a window",
@@ -119,6 +123,7 @@ OURS: Dict[str, Dict[str, str]] = {
         "notes.into_vec": "a list of items",
     },
     "cluster_threads/src/cluster.rt": {
+        "all.push": "a list of nodes",
         "pause.clone": "what pauses a test: its error is the system's",
     },
     "session_threads/src/listening.rt": {
@@ -167,9 +172,6 @@ OURS: Dict[str, Dict[str, str]] = {
     },
     "world_core/src/runs.rt": {
         "trace.push": "a trace",
-    },
-    "store_server/src/serving.rt": {
-        "nodes.push": "a list of nodes",
     },
 }
 

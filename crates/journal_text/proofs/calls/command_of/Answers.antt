@@ -1,5 +1,8 @@
-use Rattle.journal_text.proofs.PlainCommands.{Reads-command_of_fields}
+use Rattle.journal_text.proofs.PlainCommands.{Reads-command_of_fields, Reads-command_of_fields-copy}
 use Rattle.journal_text.proofs.calls.command_of.Goals as goal
 
+pub returns-in-Copy : goal.returns-in-Copy
+returns-in-Copy c = Reads-command_of_fields-copy _ c.args.word _ _ c.in-Copy.is c.command_without_payload.ensures
+
 pub returns-in_default : goal.returns-in_default
-returns-in_default c = Reads-command_of_fields _ c.args.word _ _ c.in_default.not-Write c.command_without_payload.ensures
+returns-in_default c = Reads-command_of_fields _ c.args.word _ _ _ c.in-Of.is c.in_default.not-Write c.command_without_payload-in_default.ensures

@@ -47,23 +47,23 @@ returns-in-Get-clause-line c =
     let mine = ap (is_own c.args.job.0) (sym c.in-Get.is) ∙ sym c.is_own.ensures ∙ c.if-not-is_own.false in
     subst (λ j. OnOk c.get.result (HasAsked c.args.works.now j c.get.new.works)) (λ i. record { 0 = eqb-true c.in-Get.id.job.0 c.args.job.0 mine i }) c.get.ensures.line
 
-pub returns-in-Write-clause-ok : goal.returns-in-Write-clause-ok
-returns-in-Write-clause-ok c =
+pub returns-then-is_plain-clause-ok : goal.returns-then-is_plain-clause-ok
+returns-then-is_plain-clause-ok c =
     if_ok c.carry_out_without_work.result c.carry_out_without_work.ensures.ok (λ o response. response c.args.job.0 (sym c.is_own.ensures ∙ c.if-not-is_own.false))
 
-pub returns-in-Write-clause-line : goal.returns-in-Write-clause-line
-returns-in-Write-clause-line c = always_ok c.carry_out_without_work.result (asked_nothing c.args.works.now c.args.job)
+pub returns-then-is_plain-clause-line : goal.returns-then-is_plain-clause-line
+returns-then-is_plain-clause-line c = always_ok c.carry_out_without_work.result (asked_nothing c.args.works.now c.args.job)
 
-pub returns-in-Write-clause-others : goal.returns-in-Write-clause-others
-returns-in-Write-clause-others c other differ = record { works = refl; used = refl }
+pub returns-then-is_plain-clause-others : goal.returns-then-is_plain-clause-others
+returns-then-is_plain-clause-others c other differ = record { works = refl; used = refl }
 
-pub returns-in-Write-clause-memory_last : goal.returns-in-Write-clause-memory_last
-returns-in-Write-clause-memory_last c =
+pub returns-then-is_plain-clause-memory_last : goal.returns-then-is_plain-clause-memory_last
+returns-then-is_plain-clause-memory_last c =
     both_err c.carry_out_without_work.result c.carry_out_without_work.ensures.memory_last c.carry_out_without_work.ensures.memory_last
     (λ late again. record { own = sym c.is_own.ensures ∙ c.if-not-is_own.false; passed = late.passed; grows = late.grows })
 
-pub returns-in-Write-clause-without_memory : goal.returns-in-Write-clause-without_memory
-returns-in-Write-clause-without_memory c frugal =
+pub returns-then-is_plain-clause-without_memory : goal.returns-then-is_plain-clause-without_memory
+returns-then-is_plain-clause-without_memory c frugal =
     no_err c.carry_out_without_work.result c.carry_out_without_work.ensures.memory_last (λ late. true_false (sym late.grows ∙ frugal))
 
 pub returns-in-Create-clause-memory_last : goal.returns-in-Create-clause-memory_last
@@ -86,7 +86,7 @@ returns-in-Get-clause-room c = each_err c.get.result (λ due own.
     let mine = ap (λ n. c.in-Get.id.job.0 == n) own ∙ ap (is_own c.args.job.0) (sym c.in-Get.is) ∙ sym c.is_own.ensures ∙ c.if-not-is_own.false in
     subst (IsRoomDue c.args.node c.args.row.now c.args.works.now) (sym c.in-Get.is) (due mine)) c.get.ensures.memory_last
 
-pub returns-in-Write-clause-room : goal.returns-in-Write-clause-room
-returns-in-Write-clause-room c =
-    let plain : is_plain c.args.command.now ≡ true = search rules in
+pub returns-then-is_plain-clause-room : goal.returns-then-is_plain-clause-room
+returns-then-is_plain-clause-room c =
+    let plain : is_plain c.args.command.now ≡ true = sym c.is_plain.ensures ∙ c.if-is_plain.true in
     always_err c.carry_out_without_work.result (λ own. plain_waits_not c.args.node c.args.row.now c.args.works.now c.args.command.now plain)

@@ -7,7 +7,7 @@ use Rattle.obj_id.specs.declared.commands.Reply.TheVariants as reply
 use Rattle.private_store.specs.declared.inputs.Input.TheVariants as input
 use Rattle.private_store.specs.rules.Private.{to_directory}
 use Rattle.private_store.specs.rules.Tables.{at}
-use Rattle.job_row.specs.Arriving.{asks}
+use Rattle.row_copy.specs.Arriving.{asks}
 use Rattle.node_table.specs.Shown.{RowStep}
 use Rattle.node_table.proofs.Unfetching.{not_asked, not_here_at}
 use Rattle.node_table.proofs.arrivals.not_here.Goals as goal

@@ -9,7 +9,7 @@ use Rattle.private_store.specs.rules.Shape.{sized}
 use Rattle.private_store.specs.rules.Tables.{at}
 use Rattle.job_row.specs.Checks.{can_pull_at, visible_state}
 use Rattle.job_row.specs.Evicting.{IsPlacement, MayGo}
-use Rattle.job_row.specs.CopyViews.{waits_for_place}
+use Rattle.row_copy.specs.CopyViews.{waits_for_place}
 use Rattle.node_table.specs.MadeRooms.{IsRoomMade, IsPlannedFor, TellsRoom, WaitsForPlace, tells_refusal}
 use Rattle.node_table.specs.Outcomes.{row_given_of}
 use Rattle.node_table.specs.RoomPlans.{MakesPlace}

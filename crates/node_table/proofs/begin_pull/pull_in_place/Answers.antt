@@ -13,7 +13,7 @@ use Rattle.private_store.specs.rules.Room.{make_room}
 use Rattle.private_store.specs.rules.Shape.{sized}
 use Rattle.store_facts.proofs.Tests.{some_value}
 use Rattle.job_row.specs.Evicting.{IsReplaced, placed_without, replaced, removals}
-use Rattle.job_row.specs.CopyViews.{CopyView, after_pull}
+use Rattle.row_copy.specs.CopyViews.{CopyView, after_pull}
 use Rattle.node_table.specs.RoomPlans.{MakesPlace}
 use Rattle.node_table.specs.Shown.{RowGiven, RowStep}
 use Rattle.job_row.proofs.ForCallers.{length-removals, waiting}

@@ -5,7 +5,7 @@ use Rattle.private_store.specs.rules.Copies.{extent_of}
 use Rattle.private_store.specs.rules.Tables.{at}
 use Rattle.store_facts.proofs.Tests.{some_value}
 use Rattle.job_region.specs.Region.{region_bytes_at as placed_bytes}
-use Rattle.job_row.specs.CopyViews.{CopyView}
+use Rattle.row_copy.specs.CopyViews.{CopyView}
 use Rattle.node_table.proofs.bytes_commands.sealing.Goals as goal
 
 pub digest-requires : goal.digest-requires

@@ -6,12 +6,13 @@ use Rattle.obj_id.specs.declared.messages.PeerMessage.TheVariants as peer
 use Rattle.private_store.specs.declared.inputs.Input.TheVariants as input
 use Rattle.private_store.specs.rules.Tables.{at}
 use Rattle.store_facts.proofs.Tests.{not_true}
-use Rattle.job_row.specs.Arriving.{fills, lacks_only, after_chunk, row_written}
+use Rattle.row_copy.specs.Arriving.{fills, lacks_only, after_chunk}
+use Rattle.job_row.specs.Arriving.{row_written}
 use Rattle.node_table.specs.Shown.{only, RowStep}
 use Rattle.node_table.proofs.Passed.{not_not}
 use Rattle.node_table.proofs.Gaps.{not_filled_is, not_filled, filled_at, e, in_place, small, in_extent, part_is, part_done}
 use Rattle.node_table.proofs.chunks.chunk.Goals as goal
-use Rattle.job_row.specs.CopyViews.{CopyView}
+use Rattle.row_copy.specs.CopyViews.{CopyView}
 use Rattle.job_row.specs.Row.{Row, place_of}
 use Rattle.job_row.proofs.ForCallers.{places_changed}
 

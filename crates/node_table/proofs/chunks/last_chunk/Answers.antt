@@ -6,8 +6,9 @@ use Rattle.obj_id.specs.declared.messages.PeerMessage.TheVariants as peer
 use Rattle.private_store.specs.declared.faults.FetchFault.TheVariants.{Damaged}
 use Rattle.private_store.specs.declared.inputs.Input.TheVariants as input
 use Rattle.private_store.specs.rules.Tables.{at}
-use Rattle.job_row.specs.Arriving.{after_last_chunk, unfetched_row}
-use Rattle.job_row.specs.CopyViews.{CopyView}
+use Rattle.row_copy.specs.Arriving.{after_last_chunk}
+use Rattle.job_row.specs.Arriving.{unfetched_row}
+use Rattle.row_copy.specs.CopyViews.{CopyView}
 use Rattle.job_row.specs.Row.{Row, place_of, ArePlaced}
 use Rattle.job_row.specs.Scope.{with_copy}
 use Rattle.node_table.specs.Shown.{only, RowStep}

@@ -7,7 +7,7 @@ use Rattle.private_store.specs.rules.Copies.{is_sealed}
 use Rattle.private_store.specs.rules.Extents.{rounded}
 use Rattle.private_store.specs.rules.Private.{Post}
 use Rattle.job_row.specs.Evicting.{IsReplaced, replaced, removals}
-use Rattle.job_row.specs.CopyViews.{CopyView, new_copy_view}
+use Rattle.row_copy.specs.CopyViews.{CopyView, new_copy_view}
 use Rattle.node_table.specs.Shown.{RowStep}
 use Rattle.job_row.proofs.ForCallers.{length-removals}
 use Rattle.node_table.proofs.Creating.{absent_of, size_of, unlisted, create_done}

@@ -1,7 +1,7 @@
 use Rattle.std.proofs.Common.{map, ap, ◌∙◌}
 use Rattle.obj_id.specs.declared.commands.OwnItem.{OwnItem}
 use Rattle.job_row.specs.Ending.{keys_backed}
-use Rattle.job_row.specs.Usages.{own_item_of}
+use Rattle.row_copy.specs.Usages.{own_item_of}
 use Rattle.node_table.proofs.LeavingEach.{ids-listed}
 use Rattle.node_table.proofs.ending.device_keys.Goals as goal
 

@@ -6,7 +6,7 @@ use Rattle.obj_id.specs.declared.commands.Reply.TheVariants as reply
 use Rattle.private_store.specs.declared.inputs.Input.TheVariants as input
 use Rattle.private_store.specs.rules.Commands.{refusal_of}
 use Rattle.job_row.specs.Checks.{fault_at}
-use Rattle.job_row.specs.CopyViews.{CopyView}
+use Rattle.row_copy.specs.CopyViews.{CopyView}
 use Rattle.node_table.specs.Shown.{only, RowStep}
 use Rattle.node_table.proofs.Getting.{each_ok, some_at}
 use Rattle.node_table.proofs.Faults.{told_once}

@@ -9,7 +9,7 @@ use Rattle.obj_id.specs.declared.messages.DirectoryMessage.TheVariants.{Locate}
 use Rattle.private_store.specs.rules.Tables.{with_entry}
 use Rattle.private_store.specs.rules.Private.{to_directory}
 use Rattle.lru_evictor.specs.Orders.{last_used}
-use Rattle.job_row.specs.CopyViews.{fetched_copy_view}
+use Rattle.row_copy.specs.CopyViews.{fetched_copy_view}
 use Rattle.job_row.specs.Row.{Row}
 use Rattle.node_table.specs.Shown.{RowStep}
 use Rattle.node_table.proofs.Fetching.{fetch_refused, fetch_done}

@@ -10,8 +10,8 @@ use Rattle.fetch_core.specs.Fetching.{missing_of}
 use Rattle.fetch_core.specs.Stages.{phase_of}
 use Rattle.private_store.specs.rules.Shape.{locating, sized, pulling, failed}
 use Rattle.store_facts.proofs.Tests.{some_value}
-use Rattle.job_row.specs.Checks.{IsInPhase}
-use Rattle.job_row.specs.CopyViews.{CopyView, store_fetch_of}
+use Rattle.row_copy.specs.Checks.{IsInPhase}
+use Rattle.row_copy.specs.CopyViews.{CopyView, store_fetch_of}
 use Rattle.node_table.specs.Shown.{RowStep}
 use Rattle.node_table.proofs.Getting.{each_ok, always_err, seen_at}
 use Rattle.node_table.proofs.MemoryLast.{again_due}

@@ -5,7 +5,7 @@ use Rattle.obj_id.specs.declared.commands.Command.TheVariants as command
 use Rattle.private_store.specs.declared.inputs.Input.TheVariants as input
 use Rattle.private_store.specs.rules.Extents.{is_size}
 use Rattle.job_row.specs.Checks.{can_pull}
-use Rattle.job_row.specs.CopyViews.{CopyView}
+use Rattle.row_copy.specs.CopyViews.{CopyView}
 use Rattle.node_table.specs.Shown.{RowStep}
 use Rattle.node_table.proofs.Getting.{each_ok, some_at}
 use Rattle.node_table.proofs.Fetching.{bad_size}

@@ -4,7 +4,7 @@ use Rattle.obj_id.specs.declared.commands.Reply.TheVariants as reply
 use Rattle.private_store.specs.declared.inputs.Input.TheVariants as input
 use Rattle.private_store.specs.rules.Grants.{is_withdrawn}
 use Rattle.job_row.specs.Dropping.{keys_settled}
-use Rattle.job_row.specs.CopyViews.{with_granted}
+use Rattle.row_copy.specs.CopyViews.{with_granted}
 use Rattle.node_table.specs.Notes.{beside_rest}
 use Rattle.job_row.specs.Scope.{with_copy}
 use Rattle.node_table.specs.Shown.{RowStep}

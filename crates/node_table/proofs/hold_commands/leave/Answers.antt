@@ -6,7 +6,8 @@ use Rattle.private_store.specs.declared.inputs.Input.TheVariants as input
 use Rattle.private_store.specs.rules.Tables.{ids_of}
 use Rattle.job_row.specs.Dropping.{keys_left, left_row}
 use Rattle.node_table.specs.Shown.{only, RowStep}
-use Rattle.job_row.specs.Usages.{own_item_of, total, doomed_one}
+use Rattle.row_copy.specs.Usages.{own_item_of, doomed_one}
+use Rattle.job_row.specs.Usages.{total}
 use Rattle.node_table.proofs.Leaving.{leave_done, none_doomed}
 use Rattle.node_table.proofs.LeavingEach.{ids-listed, each_left}
 use Rattle.node_table.proofs.hold_commands.leave.Goals as goal

@@ -1,5 +1,5 @@
 use Rattle.std.proofs.Common.{ap, ◌∙◌, map}
-use Rattle.job_row.specs.Usages.{own_item_of}
+use Rattle.row_copy.specs.Usages.{own_item_of}
 use Rattle.node_table.proofs.Telling.{list_done}
 use Rattle.node_table.proofs.listing.list.Goals as goal
 

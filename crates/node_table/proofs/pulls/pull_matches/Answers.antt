@@ -3,7 +3,7 @@ use Rattle.std.specs.Option.{option_map_or}
 use Rattle.private_store.specs.rules.Tables.{at}
 use Rattle.node_table.proofs.Serving.{matches_is}
 use Rattle.node_table.proofs.pulls.pull_matches.Goals as goal
-use Rattle.job_row.specs.CopyViews.{was_sealed_with}
+use Rattle.row_copy.specs.CopyViews.{was_sealed_with}
 
 pub returns : goal.returns
 returns c beside contents h =

@@ -13,7 +13,7 @@ use Rattle.private_store.specs.rules.Room.{make_room}
 use Rattle.private_store.specs.rules.Tables.{at}
 use Rattle.spill_work.specs.Line.{in_flight, used_by}
 use Rattle.job_row.specs.Checks.{visible_state, fault_at}
-use Rattle.job_row.specs.CopyViews.{CopyView, waits_for_place}
+use Rattle.row_copy.specs.CopyViews.{CopyView, waits_for_place}
 use Rattle.node_table.specs.Outcomes.{row_given_of}
 use Rattle.node_table.specs.RoomPlans.{MakesPlace, planned_by, makes_place}
 use Rattle.job_row.specs.Row.{Row}

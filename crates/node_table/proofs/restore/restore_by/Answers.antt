@@ -12,7 +12,7 @@ use Rattle.store_facts.proofs.Tests.{some_value}
 use Rattle.spill_work.specs.Line.{in_flight, same_work_job, used_by}
 use Rattle.job_row.specs.Checks.{visible_state, fault_at}
 use Rattle.job_row.specs.Evicting.{IsPlacement, MayGo}
-use Rattle.job_row.specs.CopyViews.{CopyView, waits_for_place}
+use Rattle.row_copy.specs.CopyViews.{CopyView, waits_for_place}
 use Rattle.node_table.specs.MadeRooms.{IsRoomMade, TellsRoom, WaitsForPlace, tells_refusal}
 use Rattle.node_table.specs.Outcomes.{row_given_of}
 use Rattle.node_table.specs.RoomPlans.{MakesPlace}

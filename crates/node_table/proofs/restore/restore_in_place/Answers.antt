@@ -14,7 +14,7 @@ use Rattle.private_store.specs.rules.Room.{make_room}
 use Rattle.store_facts.proofs.Tests.{some_value, true_false}
 use Rattle.spill_work.specs.Line.{AsksWork, used_by}
 use Rattle.job_row.specs.Evicting.{IsReplaced, placed_without, replaced, removals}
-use Rattle.job_row.specs.CopyViews.{CopyView, after_restore_begun}
+use Rattle.row_copy.specs.CopyViews.{CopyView, after_restore_begun}
 use Rattle.node_table.specs.RoomPlans.{MakesPlace}
 use Rattle.node_table.specs.Shown.{RowGiven, RowStep}
 use Rattle.job_row.proofs.ForCallers.{length-removals, waiting}

@@ -2,7 +2,8 @@ use Rattle.std.proofs.Common.{◌+◌, Some, refl, sym, ap, ◌∙◌, arith}
 use Rattle.std.specs.Prelude.{nat_le}
 use Rattle.std.proofs.lemmas.Bool.Decides.{nat_tests}
 use Rattle.private_store.specs.rules.Limits.{most_works, has_numbers}
-use Rattle.job_row.specs.Usages.{total, device_bytes}
+use Rattle.job_row.specs.Usages.{total}
+use Rattle.row_copy.specs.Usages.{device_bytes}
 use Rattle.job_row.specs.InSync.{facts_in}
 use Rattle.store_facts.proofs.Tests.{both}
 use Rattle.job_region.specs.Region.{place_for}

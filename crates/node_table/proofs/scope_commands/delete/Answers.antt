@@ -5,7 +5,7 @@ use Rattle.private_store.specs.declared.inputs.Input.TheVariants as input
 use Rattle.job_row.specs.Checks.{delete_check}
 use Rattle.job_row.specs.Dropping.{keys_settled}
 use Rattle.job_row.specs.Scope.{removal_notice_at, notice_posts, with_copy}
-use Rattle.job_row.specs.CopyViews.{after_doom}
+use Rattle.row_copy.specs.CopyViews.{after_doom}
 use Rattle.node_table.specs.Shown.{RowStep}
 use Rattle.node_table.proofs.Scoping.{delete_refused, delete_done_so}
 use Rattle.node_table.proofs.scope_commands.delete.Goals as goal

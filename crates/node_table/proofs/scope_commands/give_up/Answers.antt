@@ -6,7 +6,7 @@ use Rattle.job_row.specs.Checks.{give_up_check}
 use Rattle.job_row.specs.Dropping.{keys_settled}
 use Rattle.job_row.specs.Scope.{removal_notice_at, notice_posts, with_copy}
 use Rattle.job_row.specs.EndingTasks.{stays_at}
-use Rattle.job_row.specs.CopyViews.{after_give_up}
+use Rattle.row_copy.specs.CopyViews.{after_give_up}
 use Rattle.node_table.specs.Shown.{RowStep}
 use Rattle.node_table.proofs.Scoping.{give_up_refused, give_up_done_so}
 use Rattle.node_table.proofs.scope_commands.give_up.Goals as goal

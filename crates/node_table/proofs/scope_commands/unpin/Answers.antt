@@ -5,7 +5,7 @@ use Rattle.private_store.specs.declared.inputs.Input.TheVariants as input
 use Rattle.job_row.specs.Checks.{unpin_check}
 use Rattle.job_row.specs.Dropping.{keys_settled}
 use Rattle.job_row.specs.Scope.{removal_notice_at, notice_posts, stays_unpinned, with_copy}
-use Rattle.job_row.specs.CopyViews.{after_unpin}
+use Rattle.row_copy.specs.CopyViews.{after_unpin}
 use Rattle.node_table.specs.Shown.{RowStep}
 use Rattle.node_table.proofs.Scoping.{unpin_refused, unpin_done_so}
 use Rattle.node_table.proofs.scope_commands.unpin.Goals as goal

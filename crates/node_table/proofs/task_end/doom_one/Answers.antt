@@ -4,7 +4,7 @@ use Rattle.obj_id.specs.declared.ids.TaskNo.{TaskNo}
 use Rattle.obj_id.specs.Ids.{same_task}
 use Rattle.pins_holds.proofs.ForCallers.{task_eq, task_eq-same}
 use Rattle.job_row.specs.Dropping.{settled_row}
-use Rattle.job_row.specs.CopyViews.{after_doom}
+use Rattle.row_copy.specs.CopyViews.{after_doom}
 use Rattle.job_row.specs.Scope.{removal_notice_at, notice_posts, with_copy}
 use Rattle.job_row.specs.EndingTasks.{is_doomed_at}
 use Rattle.node_table.proofs.task_end.doom_one.Goals as goal

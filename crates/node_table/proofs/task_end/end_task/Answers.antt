@@ -5,7 +5,7 @@ use Rattle.obj_id.specs.declared.commands.Reply.TheVariants as reply
 use Rattle.private_store.specs.declared.inputs.Input.TheVariants as input
 use Rattle.job_row.specs.EndingTasks.{doomed_row, doom_posts, given_up_row, give_up_posts, posts_of_each, keys_of_copies, gone_keys}
 use Rattle.node_table.specs.Shown.{RowStep}
-use Rattle.job_row.specs.Usages.{own_item_of}
+use Rattle.row_copy.specs.Usages.{own_item_of}
 use Rattle.node_table.proofs.EndingTasks.{end_task_refused, end_task_done, given}
 use Rattle.node_table.proofs.LeavingEach.{ids-listed}
 use Rattle.node_table.proofs.task_end.end_task.Goals as goal

@@ -20,7 +20,7 @@ returns-in-Ok-true g c =
     let w = g.O.Write.contents c.loop-number.writer in
     let w1 = g.O.Write.contents c.reply_to.new.writer in
     line_last _ _ _ _ _ _ _ _ _ _ c.loop-number.invariant _ _ c.in-Ok-Some.taken (one_text _ _ _ _ (rw c.in-Ok-Some.field-0-is at c.in-Ok-Some.ensures.taken)) _ w1 c.in-Ok-true.field-0
-    (subst (λ b. (text : List ℕ) → IsAnswerText c.in-Ok-Some.taken b text → Replies (IsAnswer (IsOrderedAt g.K.JournaledNode.receipt_of g.K.JournaledNode.made_at) (AreLiveAt g.K.JournaledNode.node_number g.K.JournaledNode.shows_live) (IsUsageAt g.K.JournaledNode.node_number g.K.JournaledNode.shows_usage) (g.C.Closing.closes c.args.closing.now)) c.args.count (vec_len c.args.nodes.now.nodes) c.loop-number.number text c.loop-number.actor c.reply_to.new.actor w w1 c.in-Ok-true.field-0) c.deref.ensures.value c.in-Ok-true.ensures.ok)
+    (subst (λ b. (text : List ℕ) → IsAnswerText c.in-Ok-Some.taken b text → Replies (IsAnswer (IsOrderedAt g.K.JournaledNode.receipt_of g.K.JournaledNode.made_at) (AreLiveAt g.K.JournaledNode.node_number g.K.JournaledNode.shows_live) (IsUsageAt g.K.JournaledNode.node_number g.K.JournaledNode.shows_usage) (vec_len c.args.nodes.now.nodes)) c.args.count (vec_len c.args.nodes.now.nodes) c.loop-number.number text c.loop-number.actor c.reply_to.new.actor w w1 c.in-Ok-true.field-0) c.deref.ensures.value c.in-Ok-true.ensures.ok)
     c.in-Ok-true.field-0-test
 
 pub loop-number-preserved : goal.loop-number-preserved
@@ -28,4 +28,4 @@ loop-number-preserved g c =
     let w = g.O.Write.contents c.loop-number.writer in
     let w1 = g.O.Write.contents c.reply_to.new.writer in
     line_more _ _ _ _ _ _ _ _ _ _ c.loop-number.invariant _ _ c.in-Ok-Some.taken (one_text _ _ _ _ (rw c.in-Ok-Some.field-0-is at c.in-Ok-Some.ensures.taken)) _ w1 c.in-Ok-false.field-0
-    (subst (λ b. (text : List ℕ) → IsAnswerText c.in-Ok-Some.taken b text → Replies (IsAnswer (IsOrderedAt g.K.JournaledNode.receipt_of g.K.JournaledNode.made_at) (AreLiveAt g.K.JournaledNode.node_number g.K.JournaledNode.shows_live) (IsUsageAt g.K.JournaledNode.node_number g.K.JournaledNode.shows_usage) (g.C.Closing.closes c.args.closing.now)) c.args.count (vec_len c.args.nodes.now.nodes) c.loop-number.number text c.loop-number.actor c.reply_to.new.actor w w1 c.in-Ok-false.field-0) c.deref.ensures.value c.in-Ok-false.ensures.ok)
+    (subst (λ b. (text : List ℕ) → IsAnswerText c.in-Ok-Some.taken b text → Replies (IsAnswer (IsOrderedAt g.K.JournaledNode.receipt_of g.K.JournaledNode.made_at) (AreLiveAt g.K.JournaledNode.node_number g.K.JournaledNode.shows_live) (IsUsageAt g.K.JournaledNode.node_number g.K.JournaledNode.shows_usage) (vec_len c.args.nodes.now.nodes)) c.args.count (vec_len c.args.nodes.now.nodes) c.loop-number.number text c.loop-number.actor c.reply_to.new.actor w w1 c.in-Ok-false.field-0) c.deref.ensures.value c.in-Ok-false.ensures.ok)

@@ -14,4 +14,4 @@ returns-in-Ok-write_out-clause-ok g c = λ text of. record {
 
 pub returns-clause-stopped : goal.returns-clause-stopped
 returns-clause-stopped g c = λ text of.
-    handled_step (IsOrderedAt g.K.JournaledNode.receipt_of g.K.JournaledNode.made_at) (AreLiveAt g.K.JournaledNode.node_number g.K.JournaledNode.shows_live) (IsUsageAt g.K.JournaledNode.node_number g.K.JournaledNode.shows_usage) (g.C.Closing.closes c.args.closing.now) c.args.count (vec_len c.args.nodes.now.nodes) c.args.number text _ _ _ _ (c.in-Ok.ensures.answered text of)
+    handled_step (IsOrderedAt g.K.JournaledNode.receipt_of g.K.JournaledNode.made_at) (AreLiveAt g.K.JournaledNode.node_number g.K.JournaledNode.shows_live) (IsUsageAt g.K.JournaledNode.node_number g.K.JournaledNode.shows_usage) (vec_len c.args.nodes.now.nodes) c.args.count (vec_len c.args.nodes.now.nodes) c.args.number text _ _ _ _ (c.in-Ok.ensures.answered text of)

@@ -1,5 +1,5 @@
 use Rattle.std.proofs.Common.{rules}
-use Rattle.job_row.specs.Marks.{marked_by}
+use Rattle.row_copy.specs.Marks.{marked_by}
 use Rattle.job_row.proofs.copies.Copies.apply.Goals as goal
 
 pub update-requires : goal.update-requires

@@ -1,7 +1,7 @@
 use Rattle.std.proofs.Common.{◌∷◌, ◌+◌, drop, refl, sym, ap, ◌∙◌}
 use Rattle.std.proofs.lemmas.List.{drop_all, drop_more}
 use Rattle.job_row.specs.Entries.{each_changed}
-use Rattle.job_row.specs.CopyViews.{spill_begun_if}
+use Rattle.row_copy.specs.CopyViews.{spill_begun_if}
 use Rattle.job_row.proofs.Removing.{changed-next}
 use Rattle.job_row.proofs.copies.Copies.begin_spills.Goals as goal
 

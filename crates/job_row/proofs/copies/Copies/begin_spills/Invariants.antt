@@ -1,6 +1,6 @@
 use Rattle.std.proofs.Common.{◌≡◌, drop}
 use Rattle.job_row.specs.Entries.{each_changed}
-use Rattle.job_row.specs.CopyViews.{spill_begun_if}
+use Rattle.row_copy.specs.CopyViews.{spill_begun_if}
 use Rattle.job_row.proofs.copies.Copies.begin_spills.Given as goal
 
 -- once those that are left are changed they are what they are to be

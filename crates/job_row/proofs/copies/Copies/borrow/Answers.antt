@@ -4,8 +4,8 @@ use Rattle.obj_id.specs.declared.refusals.Refusal.{Refusal}
 use Rattle.obj_id.specs.declared.refusals.Refusal.TheVariants.{Absent}
 use Rattle.obj_id.specs.declared.ids.TaskNo.{TaskNo}
 use Rattle.obj_id.specs.Ids.{id_eq}
-use Rattle.job_row.specs.Checks.{borrow_check_of}
-use Rattle.job_row.specs.CopyViews.{CopyView, after_borrow}
+use Rattle.row_copy.specs.Checks.{borrow_check_of}
+use Rattle.row_copy.specs.CopyViews.{CopyView, after_borrow}
 use Rattle.job_row.specs.Counted.{footprint_of}
 use Rattle.job_row.proofs.Changes.{unwritten, on_ok, on_err, checked_there, checked_absent, found_rising}
 use Rattle.job_row.proofs.Holding.{standing_after, over_after}
@@ -24,8 +24,8 @@ invariant_of-self-then-doomed c =
 
 pub invariant_of-self-2 : goal.invariant_of-self-2
 invariant_of-self-2 c =
-    taken-same (id_eq c.args.id.now) c.self.inside.by_id.entries _ c.self.inside.taken c.in-Some.copy.now c.borrow.new.self (sym c.get_mut.ensures.value ∙ ap option_copied_mut c.in-Some.is) (c.get_mut.follows.holds c.borrow.new.self).0
-    (taken-either c.borrow.result (after_borrow c.args.task) c.in-Some.copy.now c.borrow.new.self c.borrow.ensures.ok c.borrow.ensures.err refl) c.self.invariant
+    taken-same (id_eq c.args.id.now) c.self.inside.by_id.entries _ c.self.inside.taken c.in-Some.copy.now c.borrow.new.copy (sym c.get_mut.ensures.value ∙ ap option_copied_mut c.in-Some.is) (c.get_mut.follows.holds c.borrow.new.copy).0
+    (taken-either c.borrow.result (after_borrow c.args.task) c.in-Some.copy.now c.borrow.new.copy c.borrow.ensures.ok c.borrow.ensures.err refl) c.self.invariant
 
 pub returns-in_default-clause-refused : goal.returns-in_default-clause-refused
 returns-in_default-clause-refused c r e =
@@ -44,7 +44,7 @@ returns-then-doomed-clause-err c =
 
 pub returns-clause-ok : goal.returns-clause-ok
 returns-clause-ok c =
-    on_ok (after_borrow c.args.task) c.args.id.now c.self.inside.by_id.entries c.args.self.now c.self.view_is c.borrow.result _ c.in-Some.copy.now c.borrow.new.self (sym c.get_mut.ensures.value ∙ ap option_copied_mut c.in-Some.is) c.borrow.ensures.ok (c.get_mut.follows.holds c.borrow.new.self).0
+    on_ok (after_borrow c.args.task) c.args.id.now c.self.inside.by_id.entries c.args.self.now c.self.view_is c.borrow.result _ c.in-Some.copy.now c.borrow.new.copy (sym c.get_mut.ensures.value ∙ ap option_copied_mut c.in-Some.is) c.borrow.ensures.ok (c.get_mut.follows.holds c.borrow.new.copy).0
 
 pub returns-clause-passed : goal.returns-clause-passed
 returns-clause-passed c ok =
@@ -66,7 +66,7 @@ returns-clause-memory c m e =
 
 pub returns-clause-err : goal.returns-clause-err
 returns-clause-err c =
-    on_err (after_borrow c.args.task) c.args.id.now c.self.inside.by_id.entries c.args.self.now c.self.view_is c.borrow.result _ c.in-Some.copy.now c.borrow.new.self (sym c.get_mut.ensures.value ∙ ap option_copied_mut c.in-Some.is) c.borrow.ensures.err (c.get_mut.follows.holds c.borrow.new.self).0
+    on_err (after_borrow c.args.task) c.args.id.now c.self.inside.by_id.entries c.args.self.now c.self.view_is c.borrow.result _ c.in-Some.copy.now c.borrow.new.copy (sym c.get_mut.ensures.value ∙ ap option_copied_mut c.in-Some.is) c.borrow.ensures.err (c.get_mut.follows.holds c.borrow.new.copy).0
 
 pub returns-clause-eviction_info : goal.returns-clause-eviction_info
 returns-clause-eviction_info c =

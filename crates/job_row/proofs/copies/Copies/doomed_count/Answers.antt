@@ -1,5 +1,6 @@
 use Rattle.std.proofs.Common.{arith}
-use Rattle.job_row.specs.Usages.{total, doomed_one}
+use Rattle.job_row.specs.Usages.{total}
+use Rattle.row_copy.specs.Usages.{doomed_one}
 use Rattle.job_row.proofs.Totals.{all_counted, none_counted}
 use Rattle.job_row.proofs.copies.Copies.doomed_count.Goals as goal
 

@@ -1,6 +1,7 @@
 use Rattle.std.proofs.Common.{◌≡◌, ◌+◌, ◌-◌, ◌^◌, ◌≤◌}
 use Rattle.std.specs.Prelude.{min, sum_by}
-use Rattle.job_row.specs.Usages.{total, doomed_one}
+use Rattle.job_row.specs.Usages.{total}
+use Rattle.row_copy.specs.Usages.{doomed_one}
 use Rattle.job_row.proofs.copies.Copies.doomed_count.Given as goal
 
 -- those so far, and those of the copies that are left, are all

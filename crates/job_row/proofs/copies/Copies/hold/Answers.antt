@@ -11,8 +11,8 @@ invariant_of-self c = c.self.invariant ∙ sym (ap (λ m. footprint_of m.entries
 
 pub invariant_of-self-2 : goal.invariant_of-self-2
 invariant_of-self-2 c =
-    taken-same (id_eq c.args.id.now) c.self.inside.by_id.entries _ c.self.inside.taken c.in-Some.copy.now c.hold.new.self (sym c.get_mut.ensures.value ∙ ap option_copied_mut c.in-Some.is) (c.get_mut.follows.holds c.hold.new.self).0
-    (taken-held c.args.session c.in-Some.copy.now c.hold.new.self c.hold.result c.hold.ensures.some c.hold.ensures.none c.hold.ensures.refused) c.self.invariant
+    taken-same (id_eq c.args.id.now) c.self.inside.by_id.entries _ c.self.inside.taken c.in-Some.copy.now c.hold.new.copy (sym c.get_mut.ensures.value ∙ ap option_copied_mut c.in-Some.is) (c.get_mut.follows.holds c.hold.new.copy).0
+    (taken-held c.args.session c.in-Some.copy.now c.hold.new.copy c.hold.result c.hold.ensures.some c.hold.ensures.none c.hold.ensures.refused) c.self.invariant
 
 pub returns-in_default-clause-none : goal.returns-in_default-clause-none
 returns-in_default-clause-none c =
@@ -20,12 +20,12 @@ returns-in_default-clause-none c =
 
 pub returns-clause-some : goal.returns-clause-some
 returns-clause-some c =
-    held_at c.args.session c.args.id.now c.self.inside.by_id.entries c.args.self.now c.self.view_is c.in-Some.copy.now c.hold.new.self (sym c.get_mut.ensures.value ∙ ap option_copied_mut c.in-Some.is) _ (c.get_mut.follows.holds c.hold.new.self).0 c.hold.result c.hold.ensures.some
+    held_at c.args.session c.args.id.now c.self.inside.by_id.entries c.args.self.now c.self.view_is c.in-Some.copy.now c.hold.new.copy (sym c.get_mut.ensures.value ∙ ap option_copied_mut c.in-Some.is) _ (c.get_mut.follows.holds c.hold.new.copy).0 c.hold.result c.hold.ensures.some
 
 pub returns-clause-none : goal.returns-clause-none
 returns-clause-none c =
-    unready_at c.args.session c.args.id.now c.self.inside.by_id.entries c.args.self.now c.self.view_is c.in-Some.copy.now c.hold.new.self (sym c.get_mut.ensures.value ∙ ap option_copied_mut c.in-Some.is) _ (c.get_mut.follows.holds c.hold.new.self).0 c.hold.result c.hold.ensures.none
+    unready_at c.args.session c.args.id.now c.self.inside.by_id.entries c.args.self.now c.self.view_is c.in-Some.copy.now c.hold.new.copy (sym c.get_mut.ensures.value ∙ ap option_copied_mut c.in-Some.is) _ (c.get_mut.follows.holds c.hold.new.copy).0 c.hold.result c.hold.ensures.none
 
 pub returns-clause-refused : goal.returns-clause-refused
 returns-clause-refused c =
-    refused_at c.args.session c.args.id.now c.self.inside.by_id.entries c.args.self.now c.self.view_is c.in-Some.copy.now c.hold.new.self (sym c.get_mut.ensures.value ∙ ap option_copied_mut c.in-Some.is) _ (c.get_mut.follows.holds c.hold.new.self).0 c.hold.result c.hold.ensures.refused
+    refused_at c.args.session c.args.id.now c.self.inside.by_id.entries c.args.self.now c.self.view_is c.in-Some.copy.now c.hold.new.copy (sym c.get_mut.ensures.value ∙ ap option_copied_mut c.in-Some.is) _ (c.get_mut.follows.holds c.hold.new.copy).0 c.hold.result c.hold.ensures.refused

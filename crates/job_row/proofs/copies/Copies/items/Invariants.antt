@@ -1,6 +1,6 @@
 use Rattle.std.proofs.Common.{◌++◌, map}
 use Rattle.std.specs.List.Sorted.{IsPermutation}
-use Rattle.job_row.specs.Usages.{own_item_of}
+use Rattle.row_copy.specs.Usages.{own_item_of}
 use Rattle.job_row.proofs.copies.Copies.items.Given as goal
 
 -- those so far, and those that are left, are all

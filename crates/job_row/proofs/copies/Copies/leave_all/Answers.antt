@@ -1,7 +1,7 @@
 use Rattle.std.proofs.Common.{ap, refl, ◌∙◌, rules}
 use Rattle.std.proofs.lemmas.Map.Made.{map_same_pairs}
 use Rattle.job_row.specs.Entries.{by_rising_id, all_changed}
-use Rattle.job_row.specs.CopyViews.{after_leave}
+use Rattle.row_copy.specs.CopyViews.{after_leave}
 use Rattle.job_row.proofs.Rising.{changed-rising}
 use Rattle.job_row.proofs.Sums.{taken-each}
 use Rattle.job_row.proofs.copies.Copies.leave_all.Goals as goal

@@ -6,9 +6,9 @@ use Rattle.indexmap.proofs.MapLemmas.{Missing-position}
 use Rattle.obj_id.specs.Ids.{id_eq}
 use Rattle.store_facts.proofs.Tests.{not_true, passed}
 use Rattle.private_store.specs.rules.Tables.{at, without_entry}
-use Rattle.job_row.specs.Dropping.{is_over}
+use Rattle.row_copy.specs.Keeping.{is_over}
 use Rattle.job_row.specs.Entries.{by_rising_id}
-use Rattle.job_row.specs.Marks.{marked_by}
+use Rattle.row_copy.specs.Marks.{marked_by}
 use Rattle.job_row.proofs.Changes.{checked_absent, found_rising}
 use Rattle.job_row.proofs.Indexed.{IsHere, here, here_still, some_there, own_value, swap-there, removed-rising, set-there}
 use Rattle.job_row.proofs.Settling.{settled_absent, over_absent, info_absent, settled_stays, over_stays, info_stays, settled_goes, over_goes, info_goes}

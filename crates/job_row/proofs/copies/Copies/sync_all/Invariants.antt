@@ -3,7 +3,7 @@ use Rattle.std.specs.Map.{keys_of}
 use Rattle.private_store.specs.rules.Tables.{ById}
 use Rattle.lru_evictor.specs.Orders.{order_ids, AllPass}
 use Rattle.job_row.specs.InSync.{InSync, NoneIsGone, KeepPlaces}
-use Rattle.job_row.specs.CopyViews.{CopyView}
+use Rattle.row_copy.specs.CopyViews.{CopyView}
 use Rattle.job_row.proofs.FollowsCopies.{is_waiting}
 use Rattle.job_row.proofs.copies.Copies.sync_all.Given as goal
 

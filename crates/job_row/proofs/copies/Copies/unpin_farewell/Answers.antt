@@ -7,8 +7,8 @@ use Rattle.obj_id.specs.Ids.{same_task}
 use Rattle.pins_holds.proofs.ForCallers.{task_eq, task_eq-same}
 use Rattle.private_store.specs.rules.Commands.{unpin_checks}
 use Rattle.private_store.specs.rules.Shared.{first_refusal}
-use Rattle.job_row.specs.Checks.{unless_doomed}
-use Rattle.job_row.specs.CopyViews.{CopyView}
+use Rattle.row_copy.specs.Checks.{unless_doomed}
+use Rattle.row_copy.specs.CopyViews.{CopyView}
 use Rattle.job_row.proofs.copies.Copies.unpin_farewell.Goals as goal
 
 abbrev check : TaskNo → TaskNo → Option CopyView → Option Refusal

@@ -4,8 +4,8 @@ use Rattle.lru_evictor.specs.declared.facts.EvictionInfo.{EvictionInfo}
 use Rattle.lru_evictor.specs.Facts.{info_of, nowhere}
 use Rattle.obj_id.specs.Ids.{id_eq}
 use Rattle.job_row.specs.Counted.{footprint_of}
-use Rattle.job_row.specs.Dropping.{is_over}
-use Rattle.job_row.specs.CopyViews.{CopyView}
+use Rattle.row_copy.specs.Keeping.{is_over}
+use Rattle.row_copy.specs.CopyViews.{CopyView}
 use Rattle.job_row.specs.RowFacts.{row_facts_of}
 use Rattle.job_row.proofs.Changes.{not_written, written, found_rising, checked_unwritten, checked_written}
 use Rattle.job_row.proofs.Sums.{IsSmall, taken_any, small_by, can_exchange, taken-set}

@@ -1,5 +1,5 @@
 use Rattle.std.proofs.Common.{ap, ◌∙◌}
-use Rattle.job_row.specs.Usages.{window_bytes}
+use Rattle.row_copy.specs.Usages.{window_bytes}
 use Rattle.job_row.specs.Counted.{capped}
 use Rattle.job_row.proofs.Sums.{response}
 use Rattle.job_row.proofs.copies.Copies.window_bytes.Goals as goal

@@ -1,9 +1,9 @@
 use Rattle.std.proofs.Common.{sym, ap, ◌∙◌}
 use Rattle.private_store.specs.rules.Tables.{at}
-use Rattle.job_row.specs.Marks.{marked_by}
+use Rattle.row_copy.specs.Marks.{marked_by}
 use Rattle.job_row.specs.Row.{Row}
 use Rattle.job_row.proofs.FollowsCopies.{extent_there, one_stays}
-use Rattle.job_row.proofs.MarkedPlaces.{marked_lies}
+use Rattle.row_copy.proofs.ForCallers.{marked_lies}
 use Rattle.job_row.proofs.Places.{now_placed}
 use Rattle.job_row.proofs.row.JobRow.apply.Goals as goal
 

@@ -4,14 +4,14 @@ use Rattle.std.specs.Option.{option_and_then}
 use Rattle.private_store.specs.rules.Tables.{at}
 use Rattle.private_store.specs.rules.Copies.{extent_of}
 use Rattle.job_region.specs.Region.{Region, without}
-use Rattle.job_row.specs.CopyViews.{CopyView}
+use Rattle.row_copy.specs.CopyViews.{CopyView}
 use Rattle.job_row.specs.Entries.{changed}
 use Rattle.job_row.specs.InSync.{is_in_sync}
-use Rattle.job_row.specs.Marks.{marked_by}
+use Rattle.row_copy.specs.Marks.{marked_by}
 use Rattle.job_row.specs.Row.{Row, place_of, ArePlaced}
 use Rattle.job_row.proofs.FollowsCopies.{changed_but, removed_but, others_followed, one_stays}
 use Rattle.job_row.proofs.FreedPlaces.{left_placed, slice_is}
-use Rattle.job_row.proofs.MarkedPlaces.{marked_lies}
+use Rattle.row_copy.proofs.ForCallers.{marked_lies}
 use Rattle.job_row.proofs.Places.{changed_placed, now_placed}
 use Rattle.job_row.proofs.Settling.{none_over, one_over, copies_kept, copies_over}
 use Rattle.job_row.proofs.row.JobRow.apply_and_settle.Goals as goal

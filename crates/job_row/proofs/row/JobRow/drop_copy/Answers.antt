@@ -5,7 +5,7 @@ use Rattle.obj_id.specs.declared.ids.ObjectId.{ObjectId}
 use Rattle.private_store.specs.rules.Tables.{ById, at}
 use Rattle.private_store.specs.rules.Copies.{extent_of}
 use Rattle.job_region.specs.Region.{Region, without}
-use Rattle.job_row.specs.CopyViews.{CopyView}
+use Rattle.row_copy.specs.CopyViews.{CopyView}
 use Rattle.job_row.specs.Row.{Row, place_of, ArePlaced}
 use Rattle.job_row.specs.Dropping.{dropped}
 use Rattle.job_row.specs.InSync.{is_in_sync}

@@ -1,6 +1,6 @@
 use Rattle.std.proofs.Common.{sym, ap, ◌∙◌}
 use Rattle.private_store.specs.rules.Tables.{at}
-use Rattle.job_row.specs.CopyViews.{after_restore}
+use Rattle.row_copy.specs.CopyViews.{after_restore}
 use Rattle.job_row.specs.Scope.{with_copy}
 use Rattle.job_row.proofs.row.JobRow.end_restore.Goals as goal
 

@@ -2,7 +2,7 @@ use Rattle.std.proofs.Common.{◌≡◌, ◌||◌, Bool, sym, ap, ◌∙◌}
 use Rattle.private_store.specs.rules.Tables.{at}
 use Rattle.lru_evictor.specs.Orders.{order_ids}
 use Rattle.job_row.specs.Answering.{written_row}
-use Rattle.job_row.specs.CopyViews.{after_write}
+use Rattle.row_copy.specs.CopyViews.{after_write}
 use Rattle.job_row.specs.Row.{Row}
 use Rattle.job_row.specs.Scope.{with_copy}
 use Rattle.job_row.proofs.row.JobRow.end_spill.Goals as goal

@@ -1,7 +1,7 @@
 use Rattle.std.proofs.Common.{◌≡◌, List, None, refl, sym, ap, subst, ◌∙◌}
 use Rattle.obj_id.specs.declared.ids.ObjectId.{ObjectId}
 use Rattle.private_store.specs.rules.Tables.{ById, at, with_entry, without_entry}
-use Rattle.job_row.specs.CopyViews.{CopyView, fetched_copy_view}
+use Rattle.row_copy.specs.CopyViews.{CopyView, fetched_copy_view}
 use Rattle.job_row.specs.Row.{Row, place_of, ArePlaced}
 use Rattle.job_row.proofs.Changes.{put_back}
 use Rattle.job_row.proofs.Places.{entered_placed}

@@ -1,12 +1,12 @@
 use Rattle.std.proofs.Common.{List}
 use Rattle.obj_id.specs.declared.ids.ObjectId.{ObjectId}
-use Rattle.job_row.specs.Arriving.{after_failed_fetch}
+use Rattle.row_copy.specs.Arriving.{after_failed_fetch}
 use Rattle.std.proofs.Common.{refl, sym, ap, subst, ◌∙◌}
 use Rattle.std.specs.Prelude.{option_to_list}
 use Rattle.private_store.specs.rules.Tables.{ById}
 use Rattle.job_region.specs.Region.{Region, without}
 use Rattle.job_row.specs.Arriving.{unfetched_row}
-use Rattle.job_row.specs.CopyViews.{CopyView}
+use Rattle.row_copy.specs.CopyViews.{CopyView}
 use Rattle.job_row.specs.Row.{Row, place_of, ArePlaced}
 use Rattle.job_row.proofs.FollowsCopies.{one_changed}
 use Rattle.job_row.proofs.row.JobRow.fail_fetch.Goals as goal

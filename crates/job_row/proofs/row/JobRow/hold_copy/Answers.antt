@@ -1,7 +1,7 @@
 use Rattle.std.proofs.Common.{refl, subst}
 use Rattle.std.specs.Prelude.{IfSome}
 use Rattle.job_row.specs.Holding.{IsHeldAt}
-use Rattle.job_row.specs.CopyViews.{after_hold}
+use Rattle.row_copy.specs.CopyViews.{after_hold}
 use Rattle.job_row.proofs.Places.{now_placed}
 use Rattle.job_row.proofs.FollowsCopies.{changed_but, lies_keeps, changed_keep, told_alone}
 use Rattle.job_row.proofs.row.JobRow.hold_copy.Goals as goal

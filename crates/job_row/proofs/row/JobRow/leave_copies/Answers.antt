@@ -1,6 +1,6 @@
 use Rattle.std.proofs.Common.{refl, ap, ◌∙◌}
 use Rattle.private_store.specs.rules.Tables.{at}
-use Rattle.job_row.specs.CopyViews.{after_leave}
+use Rattle.row_copy.specs.CopyViews.{after_leave}
 use Rattle.job_row.proofs.FollowsCopies.{none_gone, lies_keeps, all_keep}
 use Rattle.job_row.proofs.row.JobRow.leave_copies.Goals as goal
 use Rattle.job_row.proofs.AllChanged.{at-all, left_placed}

@@ -1,8 +1,8 @@
-use Rattle.job_row.specs.Arriving.{after_located}
+use Rattle.row_copy.specs.Arriving.{after_located}
 use Rattle.job_row.proofs.Places.{now_placed}
 use Rattle.job_row.proofs.FollowsCopies.{one_stays}
 use Rattle.job_row.proofs.row.JobRow.locate_copy.Goals as goal
-use Rattle.job_row.proofs.AwaitedSources.{located-place}
+use Rattle.row_copy.proofs.ForCallers.{located-place}
 
 pub invariant_of-self : goal.invariant_of-self
 invariant_of-self c = (

@@ -1,4 +1,4 @@
-use Rattle.job_row.specs.CopyViews.{after_failed_restore}
+use Rattle.row_copy.specs.CopyViews.{after_failed_restore}
 use Rattle.std.proofs.Common.{refl, sym, ap, subst, ◌∙◌}
 use Rattle.std.specs.Prelude.{option_to_list}
 use Rattle.job_region.specs.Region.{Region, without}

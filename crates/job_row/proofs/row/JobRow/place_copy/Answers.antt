@@ -7,7 +7,7 @@ use Rattle.private_store.specs.rules.Tables.{ById, at, with_entry}
 use Rattle.private_store.specs.rules.Extents.{first}
 use Rattle.job_region.specs.Region.{Region, extents_of, put_in, without}
 use Rattle.job_row.specs.Evicting.{all_evicted, placed_without, replaced, without_missing}
-use Rattle.job_row.specs.CopyViews.{CopyView, waits_for_place, after_placing}
+use Rattle.row_copy.specs.CopyViews.{CopyView, waits_for_place, after_placing}
 use Rattle.job_row.specs.Row.{Row, place_of, ArePlaced}
 use Rattle.job_row.proofs.Changes.{changed-found}
 use Rattle.job_row.proofs.Replacing.{new_lies, replaced_placed, alone}

@@ -1,7 +1,7 @@
 use Rattle.std.proofs.Common.{refl, sym, ap, ◌∙◌}
 use Rattle.lru_evictor.specs.Facts.{info_at}
 use Rattle.job_row.specs.InSync.{facts_in}
-use Rattle.job_row.specs.CopyViews.{after_release}
+use Rattle.row_copy.specs.CopyViews.{after_release}
 use Rattle.job_row.proofs.Places.{now_placed}
 use Rattle.job_row.proofs.FollowsCopies.{one_stays}
 use Rattle.job_row.proofs.row.JobRow.release_copy.Goals as goal

@@ -9,7 +9,7 @@ use Rattle.store_facts.proofs.Tests.{some_value, not_true}
 use Rattle.job_region.specs.Region.{Region, extents_of, put_in, without}
 use Rattle.lru_evictor.specs.Orders.{order_ids, without_id}
 use Rattle.job_row.specs.Evicting.{IsReplaced, all_evicted, placed_without, replaced, used_last, without_missing}
-use Rattle.job_row.specs.CopyViews.{CopyView, new_copy_view}
+use Rattle.row_copy.specs.CopyViews.{CopyView, new_copy_view}
 use Rattle.job_row.specs.Row.{Row, place_of, ArePlaced}
 use Rattle.job_row.proofs.Changes.{put_back}
 use Rattle.job_row.proofs.Replacing.{forgotten, new_lies, replaced_placed, alone}

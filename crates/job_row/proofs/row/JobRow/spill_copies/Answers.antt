@@ -1,10 +1,10 @@
 use Rattle.std.proofs.Common.{[], ap}
 use Rattle.private_store.specs.rules.Copies.{extent_of}
-use Rattle.job_row.specs.CopyViews.{spill_begun_if}
+use Rattle.row_copy.specs.CopyViews.{spill_begun_if}
 use Rattle.job_row.proofs.Places.{each_placed}
 use Rattle.job_row.proofs.FollowsCopies.{each_but, each_keep}
 use Rattle.job_row.proofs.row.JobRow.spill_copies.Goals as goal
-use Rattle.job_row.proofs.MarkedPlaces.{same_copy}
+use Rattle.row_copy.proofs.ForCallers.{same_copy}
 
 pub invariant_of-self : goal.invariant_of-self
 invariant_of-self c = (

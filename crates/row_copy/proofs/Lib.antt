@@ -1,0 +1,3 @@
+mod AwaitedSources
+mod MarkedPlaces
+pub mod ForCallers

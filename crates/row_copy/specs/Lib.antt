@@ -1,0 +1,9 @@
+pub mod CopyViews
+pub mod Keeping
+pub mod Holding
+pub mod Usages
+pub mod Arriving
+pub mod Answering
+pub mod Marks
+pub mod Scope
+pub mod Checks
