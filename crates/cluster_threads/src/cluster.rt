@@ -194,7 +194,6 @@ impl<K: JournaledNode, P: Pause> Cluster<K, P> {
 }
 
 /// So many nodes, in the order of their numbers, each with so many bytes of memory and on one part of the name.
-#[tactic(auto, using(shared_nodes::proofs::ForCallers::pushed))]
 fn seat_all<K: SeatedNode>(
     alloc: Global,
     nodes: u32,

@@ -3,6 +3,7 @@ ghost use Rattle.std.specs.Prelude.{◌≡◌};
 ghost use Rattle.node_housekeeping.specs.DeviceCalls.{IsErasedIf};
 
 use crate::device_calls::erase_all;
+use crate::given_keys::{Added, LeftToErase};
 use crate::job_locks::JobLocks;
 use crate::marked_sessions::MarkedSessions;
 use crate::pausing::Pause;
@@ -10,7 +11,7 @@ use crate::seals::Seals;
 use crate::tally::{Tallies, Tally};
 use crate::upkeep::Upkeep;
 use crate::waiting::{Waiting, WakeScope};
-use crate::waiting_keys::{LeftToErase, WaitingKeys};
+use crate::waiting_keys::WaitingKeys;
 use crate::work_done::WorkDone;
 use obj_id::{DeviceKey, JobNo};
 use spill_device::SpillDevice;
@@ -75,9 +76,9 @@ impl<P: Pause, E: Drop, N: Drop> Housekeeping<P, E, N> {
         ensures of { result.of.value ≡ erase }
         ensures keys { result.keys.value ≡ keys }
     {
-        let left = self.keys.add(rt, erase, keys);
-        self.tallies.unerased(rt, left.lost);
-        if left.wait || has_work {
+        let Added { left, wait, lost } = self.keys.add(rt, erase, keys);
+        self.tallies.unerased(rt, lost);
+        if wait || has_work {
             self.upkeep.bell.ask(rt);
         }
         self.upkeep.waiting.note(rt, job, wake_scope);

@@ -15,7 +15,7 @@ use Rattle.private_store.specs.rules.Change.{refused, done, sending, erasing, do
 use Rattle.private_store.specs.rules.Commands.{at_each, give_up_one, of_task, task_ended, grant, grant_own, grant_foreign, oldest}
 use Rattle.private_store.specs.rules.Events.{end_job_here, is_live}
 use Rattle.private_store.specs.rules.Step.{step}
-use Rattle.store_facts.proofs.EachStep.{task_left_unused}
+use Rattle.store_facts.proofs.StepParts.{task_left_unused}
 use Rattle.store_facts.proofs.Tests.{true_false}
 use Rattle.store_facts.proofs.Checks.{checked-nil, checked-true, checked-false, checked_has, needing_has}
 use Rattle.run_laws.proofs.GrantsStay.{SameGrants, same_grants, settled_still, doom_still, give_up_one_still, at_each_still}

@@ -11,7 +11,8 @@ use Rattle.private_store.specs.rules.Commands.{at_each, then_change, give_up_one
 use Rattle.private_store.specs.rules.Step.{step}
 use Rattle.private_store.specs.laws.Invariants.{is_end}
 use Rattle.private_store.specs.laws.Made.{Edit, Edits, none, ends_task, gives, leaves, receives, loses, ends, changes_grants}
-use Rattle.store_facts.proofs.EachStep.{edits_keep, step_made, settled_edits, doom_unused, give_up_one_unused, leave_one_unused}
+use Rattle.store_facts.proofs.StepParts.{settled_edits, doom_unused, give_up_one_unused, leave_one_unused}
+use Rattle.store_facts.proofs.EachStep.{edits_keep, step_made}
 use Rattle.store_facts.proofs.Tests.{true_false}
 
 -- what the job gave and was given is the same

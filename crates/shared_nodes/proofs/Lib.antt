@@ -1,5 +1,4 @@
 mod Answering
-pub mod ForCallers
 mod KeysErased
 mod Numbered
 mod Trying

@@ -44,6 +44,7 @@ pub mod KeptGrantsTaken
 pub mod KeptStep
 pub mod KeptView
 pub mod WorksHaveCopies
+pub mod StepParts
 pub mod EachStep
 pub mod OwnJob
 pub mod ListsKept

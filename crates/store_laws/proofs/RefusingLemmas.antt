@@ -41,7 +41,7 @@ use Rattle.private_store.specs.rules.Step.{owned, commanded, if_live, step}
 use Rattle.private_store.specs.rules.Change.{refused, done, checked, needing, sending, in_room, keys_gone, erasing}
 use Rattle.store_laws.specs.Refusing.{Wait, Waits, none, then_wait, evicts, asks, restores, pulls, fetches, IsWaiting, IsExcused, unchanged, spill_told, fault_told, fetch_told, waits, RefusesCleanly}
 use Rattle.store_facts.proofs.Tests.{both_left, both_right}
-use Rattle.store_facts.proofs.EachStep.{may_go, victims_may, leave_unused, task_left_unused}
+use Rattle.store_facts.proofs.StepParts.{may_go, victims_may, leave_unused, task_left_unused}
 use Rattle.store_facts.proofs.ErasedKeys.{all_found, keys_none}
 use Rattle.store_facts.proofs.VictimsMakeRoom.{victims_make_room}
 
