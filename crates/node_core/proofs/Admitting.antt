@@ -34,16 +34,17 @@ use Rattle.spill_work.specs.Line.{WorkLine}
 use Rattle.job_admission.specs.declared.Live.{Live}
 use Rattle.job_admission.specs.Admissions.{Admissions, admit_check, with_admitted, window_place_for, lives_of}
 use Rattle.job_admission.proofs.ForCallers.{admit_passed}
-use Rattle.node_table.specs.Granting.{row_bytes}
+use Rattle.row_commands.specs.Granting.{row_bytes}
 use Rattle.job_row.specs.Row.{Row, new_row}
-use Rattle.node_table.specs.Shown.{seen, only, IsShown}
-use Rattle.node_table.proofs.ForCallers.{IsAlike, alike_bytes, granted_length, kept_as_they_are}
+use Rattle.row_steps.specs.Shown.{seen, only, IsShown}
+use Rattle.row_commands.proofs.ForCallers.{IsAlike, alike_bytes, granted_length}
+use Rattle.row_steps.proofs.ForCallers.{kept_as_they_are}
 use Rattle.node_core.specs.Hosted.{Hosted, AreHosted, IsRowView, IsBare, IsViewBy, Shows, empty_view, bytes_here, beside_at}
 use Rattle.node_core.specs.Steps.{answer_of_check}
 use Rattle.node_core.specs.OneJob.{IsStepOf, NodeStepOne}
 use Rattle.node_core.proofs.Others.{other_view}
 use Rattle.node_core.proofs.Views.{itself, another, node_of}
-use Rattle.node_table.specs.Beside.{SharedTables, beside_of, received_bytes}
+use Rattle.row_steps.specs.Beside.{SharedTables, beside_of, received_bytes}
 
 -- ---- the numbers
 

@@ -22,9 +22,9 @@ use Rattle.private_store.specs.rules.Contents.{View, judge}
 use Rattle.private_store.specs.rules.Private.{view_step, view_from}
 use Rattle.spill_work.specs.declared.queue.Queued.{Queued}
 use Rattle.spill_work.specs.Line.{shown, is_of, is_at, works_of, used_by}
-use Rattle.node_table.specs.Asked.{HasAsked}
+use Rattle.room_commands.specs.Asked.{HasAsked}
 use Rattle.job_row.specs.Row.{Row}
-use Rattle.node_table.specs.Shown.{RowGiven}
+use Rattle.row_steps.specs.Shown.{RowGiven}
 use Rattle.node_core.specs.GrantMoves.{moves_grants}
 use Rattle.node_core.specs.Hosted.{Hosted, IsViewBy, Shows, ShowsAll, row_at, beside_at}
 use Rattle.node_core.specs.Calls.{needs_no_memory}

@@ -22,10 +22,10 @@ use Rattle.private_store.specs.laws.NodeInputs.{Before, wants_memory, only_of, i
 use Rattle.store_facts.proofs.Checks.{checked-true}
 use Rattle.spill_work.specs.Line.{WorkLine, IsSameFor, same_work_job as same_line_job}
 use Rattle.job_admission.specs.Admissions.{Admissions, live_at, lives_of}
-use Rattle.node_table.specs.Asked.{HasAsked}
+use Rattle.room_commands.specs.Asked.{HasAsked}
 use Rattle.grants.specs.Table.{AreGrants}
 use Rattle.job_row.specs.Row.{Row}
-use Rattle.node_table.specs.Shown.{seen, IsShown, RowGiven, only, RowStep}
+use Rattle.row_steps.specs.Shown.{seen, IsShown, RowGiven, only, RowStep}
 use Rattle.node_core.specs.Hosted.{Hosted, IsRowView, IsViewBy, Shows, ShowsAll, empty_view, empty_shape, bytes_here, beside_at}
 use Rattle.node_core.specs.Judged.{arrived}
 use Rattle.node_core.specs.OneJob.{IsStepOf}
@@ -35,7 +35,7 @@ use Rattle.node_core.proofs.AllJobs.{one_input, called_line, own_shown}
 use Rattle.node_core.proofs.Lines.{asked_nothing}
 use Rattle.node_core.proofs.Never.{stale_wants}
 use Rattle.node_core.proofs.Views.{Refuses, Takes, node_of, view_is, views_stepped, told_stepped, views_same, response_refused}
-use Rattle.node_table.specs.Beside.{beside_of}
+use Rattle.row_steps.specs.Beside.{beside_of}
 
 -- a store that isn't live refuses it
 arrival_refuses : (number : ℕ) (a : Admissions) (line : WorkLine) (grants : List StandingGrant) (job : JobNo) (x : Arrival) → Refuses number a line grants job (input.Arrive x) refl Stale

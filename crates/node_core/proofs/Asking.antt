@@ -15,11 +15,11 @@ use Rattle.private_store.specs.rules.Contents.{Contents, View}
 use Rattle.job_admission.specs.Admissions.{Admissions, live_at}
 use Rattle.job_row.specs.Checks.{lend_check}
 use Rattle.job_row.specs.Row.{Row, copies_of}
-use Rattle.node_table.specs.Shown.{IsShown, IsLent}
+use Rattle.row_steps.specs.Shown.{IsShown, IsLent}
 use Rattle.node_core.specs.Hosted.{Hosted, AreHosted, IsRowView, IsViewBy, Shows, row_at, bytes_here, beside_at}
 use Rattle.node_core.specs.Borrowed.{borrowed_check, IsBorrowed}
 use Rattle.node_core.proofs.Ending.{is_some-lookup}
-use Rattle.node_table.specs.Beside.{SharedTables, beside_of, shape_of}
+use Rattle.row_steps.specs.Beside.{SharedTables, beside_of, shape_of}
 
 -- the live jobs are those that have a row
 pub live-is : (a : Admissions) (rows : List (JobNo × Row)) → AreHosted a rows → (job : JobNo) → is_some (lookup (same_job job) rows) ≡ is_some (live_at a job)

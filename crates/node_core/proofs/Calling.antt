@@ -13,14 +13,14 @@ use Rattle.private_store.specs.rules.Shape.{Change}
 use Rattle.private_store.specs.rules.Contents.{Contents, without_payload}
 use Rattle.private_store.specs.rules.Step.{commanded, owned}
 use Rattle.job_row.specs.Row.{Row}
-use Rattle.node_table.specs.Shown.{IsShown, only, RowStep}
-use Rattle.node_table.proofs.ForCallers.{stays, change, called, foreign}
+use Rattle.row_steps.specs.Shown.{IsShown, only, RowStep}
+use Rattle.row_steps.proofs.ForCallers.{stays, change, called, foreign}
 use Rattle.store_facts.proofs.Tests.{true_false}
 use Rattle.spill_work.specs.Line.{WorkLine}
 use Rattle.node_core.specs.Calls.{is_of_row, is_own, is_plain}
 use Rattle.node_core.specs.Hosted.{Hosted}
 use Rattle.node_core.specs.MemoryLast.{grants_check, IsRoomDue}
-use Rattle.node_table.specs.Beside.{SharedTables, shape_of}
+use Rattle.row_steps.specs.Beside.{SharedTables, shape_of}
 
 module _ (node job : ℕ) (row : Row) (beside : SharedTables) (session : ℕ) (contents : Contents) (own : row.job ≡ job) (h : IsShown row beside contents) where
   foreign_is : (id : ObjectId) (c : Command (List ℕ)) (d : Change) → (id.job.0 == job) ≡ false → commanded row.order (shape_of row beside) session (without_payload c) ≡ owned (shape_of row beside) id d

@@ -34,12 +34,13 @@ use Rattle.spill_work.specs.Line.{WorkLine, Drops, is_of as is_of_line}
 use Rattle.grants.specs.Table.{AreGrants}
 use Rattle.grants.proofs.ForCallers.{left_are_grants}
 use Rattle.job_admission.specs.Admissions.{Admissions, live_at, lives_of, finished}
-use Rattle.node_table.specs.Granting.{row_bytes}
-use Rattle.node_table.specs.Notes.{beside_rest}
+use Rattle.row_commands.specs.Granting.{row_bytes}
+use Rattle.row_commands.specs.Notes.{beside_rest}
 use Rattle.job_row.specs.Row.{Row}
-use Rattle.node_table.specs.Shown.{seen, only, IsShown, RowGiven}
+use Rattle.row_steps.specs.Shown.{seen, only, IsShown, RowGiven}
 use Rattle.job_row.proofs.ForCallers.{sorted-copies}
-use Rattle.node_table.proofs.ForCallers.{keys-backed, is_of, none_given, rest_of_job, kept_as_they_are}
+use Rattle.row_commands.proofs.ForCallers.{keys-backed, is_of, none_given, rest_of_job}
+use Rattle.row_steps.proofs.ForCallers.{kept_as_they_are}
 use Rattle.job_row.specs.Ending.{keys_backed}
 use Rattle.node_core.proofs.Granted.{own_gave}
 use Rattle.node_core.proofs.GrantsEnd.{ended_shows, ended_inputs, ends_judged}
@@ -49,7 +50,7 @@ use Rattle.node_core.specs.OneJob.{IsStepOf}
 use Rattle.node_core.specs.Outcomes.{with_no_notes, with_ends, end_noted}
 use Rattle.node_core.specs.Steps.{NodeGiven, answer_of_check, queued, NodeStep}
 use Rattle.node_core.proofs.Views.{itself, view_is, node_of}
-use Rattle.node_table.specs.Beside.{SharedTables, row_given_by, received_bytes}
+use Rattle.row_steps.specs.Beside.{SharedTables, row_given_by, received_bytes}
 
 -- ---- the numbers
 

@@ -34,16 +34,16 @@ use Rattle.spill_work.specs.Line.{WorkLine, IsSameFor, same_work_job as same_lin
 use Rattle.job_admission.specs.Admissions.{Admissions}
 use Rattle.grants.specs.Table.{AreGrants}
 use Rattle.job_row.specs.Row.{Row}
-use Rattle.node_table.specs.Shown.{seen, IsShown, RowGiven, only, RowStep}
+use Rattle.row_steps.specs.Shown.{seen, IsShown, RowGiven, only, RowStep}
 use Rattle.job_row.proofs.ForCallers.{at-copies_found}
-use Rattle.node_table.proofs.ForCallers.{copy_at_work}
+use Rattle.row_commands.proofs.ForCallers.{copy_at_work}
 use Rattle.node_core.specs.Hosted.{Hosted, IsRowView, IsBare, IsViewBy, Shows, ShowsAll, bytes_here, beside_at}
 use Rattle.node_core.specs.Judged.{if_ok}
 use Rattle.node_core.specs.OneJob.{IsGiven, event_input_of, view_by, NodeStepOne}
 use Rattle.node_core.specs.Steps.{is_taken, answer_of_check, stale_unless}
 use Rattle.node_core.proofs.Taking.{part, one_each}
 use Rattle.node_core.proofs.Views.{node_of, view_is, views_stepped, told_stepped}
-use Rattle.node_table.specs.Beside.{SharedTables, beside_of, shape_of}
+use Rattle.row_steps.specs.Beside.{SharedTables, beside_of, shape_of}
 
 -- ---- the line
 

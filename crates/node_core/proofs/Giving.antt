@@ -33,10 +33,11 @@ use Rattle.grants.specs.Table.{AreGrants, is_no_grantee, limits_check, hung_chec
 use Rattle.grants.proofs.ForCallers.{pushed_are_grants, made_for}
 use Rattle.job_admission.specs.Admissions.{Admissions}
 use Rattle.spill_work.specs.Line.{WorkLine}
-use Rattle.node_table.specs.Granting.{row_bytes}
+use Rattle.row_commands.specs.Granting.{row_bytes}
 use Rattle.job_row.specs.Row.{Row}
-use Rattle.node_table.specs.Shown.{seen, only, IsShown, RowGiven, RowStep}
-use Rattle.node_table.proofs.ForCallers.{is_of, alike_bytes, lengths, same_given, others_stand, row_receives, bare_receives, received_is, past}
+use Rattle.row_steps.specs.Shown.{seen, only, IsShown, RowGiven, RowStep}
+use Rattle.row_commands.proofs.ForCallers.{is_of, alike_bytes, lengths, same_given, others_stand, row_receives, bare_receives, received_is}
+use Rattle.row_steps.proofs.ForCallers.{past}
 use Rattle.node_core.specs.Granting.{grant_refusal, TakesGrant}
 use Rattle.node_core.specs.Hosted.{Hosted, IsRowView, IsViewBy, Shows, ShowsAll, bytes_here, beside_at}
 use Rattle.node_core.specs.MemoryLast.{grants_check, IsCallUnrefused, IsRoomDue, IsUnrefused}
@@ -48,7 +49,7 @@ use Rattle.node_core.proofs.GrantCommands.{table_passed, own_sealed}
 use Rattle.node_core.proofs.Lines.{asked_nothing}
 use Rattle.node_core.proofs.Others.{other_view}
 use Rattle.node_core.proofs.Views.{itself, view_is, node_of, Takes, call_steps, refused_steps}
-use Rattle.node_table.specs.Beside.{SharedTables, row_given_by, beside_of, shape_of}
+use Rattle.row_steps.specs.Beside.{SharedTables, row_given_by, beside_of, shape_of}
 
 -- ---- the table
 

@@ -25,15 +25,16 @@ use Rattle.grants.specs.Private.{without_given}
 use Rattle.grants.specs.Table.{AreGrants, is_first, is_no_grantee, grant_check as table_check, withdraw_check}
 use Rattle.grants.proofs.ForCallers.{refuses_alike}
 use Rattle.spill_work.specs.Line.{WorkLine}
-use Rattle.node_table.specs.Granting.{row_grant_check, grants_made}
-use Rattle.node_table.specs.MemoryLast.{is_more, work_has_begun, may_grow}
-use Rattle.node_table.specs.Notes.{beside_rest}
+use Rattle.row_commands.specs.Granting.{row_grant_check, grants_made}
+use Rattle.row_steps.specs.MemoryLast.{is_more, work_has_begun, may_grow}
+use Rattle.row_commands.specs.Notes.{beside_rest}
 use Rattle.job_row.specs.Row.{Row}
-use Rattle.node_table.specs.Shown.{seen, IsShown, RowGiven, only, RowStep}
-use Rattle.node_table.proofs.ForCallers.{unless_refused, called, grant_refused, grant_done, lend_refused, lend_done, withdraw_refused, give_back_done, lengths, row_has_grants, past, there, not_not}
+use Rattle.row_steps.specs.Shown.{seen, IsShown, RowGiven, only, RowStep}
+use Rattle.row_steps.proofs.ForCallers.{unless_refused, called, past, there, not_not}
+use Rattle.row_commands.proofs.ForCallers.{grant_refused, grant_done, lend_refused, lend_done, withdraw_refused, give_back_done, lengths, row_has_grants}
 use Rattle.node_core.specs.Granting.{grant_refusal, TakesGrant, TakesWithdraw}
 use Rattle.node_core.proofs.Granted.{IsSealedCopy}
-use Rattle.node_table.specs.Beside.{SharedTables, beside_of, shape_of}
+use Rattle.row_steps.specs.Beside.{SharedTables, beside_of, shape_of}
 use Rattle.row_copy.specs.Checks.{grant_check_of}
 
 -- ---- what a Grant that passed its checks says

@@ -26,14 +26,14 @@ use Rattle.spill_work.specs.Line.{WorkLine}
 use Rattle.grants.specs.Private.{as_given}
 use Rattle.grants.specs.Table.{AreGrants, is_first}
 use Rattle.grants.proofs.ForCallers.{first_stands}
-use Rattle.node_table.specs.Granting.{kept_bytes, row_bytes}
+use Rattle.row_commands.specs.Granting.{kept_bytes, row_bytes}
 use Rattle.row_copy.specs.CopyViews.{CopyView}
 use Rattle.job_row.specs.Row.{Row}
-use Rattle.node_table.specs.Shown.{seen, IsShown, RowGiven, RowStep}
+use Rattle.row_steps.specs.Shown.{seen, IsShown, RowGiven, RowStep}
 use Rattle.job_row.proofs.ForCallers.{at-copies_found, at-copies_none}
-use Rattle.node_table.proofs.ForCallers.{is_of}
+use Rattle.row_commands.proofs.ForCallers.{is_of}
 use Rattle.node_core.specs.Hosted.{bytes_here}
-use Rattle.node_table.specs.Beside.{SharedTables, row_given_by, beside_of}
+use Rattle.row_steps.specs.Beside.{SharedTables, row_given_by, beside_of}
 
 -- ---- a copy of which its job gave a grant
 

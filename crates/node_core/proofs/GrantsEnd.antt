@@ -16,15 +16,15 @@ use Rattle.private_store.specs.rules.Private.{view_step, view_from}
 use Rattle.spill_work.specs.Line.{WorkLine, IsSameFor, same_work_job as same_line_job}
 use Rattle.job_admission.specs.Admissions.{Admissions}
 use Rattle.grants.specs.Table.{AreGrants}
-use Rattle.node_table.specs.Notes.{IsSeen, ends_to, beside_rest}
+use Rattle.row_commands.specs.Notes.{IsSeen, ends_to, beside_rest}
 use Rattle.job_row.specs.Row.{Row}
-use Rattle.node_table.proofs.ForCallers.{is_of, alike_bytes, row_ends, bare_ends, none_given, rest_of_other, ends_of}
+use Rattle.row_commands.proofs.ForCallers.{is_of, alike_bytes, row_ends, bare_ends, none_given, rest_of_other, ends_of}
 use Rattle.node_core.specs.Hosted.{Hosted, IsRowView, IsViewBy, Shows, ShowsAll, bytes_here, beside_at}
 use Rattle.node_core.specs.Outcomes.{end_noted}
 use Rattle.node_core.specs.Steps.{judged_notes}
 use Rattle.node_core.proofs.Others.{other_view, not_same}
 use Rattle.node_core.proofs.Views.{node_of, another}
-use Rattle.node_table.specs.Beside.{SharedTables, beside_of}
+use Rattle.row_steps.specs.Beside.{SharedTables, beside_of}
 
 -- ---- one job that is notified of its ends
 

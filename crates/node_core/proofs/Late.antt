@@ -14,18 +14,18 @@ use Rattle.private_store.specs.rules.Contents.{Contents}
 use Rattle.private_store.specs.rules.Private.{view_step}
 use Rattle.private_store.specs.rules.Grants.{StandingGrant}
 use Rattle.spill_work.specs.Line.{WorkLine}
-use Rattle.node_table.specs.Granting.{peek_check}
+use Rattle.row_commands.specs.Granting.{peek_check}
 use Rattle.job_row.specs.Row.{Row}
-use Rattle.node_table.specs.MemoryLast.{is_more, work_has_begun, may_grow, IsDueMore}
-use Rattle.node_table.specs.Shown.{seen, IsShown}
-use Rattle.node_table.proofs.ForCallers.{seal_late, read_late, list_late, leave_late, unpin_late, borrow_late, give_up_late, delete_late, end_task_late, peeks}
+use Rattle.row_steps.specs.MemoryLast.{is_more, work_has_begun, may_grow, IsDueMore}
+use Rattle.row_steps.specs.Shown.{seen, IsShown}
+use Rattle.row_commands.proofs.ForCallers.{seal_late, read_late, list_late, leave_late, unpin_late, borrow_late, give_up_late, delete_late, end_task_late, peeks}
 use Rattle.node_core.specs.Hosted.{Hosted, IsRowView, IsViewBy, bytes_here, beside_at}
 use Rattle.node_core.specs.MemoryLast.{is_accepted, grants_check, IsMemoryLast, IsRoomDue, IsUnrefused, IsEventUnrefused}
 use Rattle.node_core.specs.Steps.{answer_of_check}
 use Rattle.node_core.proofs.GrantCommands.{IsGrowing, grant_late, withdraw_late}
 use Rattle.node_core.proofs.Taking.{front_given}
 use Rattle.node_core.proofs.Views.{view_is}
-use Rattle.node_table.specs.Beside.{SharedTables, beside_of}
+use Rattle.row_steps.specs.Beside.{SharedTables, beside_of}
 
 -- a Peek that passed its check
 peek_late : (node : ℕ) (line : WorkLine) (grants : List StandingGrant) (bytes : ObjectId → List ℕ) (row : Row) (contents : Contents) (session : ℕ) (id : ObjectId) (offset n : ℕ) → IsShown row (beside_of line grants bytes row.job) contents

@@ -13,7 +13,7 @@ use Rattle.private_store.specs.rules.Shape.{WorkInFlight}
 use Rattle.store_facts.proofs.Tests.{both_left, both_right}
 use Rattle.spill_work.specs.Line.{WorkLine, works_of, used_by, numbered, numbered_works}
 use Rattle.obj_id.specs.Works.{is_write}
-use Rattle.node_table.specs.Asked.{HasAsked}
+use Rattle.room_commands.specs.Asked.{HasAsked}
 use Rattle.node_core.specs.Steps.{queued}
 
 -- a job that asked for nothing

@@ -17,14 +17,14 @@ use Rattle.grants.specs.Table.{AreGrants}
 use Rattle.grants.proofs.ForCallers.{seen_items}
 use Rattle.job_admission.specs.Admissions.{Admissions}
 use Rattle.job_row.specs.Row.{Row}
-use Rattle.node_table.specs.Shown.{IsShown, only, RowStep}
+use Rattle.row_steps.specs.Shown.{IsShown, only, RowStep}
 use Rattle.node_core.specs.Granted.{granted_here}
 use Rattle.node_core.specs.Hosted.{Hosted, bytes_here, beside_at}
 use Rattle.node_core.specs.MemoryLast.{IsCallUnrefused}
 use Rattle.node_core.specs.OneJob.{NodeStepOne}
 use Rattle.node_core.proofs.Lines.{asked_nothing}
 use Rattle.node_core.proofs.Views.{node_of, call_steps}
-use Rattle.node_table.specs.Beside.{SharedTables, shape_of}
+use Rattle.row_steps.specs.Beside.{SharedTables, shape_of}
 
 -- the rows with a row in its own place
 pub row_stays : (rows : List (JobNo × Row)) (job : JobNo) (row : Row) → lookup (same_job job) rows ≡ Some row → (q : JobNo) → lookup (same_job q) rows ≡ cond (same_job job q) (Some row) (lookup (same_job q) rows)

@@ -7,9 +7,9 @@ use Rattle.private_store.specs.rules.Private.{no_contents}
 use Rattle.private_store.specs.rules.Shape.{Life}
 use Rattle.spill_work.specs.Line.{same_work_job}
 use Rattle.job_row.specs.Row.{Row}
-use Rattle.node_table.proofs.ForCallers.{IsAlike, alike_shape, alike_shown}
+use Rattle.row_commands.proofs.ForCallers.{IsAlike, alike_shape, alike_shown}
 use Rattle.node_core.specs.Hosted.{empty_view, empty_shape, IsBare, IsViewBy}
-use Rattle.node_table.specs.Beside.{SharedTables}
+use Rattle.row_steps.specs.Beside.{SharedTables}
 
 module _ (a b : SharedTables) (same : IsAlike a b) where
   pub alike_bare : (job : ℕ) (life : Life) → empty_view job life a ≡ empty_view job life b

@@ -15,17 +15,17 @@ use Rattle.private_store.specs.rules.Jobs.{same_job}
 use Rattle.spill_work.specs.Line.{WorkLine}
 use Rattle.grants.specs.Table.{AreGrants}
 use Rattle.job_admission.specs.Admissions.{Admissions}
-use Rattle.node_table.specs.Granting.{peek_check, peek_reply}
+use Rattle.row_commands.specs.Granting.{peek_check, peek_reply}
 use Rattle.job_row.specs.Row.{Row}
-use Rattle.node_table.specs.Shown.{IsShown, only, RowStep}
-use Rattle.node_table.proofs.ForCallers.{peeks}
+use Rattle.row_steps.specs.Shown.{IsShown, only, RowStep}
+use Rattle.row_commands.proofs.ForCallers.{peeks}
 use Rattle.node_core.specs.Hosted.{Hosted, row_at, bytes_here}
 use Rattle.node_core.specs.MemoryLast.{IsCallUnrefused}
 use Rattle.node_core.specs.OneJob.{NodeStepOne}
 use Rattle.node_core.proofs.Lines.{asked_nothing}
 use Rattle.node_core.proofs.Listed.{row_stays}
 use Rattle.node_core.proofs.Views.{node_of, call_steps}
-use Rattle.node_table.specs.Beside.{beside_of}
+use Rattle.row_steps.specs.Beside.{beside_of}
 
 -- there is one that passes exactly if one is found
 pub found_any : (test : StandingGrant → Bool) (grants : List StandingGrant) → is_some (find test grants) ≡ list_any test grants

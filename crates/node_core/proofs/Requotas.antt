@@ -25,14 +25,14 @@ use Rattle.job_admission.specs.declared.Live.{Live}
 use Rattle.job_admission.specs.Admissions.{Admissions, live_at, lives_of, resize_check, resized}
 use Rattle.job_row.specs.Quotas.{row_requota_check, store_check}
 use Rattle.job_row.specs.Row.{Row}
-use Rattle.node_table.specs.Shown.{only, IsShown, RowStep}
+use Rattle.row_steps.specs.Shown.{only, IsShown, RowStep}
 use Rattle.node_core.specs.Hosted.{Hosted, AreHosted, IsRowView, IsViewBy, Shows, bytes_here, beside_at}
 use Rattle.node_core.specs.OneJob.{NodeStepOne}
 use Rattle.node_core.specs.Quotas.{refused_or, requota_refusal}
 use Rattle.node_core.specs.Steps.{answer_of_check, requota_check}
 use Rattle.node_core.proofs.Ending.{is_some-lookup}
 use Rattle.node_core.proofs.Views.{Takes, node_of, views_stepped, told_stepped}
-use Rattle.node_table.specs.Beside.{SharedTables, shape_of}
+use Rattle.row_steps.specs.Beside.{SharedTables, shape_of}
 
 -- ---- the check
 

@@ -21,14 +21,14 @@ use Rattle.spill_work.specs.declared.queue.Queued.{Queued}
 use Rattle.spill_work.specs.Line.{WorkLine, shown, is_of, is_at, used_by, front_of, marked_taken, MarksTaken}
 use Rattle.job_admission.specs.Admissions.{Admissions}
 use Rattle.job_row.specs.Row.{Row}
-use Rattle.node_table.specs.Shown.{seen, only, IsShown}
+use Rattle.row_steps.specs.Shown.{seen, only, IsShown}
 use Rattle.node_core.specs.Hosted.{Hosted, IsRowView, IsBare, IsViewBy, Shows, ShowsAll, bytes_here, beside_at}
 use Rattle.node_core.specs.OneJob.{NodeStepOne}
-use Rattle.node_table.proofs.ForCallers.{copy_at_work, alike_bytes, work_is}
+use Rattle.row_commands.proofs.ForCallers.{copy_at_work, alike_bytes, work_is}
 use Rattle.node_core.specs.Steps.{taken_if, row_work_given, row_work_of, take_response}
 use Rattle.node_core.proofs.Others.{other_view}
 use Rattle.node_core.proofs.Views.{node_of, view_is}
-use Rattle.node_table.specs.Beside.{SharedTables}
+use Rattle.row_steps.specs.Beside.{SharedTables}
 
 -- ---- the line
 

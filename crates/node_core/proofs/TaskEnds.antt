@@ -32,10 +32,10 @@ use Rattle.grants.specs.Table.{AreGrants}
 use Rattle.grants.proofs.ForCallers.{any_filtered, left_are_grants, first_stands}
 use Rattle.job_admission.specs.Admissions.{Admissions}
 use Rattle.job_row.specs.Checks.{end_task_check}
-use Rattle.node_table.specs.Notes.{beside_rest}
+use Rattle.row_commands.specs.Notes.{beside_rest}
 use Rattle.job_row.specs.Row.{Row}
-use Rattle.node_table.specs.Shown.{seen, IsShown, RowGiven, only, RowStep}
-use Rattle.node_table.proofs.ForCallers.{is_of, end_task_refused, rest_of_task, first_left}
+use Rattle.row_steps.specs.Shown.{seen, IsShown, RowGiven, only, RowStep}
+use Rattle.row_commands.proofs.ForCallers.{is_of, end_task_refused, rest_of_task, first_left}
 use Rattle.node_core.specs.Hosted.{Hosted, row_at, IsRowView, IsViewBy, Shows, bytes_here, beside_at}
 use Rattle.node_core.specs.MemoryLast.{task_refusal, IsCallUnrefused}
 use Rattle.node_core.specs.OneJob.{IsStepOf}
@@ -47,7 +47,7 @@ use Rattle.node_core.proofs.GrantsEnd.{ended_shows, ended_inputs, ends_judged}
 use Rattle.node_core.proofs.Lines.{above, above-used, asked_nothing}
 use Rattle.node_core.proofs.Listed.{row_stays}
 use Rattle.node_core.proofs.Views.{itself, view_is, node_of, call_steps, refused_steps}
-use Rattle.node_table.specs.Beside.{SharedTables, row_given_by, shape_of, beside_ended, beside_after}
+use Rattle.row_steps.specs.Beside.{SharedTables, row_given_by, shape_of, beside_ended, beside_after}
 
 -- ---- it is refused, or it isn't
 

@@ -27,15 +27,16 @@ use Rattle.node_core.proofs.Others.{other_view, not_same}
 use Rattle.job_admission.specs.Admissions.{Admissions}
 use Rattle.grants.specs.Table.{AreGrants}
 use Rattle.job_row.specs.Row.{Row}
-use Rattle.node_table.specs.Shown.{seen, IsShown, RowGiven, only, RowStep}
-use Rattle.node_table.proofs.ForCallers.{is_of, alike_bytes, kept_as_they_are}
+use Rattle.row_steps.specs.Shown.{seen, IsShown, RowGiven, only, RowStep}
+use Rattle.row_commands.proofs.ForCallers.{is_of, alike_bytes}
+use Rattle.row_steps.proofs.ForCallers.{kept_as_they_are}
 use Rattle.node_core.specs.Hosted.{Hosted, IsRowView, IsBare, IsViewBy, Shows, ShowsAll, empty_view, empty_shape, bytes_here, beside_at}
 use Rattle.node_core.proofs.Granted.{bytes_same}
 use Rattle.node_core.specs.OneJob.{IsStepOf, NodeStepOne}
-use Rattle.node_table.specs.Asked.{HasAsked}
+use Rattle.room_commands.specs.Asked.{HasAsked}
 use Rattle.node_core.proofs.Lines.{asked_nothing}
 use Rattle.store_facts.proofs.OwnJob.{step_keeps_job}
-use Rattle.node_table.specs.Beside.{SharedTables, beside_of, received_bytes, shape_of}
+use Rattle.row_steps.specs.Beside.{SharedTables, beside_of, received_bytes, shape_of}
 
 pub itself : (job : JobNo) → same_job job job ≡ true
 itself job = grind (arith, nat_tests)

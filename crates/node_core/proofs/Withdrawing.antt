@@ -28,10 +28,10 @@ use Rattle.grants.specs.Table.{AreGrants, is_first, withdraw_check}
 use Rattle.grants.proofs.ForCallers.{left_are_grants, first_stands}
 use Rattle.job_admission.specs.Admissions.{Admissions}
 use Rattle.spill_work.specs.Line.{WorkLine}
-use Rattle.node_table.specs.Notes.{beside_rest}
+use Rattle.row_commands.specs.Notes.{beside_rest}
 use Rattle.job_row.specs.Row.{Row}
-use Rattle.node_table.specs.Shown.{seen, RowGiven, RowStep}
-use Rattle.node_table.proofs.ForCallers.{is_of, first_left}
+use Rattle.row_steps.specs.Shown.{seen, RowGiven, RowStep}
+use Rattle.row_commands.proofs.ForCallers.{is_of, first_left}
 use Rattle.node_core.specs.Granting.{TakesWithdraw}
 use Rattle.node_core.specs.Hosted.{Hosted, IsRowView, IsViewBy, ShowsAll, Shows, bytes_here, beside_at}
 use Rattle.node_core.specs.Outcomes.{with_ends}
@@ -40,7 +40,7 @@ use Rattle.node_core.proofs.AllJobs.{asks_nothing}
 use Rattle.node_core.proofs.Granted.{granted_copy, sealed_stay, own_gave, bytes_where}
 use Rattle.node_core.proofs.GrantsEnd.{ended_shows, ended_inputs, ends_judged}
 use Rattle.node_core.proofs.Views.{itself, view_is, node_of}
-use Rattle.node_table.specs.Beside.{SharedTables, row_given_by, shape_of}
+use Rattle.row_steps.specs.Beside.{SharedTables, row_given_by, shape_of}
 
 module _ (number : ℕ) (a : Admissions) (line : WorkLine) (grants : List StandingGrant) (table : AreGrants grants) (job : JobNo) (session : ℕ) (id : ObjectId) (target : JobNo)
     (old new : List (JobNo × Row)) (row after : Row) (response : RowGiven) (is_ok : response.reply ≡ reply.Ok) (granted : Bool)

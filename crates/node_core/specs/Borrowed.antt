@@ -7,7 +7,7 @@ use Rattle.private_store.specs.rules.Shape.{Shape}
 use Rattle.private_store.specs.rules.Events.{is_live}
 use Rattle.private_store.specs.rules.Contents.{View}
 use Rattle.job_row.specs.Checks.{lend_check}
-use Rattle.node_table.specs.Shown.{IsLent}
+use Rattle.row_steps.specs.Shown.{IsLent}
 
 -- why a session isn't lent an object's bytes
 abbrev pub borrowed_check : Shape → ℕ → ObjectId → Option Refusal

@@ -16,11 +16,11 @@ use Rattle.private_store.specs.rules.Contents.{Contents}
 use Rattle.private_store.specs.rules.Grants.{StandingGrant}
 use Rattle.spill_work.specs.Line.{WorkLine}
 use Rattle.job_row.specs.Row.{Row}
-use Rattle.node_table.specs.Shown.{IsShown, RowGiven, RowStep}
+use Rattle.row_steps.specs.Shown.{IsShown, RowGiven, RowStep}
 use Rattle.job_row.specs.Usages.{total}
 use Rattle.row_copy.specs.Usages.{doomed_one}
 use Rattle.node_core.specs.Hosted.{Hosted, row_at}
-use Rattle.node_table.specs.Beside.{beside_of}
+use Rattle.row_steps.specs.Beside.{beside_of}
 
 -- whether it is no object that must be the job's own and isn't
 abbrev pub is_own_subject : ℕ → Subject → Bool

@@ -10,11 +10,11 @@ use Rattle.private_store.specs.rules.Contents.{Contents}
 use Rattle.private_store.specs.rules.Grants.{StandingGrant, with_grant, grants_left, is_withdrawn}
 use Rattle.spill_work.specs.Line.{WorkLine}
 use Rattle.grants.specs.Table.{AreGrants, is_first, grant_check as table_check, withdraw_check}
-use Rattle.node_table.specs.Granting.{row_grant_check}
-use Rattle.node_table.specs.Notes.{beside_rest}
+use Rattle.row_commands.specs.Granting.{row_grant_check}
+use Rattle.row_commands.specs.Notes.{beside_rest}
 use Rattle.job_row.specs.Row.{Row}
-use Rattle.node_table.specs.Shown.{IsShown, RowGiven, RowStep}
-use Rattle.node_table.specs.Beside.{beside_of}
+use Rattle.row_steps.specs.Shown.{IsShown, RowGiven, RowStep}
+use Rattle.row_steps.specs.Beside.{beside_of}
 
 -- where this is what the table of grants says: of another job's object the table alone decides
 abbrev pub grant_refusal : Row → ℕ → ObjectId → ℕ → Option Refusal → Option Refusal

@@ -14,10 +14,10 @@ use Rattle.private_store.specs.rules.Private.{no_contents}
 use Rattle.spill_work.specs.Line.{WorkLine}
 use Rattle.grants.specs.Table.{AreGrants}
 use Rattle.job_admission.specs.Admissions.{Admissions}
-use Rattle.node_table.specs.Granting.{row_bytes}
+use Rattle.row_commands.specs.Granting.{row_bytes}
 use Rattle.job_row.specs.Row.{Row}
-use Rattle.node_table.specs.Shown.{IsShown}
-use Rattle.node_table.specs.Beside.{SharedTables, beside_of, received_bytes, shape_of}
+use Rattle.row_steps.specs.Shown.{IsShown}
+use Rattle.row_steps.specs.Beside.{SharedTables, beside_of, received_bytes, shape_of}
 
 pub record Hosted : Type 0 where
   -- the node's own number

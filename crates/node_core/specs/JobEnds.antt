@@ -13,7 +13,7 @@ use Rattle.spill_work.specs.Line.{Drops}
 use Rattle.job_admission.specs.Admissions.{lives_of, finished}
 use Rattle.job_row.specs.Ending.{keys_backed}
 use Rattle.job_row.specs.Row.{Row}
-use Rattle.node_table.specs.Shown.{RowGiven}
+use Rattle.row_steps.specs.Shown.{RowGiven}
 use Rattle.node_core.specs.Hosted.{Hosted, row_at}
 
 -- what it gives to the job itself, which is live: the directory is notified, and the keys of its backed copies are to be erased

@@ -22,8 +22,8 @@ use Rattle.spill_work.specs.Line.{WorkLine, front_of}
 use Rattle.grants.specs.Table.{grant_check, withdraw_check}
 use Rattle.job_row.specs.Row.{Row}
 use Rattle.job_row.specs.Checks.{early_check, end_task_check}
-use Rattle.node_table.specs.Granting.{peek_check}
-use Rattle.node_table.specs.MemoryLast.{may_grow, IsDueMore}
+use Rattle.row_commands.specs.Granting.{peek_check}
+use Rattle.row_steps.specs.MemoryLast.{may_grow, IsDueMore}
 use Rattle.node_core.specs.Hosted.{Hosted, row_at, Shows, ShowsAll, bytes_here}
 use Rattle.node_core.specs.Calls.{is_own, takes_no_memory}
 use Rattle.node_core.specs.Granting.{grant_refusal}

@@ -10,8 +10,8 @@ use Rattle.private_store.specs.declared.schedules.Event.TheVariants as event
 use Rattle.private_store.specs.rules.Contents.{View}
 use Rattle.private_store.specs.rules.Private.{view_step}
 use Rattle.spill_work.specs.Line.{WorkLine, is_of, is_at, marked_taken}
-use Rattle.node_table.specs.Asked.{HasAsked}
-use Rattle.node_table.specs.Shown.{RowGiven}
+use Rattle.room_commands.specs.Asked.{HasAsked}
+use Rattle.row_steps.specs.Shown.{RowGiven}
 use Rattle.private_store.specs.declared.schedules.NodeEvent.TheVariants.{Own}
 use Rattle.node_core.specs.Hosted.{Hosted, Shows, ShowsAll}
 use Rattle.node_core.specs.Steps.{job_of_event, is_taken, answer_of_check, end_check, requota_check, stale_unless, take_response, admissions_after, live_jobs_after}

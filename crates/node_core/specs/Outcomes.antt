@@ -2,8 +2,8 @@
 use Rattle.std.specs.Prelude.{ℕ, List, [], ◌∷◌, map}
 use Rattle.private_store.specs.declared.inputs.Judged.TheVariants as judged
 use Rattle.private_store.specs.rules.Grants.{StandingGrant}
-use Rattle.node_table.specs.Erased.{keys_of}
-use Rattle.node_table.specs.Shown.{RowGiven}
+use Rattle.row_steps.specs.Erased.{keys_of}
+use Rattle.row_steps.specs.Shown.{RowGiven}
 use Rattle.node_core.specs.declared.outcome.Note.{Note}
 use Rattle.node_core.specs.declared.outcome.NodeOutcome.{NodeOutcome}
 use Rattle.node_core.specs.Steps.{NodeGiven, JobJudged}

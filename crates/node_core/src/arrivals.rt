@@ -12,16 +12,16 @@ ghost use Rattle.private_store.specs.rules.Grants.{StandingGrant};
 ghost use Rattle.spill_work.specs.Line.{same_work_job, IsSameFor};
 ghost use Rattle.job_admission.specs.Admissions.{live_at};
 ghost use Rattle.obj_id.specs.declared.messages.Arrival.{Arrival};
-ghost use Rattle.node_table.specs.Asked.{HasAsked};
-ghost use Rattle.node_table.specs.Outcomes.{row_given_of};
-ghost use Rattle.node_table.specs.Shown.{only, seen, IsShown, RowStep};
+ghost use Rattle.room_commands.specs.Asked.{HasAsked};
+ghost use Rattle.row_steps.specs.Outcomes.{row_given_of};
+ghost use Rattle.row_steps.specs.Shown.{only, seen, IsShown, RowStep};
 ghost use Rattle.node_core.specs.Foreseen.{most_by_arrival};
 ghost use Rattle.node_core.specs.Hosted.{row_at};
 ghost use Rattle.node_core.specs.Judged.{IsArrivalJudged};
 ghost use Rattle.node_core.specs.MemoryLast.{IsMemoryLast};
 ghost use Rattle.node_core.specs.Outcomes.{node_given_of, with_no_notes};
 ghost use Rattle.node_core.specs.Steps.{NodeStep};
-ghost use Rattle.node_table.specs.Beside.{beside_of};
+ghost use Rattle.row_steps.specs.Beside.{beside_of};
 
 use crate::Node;
 use crate::outcome::NodeOutcome;
@@ -69,7 +69,7 @@ impl Node {
     {
         let Some(row) = self.rows.get_mut(&job) else {
             let reply = Reply::Refused(Refusal::Stale);
-            let outcome = node_table::RowOutcome::only(self.alloc, reply);
+            let outcome = row_steps::RowOutcome::only(self.alloc, reply);
             return Ok(NodeOutcome::of_row(self.alloc, outcome, None));
         };
         let (outcome, judged) = deliver(
@@ -93,7 +93,7 @@ fn deliver(
     row: &mut JobRow,
     works: &mut Works,
     arrival: &Arrival,
-) -> Result<(node_table::RowOutcome, Judged), OutOfMemory>
+) -> Result<(row_steps::RowOutcome, Judged), OutOfMemory>
     ensures ok { IfOk result (λ o. (grants : List StandingGrant) (bytes : ObjectId → List ℕ) (contents : Contents) → IsShown row.old (beside_of works.old grants bytes row.old.job) contents
         → RowStep node row.old (beside_of works.old grants bytes row.old.job) contents (input.Arrive arrival.now) (row_given_of o.0) row.new (beside_of works.new grants bytes row.old.job)) }
     ensures judged { IfOk result (λ o. (grants : List StandingGrant) (bytes : ObjectId → List ℕ) (contents : Contents) → IsShown row.old (beside_of works.old grants bytes row.old.job) contents
@@ -113,8 +113,8 @@ fn deliver(
             entries,
         } => {
             let entries = entries.as_slice();
-            node_table::located(row, NodeNo(node), id, FetchNo(*number), entries);
-            let outcome = node_table::RowOutcome::only(alloc, Reply::Ok);
+            row_commands::located(row, NodeNo(node), id, FetchNo(*number), entries);
+            let outcome = row_steps::RowOutcome::only(alloc, Reply::Ok);
             let judged = Judged::Located {
                 id: *id,
                 number: *number,
@@ -137,7 +137,7 @@ fn deliver_from(
     works: &mut Works,
     from: u32,
     message: &PeerMessage,
-) -> Result<(node_table::RowOutcome, Judged), OutOfMemory>
+) -> Result<(row_steps::RowOutcome, Judged), OutOfMemory>
     ensures ok { IfOk result (λ o. (grants : List StandingGrant) (bytes : ObjectId → List ℕ) (contents : Contents) → IsShown row.old (beside_of works.old grants bytes row.old.job) contents
         → RowStep node row.old (beside_of works.old grants bytes row.old.job) contents (input.Arrive (arrival.FromPeer from message.now)) (row_given_of o.0) row.new (beside_of works.new grants bytes row.old.job)) }
     ensures judged { IfOk result (λ o. (grants : List StandingGrant) (bytes : ObjectId → List ℕ) (contents : Contents) → IsShown row.old (beside_of works.old grants bytes row.old.job) contents
@@ -158,8 +158,8 @@ fn deliver_from(
             digest,
             indexes,
         } => {
-            let matches = node_table::pull_matches(row, id, *length, digest);
-            let outcome = node_table::serve_pull(
+            let matches = room_commands::pull_matches(row, id, *length, digest);
+            let outcome = room_commands::serve_pull(
                 row,
                 alloc,
                 room,
@@ -187,7 +187,7 @@ fn deliver_from(
             index,
             bytes,
         } => {
-            let taken = node_table::chunk(
+            let taken = row_commands::chunk(
                 row,
                 alloc,
                 room,
@@ -208,7 +208,7 @@ fn deliver_from(
             Ok((taken.outcome, judged))
         }
         PeerMessage::NotHere(id, number) => {
-            let outcome = node_table::not_here(
+            let outcome = row_commands::not_here(
                 row,
                 alloc,
                 room,

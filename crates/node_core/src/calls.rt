@@ -2,9 +2,9 @@
 ghost use Rattle.std.specs.Prelude.{◌≡◌, ℕ, ◌≤◌, length, Some, true, false, IfOk, OnOk, OnErr, IsOk, is_ok, []};
 ghost use Rattle.obj_id.specs.declared.ids.JobNo.{JobNo};
 ghost use Rattle.spill_work.specs.Line.{same_work_job, IsSameFor};
-ghost use Rattle.node_table.specs.Asked.{HasAsked};
-ghost use Rattle.node_table.specs.Outcomes.{row_given_of};
-ghost use Rattle.node_table.specs.Shown.{only};
+ghost use Rattle.room_commands.specs.Asked.{HasAsked};
+ghost use Rattle.row_steps.specs.Outcomes.{row_given_of};
+ghost use Rattle.row_steps.specs.Shown.{only};
 ghost use Rattle.node_core.specs.Calls.{is_of_row as is_of_row_lem, is_plain as is_plain_lem, is_own as is_own_lem, is_own_subject as is_own_subject_lem, takes_no_memory, CallStep};
 ghost use Rattle.node_core.specs.Foreseen.{most_by_command};
 ghost use Rattle.node_core.specs.MemoryLast.{IsMemoryLastOnRow, IsRoomDue, IsUnrefused};
@@ -13,7 +13,7 @@ use bytes::Bytes;
 use command_kinds::{Carrier, CommandKind, Outline, Subject};
 use job_row::JobRow;
 use memory_growth::OutOfMemory;
-use node_table::RowOutcome;
+use row_steps::RowOutcome;
 use obj_id::{Command, JobNo, Refusal, Reply};
 use spill_work::Works;
 use std::alloc::Global;
@@ -55,8 +55,8 @@ pub(crate) fn carry_out(
             id,
             kind,
             length: len,
-        } => node_table::create(row, alloc, room, node, works, id, *kind, *len),
-        Command::Get(id) => node_table::get(row, alloc, room, node, works, session, id),
+        } => room_commands::create(row, alloc, room, node, works, id, *kind, *len),
+        Command::Get(id) => room_commands::get(row, alloc, room, node, works, session, id),
         _ => unreachable!(),
     }
 }
@@ -80,25 +80,25 @@ fn carry_out_without_work(
 {
     match command {
         Command::Write { id, offset, bytes } => {
-            let reply = node_table::write(row, id, *offset, bytes);
+            let reply = row_commands::write(row, id, *offset, bytes);
             Ok(RowOutcome::only(alloc, reply))
         }
-        Command::Seal(id) => Ok(node_table::seal(row, alloc, room, node, id)?),
+        Command::Seal(id) => Ok(row_commands::seal(row, alloc, room, node, id)?),
         Command::Read {
             id,
             offset,
             count: len,
         } => {
-            let reply = node_table::read(row, alloc, session, id, *offset, *len)?;
+            let reply = row_commands::read(row, alloc, session, id, *offset, *len)?;
             Ok(RowOutcome::only(alloc, reply))
         }
-        Command::Release(id) => Ok(node_table::release(row, alloc, session, id)),
-        Command::Unpin(id, task) => Ok(node_table::unpin(row, alloc, room, node, id, *task)?),
-        Command::Borrow(id, task) => node_table::borrow(row, alloc, id, *task),
-        Command::GiveUp(id, task) => Ok(node_table::give_up(row, alloc, room, node, id, *task)?),
-        Command::Delete(id) => Ok(node_table::delete(row, alloc, room, node, id)?),
-        Command::Usage => Ok(RowOutcome::only(alloc, node_table::tell_usage(row, works))),
-        Command::Leave => Ok(node_table::leave(row, alloc, session)?),
+        Command::Release(id) => Ok(row_commands::release(row, alloc, session, id)),
+        Command::Unpin(id, task) => Ok(row_commands::unpin(row, alloc, room, node, id, *task)?),
+        Command::Borrow(id, task) => row_commands::borrow(row, alloc, id, *task),
+        Command::GiveUp(id, task) => Ok(row_commands::give_up(row, alloc, room, node, id, *task)?),
+        Command::Delete(id) => Ok(row_commands::delete(row, alloc, room, node, id)?),
+        Command::Usage => Ok(RowOutcome::only(alloc, row_commands::tell_usage(row, works))),
+        Command::Leave => Ok(row_commands::leave(row, alloc, session)?),
         _ => unreachable!(),
     }
 }

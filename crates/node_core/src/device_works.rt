@@ -3,7 +3,7 @@ ghost use Rattle.std.specs.Prelude.{◌≡◌, [], IfOk, OnErr, option_map, is_s
 ghost use Rattle.private_store.specs.declared.schedules.Event.TheVariants as event;
 ghost use Rattle.private_store.specs.rules.Contents.{View, judge};
 ghost use Rattle.spill_work.specs.Line.{front_of, works_taken_by};
-ghost use Rattle.node_table.specs.Outcomes.{row_given_of};
+ghost use Rattle.row_steps.specs.Outcomes.{row_given_of};
 ghost use Rattle.node_core.specs.Hosted.{Shows};
 ghost use Rattle.node_core.specs.MemoryLast.{IsFront};
 ghost use Rattle.node_core.specs.Steps.{job_in_turn as job_in_turn_lem};
@@ -43,23 +43,23 @@ impl Node {
 
     /// A worker asks for a work: of all jobs' the first that nobody has taken, with a write's bytes. `NoWork` if there is
     /// none. The error is out of memory, and then nobody has taken the work.
-    pub(crate) fn take(&mut self) -> Result<node_table::RowOutcome, OutOfMemory>
+    pub(crate) fn take(&mut self) -> Result<row_steps::RowOutcome, OutOfMemory>
         ensures ok { IfOk result (λ o. NodeStepOne self.old event.Take (row_given_of o) self.new) }
         ensures silent { IfOk result (λ o. o.messages ≡ []) }
         ensures memory_last { OnErr result (IsFront self.old) }
         ensures err { OnErr result (self.new ≡ self.old) }
     {
         let Some(asked) = self.works.front() else {
-            return Ok(node_table::RowOutcome::only(self.alloc, Reply::NoWork));
+            return Ok(row_steps::RowOutcome::only(self.alloc, Reply::NoWork));
         };
         let Some(row) = self.rows.get(&asked.job) else {
-            return Ok(node_table::RowOutcome::only(self.alloc, Reply::NoWork));
+            return Ok(row_steps::RowOutcome::only(self.alloc, Reply::NoWork));
         };
-        let Some(work) = node_table::work(row, self.alloc, &asked)? else {
-            return Ok(node_table::RowOutcome::only(self.alloc, Reply::NoWork));
+        let Some(work) = row_commands::work(row, self.alloc, &asked)? else {
+            return Ok(row_steps::RowOutcome::only(self.alloc, Reply::NoWork));
         };
         self.works.mark_taken(asked.job, asked.number);
-        Ok(node_table::RowOutcome::only(self.alloc, Reply::Work(work)))
+        Ok(row_steps::RowOutcome::only(self.alloc, Reply::Work(work)))
     }
 
     /// A worker answers a work that it was given: the work leaves the line, and its job takes the step. Answers what it was
@@ -70,16 +70,16 @@ impl Node {
         job: JobNo,
         number: u64,
         answer: &DeviceAnswer,
-    ) -> (node_table::RowOutcome, Option<Judged>)
+    ) -> (row_steps::RowOutcome, Option<Judged>)
         ensures ok { NodeStepOne self.old (event.Finish job number answer.now) (row_given_of result.0) self.new }
         ensures silent { result.0.messages ≡ [] }
         ensures judged { (view : View) → Shows self.old job.0 view → option_map (judge self.old.number view) (event_input_of (event.Finish job number answer.now) result.0.reply) ≡ result.1 }
     {
         let Some(row) = self.rows.get_mut(&job) else {
             let reply = Reply::Refused(Refusal::Stale);
-            return (node_table::RowOutcome::only(self.alloc, reply), None);
+            return (row_steps::RowOutcome::only(self.alloc, reply), None);
         };
-        let answered = node_table::finish(row, self.alloc, &mut self.works, number, answer);
+        let answered = row_commands::finish(row, self.alloc, &mut self.works, number, answer);
         let judged = if_ok(
             &answered.outcome.reply,
             Judged::Answer(number, answered.verdict),

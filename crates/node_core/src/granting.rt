@@ -4,7 +4,7 @@ ghost use Rattle.obj_id.specs.declared.commands.Command.TheVariants as command;
 ghost use Rattle.obj_id.specs.declared.commands.Reply.TheVariants as reply;
 ghost use Rattle.private_store.specs.declared.schedules.Event.TheVariants as event;
 ghost use Rattle.private_store.specs.declared.schedules.NodeEvent.TheVariants as node_event;
-ghost use Rattle.node_table.specs.Outcomes.{row_given_of};
+ghost use Rattle.row_steps.specs.Outcomes.{row_given_of};
 ghost use Rattle.node_core.specs.Foreseen.{AreTakers};
 ghost use Rattle.node_core.specs.Granting.{grant_refusal as grant_refusal_lem, TakesGrant, TakesWithdraw};
 ghost use Rattle.node_core.specs.Judged.{judged_as};
@@ -106,7 +106,7 @@ fn grant_refusal(
     ensures { result ≡ grant_refusal_lem row.now job.0 id.now target.0 table }
 {
     if id.job().0 == job.0 {
-        return node_table::grant_check(row, id, target, table);
+        return row_commands::grant_check(row, id, target, table);
     }
     table
 }
@@ -119,16 +119,16 @@ fn give(
     id: &ObjectId,
     target: JobNo,
     table: Option<Refusal>,
-) -> node_table::RowOutcome
+) -> row_steps::RowOutcome
     requires { grant_refusal_lem row.now job.0 id.now target.0 table ≡ None }
     ensures step { (session : ℕ) → TakesGrant row.old job.0 session id.now target (row_given_of result) row.new }
     ensures reply { result.reply ≡ reply.Ok }
     ensures silent { result.messages ≡ [] }
 {
     if id.job().0 == job.0 {
-        return node_table::grant(row, alloc, id, target, table);
+        return row_commands::grant(row, alloc, id, target, table);
     }
-    node_table::RowOutcome::only(alloc, Reply::Ok)
+    row_steps::RowOutcome::only(alloc, Reply::Ok)
 }
 
 /// The step of the job's row by a Withdraw of a grant that stood, if grants of the object from its own job are left or
@@ -140,13 +140,13 @@ fn let_go(
     id: &ObjectId,
     target: JobNo,
     granted: bool,
-) -> node_table::RowOutcome
+) -> row_steps::RowOutcome
     ensures step { (session : ℕ) → TakesWithdraw row.old job.0 session id.now target granted (row_given_of result) row.new }
     ensures reply { result.reply ≡ reply.Ok }
     ensures silent { result.messages ≡ [] }
 {
     if id.job().0 == job.0 {
-        return node_table::withdraw(row, alloc, id, target, granted);
+        return row_commands::withdraw(row, alloc, id, target, granted);
     }
-    node_table::RowOutcome::only(alloc, Reply::Ok)
+    row_steps::RowOutcome::only(alloc, Reply::Ok)
 }

@@ -5,7 +5,7 @@ ghost use Rattle.private_store.specs.declared.schedules.NodeEvent.TheVariants as
 ghost use Rattle.private_store.specs.rules.Grants.{is_given_by};
 ghost use Rattle.grants.specs.Table.{ends_found};
 ghost use Rattle.job_admission.specs.Admissions.{live_at};
-ghost use Rattle.node_table.specs.Outcomes.{row_given_of};
+ghost use Rattle.row_steps.specs.Outcomes.{row_given_of};
 ghost use Rattle.node_core.specs.Foreseen.{AreTakers};
 ghost use Rattle.node_core.specs.JobEnds.{IsOwnEnd, LetsJobGo};
 ghost use Rattle.node_core.specs.Judged.{judged_as};
@@ -52,7 +52,7 @@ impl Node {
         &self,
         job: JobNo,
         room: Result<(), OutOfMemory>,
-    ) -> Result<node_table::RowOutcome, OutOfMemory>
+    ) -> Result<row_steps::RowOutcome, OutOfMemory>
         requires { is_some (live_at self.now.admissions job) ≡ true }
         ensures ok { IfOk result (λ o. IsOwnEnd self.now job (row_given_of o)) }
         ensures unsent { IfOk result (λ o. is_ok room ≡ false → o.messages ≡ []) }
@@ -60,15 +60,15 @@ impl Node {
         let Some(row) = self.rows.get(&job) else {
             unreachable!()
         };
-        let erase = node_table::device_keys(row, self.alloc)?;
+        let erase = row_commands::device_keys(row, self.alloc)?;
         let message = Message::ToDirectory(DirectoryMessage::EndJob(self.number));
-        let messages = node_table::RowOutcome::one_message(
+        let messages = row_steps::RowOutcome::one_message(
             self.alloc,
             room,
             Endpoint::Directory,
             message,
         )?;
-        Ok(node_table::RowOutcome {
+        Ok(row_steps::RowOutcome {
             reply: Reply::Ok,
             messages,
             erase,

@@ -13,8 +13,8 @@ ghost use Rattle.private_store.specs.rules.Contents.{View};
 ghost use Rattle.private_store.specs.rules.Commands.{usage_of};
 ghost use Rattle.private_store.specs.rules.Private.{view_of, no_store};
 ghost use Rattle.job_admission.specs.Admissions.{largest_memory, live_at, admit_check, sessions_entered, enter_check, entered};
-ghost use Rattle.node_table.specs.Outcomes.{row_given_of};
-ghost use Rattle.node_table.specs.Shown.{only};
+ghost use Rattle.row_steps.specs.Outcomes.{row_given_of};
+ghost use Rattle.row_steps.specs.Shown.{only};
 ghost use Rattle.private_store.specs.declared.schedules.NodeEvent.TheVariants as node_event;
 ghost use Rattle.node_core.specs.Calls.{is_of_row, takes_no_memory, needs_no_memory};
 ghost use Rattle.node_core.specs.GrantMoves.{event_of, moves_grants};
@@ -50,7 +50,7 @@ use indexmap::IndexMap;
 use job_admission::Admission;
 pub use job_row::{JobRow, Prepared};
 use memory_growth::{OutOfMemory, tables};
-pub use node_table::Erase;
+pub use row_steps::Erase;
 use obj_id::{Command, Failure, JobKey, JobNo, ObjectId, Quota, Refusal, Reply, Usage};
 pub use outcome::{NodeOutcome, Note};
 use private_store::Event;
@@ -213,7 +213,7 @@ impl Node {
         &mut self,
         event: &Event,
         room: Result<(), OutOfMemory>,
-    ) -> Result<node_table::RowOutcome, OutOfMemory>
+    ) -> Result<row_steps::RowOutcome, OutOfMemory>
         requires other { is_finish event.now ≡ false }
         requires lasting { moves_grants event.now ≡ false }
         ensures ok { IfOk result (λ o. NodeStepOne self.old event.now (row_given_of o) self.new) }
@@ -281,7 +281,7 @@ impl Node {
         ensures refused { (r : Refusal) → IsErrOf result r → r ≡ NotAdmitted }
     {
         match self.rows.get(&job) {
-            Some(row) => Ok(node_table::usage(row, &self.works)),
+            Some(row) => Ok(row_commands::usage(row, &self.works)),
             None => Err(Refusal::NotAdmitted),
         }
     }
@@ -301,7 +301,7 @@ impl Node {
         if id.job().0 != job.0 {
             return Err(Refusal::NotGranted);
         }
-        node_table::lend(row, session, id)
+        row_commands::lend(row, session, id)
     }
 
     /// A session's command that ends no grant and gives none: its job's row carries it out, but for List and Peek, which
@@ -312,7 +312,7 @@ impl Node {
         session: u32,
         command: &Command<Bytes>,
         room: Result<(), OutOfMemory>,
-    ) -> Result<node_table::RowOutcome, OutOfMemory>
+    ) -> Result<row_steps::RowOutcome, OutOfMemory>
         requires lasting { moves_grants (event.Call job session command.now) ≡ false }
         ensures ok { IfOk result (λ o. NodeStepOne self.old (event.Call job session command.now) (row_given_of o) self.new) }
         ensures bounded { IfOk result (λ o. length o.messages ≤ most_by_command (row_at self.old job) command.now) }
@@ -343,7 +343,7 @@ impl Node {
         session: u32,
         command: &Command<Bytes>,
         room: Result<(), OutOfMemory>,
-    ) -> Result<node_table::RowOutcome, OutOfMemory>
+    ) -> Result<row_steps::RowOutcome, OutOfMemory>
         requires { is_of_row command.now ≡ true }
         ensures ok { IfOk result (λ o. NodeStepOne self.old (event.Call job session command.now) (row_given_of o) self.new) }
         ensures bounded { IfOk result (λ o. length o.messages ≤ most_by_command (row_at self.old job) command.now) }
@@ -354,7 +354,7 @@ impl Node {
     {
         let Some(row) = self.rows.get_mut(&job) else {
             let reply = Reply::Refused(Refusal::NotAdmitted);
-            return Ok(node_table::RowOutcome::only(self.alloc, reply));
+            return Ok(row_steps::RowOutcome::only(self.alloc, reply));
         };
         calls::carry_out(
             self.alloc,
@@ -374,17 +374,17 @@ impl Node {
         job: JobNo,
         quota: Quota,
         key: JobKey,
-    ) -> Result<node_table::RowOutcome, OutOfMemory>
+    ) -> Result<row_steps::RowOutcome, OutOfMemory>
         ensures ok { IfOk result (λ o. NodeStepOne self.old (event.Admit job quota key) (row_given_of o) self.new) }
         ensures silent { IfOk result (λ o. o.messages ≡ []) }
         ensures memory_last { OnErr result (admit_check self.old.admissions job quota ≡ None) }
         ensures err { OnErr result (self.new ≡ self.old) }
     {
         if let Some(refusal) = self.admission.admit_check(job, quota) {
-            return Ok(node_table::RowOutcome::only(self.alloc, Reply::Refused(refusal)));
+            return Ok(row_steps::RowOutcome::only(self.alloc, Reply::Refused(refusal)));
         }
         self.add_row(job, quota, key)?;
-        Ok(node_table::RowOutcome::only(self.alloc, Reply::Ok))
+        Ok(row_steps::RowOutcome::only(self.alloc, Reply::Ok))
     }
 
     /// The job is live from now on, with an empty row. All growth comes before the first change.

@@ -2,7 +2,7 @@
 ghost use Rattle.std.specs.Prelude.{◌≡◌, [], length, map, IfOk, OnErr};
 ghost use Rattle.obj_id.specs.declared.commands.Command.TheVariants as command;
 ghost use Rattle.private_store.specs.declared.schedules.Event.TheVariants as event;
-ghost use Rattle.node_table.specs.Outcomes.{row_given_of};
+ghost use Rattle.row_steps.specs.Outcomes.{row_given_of};
 ghost use Rattle.node_core.specs.Granted.{granted_item as granted_item_lem, granted_here};
 ghost use Rattle.node_core.specs.Hosted.{bytes_here};
 ghost use Rattle.node_core.specs.MemoryLast.{IsCallUnrefused};
@@ -20,18 +20,18 @@ impl Node {
         &self,
         job: JobNo,
         session: u32,
-    ) -> Result<node_table::RowOutcome, OutOfMemory>
+    ) -> Result<row_steps::RowOutcome, OutOfMemory>
         ensures ok { IfOk result (λ o. NodeStepOne self.now (event.Call job session command.List) (row_given_of o) self.now) }
         ensures silent { IfOk result (λ o. o.messages ≡ []) }
         ensures memory_last { OnErr result (IsCallUnrefused self.now job session command.List) }
     {
         let Some(row) = self.rows.get(&job) else {
             let reply = Reply::Refused(Refusal::NotAdmitted);
-            return Ok(node_table::RowOutcome::only(self.alloc, reply));
+            return Ok(row_steps::RowOutcome::only(self.alloc, reply));
         };
         let granted = self.granted(job)?;
-        let reply = node_table::list(row, self.alloc, granted)?;
-        Ok(node_table::RowOutcome::only(self.alloc, reply))
+        let reply = row_commands::list(row, self.alloc, granted)?;
+        Ok(row_steps::RowOutcome::only(self.alloc, reply))
     }
 
     /// The objects that others granted to the job, by rising id, each with the depth of its oldest grant.
@@ -69,7 +69,7 @@ impl Node {
         ensures { result ≡ length (bytes_here self.now.rows id.now) }
     {
         match self.rows.get(&id.job()) {
-            Some(row) => node_table::granted_length(row, id),
+            Some(row) => row_commands::granted_length(row, id),
             None => 0,
         }
     }

@@ -1,14 +1,14 @@
 //! What an event gives at a node.
 ghost use Rattle.std.specs.Prelude.{◌≡◌, ◌≤◌, [], length, vec_len, vec_capacity};
 ghost use Rattle.obj_id.specs.declared.commands.Reply.TheVariants as reply;
-ghost use Rattle.node_table.specs.Outcomes.{row_given_of};
-ghost use Rattle.node_table.specs.Shown.{only};
+ghost use Rattle.row_steps.specs.Outcomes.{row_given_of};
+ghost use Rattle.row_steps.specs.Shown.{only};
 ghost use Rattle.node_core.specs.Outcomes.{node_given_of, input_noted, end_noted, received_noted, with_no_notes, with_given, with_ends};
 
 use bytes::Bytes;
 use grants::StandingGrant;
 use memory_growth::lists;
-use node_table::Erase;
+use row_steps::Erase;
 use obj_id::{Endpoint, ItemList, JobNo, Message, Refusal, Reply};
 use private_store::Judged;
 use std::alloc::Global;
@@ -37,7 +37,7 @@ impl NodeOutcome {
     /// What a row gave, if no grant changed, with what the event was to its job. Takes no memory.
     pub(crate) fn of_row(
         alloc: Global,
-        outcome: node_table::RowOutcome,
+        outcome: row_steps::RowOutcome,
         judged: Option<Judged>,
     ) -> NodeOutcome
         ensures given { node_given_of result ≡ with_no_notes (row_given_of outcome) }
@@ -59,13 +59,13 @@ impl NodeOutcome {
         ensures notes { result.notes ≡ [] }
         ensures judged { result.judged ≡ judged }
     {
-        let outcome = node_table::RowOutcome::only(alloc, Reply::Refused(refusal));
+        let outcome = row_steps::RowOutcome::only(alloc, Reply::Refused(refusal));
         NodeOutcome::of_row(alloc, outcome, judged)
     }
 
     /// What a row gave, if this grant of an object of this length was given: `notes` is empty, and has room for one.
     pub(crate) fn with_given(
-        outcome: node_table::RowOutcome,
+        outcome: row_steps::RowOutcome,
         notes: Vec<Note>,
         grant: &StandingGrant,
         length: u32,
@@ -89,7 +89,7 @@ impl NodeOutcome {
 
     /// The same, if these grants end by it: `notes` is empty, and has room for a note of each.
     pub(crate) fn with_ends(
-        outcome: node_table::RowOutcome,
+        outcome: row_steps::RowOutcome,
         notes: Vec<Note>,
         ended: &[StandingGrant],
         judged: Option<Judged>,

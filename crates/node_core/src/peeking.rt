@@ -4,8 +4,8 @@ ghost use Rattle.std.specs.List.{list_any};
 ghost use Rattle.obj_id.specs.declared.commands.Command.TheVariants as command;
 ghost use Rattle.private_store.specs.declared.schedules.Event.TheVariants as event;
 ghost use Rattle.grants.specs.Table.{shows};
-ghost use Rattle.node_table.specs.Granting.{peek_check as peek_check_lem};
-ghost use Rattle.node_table.specs.Outcomes.{row_given_of};
+ghost use Rattle.row_commands.specs.Granting.{peek_check as peek_check_lem};
+ghost use Rattle.row_steps.specs.Outcomes.{row_given_of};
 ghost use Rattle.node_core.specs.Hosted.{bytes_here};
 ghost use Rattle.node_core.specs.MemoryLast.{IsCallUnrefused};
 ghost use Rattle.node_core.specs.OneJob.{NodeStepOne};
@@ -27,21 +27,21 @@ impl Node {
         id: &ObjectId,
         offset: u32,
         len: u32,
-    ) -> Result<node_table::RowOutcome, OutOfMemory>
+    ) -> Result<row_steps::RowOutcome, OutOfMemory>
         ensures ok { IfOk result (λ o. NodeStepOne self.now (event.Call job session (command.Peek id.now offset len)) (row_given_of o) self.now) }
         ensures silent { IfOk result (λ o. o.messages ≡ []) }
         ensures memory_last { OnErr result (IsCallUnrefused self.now job session (command.Peek id.now offset len)) }
     {
         let Some(_row) = self.rows.get(&job) else {
             let reply = Reply::Refused(Refusal::NotAdmitted);
-            return Ok(node_table::RowOutcome::only(self.alloc, reply));
+            return Ok(row_steps::RowOutcome::only(self.alloc, reply));
         };
         let lent = self.granted_bytes(id);
         if let Some(refusal) = self.peek_check(job, id, lent.bytes.len(), offset, len) {
-            return Ok(node_table::RowOutcome::only(self.alloc, Reply::Refused(refusal)));
+            return Ok(row_steps::RowOutcome::only(self.alloc, Reply::Refused(refusal)));
         }
         let bytes = lent.part(self.alloc, offset, len)?;
-        Ok(node_table::RowOutcome::only(self.alloc, Reply::Bytes(bytes)))
+        Ok(row_steps::RowOutcome::only(self.alloc, Reply::Bytes(bytes)))
     }
 
     /// Why the job can't peek at so many bytes from the offset on of an object of this length.
@@ -85,6 +85,6 @@ impl Node {
         let Some(row) = self.rows.get(&id.job()) else {
             return Lent::nothing();
         };
-        node_table::lend_granted(row, id)
+        row_commands::lend_granted(row, id)
     }
 }

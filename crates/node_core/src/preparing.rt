@@ -5,7 +5,7 @@ use crate::Node;
 use bytes::Bytes;
 use hashed_bytes::Hashed;
 use job_row::{JobRow, Prepared};
-use node_table::may_want;
+use row_commands::may_want;
 use obj_id::{ChunkIndex, Command, FetchNo, JobNo, NodeNo, ObjectId};
 
 impl Node {
@@ -33,14 +33,14 @@ impl Node {
             return false;
         }
         match self.rows.get(&job) {
-            Some(row) => node_table::wants(row, command),
+            Some(row) => row_commands::wants(row, command),
             None => false,
         }
     }
 
     /// How long the object is for which the job's command may place an extent, if that is long.
     pub fn extent_wanted(&self, job: JobNo, command: &Command<Bytes>) -> Option<u32> {
-        node_table::extent_wanted(self.rows.get(&job)?, command)
+        row_commands::extent_wanted(self.rows.get(&job)?, command)
     }
 
     /// The bytes of a copy of the job to be hashed, if they can be shared or are few.
@@ -50,7 +50,7 @@ impl Node {
         let Some(row) = self.rows.get_mut(&job) else {
             return None;
         };
-        node_table::share_copy(row, self.alloc, id)
+        row_commands::share_copy(row, self.alloc, id)
     }
 
     /// Takes bytes with their digest, to be compared with those of a copy of the job before a step wants its digest.
@@ -83,11 +83,11 @@ impl Node {
         index: ChunkIndex,
         len: usize,
     ) -> Option<u32> {
-        node_table::length_with_last(self.rows.get(&job)?, from, id, number, index, len)
+        row_commands::length_with_last(self.rows.get(&job)?, from, id, number, index, len)
     }
 
     /// Bytes of a copy of the job: `len` from the offset on, or as many as there are.
     pub fn copy_part(&self, job: JobNo, id: &ObjectId, offset: u32, len: u32) -> Option<Bytes> {
-        node_table::copy_part(self.rows.get(&job)?, self.alloc, id, offset, len)
+        row_commands::copy_part(self.rows.get(&job)?, self.alloc, id, offset, len)
     }
 }

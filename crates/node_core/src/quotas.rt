@@ -2,7 +2,7 @@
 ghost use Rattle.std.specs.Prelude.{◌≡◌, [], None, IfOk, OnErr};
 ghost use Rattle.private_store.specs.declared.schedules.Event.TheVariants as event;
 ghost use Rattle.private_store.specs.rules.Contents.{View};
-ghost use Rattle.node_table.specs.Outcomes.{row_given_of};
+ghost use Rattle.row_steps.specs.Outcomes.{row_given_of};
 ghost use Rattle.node_core.specs.Hosted.{Shows};
 ghost use Rattle.node_core.specs.OneJob.{NodeStepOne};
 ghost use Rattle.node_core.specs.Quotas.{requota_refusal};
@@ -22,7 +22,7 @@ impl Node {
         let Some(row) = self.rows.get(&job) else {
             return Some(Refusal::NotAdmitted);
         };
-        if let Some(refusal) = node_table::requota_check(row, quota) {
+        if let Some(refusal) = row_commands::requota_check(row, quota) {
             return Some(refusal);
         }
         self.admission.resize_check(job, quota)
@@ -33,19 +33,19 @@ impl Node {
         &mut self,
         job: JobNo,
         quota: Quota,
-    ) -> Result<node_table::RowOutcome, OutOfMemory>
+    ) -> Result<row_steps::RowOutcome, OutOfMemory>
         ensures ok { IfOk result (λ o. NodeStepOne self.old (event.Requota job quota) (row_given_of o) self.new) }
         ensures silent { IfOk result (λ o. o.messages ≡ []) }
         ensures memory_last { OnErr result ((view : View) → Shows self.old job.0 view → requota_check_lem self.old.admissions view job quota ≡ None) }
         ensures err { OnErr result (self.new ≡ self.old) }
     {
         if let Some(refusal) = self.requota_check(job, quota) {
-            return Ok(node_table::RowOutcome::only(self.alloc, Reply::Refused(refusal)));
+            return Ok(row_steps::RowOutcome::only(self.alloc, Reply::Refused(refusal)));
         }
         let Some(own_row) = self.rows.get_mut(&job) else {
             unreachable!()
         };
-        match node_table::requota(own_row, quota) {
+        match row_commands::requota(own_row, quota) {
             Ok(()) => {}
             Err(Failure::Memory(error)) => return Err(error),
             Err(Failure::Refused(_)) => unreachable!(),
@@ -53,6 +53,6 @@ impl Node {
         let Ok(()) = self.admission.resize(job, quota) else {
             unreachable!()
         };
-        Ok(node_table::RowOutcome::only(self.alloc, Reply::Ok))
+        Ok(row_steps::RowOutcome::only(self.alloc, Reply::Ok))
     }
 }

@@ -37,7 +37,7 @@ impl Node {
     {
         let judged = Some(Judged::Call(session, Command::EndTask(task)));
         if let Some(refusal) = self.task_refusal(job, task) {
-            let outcome = node_table::RowOutcome::only(self.alloc, Reply::Refused(refusal));
+            let outcome = row_steps::RowOutcome::only(self.alloc, Reply::Refused(refusal));
             return Ok(NodeOutcome::of_row(self.alloc, outcome, judged));
         }
         let ends = self.grants.ends_with_task(job, task)?;
@@ -45,7 +45,7 @@ impl Node {
         let Some(row) = self.rows.get_mut(&job) else {
             unreachable!()
         };
-        let outcome = node_table::end_task(row, self.alloc, room, self.number, task)?;
+        let outcome = row_commands::end_task(row, self.alloc, room, self.number, task)?;
         self.grants.take_out(&ends);
         Ok(NodeOutcome::with_ends(outcome, notes, ends.grants(), judged))
     }

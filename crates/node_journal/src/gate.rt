@@ -31,7 +31,7 @@ impl<L: Ledger + HistoryName, S: ClusterShape> JournaledNode for Recorded<L, S> 
     ghost use Rattle.private_store.specs.declared.schedules.NodeEvent.TheVariants as node_event;
     ghost use Rattle.private_store.specs.rules.Cluster.{arrival_of};
     ghost use Rattle.spill_work.specs.Line.{front_of};
-    ghost use Rattle.node_table.specs.Erased.{keys_of};
+    ghost use Rattle.row_steps.specs.Erased.{keys_of};
     ghost use Rattle.node_journal.specs.Auditing.{is_no};
     ghost use Rattle.node_journal.specs.Journals.{IsSwept, agreement, is_live_in};
     ghost use Rattle.node_journal.specs.Logs.{journal_of};

@@ -12,7 +12,7 @@ use Rattle.store_facts.proofs.Tests.{true_false}
 use Rattle.plain_store.specs.Parts.{has_begun}
 use Rattle.job_row.specs.Row.{Row}
 use Rattle.node_core.specs.Hosted.{Hosted, IsBare, IsRowView, IsViewBy, Shows, row_at, bytes_here, beside_at, empty_shape}
-use Rattle.node_table.specs.Beside.{SharedTables, row_given_by, received_by, beside_of, shape_of}
+use Rattle.row_steps.specs.Beside.{SharedTables, row_given_by, received_by, beside_of, shape_of}
 
 -- how far a job is that isn't live
 ended_if : (life : Life) (begun : Bool) (beside : SharedTables) (job : ℕ) → is_live (empty_shape job life beside) ≡ false → has_begun life ≡ begun → cond begun ended not_begun ≡ life

@@ -2,7 +2,7 @@
 ghost use Rattle.std.specs.Prelude.{◌≡◌, IfOk, OnOk, map};
 ghost use Rattle.grants.specs.Private.{as_given, with_taken};
 ghost use Rattle.node_core.specs.Hosted.{bytes_here};
-ghost use Rattle.node_table.specs.Beside.{received_by};
+ghost use Rattle.row_steps.specs.Beside.{received_by};
 
 use grants::StandingGrant;
 use memory_growth::{OutOfMemory, lists, ordered};

@@ -3,7 +3,7 @@ ghost use Rattle.std.specs.Prelude.{◌≡◌, ℕ, List, IfOk};
 ghost use Rattle.obj_id.specs.declared.ids.ObjectId.{ObjectId};
 ghost use Rattle.private_store.specs.rules.Grants.{StandingGrant as GrantView};
 ghost use Rattle.spill_work.specs.Line.{works_of};
-ghost use Rattle.node_table.specs.Beside.{row_given_by, received_by, beside_of, shape_of};
+ghost use Rattle.row_steps.specs.Beside.{row_given_by, received_by, beside_of, shape_of};
 
 use crate::copies::plain_copies;
 use job_row::JobRow;

@@ -1,5 +1,5 @@
 -- Each step is made of edits and an answer: the one walk over every command and input.
-use Rattle.std.proofs.Common.{◌≡◌, ℕ, ◌+◌, Bool, true, false, not, cond, ◌==◌, ◌&&◌, List, [], ◌∷◌, length, filter, Option, Some, None, is_some, is_none, refl, ap}
+use Rattle.std.proofs.Common.{◌≡◌, ℕ, ◌+◌, Bool, true, false, not, cond, ◌==◌, ◌&&◌, List, [], ◌∷◌, filter, Option, Some, None, is_some, is_none, refl, ap}
 use Rattle.std.specs.Option.{option_map_or}
 use Rattle.std.specs.List.{list_any}
 use Rattle.obj_id.specs.declared.ids.ObjectId.{ObjectId}
@@ -27,7 +27,7 @@ use Rattle.private_store.specs.rules.Marks.{chunk_count, counted, marked, read_m
 use Rattle.private_store.specs.rules.Marks as mark
 use Rattle.private_store.specs.rules.Copies.{is_sealed, visible, fits_quota}
 use Rattle.private_store.specs.rules.Room.{set_copy, make_room}
-use Rattle.private_store.specs.rules.Change.{refused, done, checked, needing, sending, erasing, settled, doomed}
+use Rattle.private_store.specs.rules.Change.{refused, done, checked, needing, sending, erasing, settled}
 use Rattle.private_store.specs.rules.Commands.{refusal_of, fetch_refusal, create, end_task, created, new_copy, get, grant, grant_own, grant_foreign, restore, restoring, get_away, get_fetching, get_copy, get_sealed, begin_pull, begin_fetch, fetched_copy}
 use Rattle.private_store.specs.rules.Events.{is_live, begin, requota, end_job_here, answer, written, without_work, located, with_fetch, fetch_of, fetch_failed, chunk_taken, chunk_arrived, is_missing, not_here_arrived, quiet, pull_answer, pull_arrived, withdrawn, grant_ended, is_child_of, is_the_grant}
 use Rattle.private_store.specs.rules.Step.{step, owned, commanded, if_live}

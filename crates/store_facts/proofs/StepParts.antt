@@ -10,7 +10,7 @@ use Rattle.obj_id.specs.declared.commands.Reply.TheVariants as reply
 use Rattle.obj_id.specs.declared.commands.Command.{Command}
 use Rattle.obj_id.specs.declared.commands.Command.TheVariants as command
 use Rattle.obj_id.specs.declared.refusals.Refusal.{Refusal}
-use Rattle.obj_id.specs.declared.refusals.Refusal.TheVariants.{Pending, DeviceFailed, TooMany, Full, Busy, Absent}
+use Rattle.obj_id.specs.declared.refusals.Refusal.TheVariants.{Pending, DeviceFailed, TooMany, Full, Busy}
 use Rattle.obj_id.specs.Ids.{same_id}
 use Rattle.private_store.specs.declared.inputs.Judged.{Judged}
 use Rattle.private_store.specs.declared.faults.Fault.{Fault}
@@ -226,7 +226,7 @@ module _ (x : Judged) where
 
   -- ---- room
 
-  record MakesRoom (store : Shape) (room : Room) : Type 0 where
+  pub record MakesRoom (store : Shape) (room : Room) : Type 0 where
     pub edits : (used : Option ObjectId) → Edits x used store room.shape
     pub refuses : (r : Refusal) → room.offset ≡ Err r → is_want r ≡ false
     pub sent : Evicts → AreSent room.sent

@@ -1,7 +1,7 @@
 """How far a change reaches, and what a command does to the table of copies: counts over the sources, no measure of time.
 
 - Look-ups of a copy, and searches for a place: how often a function of a row, with all that it calls, asks the map of copies, or the window
-  for a place. The walk goes by names, over the sources of row_copy, job_row and node_table; it counts both sides of a branch, so each line says
+  for a place. The walk goes by names, over the sources of row_copy, job_row, row_steps, room_commands and row_commands; it counts both sides of a branch, so each line says
   which calls it leaves out.
 - Files that name a command: those that a new command of its kind would have to name too, in all and by folder. Files that take apart or
   make what tells of a copy: those that a new part of it which travels would reach. Tests are left out.
@@ -26,7 +26,7 @@ from typing import NamedTuple
 from store_testing import ROOT
 
 CRATES = ROOT / "crates"
-ROW = ("row_copy", "job_row", "node_table")
+ROW = ("row_copy", "job_row", "row_steps", "room_commands", "row_commands")
 TESTS = re.compile(r"_tests/|^crates/(schedules|assertions)/")
 FUNCTION = re.compile(r"^( *)(?:pub(?:\(crate\))? )?fn (\w+)")
 OWNER = re.compile(r"^impl(?:<[^>]*>)? (?:\w+(?:<[^>]*>)? for )?(\w+)")
@@ -58,7 +58,7 @@ DECLARED, SPELLED = CRATES / "obj_id/src/commands.rt", "(?:Command|Word|FrameKin
 # the crates that a command goes through from its frame to its reply
 WAY = (
     "wire_frames", "session_engine", "session_threads", "shared_nodes", "node_steps", "node_housekeeping", "node_gate", "node_journal",
-    "node_core", "node_table", "job_row", "row_copy", "command_kinds", "obj_id",
+    "node_core", "row_commands", "room_commands", "row_steps", "job_row", "row_copy", "command_kinds", "obj_id",
 )
 # a pattern that takes all that is left
 OTHERS = re.compile(r"(?:Some\()?(?:_|[a-z]\w*)\)?")

@@ -115,17 +115,17 @@ FLOORS = (
         Definition("private_store", "rules.Directory", "directory_posts", "what the directory answers"),
     )),
     Floor("one command at the row of its job, and the tables that jobs share", (
-        Function("node_table", "get_command.rt", "get", "get, write, seal, ..", (
+        Function("room_commands", "get_command.rt", "get", "get, write, seal, ..", (
             Clause("ok", "RowStep", "the private step of the row's view"),
         ), ("Works::ask", "Window::place", "UseOrder::plan", "ObjectCopy::seal", "Pins::hold")),
-        Function("node_table", "chunks.rt", "chunk", "chunk, pull, ..", (
+        Function("row_commands", "chunks.rt", "chunk", "chunk, pull, ..", (
             Clause("ok", "RowStep", "the same of what arrives"),
         ), ("FetchIn::take_chunk",)),
         Function("spill_work", "lib.rt", "ask", "Works::ask", (Clause("ok", "AsksWork", "one work more in line"),)),
         Function("grants", "lib.rt", "grant", "Grants::grant", (Clause("ok", "with_grant", "one grant more"),)),
         Function("job_admission", "lib.rt", "admit", "Admissions::admit", (Clause("ok", "with_admitted", "one live job more"),)),
     ), (
-        Definition("node_table", "Shown", "RowStep", "the view takes the private step", ("view_step",)),
+        Definition("row_steps", "Shown", "RowStep", "the view takes the private step", ("view_step",)),
         Definition("private_store", "rules.Private", "view_step", "judge, step, fill in bytes", ("judge", "step", "outcome")),
         Definition("private_store", "rules.Step", "step", "what each input does to a store", ("commanded", "answer")),
         Definition("private_store", "rules.Grants", "with_grant", "the grants after a Grant"),

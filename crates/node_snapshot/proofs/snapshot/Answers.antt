@@ -2,10 +2,10 @@ use Rattle.std.proofs.Common.{sym, ap, map, ◌∙◌}
 use Rattle.std.specs.Option.{option_copied}
 use Rattle.grants.specs.Private.{as_given}
 use Rattle.grants.specs.Table.{given_by}
-use Rattle.node_table.proofs.ForCallers.{each_ok}
+use Rattle.room_commands.proofs.ForCallers.{each_ok}
 use Rattle.node_snapshot.proofs.ReplayStates.{row_told, without_row_told}
 use Rattle.node_snapshot.proofs.snapshot.Goals as goal
-use Rattle.node_table.specs.Beside.{beside_of, shape_of}
+use Rattle.row_steps.specs.Beside.{beside_of, shape_of}
 
 pub returns-in_default : goal.returns-in_default
 returns-in_default c view h begun =

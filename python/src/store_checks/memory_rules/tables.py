@@ -81,10 +81,10 @@ OURS: Dict[str, Dict[str, str]] = {
     "node_core/src/quotas.rt": {
         "self.admission.resize": "the admission",
     },
-    "node_table/src/begin_pull.rt": {
+    "room_commands/src/begin_pull.rt": {
         "messages.push": "a list of items",
     },
-    "node_table/src/create_command.rt": {
+    "room_commands/src/create_command.rt": {
         "messages.push": "a list of items",
     },
     "node_journal/src/gate.rt": {

@@ -7,7 +7,7 @@ use Rattle.private_store.specs.rules.Jobs.{same_job}
 use Rattle.private_store.specs.declared.schedules.Event.TheVariants as event
 use Rattle.job_admission.specs.Admissions.{admit_check}
 use Rattle.job_row.specs.Row.{Row, new_row}
-use Rattle.node_table.specs.Shown.{only}
+use Rattle.row_steps.specs.Shown.{only}
 use Rattle.node_core.specs.Hosted.{Hosted}
 use Rattle.node_core.specs.OneJob.{NodeStepOne}
 use Rattle.node_core.proofs.Admitting.{absent, admitted_hosted, admit_steps}

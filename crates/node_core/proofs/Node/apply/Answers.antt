@@ -2,7 +2,7 @@ use Rattle.std.proofs.Common.{◌≤◌, is_some, length, map, refl, sym, ap, su
 use Rattle.std.specs.Prelude.{IfOk}
 use Rattle.private_store.specs.declared.schedules.Event.TheVariants as event
 use Rattle.private_store.specs.declared.schedules.NodeEvent.TheVariants.{Own}
-use Rattle.node_table.specs.Outcomes.{row_given_of}
+use Rattle.row_steps.specs.Outcomes.{row_given_of}
 use Rattle.node_core.specs.declared.outcome.Note.{Note}
 use Rattle.node_core.specs.Foreseen.{most_messages, AreTakers}
 use Rattle.node_core.specs.GrantMoves.{moves_grants}

@@ -4,7 +4,7 @@ use Rattle.std.specs.Option.{option_copied_mut}
 use Rattle.std.proofs.lemmas.Map.Steps.{set_value_same}
 use Rattle.private_store.specs.rules.Jobs.{same_job}
 use Rattle.private_store.specs.declared.schedules.Event.TheVariants as event
-use Rattle.node_table.specs.Outcomes.{row_given_of}
+use Rattle.row_steps.specs.Outcomes.{row_given_of}
 use Rattle.node_core.specs.Calls.{takes_no_memory}
 use Rattle.node_core.specs.Hosted.{row_at, bytes_here}
 use Rattle.node_core.specs.OneJob.{NodeStepOne}

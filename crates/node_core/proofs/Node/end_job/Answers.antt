@@ -3,7 +3,7 @@ use Rattle.private_store.specs.declared.schedules.Event.TheVariants as event
 use Rattle.private_store.specs.declared.schedules.NodeEvent.TheVariants.{Own}
 use Rattle.private_store.specs.rules.Grants.{grants_sorted, grants_ended, is_given_by}
 use Rattle.job_admission.specs.Admissions.{live_at}
-use Rattle.node_table.specs.Outcomes.{row_given_of}
+use Rattle.row_steps.specs.Outcomes.{row_given_of}
 use Rattle.node_core.specs.declared.outcome.Note.{Note}
 use Rattle.node_core.specs.Foreseen.{grantees_in, AreTakers}
 use Rattle.node_core.specs.Hosted.{Hosted, IsHosted}

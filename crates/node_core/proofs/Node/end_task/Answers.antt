@@ -15,8 +15,8 @@ use Rattle.private_store.specs.rules.Jobs.{same_job}
 use Rattle.grants.specs.Table.{AreGrants}
 use Rattle.grants.proofs.ForCallers.{left_are_grants}
 use Rattle.job_row.specs.Checks.{end_task_check}
-use Rattle.node_table.specs.Erased.{keys_of}
-use Rattle.node_table.specs.Shown.{only, RowStep}
+use Rattle.row_steps.specs.Erased.{keys_of}
+use Rattle.row_steps.specs.Shown.{only, RowStep}
 use Rattle.node_core.specs.declared.outcome.Note.{Note}
 use Rattle.node_core.specs.Foreseen.{most_by_command, grantees_in, AreTakers}
 use Rattle.node_core.specs.Hosted.{Hosted, row_at}
@@ -28,7 +28,7 @@ use Rattle.node_core.proofs.Small.{grantees_noted}
 use Rattle.node_core.proofs.TaskEnds.{task_refused, task_unrefused, task_steps}
 use Rattle.node_core.proofs.Views.{node_of}
 use Rattle.node_core.proofs.Node.end_task.Goals as goal
-use Rattle.node_table.specs.Beside.{beside_after}
+use Rattle.row_steps.specs.Beside.{beside_after}
 
 pub returns-in-Some-clause-ok : goal.returns-in-Some-clause-ok
 returns-in-Some-clause-ok c =

@@ -6,8 +6,8 @@ use Rattle.obj_id.specs.declared.commands.Reply.TheVariants as reply
 use Rattle.obj_id.specs.declared.refusals.Refusal.TheVariants.{Stale}
 use Rattle.private_store.specs.rules.Jobs.{same_job}
 use Rattle.private_store.specs.declared.schedules.Event.TheVariants as event
-use Rattle.node_table.specs.Outcomes.{row_given_of}
-use Rattle.node_table.specs.Shown.{only}
+use Rattle.row_steps.specs.Outcomes.{row_given_of}
+use Rattle.row_steps.specs.Shown.{only}
 use Rattle.private_store.specs.rules.Contents.{judge}
 use Rattle.node_core.specs.Hosted.{Hosted, Shows}
 use Rattle.node_core.specs.OneJob.{event_input_of, NodeStepOne}

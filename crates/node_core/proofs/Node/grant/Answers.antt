@@ -11,8 +11,8 @@ use Rattle.private_store.specs.rules.Grants.{StandingGrant, new_grant, with_gran
 use Rattle.private_store.specs.rules.Jobs.{same_job}
 use Rattle.grants.specs.Table.{AreGrants}
 use Rattle.grants.proofs.ForCallers.{made_for}
-use Rattle.node_table.specs.Outcomes.{row_given_of}
-use Rattle.node_table.specs.Shown.{only}
+use Rattle.row_steps.specs.Outcomes.{row_given_of}
+use Rattle.row_steps.specs.Shown.{only}
 use Rattle.node_core.specs.declared.outcome.Note.{Note}
 use Rattle.node_core.specs.Foreseen.{AreTakers}
 use Rattle.node_core.specs.Granting.{grant_refusal}

@@ -5,7 +5,7 @@ use Rattle.obj_id.specs.declared.refusals.Refusal.TheVariants.{Stale}
 use Rattle.private_store.specs.declared.schedules.NodeEvent.TheVariants.{Arrive}
 use Rattle.store_facts.proofs.Tests.{true_false}
 use Rattle.job_admission.specs.Admissions.{live_at}
-use Rattle.node_table.specs.Shown.{only}
+use Rattle.row_steps.specs.Shown.{only}
 use Rattle.node_core.specs.Hosted.{Hosted}
 use Rattle.node_core.specs.Outcomes.{with_no_notes}
 use Rattle.node_core.specs.Steps.{NodeStep}

@@ -4,7 +4,7 @@ use Rattle.obj_id.specs.declared.commands.Command.TheVariants as command
 use Rattle.obj_id.specs.declared.commands.Reply.TheVariants as reply
 use Rattle.obj_id.specs.declared.refusals.Refusal.TheVariants.{NotAdmitted}
 use Rattle.private_store.specs.declared.schedules.Event.TheVariants as event
-use Rattle.node_table.specs.Shown.{only}
+use Rattle.row_steps.specs.Shown.{only}
 use Rattle.node_core.specs.Granted.{granted_here}
 use Rattle.node_core.specs.OneJob.{NodeStepOne}
 use Rattle.node_core.proofs.Calling.{always_err}

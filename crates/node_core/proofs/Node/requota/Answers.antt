@@ -9,7 +9,7 @@ use Rattle.private_store.specs.rules.Jobs.{same_job}
 use Rattle.private_store.specs.declared.schedules.Event.TheVariants as event
 use Rattle.store_facts.proofs.Tests.{none_some}
 use Rattle.job_admission.specs.Admissions.{resize_check}
-use Rattle.node_table.specs.Shown.{only}
+use Rattle.row_steps.specs.Shown.{only}
 use Rattle.node_core.specs.Hosted.{Hosted, Shows}
 use Rattle.node_core.specs.OneJob.{NodeStepOne}
 use Rattle.node_core.specs.Quotas.{requota_refusal}

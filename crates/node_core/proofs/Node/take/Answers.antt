@@ -3,7 +3,7 @@ use Rattle.std.specs.Prelude.{IfSome}
 use Rattle.std.specs.Option.{option_copied, option_map_or}
 use Rattle.obj_id.specs.declared.commands.Reply.TheVariants as reply
 use Rattle.private_store.specs.declared.schedules.Event.TheVariants as event
-use Rattle.node_table.specs.Shown.{only}
+use Rattle.row_steps.specs.Shown.{only}
 use Rattle.node_core.specs.MemoryLast.{IsFront}
 use Rattle.node_core.specs.OneJob.{NodeStepOne}
 use Rattle.node_core.proofs.Calling.{always_err}

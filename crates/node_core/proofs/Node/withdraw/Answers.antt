@@ -12,7 +12,7 @@ use Rattle.private_store.specs.rules.Grants.{StandingGrant, grants_ended, grants
 use Rattle.private_store.specs.rules.Jobs.{same_job}
 use Rattle.grants.specs.Table.{AreGrants, is_first}
 use Rattle.grants.proofs.ForCallers.{left_are_grants, few_end}
-use Rattle.node_table.specs.Outcomes.{row_given_of}
+use Rattle.row_steps.specs.Outcomes.{row_given_of}
 use Rattle.node_core.specs.declared.outcome.Note.{Note}
 use Rattle.node_core.specs.Foreseen.{grantees_in, AreTakers}
 use Rattle.node_core.specs.Hosted.{Hosted, bytes_here}

@@ -6,10 +6,10 @@ use Rattle.private_store.specs.declared.inputs.Input.TheVariants as input
 use Rattle.private_store.specs.declared.inputs.Judged.TheVariants as judged
 use Rattle.private_store.specs.rules.Contents.{Contents, judge, source_in}
 use Rattle.private_store.specs.rules.Grants.{StandingGrant}
-use Rattle.node_table.specs.Outcomes.{row_given_of}
-use Rattle.node_table.specs.Shown.{seen, IsShown, RowStep}
+use Rattle.row_steps.specs.Outcomes.{row_given_of}
+use Rattle.row_steps.specs.Shown.{seen, IsShown, RowStep}
 use Rattle.node_core.proofs.arrivals.deliver.Goals as goal
-use Rattle.node_table.specs.Beside.{beside_of}
+use Rattle.row_steps.specs.Beside.{beside_of}
 
 pub returns-in-Located-clause-ok : goal.returns-in-Located-clause-ok
 returns-in-Located-clause-ok c grants bytes contents shown =

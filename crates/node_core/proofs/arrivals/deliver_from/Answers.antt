@@ -4,10 +4,10 @@ use Rattle.obj_id.specs.declared.messages.PeerMessage.TheVariants as peer
 use Rattle.private_store.specs.rules.Contents.{chunk_verdict, judge}
 use Rattle.private_store.specs.declared.inputs.Input.TheVariants as input
 use Rattle.private_store.specs.declared.inputs.Judged.TheVariants as judged
-use Rattle.node_table.specs.Outcomes.{row_given_of}
-use Rattle.node_table.specs.Shown.{seen, RowStep}
+use Rattle.row_steps.specs.Outcomes.{row_given_of}
+use Rattle.row_steps.specs.Shown.{seen, RowStep}
 use Rattle.node_core.proofs.arrivals.deliver_from.Goals as goal
-use Rattle.node_table.specs.Beside.{beside_of}
+use Rattle.row_steps.specs.Beside.{beside_of}
 
 pub returns-in_ok-outcome-in-Pull-clause-ok : goal.returns-in_ok-outcome-in-Pull-clause-ok
 returns-in_ok-outcome-in-Pull-clause-ok c grants bytes contents shown =

@@ -4,16 +4,16 @@ use Rattle.std.proofs.lemmas.Bool.{eqb-true}
 use Rattle.obj_id.specs.declared.commands.Command.TheVariants as command
 use Rattle.private_store.specs.declared.inputs.Input.TheVariants as input
 use Rattle.store_facts.proofs.Tests.{true_false}
-use Rattle.node_table.specs.Asked.{HasAsked}
-use Rattle.node_table.specs.Outcomes.{row_given_of}
-use Rattle.node_table.specs.Shown.{IsShown, RowStep}
-use Rattle.node_table.proofs.ForCallers.{each_err}
+use Rattle.room_commands.specs.Asked.{HasAsked}
+use Rattle.row_steps.specs.Outcomes.{row_given_of}
+use Rattle.row_steps.specs.Shown.{IsShown, RowStep}
+use Rattle.room_commands.proofs.ForCallers.{each_err}
 use Rattle.node_core.specs.Calls.{is_own, is_plain}
 use Rattle.node_core.specs.MemoryLast.{IsRoomDue, IsUnrefused}
 use Rattle.node_core.proofs.Calling.{if_ok, always_ok, always_err, both_err, no_err, not_granted, plain_waits_not}
 use Rattle.node_core.proofs.Lines.{asked_nothing}
 use Rattle.node_core.proofs.calls.carry_out.Goals as goal
-use Rattle.node_table.specs.Beside.{beside_of}
+use Rattle.row_steps.specs.Beside.{beside_of}
 
 pub returns-then-not-is_own-clause-ok : goal.returns-then-not-is_own-clause-ok
 returns-then-not-is_own-clause-ok c grants bytes contents own h =

@@ -1,12 +1,12 @@
 use Rattle.std.proofs.Common.{◌==◌, sym, ap, subst, ◌∙◌}
 use Rattle.obj_id.specs.declared.commands.Command.TheVariants as command
 use Rattle.private_store.specs.declared.inputs.Input.TheVariants as input
-use Rattle.node_table.specs.Outcomes.{row_given_of}
-use Rattle.node_table.specs.Shown.{IsShown, only, RowStep}
+use Rattle.row_steps.specs.Outcomes.{row_given_of}
+use Rattle.row_steps.specs.Shown.{IsShown, only, RowStep}
 use Rattle.node_core.specs.Calls.{is_own}
 use Rattle.node_core.proofs.Calling.{if_ok}
 use Rattle.node_core.proofs.calls.carry_out_without_work.Goals as goal
-use Rattle.node_table.specs.Beside.{beside_of}
+use Rattle.row_steps.specs.Beside.{beside_of}
 
 pub returns-in_ok-seal-in-Seal-clause-ok : goal.returns-in_ok-seal-in-Seal-clause-ok
 returns-in_ok-seal-in-Seal-clause-ok c job owned grants bytes contents own h =

@@ -1,6 +1,6 @@
 use Rattle.std.proofs.Common.{eq-eqb, sym, ap, subst, ◌∙◌}
 use Rattle.obj_id.specs.declared.ids.JobNo.{JobNo}
-use Rattle.node_table.specs.Outcomes.{row_given_of}
+use Rattle.row_steps.specs.Outcomes.{row_given_of}
 use Rattle.node_core.specs.Granting.{TakesGrant}
 use Rattle.node_core.proofs.GrantCommands.{foreign_is, own_given, handed_on}
 use Rattle.node_core.proofs.granting.give.Goals as goal

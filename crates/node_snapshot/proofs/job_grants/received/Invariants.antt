@@ -3,7 +3,7 @@ use Rattle.obj_id.specs.declared.ids.ObjectId.{ObjectId}
 use Rattle.grants.specs.Private.{with_taken}
 use Rattle.node_core.specs.Hosted.{bytes_here}
 use Rattle.node_snapshot.proofs.job_grants.received.Given as goal
-use Rattle.node_table.specs.Beside.{received_by}
+use Rattle.row_steps.specs.Beside.{received_by}
 
 -- those so far and those of what is left are all
 abbrev pub invariant-loop-grant : goal.invariant-loop-grant

@@ -1,8 +1,0 @@
-use Rattle.std.proofs.Common.{ap, ◌∙◌, map}
-use Rattle.row_copy.specs.Usages.{own_item_of}
-use Rattle.node_table.proofs.Telling.{list_done}
-use Rattle.node_table.proofs.listing.list.Goals as goal
-
-pub returns : goal.returns
-returns c node session beside contents h granted =
-    list_done node c.args.row.now beside contents session h c.in_ok-own.own c.args.granted (c.in_ok-own.ensures.items ∙ ap (map own_item_of) c.copies.ensures.copies) granted

@@ -1,6 +1,0 @@
-use Rattle.std.proofs.Common.{◌∙◌}
-use Rattle.node_table.proofs.Quotas.{check-is}
-use Rattle.node_table.proofs.quota_change.requota_check.Goals as goal
-
-pub returns-clause-store : goal.returns-clause-store
-returns-clause-store c beside contents h = c.quota_refusal.ensures ∙ check-is c.args.row.now beside contents h c.copies-copies.ensures.placed c.args.quota

@@ -1,0 +1,4 @@
+pub mod RoomPlans
+pub mod MadeRooms
+pub mod Asked
+pub mod Serving

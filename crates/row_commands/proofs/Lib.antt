@@ -1,0 +1,24 @@
+mod Besides
+mod Writing
+mod Scoping
+mod Sealing
+mod Settling
+mod Releasing
+mod Leaving
+mod Walking
+mod LeavingEach
+mod Answering
+mod Handing
+mod Quotas
+mod EndingKeys
+mod Lending
+mod MemoryLate
+mod Overwriting
+mod Unfetching
+mod Gaps
+mod EndingTasks
+mod Noted
+mod Notes
+mod Peeking
+mod Granting
+pub mod ForCallers

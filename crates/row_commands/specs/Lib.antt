@@ -1,0 +1,4 @@
+pub mod EndedWorks
+pub mod Handed
+pub mod Notes
+pub mod Granting
