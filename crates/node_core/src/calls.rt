@@ -13,8 +13,8 @@ use bytes::Bytes;
 use command_kinds::{Carrier, CommandKind, Outline, Subject};
 use job_row::JobRow;
 use memory_growth::OutOfMemory;
-use row_steps::RowOutcome;
 use obj_id::{Command, JobNo, Refusal, Reply};
+use row_steps::RowOutcome;
 use spill_work::Works;
 use std::alloc::Global;
 

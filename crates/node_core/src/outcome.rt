@@ -8,9 +8,9 @@ ghost use Rattle.node_core.specs.Outcomes.{node_given_of, input_noted, end_noted
 use bytes::Bytes;
 use grants::StandingGrant;
 use memory_growth::lists;
-use row_steps::Erase;
 use obj_id::{Endpoint, ItemList, JobNo, Message, Refusal, Reply};
 use private_store::Judged;
+use row_steps::Erase;
 use std::alloc::Global;
 
 /// What an event was to the grantee of a grant, without contents.

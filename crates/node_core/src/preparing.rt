@@ -5,8 +5,8 @@ use crate::Node;
 use bytes::Bytes;
 use hashed_bytes::Hashed;
 use job_row::{JobRow, Prepared};
-use row_commands::may_want;
 use obj_id::{ChunkIndex, Command, FetchNo, JobNo, NodeNo, ObjectId};
+use row_commands::may_want;
 
 impl Node {
     /// Keeps what was prepared for the next step of the job, and gives back what was kept; or what it is given, if the job isn't

@@ -68,9 +68,17 @@ impl<E: Drop> Given<E> {
         match lists::push(&mut self.steps, step) {
             Ok(()) => {
                 self.keys = self.keys.saturating_add(keys);
-                Added { left, wait: true, lost: 0 }
+                Added {
+                    left,
+                    wait: true,
+                    lost: 0,
+                }
             }
-            Err(_) => Added { left, wait: self.keys > 0, lost: keys },
+            Err(_) => Added {
+                left,
+                wait: self.keys > 0,
+                lost: keys,
+            },
         }
     }
 

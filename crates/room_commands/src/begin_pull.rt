@@ -29,13 +29,13 @@ ghost use Rattle.row_steps.specs.Beside.{SharedTables, beside_of, shape_of};
 
 use crate::create_command::removals;
 use crate::get_command::{pending, refuse};
-use row_steps::RowOutcome;
 use crate::room::{MadeRoom, room_for};
 use fetch_core::{Stage, all_chunks};
 use job_row::{JobRow, Placement};
 use memory_growth::OutOfMemory;
 use obj_id::{Endpoint, ItemList, Message, ObjectId, PeerMessage};
 use row_copy::{Awaited, RowCopy};
+use row_steps::RowOutcome;
 use spill_work::Works;
 use std::alloc::Global;
 

@@ -17,11 +17,11 @@ ghost use Rattle.row_steps.specs.Shown.{IsShown, RowStep};
 ghost use Rattle.row_steps.specs.Beside.{SharedTables, beside_of, shape_of};
 
 use crate::get_command::refuse;
-use row_steps::{Erase, RowOutcome};
 use crate::room::{MadeRoom, room_for};
 use job_row::{Copies, JobRow, Placement};
 use memory_growth::OutOfMemory;
 use obj_id::{DirectoryMessage, Endpoint, ItemList, Kind, Message, ObjectId, Reply};
+use row_steps::{Erase, RowOutcome};
 use spill_work::Works;
 use std::alloc::Global;
 

@@ -17,12 +17,12 @@ ghost use Rattle.row_steps.specs.Shown.{IsShown, RowStep};
 ghost use Rattle.row_steps.specs.Beside.{beside_of};
 
 use crate::get_command::refuse;
-use row_steps::RowOutcome;
 use crate::restore::restore;
 use job_row::JobRow;
 use memory_growth::OutOfMemory;
 use obj_id::ObjectId;
 use row_copy::Mark;
+use row_steps::RowOutcome;
 use spill_work::Works;
 use std::alloc::Global;
 

@@ -22,7 +22,6 @@ ghost use Rattle.row_steps.specs.Beside.{SharedTables, beside_of};
 
 use crate::get_away::get_away;
 use crate::get_fetching::get_fetching;
-use row_steps::{Erase, RowOutcome};
 use bytes::Bytes;
 use job_row::JobRow;
 use memory_growth::OutOfMemory;
@@ -30,6 +29,7 @@ use obj_id::{
     CopyState, DirectoryMessage, Endpoint, Failure, FetchNo, ItemList, Message, ObjectId, Refusal,
     Reply,
 };
+use row_steps::{Erase, RowOutcome};
 use spill_work::Works;
 use std::alloc::Global;
 

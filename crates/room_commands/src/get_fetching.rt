@@ -25,13 +25,13 @@ ghost use Rattle.row_steps.specs.Beside.{SharedTables, beside_of};
 
 use crate::begin_pull::begin_pull;
 use crate::get_command::{locate, pending, refuse};
-use row_steps::RowOutcome;
 use fetch_core::{FetchIn, Stage};
 use job_row::JobRow;
 use memory_growth::{OutOfMemory, lists};
 use obj_id::{Endpoint, ItemList, Message, NodeNo, ObjectId, PeerMessage, Refusal, Reply};
 use private_store::FetchFault;
 use row_copy::RowCopy;
+use row_steps::RowOutcome;
 use spill_work::Works;
 use std::alloc::Global;
 

@@ -25,13 +25,13 @@ ghost use Rattle.row_steps.specs.Shown.{seen, IsShown, RowStep};
 ghost use Rattle.room_commands.specs.declared.pulls.PullAnswer.TheVariants as pull;
 ghost use Rattle.row_steps.specs.Beside.{SharedTables, beside_of};
 
-use row_steps::{Erase, RowOutcome};
 use crate::restore::restore;
 use fetch_core::chunks_asked;
 use job_row::{Copies, JobRow};
 use memory_growth::{OutOfMemory, lists};
 use obj_id::{CopyState, Digest, Endpoint, ItemList, Message, ObjectId, PeerMessage, Reply};
 use row_copy::RowCopy;
+use row_steps::{Erase, RowOutcome};
 use spill_work::Works;
 use std::alloc::Global;
 

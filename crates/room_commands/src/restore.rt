@@ -28,13 +28,13 @@ ghost use Rattle.row_steps.specs.Beside.{beside_of, shape_of};
 
 use crate::create_command::removals;
 use crate::get_command::{pending, refuse};
-use row_steps::RowOutcome;
 use crate::room::{MadeRoom, RoomPlan, plan_room, room_by};
 use job_row::{JobRow, Placement};
 use memory_growth::OutOfMemory;
 use obj_id::limits::MOST_WORKS;
 use obj_id::{Failure, JobNo, ObjectId, Refusal, WorkKind};
 use row_copy::Awaited;
+use row_steps::RowOutcome;
 use spill_work::Works;
 use std::alloc::Global;
 

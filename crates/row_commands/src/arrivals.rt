@@ -9,11 +9,11 @@ ghost use Rattle.row_steps.specs.Outcomes.{row_given_of};
 ghost use Rattle.row_steps.specs.Shown.{IsShown, RowStep, only};
 ghost use Rattle.row_steps.specs.Beside.{SharedTables};
 
-use row_steps::{Erase, RowOutcome};
 use job_row::JobRow;
 use memory_growth::OutOfMemory;
 use obj_id::{DirectoryMessage, FetchNo, Location, NodeNo, ObjectId, Reply};
 use private_store::FetchFault;
+use row_steps::{Erase, RowOutcome};
 use std::alloc::Global;
 
 /// The directory's answer to a fetch of this number: the first entry of another node is its source, and without one

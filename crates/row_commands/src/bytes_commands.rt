@@ -14,12 +14,12 @@ ghost use Rattle.job_row.specs.Row.{copies_of};
 ghost use Rattle.row_steps.specs.Shown.{IsShown, IsLent, RowStep, only};
 ghost use Rattle.row_steps.specs.Beside.{SharedTables};
 
-use row_steps::{Erase, RowOutcome};
 use bytes::Bytes;
 use job_row::JobRow;
 use memory_growth::OutOfMemory;
 use obj_id::{DirectoryMessage, Endpoint, Location, Message, ObjectId, Refusal, Reply};
 use row_copy::Mark;
+use row_steps::{Erase, RowOutcome};
 use std::alloc::Global;
 
 /// Write: the bytes are replaced from the offset on, while the copy is being written. `BadSize` for

@@ -17,7 +17,6 @@ ghost use Rattle.row_steps.specs.Outcomes.{row_given_of};
 ghost use Rattle.row_steps.specs.Shown.{seen, IsShown, RowStep};
 ghost use Rattle.row_steps.specs.Beside.{SharedTables};
 
-use row_steps::{Erase, RowOutcome};
 use hashed_bytes::digest_by;
 use job_row::JobRow;
 use memory_growth::OutOfMemory;
@@ -27,6 +26,7 @@ use obj_id::{
 };
 use private_store::{ChunkVerdict, FetchFault};
 use row_copy::Mark;
+use row_steps::{Erase, RowOutcome};
 use std::alloc::Global;
 
 /// What a chunk gave, and what it was to the fetch that it names.

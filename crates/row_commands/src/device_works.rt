@@ -27,7 +27,6 @@ ghost use Rattle.row_copy.specs.Usages.{is_spilling};
 ghost use Rattle.row_steps.specs.Beside.{SharedTables, beside_of};
 ghost use Rattle.row_commands.specs.EndedWorks.{ended_row};
 
-use row_steps::RowOutcome;
 use bytes::Bytes;
 use job_row::JobRow;
 use memory_growth::OutOfMemory;
@@ -36,6 +35,7 @@ use obj_id::{
 };
 use private_store::{Fault, WorkVerdict};
 use row_copy::RowCopy;
+use row_steps::RowOutcome;
 use spill_work::{IoRequest, Works};
 use std::alloc::Global;
 

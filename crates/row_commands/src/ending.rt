@@ -5,10 +5,10 @@ ghost use Rattle.job_row.specs.Ending.{key_at, keys_backed};
 ghost use Rattle.row_steps.specs.Erased.{keys_of};
 
 use crate::hold_commands::push_key;
-use row_steps::Erase;
 use job_row::JobRow;
 use memory_growth::{OutOfMemory, lists};
 use obj_id::{DeviceKey, ItemList, ObjectId, OwnItem};
+use row_steps::Erase;
 use std::alloc::Global;
 
 /// The device keys of its backed copies, in order of id. Takes a walk over the copies, a sort, and

@@ -17,10 +17,10 @@ ghost use Rattle.row_steps.specs.Outcomes.{row_given_of};
 ghost use Rattle.row_steps.specs.Shown.{IsShown, RowStep};
 ghost use Rattle.row_steps.specs.Beside.{beside_of};
 
-use row_steps::RowOutcome;
 use job_row::{JobRow, Lent};
 use obj_id::{ItemList, JobNo, ObjectId, Refusal, Reply};
 use row_copy::Mark;
+use row_steps::RowOutcome;
 use std::alloc::Global;
 
 /// Why the job's own object can't be granted to the target, if this is what the table of grants says: `BadId`,

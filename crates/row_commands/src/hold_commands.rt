@@ -10,11 +10,11 @@ ghost use Rattle.row_copy.specs.Usages.{doomed_one};
 ghost use Rattle.row_steps.specs.Shown.{IsShown, RowStep};
 ghost use Rattle.row_steps.specs.Beside.{SharedTables};
 
-use row_steps::{Erase, RowOutcome};
 use job_row::JobRow;
 use memory_growth::{OutOfMemory, lists};
 use obj_id::{DeviceKey, ItemList, ObjectId, OwnItem, Reply};
 use row_copy::Mark;
+use row_steps::{Erase, RowOutcome};
 use std::alloc::Global;
 
 /// Release: one hold of the session on the copy less, which is removed if it is doomed and nothing else keeps it.

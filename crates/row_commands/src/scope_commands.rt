@@ -9,11 +9,11 @@ ghost use Rattle.row_steps.specs.Outcomes.{row_given_of};
 ghost use Rattle.row_steps.specs.Shown.{IsShown, RowStep};
 ghost use Rattle.row_steps.specs.Beside.{SharedTables};
 
-use row_steps::RowOutcome;
 use job_row::JobRow;
 use memory_growth::OutOfMemory;
 use obj_id::{Failure, ObjectId, Refusal, Reply, TaskNo};
 use row_copy::Mark;
+use row_steps::RowOutcome;
 use std::alloc::Global;
 
 /// Unpin: the owner task keeps its primary no longer, which is doomed unless a task borrows it. `Absent`, `NotOwner`

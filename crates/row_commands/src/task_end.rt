@@ -15,13 +15,13 @@ ghost use Rattle.row_steps.specs.Beside.{SharedTables, beside_after};
 
 use crate::ending::device_key;
 use crate::hold_commands::push_key;
-use row_steps::{Erase, RowOutcome};
 use job_row::JobRow;
 use memory_growth::{OutOfMemory, lists};
 use obj_id::{
     DeviceKey, DirectoryMessage, Endpoint, ItemList, Message, ObjectId, OwnItem, Reply, TaskNo,
 };
 use row_copy::Mark;
+use row_steps::{Erase, RowOutcome};
 use std::alloc::Global;
 
 /// EndTask: the task is remembered, the grants of its own objects end, its copies are doomed, and its borrows given
