@@ -5,8 +5,8 @@ test:
 
 # The gate: every proof from nothing, the must-fail edits, the tests, and the programs with what they print. A crate has no
 # links, so the examples and the frames lie twice; that they are the same is looked at first. Checks run side by side, one for each
-# processor if there are 4.5 GB for each. By itself rt ci goes by how much it thinks a crate may need. Of node_table that is nearly twice
-# what any crate takes, so that crate, on which most others stand, would wait until hardly anything else runs.
+# processor if there are 4.5 GB for each. By itself rt ci goes by how much it thinks a crate may need. Of a large one that was nearly twice
+# what any crate takes, so it, on which most others stand, waited until hardly anything else ran.
 CHECKS = $(shell awk -v most=$$(nproc) '/^MemAvailable/ { n = int($$2 / 4500000); print n < 1 ? 1 : n < most ? n : most }' /proc/meminfo)
 gate:
 	@command -v rt > /dev/null || { echo "make gate needs the Rattle kit, with rt on the path; make test runs what needs no proof" >&2; exit 2; }
