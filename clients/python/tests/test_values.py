@@ -6,6 +6,7 @@ import array
 import collections
 import importlib
 import importlib.util
+import itertools
 import os
 import pickle
 import struct
@@ -20,9 +21,11 @@ from unittest import mock
 from support import PATIENCE, ROOT, Server, ServerOfAll, key
 
 import store_client
-from store_client import Full, ObjectId, Pool, Task, encoding, putting
+from store_client import Full, ObjectId, Pool, State, Task, encoding, putting
 from store_client.encoding import Manifest, decode_array, decode_value, encode_array, encode_value
+from store_client.frames import Command
 from store_client.requests import Pieces
+from store_client.stream import Stream
 
 try:
     import numpy
@@ -327,6 +330,23 @@ class Stored(ServerOfAll):
             used.clear()
             self.assertEqual(pool.get_value(id), bytes(2 * SMALL_WINDOW))
             self.assertGreaterEqual(len(set(used)), 2)
+        pool.delete_value(id)
+
+    def test_parts_on_the_device_are_brought_back_one_after_another(self) -> None:
+        """At once each would take the room that another has been brought back to, before that was read."""
+        pool, exchange = self.connect_pool(4), Stream.exchange
+        asked: List[ObjectId] = []
+        id = pool.put_value(bytes(3 * SMALL_WINDOW))
+        away = [item.id for item in pool.list()[0] if item.state is State.AWAY]
+        self.assertGreater(len(away), 3)
+
+        def noted(stream: Stream, requests: Any, end: Any) -> Any:
+            asked.extend(request.id for request in requests if request.command is Command.GET and request.id in away)
+            return exchange(stream, requests, end)
+
+        with mock.patch.object(Stream, "exchange", noted):
+            self.assertEqual(pool.get_value(id), bytes(3 * SMALL_WINDOW))
+        self.assertEqual(sorted(part for part, _ in itertools.groupby(asked)), sorted(away))
         pool.delete_value(id)
 
     def test_the_parts_end_with_their_task(self) -> None:

@@ -3,19 +3,22 @@
 from __future__ import annotations
 
 import contextlib
+import heapq
 import os
+import random
 import threading
 import time
 import unittest
 from typing import Any, Callable, List, Optional, Sequence, Union
 from unittest import mock
 
-from support import PATIENCE, Script, Server, WithServer, in_child
+from support import PATIENCE, Script, Server, ServerOfAll, WithServer, device_at_rest, in_child
 
 import store_client
-from store_client import Absent, Exists, NotGranted, NotSealed, ObjectId, Pending, State, Task, steps
+from store_client import Absent, Exists, NotGranted, NotSealed, ObjectId, Pending, State, Task, finding, steps
 from store_client.frames import Command, Reply, frame, numbers
-from store_client.requests import Answer, Repeated, Request
+from store_client.requests import Answer, Repeated, Request, Requests
+from store_client.steps import Ask, Rest, Steps, go_on
 from store_client.stream import Stream
 from store_testing.waiting import until
 
@@ -354,6 +357,55 @@ class Many(Waiting):
         self.assertEqual((seen, self.copies(self.store)), ([], 0))
 
 
+class Rivals(ServerOfAll):
+    """Two sessions of job 3 get what is on the device. There is room for one object: the look of one takes away what has come for the other."""
+
+    def setUp(self) -> None:
+        self.stores = [self.connect(3), self.connect(3)]
+        self.ids = [store.put(bytes(144)) for store in self.stores]
+        self.now = 0.0
+
+    def rest_of(self, number: int, search: finding.Search, get: Steps[None]) -> Optional[float]:
+        """Goes on with one get up to its next pause, which is so long. None if it has got the object; then that is let go."""
+        # the device does between two looks all that it was asked for, and nothing in their midst
+        until(lambda: not self.stores[number].usage().works, "the device has done it", PATIENCE)
+        with device_at_rest(self.server):
+            effect = go_on(get)
+            while isinstance(effect, Ask):
+                effect = go_on(get, self.stores[number]._exchange(effect.requests, None, effect.last))
+        if isinstance(effect, Rest):
+            return effect.seconds
+        self.assertIsNone(search.refusal)
+        self.stores[number].release(search.id)
+        return None
+
+    def seconds_of(self, find: Callable[[Requests, finding.Search], Steps[None]]) -> float:
+        """How long it takes until both have got theirs, by a clock that goes on in pauses alone. One begins in the first pause of the other."""
+        began, due = self.now, [(self.now, 0), (self.now + 0.0005, 1)]
+        searches = [finding.Search(store._requests, id) for store, id in zip(self.stores, self.ids)]
+        gets = [find(store._requests, search) for store, search in zip(self.stores, searches)]
+        while due and self.now < began + 5:
+            self.now, number = heapq.heappop(due)
+            rest = self.rest_of(number, searches[number], gets[number])
+            if rest is not None:
+                heapq.heappush(due, (self.now + rest, number))
+        return self.now - began
+
+    def test_both_get_it_soon(self) -> None:
+        def find(requests: Requests, search: finding.Search) -> Steps[None]:
+            return finding.find(requests, [search], 1, steps.Deadline(1000))
+
+        clock = mock.Mock(monotonic=lambda: self.now)
+        for one in (finding.find_what_is_there, find):
+            for lots in range(10):
+                # which takes the room of both
+                other = self.stores[0].put(bytes(144))
+                with self.subTest(one=one, lots=lots), mock.patch.object(random, "random", random.Random(lots).random):
+                    with mock.patch.object(steps, "time", clock), mock.patch.object(finding, "time", clock):
+                        self.assertLess(self.seconds_of(one), 0.5)
+                self.stores[0].delete(other)
+
+
 class Pause(unittest.TestCase):
     def test_it_is_a_small_part_of_what_was_waited(self) -> None:
         now = 100.0
@@ -365,6 +417,21 @@ class Pause(unittest.TestCase):
             pauses.restart()
             self.assertEqual((lengths, pauses.length), ([0.001, 0.001, 0.01, 0.031, 0.2], 0.001))
             self.assertAlmostEqual(steps.Pauses(steps.Deadline(0.0005)).next().seconds, 0.0005)
+
+    def test_of_what_is_on_its_way_it_is_drawn_by_lot(self) -> None:
+        now = 100.0
+        with mock.patch.object(time, "monotonic", lambda: now):
+            pauses = steps.Pauses(steps.Deadline(None))
+            now = 110.0
+            self.assertEqual([pauses.next().seconds for _ in range(3)], [0.2] * 3)
+            pauses.is_moving = True
+            lots = [pauses.next().seconds for _ in range(1000)]
+            pauses.is_restored = True
+            shorter = [pauses.next().seconds for _ in range(1000)]
+        for longest, drawn in ((0.2, lots), (0.02, shorter)):
+            self.assertTrue(all(0 <= seconds <= longest for seconds in drawn))
+            self.assertLess(min(drawn), longest / 10)
+            self.assertGreater(max(drawn), longest * 9 / 10)
 
     def test_who_is_told_of_most_looks_a_second_apart_at_most(self) -> None:
         now = 100.0

@@ -80,6 +80,8 @@ class Search:
         self._phase = _Phase.UNKNOWN
         self._reminder = _FIRST_REMINDER
         self._remind_at = 0.0
+        # whether it was seen at this node, sealed: what of that is pending is on the device
+        self._is_at_node = False
         self.name = id.to_bytes()
         #: until when a List tells whether to look here, by the monotonic clock: it says nothing of other nodes
         self.listed_until = 0.0
@@ -109,6 +111,11 @@ class Search:
     def is_moving(self) -> bool:
         """Whether it is on its way."""
         return self._phase is _Phase.UNDER_WAY
+
+    @property
+    def is_restored(self) -> bool:
+        """Whether it is on its way from this node's own device, or waits until that has made room."""
+        return self.is_moving and self._is_at_node
 
     @property
     def is_told_of(self) -> bool:
@@ -160,6 +167,7 @@ class Search:
             return
         if asked[0].name == "read":
             # a copy that is no longer being fetched is here, or being restored, or gone: a Get tells
+            self._is_at_node = not isinstance(answers[0], (Absent, NotSealed))
             if not isinstance(answers[0], NotSealed):
                 self._phase = _Phase.ENTERED
             return
@@ -217,6 +225,7 @@ def find(requests: Requests, searches: Sequence[Search], count: int, deadline: D
             moving, before = sum(search.is_moving for search in searches), moving
             if moving > before:
                 pauses.restart()
+            pauses.is_moving, pauses.is_restored = moving > 0, any(search.is_restored for search in searches)
             yield from look(requests, (yield from _await_next_look(requests, searches, pauses, bell)))
     finally:
         for search in searches:
@@ -254,6 +263,7 @@ def find_what_is_there(requests: Requests, search: Search) -> Steps[None]:
         yield from look(requests, [search])
         if not isinstance(search.refusal, Pending):
             return
+        pauses.is_moving, pauses.is_restored = search.is_moving, search.is_restored
         yield pauses.next()
 
 

@@ -8,7 +8,7 @@ that are there are deleted again. The parts' ids are of the manifest's task, so 
 from __future__ import annotations
 
 import random
-from typing import Callable, Dict, List, Optional, TypeVar
+from typing import Callable, Dict, List, Optional, Set, Tuple, TypeVar
 
 from .encoding import MANIFEST_HEAD, MOST_PARTS, Manifest, is_manifest
 from .finding import Search, let_go
@@ -137,14 +137,13 @@ def get_whole(
     if manifest is None:
         return whole
     check_limit(requests, id, manifest.length, limit)
-    known = yield from _lengths_of_parts(requests, manifest.ids, deadline)
-    fits = all(known.get(part, len(place)) == len(place) for part, place in manifest.places())
+    lengths, on_device = yield from _known_of_parts(requests, manifest.ids, deadline)
+    fits = all(lengths.get(part, len(place)) == len(place) for part, place in manifest.places())
     if fits:
         buffer, moved = blank(manifest.length), _Moved(progress, manifest.length)
         places = [(part, buffer[place.start : place.stop]) for part, place in manifest.places()]
         if id.job == requests.job:
-            parts = [moved.with_part(get_into(requests, part, place, deadline), len(place)) for part, place in places]
-            fits = all((yield Together(parts)))
+            fits = yield from _get_parts(requests, places, on_device, deadline, moved)
         else:
             yield Together([moved.with_part(peek_into(requests, part, place), len(place)) for part, place in places])
     if not fits:
@@ -152,12 +151,29 @@ def get_whole(
     return buffer.toreadonly()
 
 
-def _lengths_of_parts(requests: Requests, ids: List[ObjectId], deadline: Optional[Deadline]) -> Steps[Dict[ObjectId, int]]:
-    """The lengths of parts of another job, once all are granted; of this job, of those that are at this node."""
+def _known_of_parts(
+    requests: Requests, ids: List[ObjectId], deadline: Optional[Deadline]
+) -> Steps[Tuple[Dict[ObjectId, int], Set[ObjectId]]]:
+    """The lengths of parts of another job, once all are granted; of this job, of those that are at this node. And which are on the device."""
     if ids and ids[0].job != requests.job:
-        return dict(zip(ids, (yield from granted_lengths(requests, ids, deadline))))
+        return dict(zip(ids, (yield from granted_lengths(requests, ids, deadline)))), set()
     own, _ = yield from ask(requests.list())
-    return {item.id: item.length for item in own if item.state is not State.FETCHING}
+    lengths = {item.id: item.length for item in own if item.state is not State.FETCHING}
+    return lengths, {item.id for item in own if item.state in (State.AWAY, State.RESTORING)}
+
+
+def _get_parts(
+    requests: Requests, places: List[Tuple[ObjectId, memoryview]], on_device: Set[ObjectId], deadline: Optional[Deadline], moved: _Moved
+) -> Steps[bool]:
+    """Fills the places, unless a part has another length. Those on the device come last, and one after another: in a full window each takes
+    the room of the one before, and at the same time it would take it before that was read."""
+    parts = [(part in on_device, moved.with_part(get_into(requests, part, place, deadline), len(place))) for part, place in places]
+    at_once = [steps for is_last, steps in parts if not is_last]
+    fits: List[bool] = (yield Together(at_once)) if at_once else []
+    for is_last, steps in parts:
+        if is_last:
+            fits.append((yield from steps))
+    return all(fits)
 
 
 def parts_of(requests: Requests, id: ObjectId) -> Steps[List[ObjectId]]:

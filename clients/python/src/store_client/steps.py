@@ -5,6 +5,7 @@ A connection that blocks runs them (connection.py), a pool with several (pool.py
 
 from __future__ import annotations
 
+import random
 import time
 from dataclasses import dataclass
 from typing import Any, Callable, Generator, List, Optional, Sequence, TypeVar, Union
@@ -99,14 +100,20 @@ class Deadline:
 
 class Pauses:
     """Pauses between tries, in seconds. Each is a small part of the time that was waited already: so what comes soon is seen soon, and who
-    waits for long asks seldom."""
+    waits for long asks seldom.
 
-    FIRST, LONGEST, LONGEST_IF_TOLD, PART, FAR = 0.001, 0.2, 1.0, 32, 8
+    Of what is on its way each is drawn by lot, and is so long at most. Two may have to make room for each other: what comes for one is taken
+    away by the other's next try. By pauses of one length they could take turns without end. By lot one soon asks twice in a row, and has it.
+    """
+
+    FIRST, LONGEST, LONGEST_IF_TOLD, LONGEST_IF_RESTORED, PART, FAR = 0.001, 0.2, 1.0, 0.02, 32, 8
 
     def __init__(self, deadline: Deadline) -> None:
         self._deadline = deadline
         #: whether most of what is waited for is told
         self.is_told = False
+        #: whether something is on its way, and whether from this node's own device: that takes no longer than a device does
+        self.is_moving = self.is_restored = False
         self.restart()
 
     def restart(self) -> None:
@@ -121,7 +128,8 @@ class Pauses:
     @property
     def length(self) -> float:
         """How long a pause is now."""
-        return min(self.LONGEST_IF_TOLD if self.is_told else self.LONGEST, max(self.FIRST, self.waited / self.PART))
+        longest = self.LONGEST_IF_RESTORED if self.is_restored else self.LONGEST_IF_TOLD if self.is_told else self.LONGEST
+        return min(longest, max(self.FIRST, self.waited / self.PART))
 
     @property
     def is_over(self) -> bool:
@@ -130,11 +138,14 @@ class Pauses:
 
     def next(self, bell: Optional[Bell] = None) -> Rest:
         """The next one."""
-        return Rest(self._deadline.within(self.length), bell)
+        return self._rest(self.length, bell)
 
     def next_far(self, bell: Bell) -> Rest:
         """The next one, of who is told of most that comes."""
-        return Rest(self._deadline.within(self.length_far), bell)
+        return self._rest(self.length_far, bell)
+
+    def _rest(self, length: float, bell: Optional[Bell]) -> Rest:
+        return Rest(self._deadline.within(length * random.random() if self.is_moving else length), bell)
 
     @property
     def length_far(self) -> float:
