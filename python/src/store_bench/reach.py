@@ -54,7 +54,7 @@ LOOKUPS = (
 )
 SEARCHES = Root("a Create that fits", "create", frozenset({"victims", "spillable", "place_of_victims", "ask_writes", "plan"}))
 # where commands are declared, and what they are called when they come as words or frames
-DECLARED, SPELLED = CRATES / "obj_id/src/commands.rt", "(?:Command|Word|FrameKind|ObjectKind)"
+DECLARED, SPELLED = CRATES / "obj_id/src/commands.rt", "(?:Command(?:Kind)?|Word|FrameKind|ObjectKind)"
 # the crates that a command goes through from its frame to its reply
 WAY = (
     "wire_frames", "session_engine", "session_threads", "shared_nodes", "node_steps", "node_housekeeping", "node_gate", "node_journal",
