@@ -288,8 +288,7 @@ class Killed(ServerOfAll):
                     if len(requests) > 2 or not left[0]:
                         # the beginning of a put, or what comes in the midst of one in parts
                         exchange(stream, requests[:2], end)
-                        # the keeper has noted it by then, on a machine that does nothing else
-                        time.sleep(0.5)
+                        until(lambda: self.is_noted(notes, store), "the keeper has noted it", PATIENCE)
                         for process in (*keepers(self.path), os.getpid()):
                             os.kill(process, signal.SIGKILL)
                     return exchange(stream, requests, end)
@@ -305,6 +304,12 @@ class Killed(ServerOfAll):
             with self.begin() as other:
                 other.delete(other.put(b"abcd"))
                 until(lambda: not self.unfinished(), "nothing unfinished", SOON)
+
+    def is_noted(self, notes: str, store: Connection) -> bool:
+        """Whether a keeper's notes have what this process has told of a session."""
+        told = store._requests.keeping
+        noted = [client for client in keepers_own.Notes(notes).read() if client._process == os.getpid()]
+        return any(client.tasks == told._tasks and set(client.puts) == set(told._begun) for client in noted)
 
     def test_without_a_keeper_all_goes_on(self) -> None:
         refused = mock.Mock(side_effect=PermissionError("no folder"))

@@ -26,8 +26,6 @@ from store_operator.sizes import parse_size
 from store_testing.waiting import until
 
 CLIENT = ROOT / "clients/python/src"
-# seconds after its process's end in which a server has to be gone
-SOON = 5.0
 # what a script begins with
 BEGIN = "import os, signal, sys, time, store_client\nstore = store_client.local('1M')\nprint(store.path, flush=True)\n"
 
@@ -83,8 +81,8 @@ class Local(unittest.TestCase):
         return str(path)
 
     def assert_nothing_is_left(self) -> None:
-        until(lambda: not os.listdir(self.temporary), "an empty folder", SOON)
-        until(lambda: not servers(self.temporary / "store-"), "the server's end", SOON)
+        until(lambda: not os.listdir(self.temporary), "an empty folder", PATIENCE)
+        until(lambda: not servers(self.temporary / "store-"), "the server's end", PATIENCE)
 
 
 class Use(Local):
@@ -200,7 +198,7 @@ class Ends(Local):
         for script, status in (("", 0), ("sys.exit(3)", 3), ("with store: raise ValueError()", 1), ("os._exit(4)", 4), ("os.abort()", -6)):
             process, folder = self.begin(script)
             self.assertEqual(process.wait(PATIENCE), status)
-            until(lambda: not folder.exists() and not servers(folder), f"the end after {script!r}", SOON)
+            until(lambda: not folder.exists() and not servers(folder), f"the end after {script!r}", PATIENCE)
 
     def test_by_a_signal(self) -> None:
         for number in (signal.SIGINT, signal.SIGTERM, signal.SIGHUP, signal.SIGKILL):
@@ -208,7 +206,7 @@ class Ends(Local):
             self.assertEqual(len(servers(folder)), 1)
             process.send_signal(number)
             process.wait(PATIENCE)
-            until(lambda: not folder.exists() and not servers(folder), f"the end after {number.name}", SOON)
+            until(lambda: not folder.exists() and not servers(folder), f"the end after {number.name}", PATIENCE)
 
     def test_ctrl_c_that_the_process_outlives(self) -> None:
         script = "try:\n print('begun', flush=True)\n time.sleep(600)\n"
@@ -224,7 +222,7 @@ class Ends(Local):
         child = int(line_of(process))
         self.addCleanup(os.kill, child, signal.SIGKILL)
         process.kill()
-        until(lambda: not folder.exists() and not servers(folder), "the end", SOON)
+        until(lambda: not folder.exists() and not servers(folder), "the end", PATIENCE)
         os.kill(child, 0)
 
     def test_a_child_that_exits_as_python_does(self) -> None:

@@ -277,11 +277,12 @@ class Many(Waiting):
         ids = [self.object_id(index) for index in range(1, len(stores) + 1)]
         threads = self.waiting_at(stores, ids, seen, PATIENCE)
         time.sleep(3)
+        began = time.monotonic()
         with mock.patch.object(Stream, "exchange", counted):
             time.sleep(2)
-        # each by itself would ask some 15 times, by two Gets
-        self.assertLess(asked.count(Command.GET), 30 * 10)
-        self.assertGreater(asked.count(Command.LIST), 4)
+            until(lambda: asked.count(Command.LIST) > 4, "one asks for all", PATIENCE)
+        # each by itself would ask some 15 times in two seconds, by two Gets
+        self.assertLess(asked.count(Command.GET) / (time.monotonic() - began), len(stores) * 5)
         for id in ids:
             self.other.put(b"abcd", id)
         for thread in threads:
