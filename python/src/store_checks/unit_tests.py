@@ -1,4 +1,4 @@
-"""The unit tests of a folder, those in its test_*.py, without pytest. The last line counts them.
+"""The unit tests of a folder, those in its test_*.py, without pytest. The last line counts them, and those before it name what failed.
 
 Of modules that are named, without their ending, the others are left out; so of classes and of tests in them.
 """
@@ -43,6 +43,9 @@ def main() -> int:
     failed = len(result.failures) + len(result.errors)
     for test, why in result.skipped:
         print(f"not run: {test}: {why}")
+    for test, trace in (*result.failures, *result.errors):
+        # once more, in a line: what is kept of a log may begin after the traces
+        print(f"failed: {test.id()}: {trace.strip().splitlines()[-1]}")
     print(f"{max(0, result.testsRun - failed - len(result.skipped))} passed, {failed} failed")
     return 0 if result.wasSuccessful() else 1
 

@@ -15,7 +15,7 @@ import sys
 import tempfile
 import unittest
 from pathlib import Path
-from typing import Iterator, Tuple
+from typing import Iterator, List, Tuple
 
 from store_testing import PATIENCE, ROOT
 from store_testing.counting import SHOWN, tell
@@ -54,6 +54,19 @@ class Forked(unittest.TestCase):
             os._exit(signal.getsignal(signal.SIGTERM) is not signal.SIG_DFL)
         self.assertEqual(os.waitpid(child, 0)[1], 0)
         self.assertIs(signal.getsignal(signal.SIGTERM), signal.default_int_handler)
+"""
+FAULTS = """
+import unittest
+class Faults(unittest.TestCase):
+    def test_fails(self):
+        self.assertEqual(1, 2)
+    def test_raises(self):
+        raise OSError("it broke")
+    def test_passes(self):
+        pass
+    @unittest.skip("why")
+    def test_is_left_out(self):
+        pass
 """
 READY = "store: ready\n"
 RIGHT = "report 7 7 0 0 0\n"
@@ -183,14 +196,29 @@ class Counting(unittest.TestCase):
 
 
 class Running(unittest.TestCase):
+    def run_by(self, words: List[str], tests: str) -> "subprocess.CompletedProcess[str]":
+        """Runs unit tests, started by these words."""
+        with tempfile.TemporaryDirectory() as folder:
+            Path(folder, "test_these.py").write_text(tests, encoding="ascii")
+            words = [*words, sys.executable, "-B", "-m", "store_checks.unit_tests", folder]
+            place = {**os.environ, "PYTHONPATH": str(ROOT / "python/src")}
+            return subprocess.run(words, capture_output=True, text=True, check=False, timeout=PATIENCE, env=place)
+
     def test_signals_in_what_is_forked_off_and_started(self) -> None:
         """As under nohup, and in the background."""
-        with tempfile.TemporaryDirectory() as folder:
-            Path(folder, "test_forked.py").write_text(FORKS, encoding="ascii")
-            words = ["sh", "-c", "trap '' HUP INT QUIT; exec \"$@\"", "sh", sys.executable, "-B", "-m", "store_checks.unit_tests", folder]
-            place = {**os.environ, "PYTHONPATH": str(ROOT / "python/src")}
-            done = subprocess.run(words, capture_output=True, text=True, check=False, timeout=PATIENCE, env=place)
+        done = self.run_by(["sh", "-c", "trap '' HUP INT QUIT; exec \"$@\"", "sh"], FORKS)
         self.assertEqual((done.returncode, done.stdout), (0, "2 passed, 0 failed\n"), done.stderr)
+
+    def test_what_failed_is_named_at_the_end(self) -> None:
+        done = self.run_by([], FAULTS)
+        told = [
+            "failed: test_these.Faults.test_fails: AssertionError: 1 != 2",
+            "failed: test_these.Faults.test_raises: OSError: it broke",
+            "1 passed, 2 failed",
+        ]
+        # what isn't run is told in other words by an older Python
+        self.assertRegex(done.stdout, r"^not run: test_is_left_out \(.*\): why\n")
+        self.assertEqual((done.returncode, done.stdout.splitlines()[1:]), (1, told))
 
 
 class Frames(unittest.TestCase):
